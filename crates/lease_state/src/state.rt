@@ -1,0 +1,96 @@
+ghost use Rattle.std.specs.Prelude.{⊤, ◌≡◌, ◌==◌, [], ◌∷◌, codes};
+ghost use Rattle.std.specs.Int.RustNames.{bit_and};
+ghost use Rattle.std.specs.Cmp.Rules.{comparing};
+ghost use Rattle.std.specs.Ordering.{on};
+ghost use Rattle.std.proofs.Common.{rules};
+ghost use Rattle.lease_state.specs.State.{state_of, state_of_bits, bits_of_state, granted_form_of, needs_acknowledgment};
+
+use bitflags::{Flag, Flags, bitflag_items};
+
+/// A lease state (MS-SMB2 2.2.13.2): the set of what a client may cache of a file.
+///
+/// A value may carry bits past the three that have a name, where it was made with
+/// `from_bits_retain`. Each call passes over them, and so does `==`.
+#[derive(Clone, Copy, Debug)]
+pub struct LeaseState(u8);
+
+bitflag_items! {
+    impl LeaseState: u8 {
+        const READ_CACHING = 1;
+        const HANDLE_CACHING = 2;
+        const WRITE_CACHING = 4;
+    }
+}
+
+impl Flags for LeaseState {
+    type Bits = u8;
+
+    ghost exact = { ⊤ };
+
+    ghost table = { (codes "READ_CACHING", 1) ∷ (codes "HANDLE_CACHING", 2) ∷ (codes "WRITE_CACHING", 4) ∷ [] };
+
+    ghost set_of = { λ s. s.0 };
+
+    fn flags<'a>() -> &'a [Flag<LeaseState>] {
+        LeaseState::FLAGS
+    }
+
+    fn bits(&self) -> u8 {
+        self.0
+    }
+
+    fn from_bits_retain(bits: u8) -> LeaseState {
+        LeaseState(bits)
+    }
+}
+
+impl PartialEq for LeaseState {
+    ghost eq = { on (λ s. bit_and s.0 7) ◌==◌ };
+
+    ghost laws = { Prim.search (comparing, rules) };
+
+    fn eq(&self, other: &LeaseState) -> bool {
+        self.0 & 7 == other.0 & 7
+    }
+}
+
+impl Eq for LeaseState {
+    ghost laws = { Prim.search (comparing, rules) };
+}
+
+impl LeaseState {
+    /// The state that the wire's 4-byte field names (2.2.13.2). Bits past 7 are dropped.
+    pub fn from_wire(bits: u32) -> LeaseState
+        ensures state { state_of result ≡ state_of_bits bits }
+        ensures named { bits_of_state (state_of result) ≡ result.0 }
+    {
+        LeaseState((bits & 7) as u8)
+    }
+
+    /// The wire's 4-byte field for the state: bits of 7 alone.
+    pub fn to_wire(self) -> u32
+        ensures { result ≡ bits_of_state (state_of self) }
+    {
+        u32::from(self.0 & 7)
+    }
+
+    /// The state as a server grants it: itself, or the empty state where it lacks
+    /// `READ_CACHING` (own).
+    pub fn granted_form(self) -> LeaseState
+        ensures { state_of result ≡ granted_form_of (state_of self) }
+    {
+        if self.contains(LeaseState::READ_CACHING) {
+            self
+        } else {
+            LeaseState(0)
+        }
+    }
+
+    /// Whether a break of the state is to be acknowledged (3.3.4.7): true exactly where it holds
+    /// more than `READ_CACHING`.
+    pub fn needs_ack(self) -> bool
+        ensures { result ≡ needs_acknowledgment (state_of self) }
+    {
+        self.contains(LeaseState::WRITE_CACHING) || self.contains(LeaseState::HANDLE_CACHING)
+    }
+}
