@@ -1,0 +1,71 @@
+use crate::asked::{Task, Usage};
+use clap::{Arg, ArgMatches, Command, Error};
+use std::alloc::{AllocError, Global};
+
+fn hex_argument<'a>(alloc: Global, help: &'a str) -> Arg<'a> {
+    Arg::new(alloc, "HEX").required(true).help(help)
+}
+
+fn ack_command<'a>(alloc: Global) -> Result<Command<'a>, AllocError> {
+    Command::new(alloc, "ack")
+        .about("Prints the acknowledgment that a lease break notification asks for")
+        .long_about(
+            "Reads a lease break notification (44 bytes, without the SMB2 header) and prints the \
+             lease break acknowledgment that a client sends for it, 72 hexadecimal digits, or \
+             'no acknowledgment due' where ACK_REQUIRED is not set. Where k bytes follow the \
+             notification, a line 'rest k' is printed after that.",
+        )
+        .arg(hex_argument(alloc, "The notification's bytes as hexadecimal digits"))
+}
+
+fn program<'a>(alloc: Global) -> Result<Command<'a>, AllocError> {
+    Command::new(alloc, "leasecheck")
+        .about("Reads and answers the messages of SMB 2.1 leases")
+        .no_binary_name(true)
+        .disable_help_subcommand(true)
+        .subcommand_required(true)
+        .subcommand(ack_command(alloc)?)
+}
+
+fn parse<'a>(alloc: Global, words: &'a [&'a str]) -> Result<ArgMatches<'a>, Error> {
+    program(alloc)?.try_get_matches_from(words)
+}
+
+fn refused(alloc: Global, error: &Error) -> Usage {
+    let status = if error.use_stderr() { 2 } else { 0 };
+    match format!(in alloc; "{error}") {
+        Ok(text) => Usage { status, text },
+        Err(_) => Usage {
+            status: 2,
+            text: String::new(alloc),
+        },
+    }
+}
+
+fn asked_by(alloc: Global, matches: &ArgMatches) -> Result<Option<Task>, AllocError> {
+    match matches.subcommand() {
+        Some(("ack", given)) => match given.get_str("HEX") {
+            Some(digits) => Ok(Some(Task::Ack(String::from_str(alloc, digits)?))),
+            None => Ok(None),
+        },
+        _ => Ok(None),
+    }
+}
+
+/// Reads the words of a command line, those after the program's name.
+///
+/// `Err` has help (status 0) where the words ask for it, and else says why they are refused
+/// (status 2). Where there is no memory for the answer the words are refused with no text.
+pub fn task(alloc: Global, words: &[&str]) -> Result<Task, Usage> {
+    let matches = match parse(alloc, words) {
+        Ok(matches) => matches,
+        Err(error) => return Err(refused(alloc, &error)),
+    };
+    match asked_by(alloc, &matches) {
+        Ok(Some(asked)) => Ok(asked),
+        _ => Err(Usage {
+            status: 2,
+            text: String::new(alloc),
+        }),
+    }
+}
