@@ -1,4 +1,7 @@
-ghost use Rattle.std.specs.Prelude.{◌≤◌};
+ghost use Rattle.std.specs.Prelude.{◌≡◌, ◌≤◌, IfOk, OnOk, IsErr};
+ghost use Rattle.std.specs.String.{string_bytes};
+ghost use Rattle.std.specs.Io.KnownBytes.{Appends, Keeps};
+ghost use Rattle.leasecheck.specs.Printed.{IsTextOf, HasNoBytes, Prints};
 
 use crate::asked::Task;
 use crate::failure::Failure;
@@ -7,7 +10,10 @@ use std::alloc::Global;
 use std::io::{Read, Write};
 
 // All that the task prints.
-fn text_of(alloc: Global, asked: &Task) -> Result<String, Failure> {
+fn text_of(alloc: Global, asked: &Task) -> Result<String, Failure>
+    ensures text { IfOk result (λ text. IsTextOf asked.now (string_bytes text)) }
+    ensures refused { HasNoBytes asked.now → IsErr result }
+{
     match asked {
         Task::Ack(digits) => {
             let bytes = hexadecimal::bytes_of(alloc, digits.as_str())?;
@@ -16,14 +22,18 @@ fn text_of(alloc: Global, asked: &Task) -> Result<String, Failure> {
     }
 }
 
-fn print_text<O: Write>(text: &str, out: &mut O) -> Result<(), Failure> {
-    if out.write_all(text.as_bytes()).is_err() || out.flush().is_err() {
-        return Err(Failure::Output);
-    }
+fn print_text<O: Write>(text: &str, out: &mut O) -> Result<(), Failure>
+    ensures { OnOk result (Appends (O.contents out.old) (O.contents out.new) text.now) }
+{
+    out.write_all(text.as_bytes()).map_err(|_| Failure::Output)?;
+    out.flush().map_err(|_| Failure::Output)?;
     Ok(())
 }
 
-fn done<O: Write>(alloc: Global, asked: &Task, out: &mut O) -> Result<(), Failure> {
+fn done<O: Write>(alloc: Global, asked: &Task, out: &mut O) -> Result<(), Failure>
+    ensures printed { OnOk result (Prints asked.now (O.contents out.old) (O.contents out.new)) }
+    ensures refused { HasNoBytes asked.now → IsErr result }
+{
     let text = text_of(alloc, asked)?;
     print_text(text.as_str(), out)
 }
@@ -41,7 +51,9 @@ pub fn perform<I: Read, O: Write, F: Write>(
     out: &mut O,
     faults: &mut F,
 ) -> u8
-    ensures { result ≤ 1 }
+    ensures status { result ≤ 1 }
+    ensures printed { result ≡ 0 → Prints asked.now (O.contents out.old) (O.contents out.new) }
+    ensures refused { HasNoBytes asked.now → result ≡ 1 }
 {
     match done(alloc, asked, out) {
         Ok(()) => 0,
