@@ -1,3 +1,5 @@
 pub mod Cells
 pub mod Fields
+pub mod HeaderFacts
+pub mod Items
 pub mod Messages

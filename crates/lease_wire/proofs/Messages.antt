@@ -20,14 +20,17 @@ notification_layout v =
 pub notification_reads_back : NotificationReadsBack
 notification_reads_back v rest =
     sixteen_cells (λ key. IsNotification (take 44 (notification_bytes (record v { key = key }) ++ rest)) (record v { key = key }) × (drop 44 (notification_bytes (record v { key = key }) ++ rest) ≡ rest))
-    (λ a b c d e f g h i j k l m n o p. (record {
-      size = refl;
-      structure_size = refl;
-      flags = sym (flag-written v.ack_required);
-      lease_key = refl;
-      current_lease_state = sym (state_of_bits-written v.current);
-      new_lease_state = sym (state_of_bits-written v.new);
-    }, refl)) v.key
+    (λ a b c d e f g h i j k l m n o p. (
+      record {
+        size = refl;
+        structure_size = refl;
+        flags = sym (flag-written v.ack_required);
+        lease_key = refl;
+        current_lease_state = sym (state_of_bits-written v.current);
+        new_lease_state = sym (state_of_bits-written v.new);
+      },
+      refl,
+    )) v.key
 
 pub notification_free_fields : NotificationFreeFields
 notification_free_fields v =
@@ -55,12 +58,15 @@ acknowledgment_layout v =
 pub acknowledgment_reads_back : AcknowledgmentReadsBack
 acknowledgment_reads_back v rest =
     sixteen_cells (λ key. IsAcknowledgment (take 36 (acknowledgment_bytes (record v { key = key }) ++ rest)) (record v { key = key }) × (drop 36 (acknowledgment_bytes (record v { key = key }) ++ rest) ≡ rest))
-    (λ a b c d e f g h i j k l m n o p. (record {
-      size = refl;
-      structure_size = refl;
-      lease_key = refl;
-      lease_state = sym (state_of_bits-written v.state);
-    }, refl)) v.key
+    (λ a b c d e f g h i j k l m n o p. (
+      record {
+        size = refl;
+        structure_size = refl;
+        lease_key = refl;
+        lease_state = sym (state_of_bits-written v.state);
+      },
+      refl,
+    )) v.key
 
 pub acknowledgment_free_fields : AcknowledgmentFreeFields
 acknowledgment_free_fields v =

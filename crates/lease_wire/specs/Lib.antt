@@ -1,3 +1,9 @@
 pub mod Field
 pub mod Notification
 pub mod Acknowledgment
+pub mod Chain
+pub mod Reading
+pub mod Names
+pub mod Faults
+pub mod Gathering
+pub mod Contexts

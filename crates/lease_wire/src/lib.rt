@@ -2,13 +2,20 @@
 #![tactic(auto)]
 
 mod acknowledgment;
+mod chain;
+mod direction;
 mod fault;
 mod field;
+mod first;
+mod header;
 mod key_and_state;
 mod notification;
 mod response;
+mod walk;
 
 pub use acknowledgment::{Acknowledgment, acknowledgment_laws};
+pub use chain::{Context, Contexts};
 pub use fault::WireFault;
 pub use notification::{Notification, notification_laws};
 pub use response::BreakResponse;
+pub use walk::contexts;

@@ -1,0 +1,46 @@
+-- Why a text holds no create contexts: the first fault in its order, and where (own: the order of the
+-- tests, and one fault for the whole text).
+use Rattle.std.specs.Prelude.{◌≡◌, ◌≢◌, ℕ, ◌+◌, Bool, not, if◌then◌else◌, List, [], ◌++◌, length, Option, Some, None}
+use Rattle.std.specs.List.{concat}
+use Rattle.lease_wire.specs.Chain.{ContextView, AreLinked}
+use Rattle.lease_wire.specs.Names.{Meaning, CreateView, HaveValue, meaning_of, told, lease_in, durable_in, reconnect_in}
+use Rattle.lease_wire.specs.Names.Meaning.{Unknown, WrongLength, Lease, Durable, Reconnect}
+use Rattle.lease_wire.specs.Reading.{layout_fault, context_at}
+use Rattle.lease_wire.specs.declared.direction.Direction.{Direction}
+use Rattle.lease_wire.specs.declared.fault.WireFault.{WireFault}
+use Rattle.lease_wire.specs.declared.fault.WireFault.TheVariants.{BadLength, Twice}
+
+-- the fault of a context that is told of something already
+abbrev pub twice_if : {X : Type 0} → List X → ℕ → Option WireFault
+twice_if [] place = None
+twice_if (x ∷ xs) place = Some (Twice place)
+
+-- the rule of names that a context breaks behind others
+abbrev pub meaning_fault : Direction → List ContextView → ℕ → Meaning → Option WireFault
+meaning_fault direction before place Unknown = None
+meaning_fault direction before place WrongLength = Some (BadLength place)
+meaning_fault direction before place (Lease lease) = twice_if (told direction lease_in before) place
+meaning_fault direction before place Durable = twice_if (told direction durable_in before) place
+meaning_fault direction before place (Reconnect file_id) = twice_if (told direction reconnect_in before) place
+
+-- the earlier of two tests' faults
+abbrev pub option_or : Option WireFault → Option WireFault → Option WireFault
+option_or (Some fault) other = Some fault
+option_or None other = other
+
+-- the first test that the context at a place fails, behind others
+abbrev pub first_fault : Direction → List ContextView → ℕ → List ℕ → Option WireFault
+first_fault direction before place bytes =
+    option_or (layout_fault place bytes) (meaning_fault direction before place (meaning_of direction (context_at place bytes)))
+
+-- The pieces before the fault lead on, and break no rule; what is left begins with the fault.
+pub record IsFaultBehind (direction : Direction) (text : List ℕ) (fault : WireFault) (pieces : List (List ℕ)) (contexts : List ContextView) (rest : List ℕ) : Type 0 where
+  pub whole : concat pieces ++ rest ≡ text
+  pub linked : AreLinked 0 pieces contexts
+  pub named : (v : CreateView) × HaveValue direction contexts v
+  pub first : first_fault direction contexts (length (concat pieces)) rest ≡ Some fault
+
+-- the text's fault; no bytes at all have none
+abbrev pub IsFaultOf : Direction → List ℕ → WireFault → Type 0
+IsFaultOf direction text fault =
+    (text ≢ []) × ((pieces : List (List ℕ)) × (contexts : List ContextView) × (rest : List ℕ) × IsFaultBehind direction text fault pieces contexts rest)
