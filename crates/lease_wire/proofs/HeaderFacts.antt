@@ -115,3 +115,37 @@ next_inside place left h none =
       | inl zero ↦ rw (zero.1) (omega arith)
       | inr more ↦ (fits.next more.1).2
     ]
+
+-- and a header whose fields fit fails no test
+none_of : (b : Bool) (fault : WireFault) (other : Option WireFault) → b ≡ false → other ≡ None → (if b then Some fault else other) ≡ None
+none_of b fault other passes e = rw passes e
+
+next_passes : (left next : ℕ) → (next ≢ 0 → (16 ≤ next) × (next % 8 ≡ 0) × (next ≤ left))
+  → (not (next == 0) && (nat_lt next 16 || (not (next % 8 == 0) || nat_lt left next))) ≡ false
+next_passes left next fits =
+    elim (eqb_tells next 0) [
+      | inl zero ↦ rw (zero.0) refl
+      | inr more ↦
+        let facts = fits more.1 in
+        let even : (next % 8 == 0) ≡ true = rw (facts.1) refl in
+        rw (more.0, above_false next 16 facts.0, even, above_false left next facts.2) refl
+    ]
+
+part_passes : (offset count size : ℕ) → 16 ≤ offset → offset + count ≤ size → (nat_lt offset 16 || nat_lt size (offset + count)) ≡ false
+part_passes offset count size behind within = rw (above_false offset 16 behind, above_false size (offset + count) within) refl
+
+data_passes : (offset count size : ℕ) → (count ≢ 0 → 16 ≤ offset) → (count ≢ 0 → offset + count ≤ size)
+  → (not (count == 0) && (nat_lt offset 16 || nat_lt size (offset + count))) ≡ false
+data_passes offset count size behind within =
+    elim (eqb_tells count 0) [
+      | inl zero ↦ rw (zero.0) refl
+      | inr more ↦ rw (more.0, above_false offset 16 (behind more.1), above_false size (offset + count) (within more.1)) refl
+    ]
+
+pub fitting_header : (place left : ℕ) (h : Header) → HeaderFits left h → header_fault place left h ≡ None
+unfolding header_fault
+fitting_header place left h fits =
+    none_of (nat_lt left 16) _ _ (above_false left 16 fits.header)
+    (none_of (has_bad_next left h) _ _ (next_passes left h.next fits.next)
+    (none_of (has_bad_name left h) _ _ (part_passes h.name_offset h.name_length (size_of left h) fits.name_behind fits.name_within)
+    (none_of (has_bad_data left h) _ _ (data_passes h.data_offset h.data_length (size_of left h) fits.data_behind fits.data_within) refl)))

@@ -50,11 +50,11 @@ items_behind-more place (byte ∷ bytes) e more =
         let less : suc next - 1 ≡ next = omega arith in
         let skip = items_behind-skipped (place + suc next) next bytes (omega arith) in
         let far : (suc next == 0) ≡ false = grind (arith, nat_tests) in
-      rw (e, is, less, skip, far) refl
+        rw (e, is, less, skip, far) refl
 
 -- the three together
 pub items_behind-read : (place next : ℕ) (bytes : List ℕ) (context : ContextView) → layout_fault place bytes ≡ None → context ≡ context_at place bytes → next ≡ next_of bytes
-  → items_behind place 0 bytes ≡ Ok context ∷ (if next == 0 then [] else items_behind (place + next) 0 (drop next bytes))
+    → items_behind place 0 bytes ≡ Ok context ∷ (if next == 0 then [] else items_behind (place + next) 0 (drop next bytes))
 items_behind-read place next bytes context none is_context is_next =
     elim (eqb_tells (next_of bytes) 0) [
       | inl last ↦ rw (is_context, is_next, last.0) (items_behind-last place bytes none last.1)
@@ -63,14 +63,14 @@ items_behind-read place next bytes context none is_context is_next =
 
 -- the tests of a header that was read
 pub layout_fault-read : (place : ℕ) (bytes : List ℕ) (h : Header) (answer : Option WireFault) → h ≡ header_of bytes
-  → header_fault place (length bytes) h ≡ answer → layout_fault place bytes ≡ answer
+    → header_fault place (length bytes) h ≡ answer → layout_fault place bytes ≡ answer
 unfolding layout_fault
 layout_fault-read place bytes h answer read e = rw (← read) e
 
 -- the parts that were cut by a header that was read
 pub context_at-read : (place : ℕ) (bytes name body : List ℕ) (h : Header) → h ≡ header_of bytes
-  → name ≡ bytes_at h.name_offset h.name_length bytes → body ≡ bytes_at h.data_offset h.data_length bytes
-  → record { place = place; name = name; body = body } ≡ context_at place bytes
+    → name ≡ bytes_at h.name_offset h.name_length bytes → body ≡ bytes_at h.data_offset h.data_length bytes
+    → record { place = place; name = name; body = body } ≡ context_at place bytes
 unfolding context_at
 context_at-read place bytes name body h read is_name is_body = rw (is_name, is_body, read) refl
 

@@ -3,3 +3,4 @@ pub mod Fields
 pub mod HeaderFacts
 pub mod Items
 pub mod Messages
+pub mod Pieces

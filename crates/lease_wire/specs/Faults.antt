@@ -1,6 +1,6 @@
 -- Why a text holds no create contexts: the first fault in its order, and where (own: the order of the
 -- tests, and one fault for the whole text).
-use Rattle.std.specs.Prelude.{◌≡◌, ◌≢◌, ℕ, ◌+◌, Bool, not, if◌then◌else◌, List, [], ◌++◌, length, Option, Some, None}
+use Rattle.std.specs.Prelude.{◌≡◌, ◌≢◌, ℕ, List, [], ◌∷◌, ◌++◌, length, Option, Some, None}
 use Rattle.std.specs.List.{concat}
 use Rattle.lease_wire.specs.Chain.{ContextView, AreLinked}
 use Rattle.lease_wire.specs.Names.{Meaning, CreateView, HaveValue, meaning_of, told, lease_in, durable_in, reconnect_in}

@@ -7,3 +7,4 @@ pub mod Names
 pub mod Faults
 pub mod Gathering
 pub mod Contexts
+pub mod Found

@@ -1,0 +1,155 @@
+-- A piece that stands at the front of some bytes is read as the context that it is, and what is read
+-- there is the context that stands there.
+use Rattle.std.proofs.Common.{◌≡◌, ◌≢◌, ◌≤◌, ◌<◌, ◌%◌, ℕ, zero, suc, ◌+◌, ◌-◌, ◌==◌, false, if◌then◌else◌, List, [], ◌∷◌, ◌++◌, length, take, drop, Option, Some, None, refl, arith, sym, ◌∙◌, ap, subst, ◌⊎◌, inl, inr, length-append, length-drop}
+use Rattle.std.proofs.lemmas.List.{drop-append-le, take-append-le, take-append-drop, length-take-le, append-nil}
+use Rattle.std.proofs.lemmas.Bool.Decides.{eqb_tells, nat_tests}
+use Rattle.byteorder.specs.Endian.{little_number}
+use Rattle.byteorder.specs.Numbers.{little_from-append}
+use Rattle.lease_wire.specs.Field.{number_at, bytes_at}
+use Rattle.lease_wire.specs.Chain.{ContextView, IsPart, IsData, IsContext, LeadsOn, next_of, name_offset_of, name_length_of, data_offset_of, data_length_of}
+use Rattle.lease_wire.specs.Reading.{layout_fault, header_of, context_at, size_of}
+use Rattle.lease_wire.specs.declared.header.Header.{Header}
+use Rattle.lease_wire.proofs.HeaderFacts.{HeaderFits, header_fits, fitting_header}
+
+-- a field within the front is read from the front
+number_at-front : (place count : ℕ) (front others : List ℕ) → place + count ≤ length front → number_at place count (front ++ others) ≡ number_at place count front
+number_at-front place count front others within =
+    let cut = drop-append-le place front others (omega arith) in
+    let long : count ≤ length (drop place front) = omega (arith, length-drop {A = ℕ}) in
+    rw cut (little_from-append count (drop place front) others long)
+
+bytes_at-front : (place count : ℕ) (front others : List ℕ) → place + count ≤ length front → bytes_at place count (front ++ others) ≡ bytes_at place count front
+bytes_at-front place count front others within =
+    let cut = drop-append-le place front others (omega arith) in
+    let long : count ≤ length (drop place front) = omega (arith, length-drop {A = ℕ}) in
+    rw cut (take-append-le count (drop place front) others long)
+
+pub next_of-front : (piece others : List ℕ) → 16 ≤ length piece → next_of (piece ++ others) ≡ next_of piece
+unfolding next_of
+next_of-front piece others long = number_at-front 0 4 piece others (omega arith)
+
+name_offset_of-front : (piece others : List ℕ) → 16 ≤ length piece → name_offset_of (piece ++ others) ≡ name_offset_of piece
+unfolding name_offset_of
+name_offset_of-front piece others long = number_at-front 4 2 piece others (omega arith)
+
+name_length_of-front : (piece others : List ℕ) → 16 ≤ length piece → name_length_of (piece ++ others) ≡ name_length_of piece
+unfolding name_length_of
+name_length_of-front piece others long = number_at-front 6 2 piece others (omega arith)
+
+data_offset_of-front : (piece others : List ℕ) → 16 ≤ length piece → data_offset_of (piece ++ others) ≡ data_offset_of piece
+unfolding data_offset_of
+data_offset_of-front piece others long = number_at-front 10 2 piece others (omega arith)
+
+data_length_of-front : (piece others : List ℕ) → 16 ≤ length piece → data_length_of (piece ++ others) ≡ data_length_of piece
+unfolding data_length_of
+data_length_of-front piece others long = number_at-front 12 4 piece others (omega arith)
+
+-- the header of the bytes is that of the piece at their front
+header_of-front : (piece others : List ℕ) → 16 ≤ length piece → header_of (piece ++ others) ≡ header_of piece
+header_of-front piece others long =
+    rw (
+      next_of-front piece others long,
+      name_offset_of-front piece others long,
+      name_length_of-front piece others long,
+      data_offset_of-front piece others long,
+      data_length_of-front piece others long,
+    ) refl
+
+-- what the parts of a context say of its header
+data_is : (piece : List ℕ) (offset count : ℕ) (part : List ℕ) → IsData piece offset count part
+  → (part ≡ bytes_at offset count piece) × (count ≢ 0 → 16 ≤ offset) × (count ≢ 0 → offset + count ≤ length piece)
+data_is piece offset zero part is = (is, λ no. absurd (no refl), λ no. absurd (no refl))
+data_is piece offset (suc count) part is = (is.bytes, λ _. is.behind_the_header, λ _. is.within)
+
+is_data : (piece : List ℕ) (offset count : ℕ) → (count ≢ 0 → 16 ≤ offset) → (count ≢ 0 → offset + count ≤ length piece)
+  → IsData piece offset count (bytes_at offset count piece)
+is_data piece offset zero behind within = refl
+is_data piece offset (suc count) behind within =
+    let some : suc count ≢ 0 = λ e. absurd (omega arith) in
+    record { behind_the_header = behind some; within = within some; bytes = refl }
+
+
+data_at-front : (place count : ℕ) (front others : List ℕ) → (count ≢ 0 → place + count ≤ length front) → bytes_at place count (front ++ others) ≡ bytes_at place count front
+data_at-front place zero front others within = refl
+data_at-front place (suc count) front others within = bytes_at-front place (suc count) front others (within (λ e. absurd (omega arith)))
+
+-- where Next is 0 there is nothing behind the piece; else it is the piece's length, a multiple of 8
+pub record Ends (piece others : List ℕ) : Type 0 where
+  pub size : size_of (length (piece ++ others)) (header_of piece) ≡ length piece
+  pub leads : next_of piece ≢ 0 → LeadsOn piece
+
+pub ends_last : (piece : List ℕ) → next_of piece ≡ 0 → Ends piece []
+ends_last piece last = record {
+  size = rw (append-nil piece, last) refl;
+  leads = λ more. absurd (more last);
+}
+
+pub ends_on : (piece others : List ℕ) → 16 ≤ length piece → LeadsOn piece → Ends piece others
+ends_on piece others long on =
+    let next = on.next in
+    let more : (next_of piece == 0) ≡ false = grind (arith, nat_tests) in
+    record { size = rw (more, next) refl; leads = λ _. on }
+
+-- a context at the front passes the tests
+front_fits : (start : ℕ) (piece others : List ℕ) (context : ContextView) → IsContext start piece context → Ends piece others → HeaderFits (length (piece ++ others)) (header_of piece)
+front_fits start piece others context is ends =
+    let long = is.header in
+    let body = data_is piece (data_offset_of piece) (data_length_of piece) context.body is.body in
+    let whole = length-append piece others in
+    record {
+      header = omega arith;
+      next = λ more.
+        let on = ends.leads more in
+        (rw (on.next) long, rw (on.next) on.aligned, rw (on.next) (omega arith));
+      name_behind = is.name.behind_the_header;
+      name_within = rw (ends.size) is.name.within;
+      data_behind = body.1;
+      data_within = λ more. rw (ends.size) (body.2 more);
+    }
+
+pub front_reads : (start : ℕ) (piece others : List ℕ) (context : ContextView) → IsContext start piece context → Ends piece others
+  → (layout_fault start (piece ++ others) ≡ None) × (context_at start (piece ++ others) ≡ context)
+unfolding layout_fault context_at
+front_reads start piece others context is ends =
+    let long = is.header in
+    let head = header_of-front piece others long in
+    let body = data_is piece (data_offset_of piece) (data_length_of piece) context.body is.body in
+    let name = bytes_at-front (name_offset_of piece) (name_length_of piece) piece others is.name.within in
+    let text = data_at-front (data_offset_of piece) (data_length_of piece) piece others body.2 in
+    (
+      rw head (fitting_header start _ (header_of piece) (front_fits start piece others context is ends)),
+      rw (
+        name_offset_of-front piece others long,
+        name_length_of-front piece others long,
+        data_offset_of-front piece others long,
+        data_length_of-front piece others long,
+        name,
+        text,
+        ← is.name.bytes,
+        ← body.0,
+        ← is.place,
+      ) refl,
+    )
+
+-- where no test fails, the piece at the front is the context that is read
+pub front_is : (start : ℕ) (piece others : List ℕ) → 16 ≤ length piece → layout_fault start (piece ++ others) ≡ None
+  → size_of (length (piece ++ others)) (header_of piece) ≡ length piece → IsContext start piece (context_at start (piece ++ others))
+unfolding layout_fault context_at
+front_is start piece others long none size =
+    let head = header_of-front piece others long in
+    let fits = rw head at (header_fits start _ _ none) in
+    let name_inside : name_offset_of piece + name_length_of piece ≤ length piece = rw size at fits.name_within in
+    let data_inside : data_length_of piece ≢ 0 → data_offset_of piece + data_length_of piece ≤ length piece = rw size at fits.data_within in
+    let name = bytes_at-front (name_offset_of piece) (name_length_of piece) piece others name_inside in
+    let text = data_at-front (data_offset_of piece) (data_length_of piece) piece others data_inside in
+    record {
+      place = refl;
+      header = long;
+      name = record {
+        behind_the_header = fits.name_behind;
+        within = name_inside;
+        bytes = rw (name_offset_of-front piece others long, name_length_of-front piece others long) name;
+      };
+      body = rw (data_offset_of-front piece others long, data_length_of-front piece others long, text)
+        (is_data piece (data_offset_of piece) (data_length_of piece) fits.data_behind data_inside);
+    }
