@@ -3,12 +3,14 @@
 
 mod access;
 mod key;
+mod memory;
 mod number;
 mod state;
 mod status;
 
 pub use access::{Access, Share};
 pub use key::LeaseKey;
+pub use memory::Memory;
 pub use number::{ClientNo, FileId, FileNo};
 pub use state::LeaseState;
 pub use status::Status;
