@@ -1,0 +1,52 @@
+use crate::{Bytes, FileId, FileNo, Status};
+
+/// What the server tells a client (own): a message of MS-SMB2 without its header, in which the
+/// standard's bytes stand where a lease is spoken of.
+#[derive(Debug, Drop, PartialEq, Eq)]
+pub enum Reply {
+    /// A file was opened (2.2.14). `contexts` is the list of create contexts as the standard lays
+    /// it out (2.2.14.2), or no bytes.
+    Created {
+        file: FileNo,
+        fid: FileId,
+        contexts: Bytes,
+    },
+    CreateFailed {
+        file: FileNo,
+        status: Status,
+    },
+    /// The whole file was read (2.2.20).
+    ReadDone {
+        fid: FileId,
+        bytes: Bytes,
+    },
+    ReadFailed {
+        fid: FileId,
+        status: Status,
+    },
+    /// The write of this number was done (2.2.22).
+    WriteDone {
+        fid: FileId,
+        number: u64,
+    },
+    WriteFailed {
+        fid: FileId,
+        number: u64,
+        status: Status,
+    },
+    /// An open was closed (2.2.16).
+    Closed {
+        fid: FileId,
+    },
+    CloseFailed {
+        fid: FileId,
+        status: Status,
+    },
+    /// The break of a lease, which no request asked for: the 44 bytes of 2.2.23.2.
+    Break([u8; 44]),
+    /// The answer to an acknowledgment: the 36 bytes of 2.2.25.2.
+    AckDone([u8; 36]),
+    AckFailed {
+        status: Status,
+    },
+}
