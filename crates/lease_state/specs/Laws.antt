@@ -23,11 +23,11 @@ ConflictIsMutual =
 -- is sent again after a first part of it was applied gives what the list gives once.
 abbrev pub RepeatedPatchesAgree : Type 0
 RepeatedPatchesAgree =
-  (content : List ℕ) (first more : List Patch) →
-  patches (patches content first) (first ++ more) ≡ patches content (first ++ more)
+    (content : List ℕ) (first more : List Patch) →
+    patches (patches content first) (first ++ more) ≡ patches content (first ++ more)
 
 -- the same of one patch
 abbrev pub RepeatedPatchAgrees : Type 0
 RepeatedPatchAgrees =
-  (content : List ℕ) (p : Patch) (more : List Patch) →
-  patches (patch content p) (p ∷ more) ≡ patches content (p ∷ more)
+    (content : List ℕ) (p : Patch) (more : List Patch) →
+    patches (patch content p) (p ∷ more) ≡ patches content (p ∷ more)

@@ -101,3 +101,84 @@ impl Share {
         }
     }
 }
+
+#[cfg(test)]
+mod tests {
+    use super::*;
+
+    const ACCESSES: [(Access, bool, bool, u8); 3] = [
+        (Access::Read, true, false, 1),
+        (Access::Write, false, true, 2),
+        (Access::ReadWrite, true, true, 3),
+    ];
+
+    const SHARES: [(Share, bool, bool, u8); 4] = [
+        (Share::Nothing, false, false, 0),
+        (Share::Read, true, false, 1),
+        (Share::Write, false, true, 2),
+        (Share::ReadWrite, true, true, 3),
+    ];
+
+    #[test]
+    fn letters_and_bits(rt: HostRuntime) {
+        for (access, reads, writes, bits) in ACCESSES {
+            assert_eq!(rt;
+                (access.reads(), access.writes(), access.bits()),
+                (reads, writes, bits)
+            );
+        }
+        for (share, reads, writes, bits) in SHARES {
+            assert_eq!(rt;
+                (share.allows_reads(), share.allows_writes(), share.bits()),
+                (reads, writes, bits)
+            );
+        }
+    }
+
+    #[test]
+    fn opens_conflict_both_ways(rt: HostRuntime) {
+        let cases = [
+            (
+                Access::ReadWrite,
+                Share::ReadWrite,
+                Access::ReadWrite,
+                Share::ReadWrite,
+                false,
+            ),
+            (
+                Access::ReadWrite,
+                Share::Nothing,
+                Access::ReadWrite,
+                Share::ReadWrite,
+                true,
+            ),
+            (Access::Read, Share::Read, Access::Read, Share::Read, false),
+            (
+                Access::Read,
+                Share::Read,
+                Access::Write,
+                Share::ReadWrite,
+                true,
+            ),
+            (
+                Access::Write,
+                Share::Read,
+                Access::Read,
+                Share::Write,
+                false,
+            ),
+        ];
+        for (access, share, other_access, other_share, conflicts) in cases {
+            assert_eq!(rt;
+                access.conflicts(share, other_access, other_share),
+                conflicts
+            );
+            assert_eq!(rt;
+                other_access.conflicts(other_share, access, share),
+                conflicts
+            );
+        }
+        assert!(rt; Access::Read.is_within(Share::Read));
+        assert!(rt; !Access::ReadWrite.is_within(Share::Read));
+    }
+}

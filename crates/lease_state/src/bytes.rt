@@ -36,7 +36,8 @@ impl Bytes {
     pub fn into_vec(self) -> Vec<u8>
         ensures { result.items ≡ self }
     {
-        self.items
+        let Bytes { items } = self;
+        items
     }
 
     /// Equal bytes in memory of their own, from the allocator of these; `Memory` where there is
@@ -61,4 +62,21 @@ impl PartialEq for Bytes {
 
 impl Eq for Bytes {
     ghost laws = { nat_list_eq_equiv };
+}
+
+#[cfg(test)]
+mod tests {
+    use super::*;
+    use std::test::Fail;
+
+    #[test]
+    fn holds_a_vector_and_gives_it_back(rt: HostRuntime) -> Result<(), Fail> {
+        let bytes = Bytes::new(Vec::from_slice(rt.alloc(), b"abc")?);
+        assert_eq!(rt; bytes.as_slice(), b"abc".as_slice());
+        let copy = bytes.try_copy()?;
+        assert!(rt; copy == bytes);
+        assert_eq!(rt; bytes.into_vec().as_slice(), b"abc".as_slice());
+        assert!(rt; copy != Bytes::new(Vec::from_slice(rt.alloc(), b"abd")?));
+        Ok(())
+    }
 }

@@ -113,3 +113,89 @@ fn write_over(items: &mut [u8], offset: usize, bytes: &[u8])
 {
     items[offset..offset + bytes.len()].copy_from_slice(bytes);
 }
+
+#[cfg(test)]
+mod tests {
+    use super::*;
+    use crate::Bytes;
+    use std::alloc::Global;
+    use std::test::Fail;
+
+    fn content(alloc: Global, bytes: &[u8]) -> Result<Content, Fail> {
+        Ok(Content::new(Vec::from_slice(alloc, bytes)?)?)
+    }
+
+    fn patch(alloc: Global, offset: u32, bytes: &[u8]) -> Result<Patch, Fail> {
+        Ok(Patch {
+            offset,
+            bytes: Bytes::new(Vec::from_slice(alloc, bytes)?),
+        })
+    }
+
+    #[test]
+    fn patches_a_content(rt: HostRuntime) -> Result<(), Fail> {
+        let alloc = rt.alloc();
+        let cases: [(u32, &[u8], Result<(), ContentFault>, &[u8]); 9] = [
+            (4, b"Y", Ok(()), b"abc\0Y"),
+            (65_536, b"", Ok(()), b"abc"),
+            (65_537, b"", Err(ContentFault::TooLong), b"abc"),
+            (4_294_967_295, b"Y", Err(ContentFault::TooLong), b"abc"),
+            (0, b"", Ok(()), b"abc"),
+            (0, b"X", Ok(()), b"Xbc"),
+            (1, b"XY", Ok(()), b"aXY"),
+            (2, b"XY", Ok(()), b"abXY"),
+            (3, b"X", Ok(()), b"abcX"),
+        ];
+        for (offset, bytes, answer, after) in cases {
+            let mut abc = content(alloc, b"abc")?;
+            assert_eq!(rt;
+                abc.apply(&patch(alloc, offset, bytes)?),
+                answer,
+                "at {offset}"
+            );
+            assert_eq!(rt; abc.bytes(), after, "at {offset}");
+        }
+        Ok(())
+    }
+
+    #[test]
+    fn fills_a_content_to_the_limit(rt: HostRuntime) -> Result<(), Fail> {
+        let alloc = rt.alloc();
+        let mut empty = content(alloc, b"")?;
+        assert_eq!(rt;
+            empty.apply(&patch(alloc, 65_536, b"X")?),
+            Err(ContentFault::TooLong)
+        );
+        assert_eq!(rt; empty.bytes().len(), 0);
+        assert_eq!(rt; empty.apply(&patch(alloc, 65_535, b"X")?), Ok(()));
+        assert_eq!(rt; empty.bytes().len(), 65_536);
+        assert_eq!(rt; empty.bytes().first(), Some(&0));
+        assert_eq!(rt; empty.bytes().last(), Some(&b'X'));
+        Ok(())
+    }
+
+    #[test]
+    fn takes_no_longer_content(rt: HostRuntime) -> Result<(), Fail> {
+        let alloc = rt.alloc();
+        let most = Content::new(vec![in alloc; 7; 65_536]?)?;
+        assert_eq!(rt; most.try_copy()?.bytes(), most.bytes());
+        let more = Content::new(vec![in alloc; 7; 65_537]?);
+        assert_eq!(rt; more.map(|_| ()), Err(ContentFault::TooLong));
+        Ok(())
+    }
+
+    #[test]
+    fn faults_have_numbers(rt: HostRuntime) -> Result<(), Fail> {
+        let alloc = rt.alloc();
+        assert_eq!(rt;
+            format!(in alloc; "{}", ContentFault::TooLong)?.as_str(),
+            "1 TooLong"
+        );
+        assert_eq!(rt;
+            format!(in alloc; "{}", ContentFault::Memory)?.as_str(),
+            "2 Memory"
+        );
+        assert_eq!(rt; ContentFault::from(AllocError), ContentFault::Memory);
+        Ok(())
+    }
+}

@@ -16,5 +16,16 @@ pub fn access_laws()
 pub fn patch_laws()
     ensures list { RepeatedPatchesAgree }
     ensures one { RepeatedPatchAgrees }
-{
+{}
+
+#[cfg(test)]
+mod tests {
+    use super::*;
+
+    #[test]
+    fn laws_take_nothing() {
+        state_laws();
+        access_laws();
+        patch_laws();
+    }
 }

@@ -21,3 +21,22 @@ impl Patch {
         })
     }
 }
+
+#[cfg(test)]
+mod tests {
+    use super::*;
+    use std::test::Fail;
+
+    #[test]
+    fn copies_a_patch(rt: HostRuntime) -> Result<(), Fail> {
+        let patch = Patch {
+            offset: 4,
+            bytes: Bytes::new(Vec::from_slice(rt.alloc(), b"Y")?),
+        };
+        let copy = patch.try_copy()?;
+        assert_eq!(rt; copy, patch);
+        assert_eq!(rt; copy.offset, 4);
+        assert_eq!(rt; copy.bytes.as_slice(), b"Y".as_slice());
+        Ok(())
+    }
+}

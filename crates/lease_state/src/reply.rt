@@ -50,3 +50,26 @@ pub enum Reply {
         status: Status,
     },
 }
+
+#[cfg(test)]
+mod tests {
+    use super::*;
+    use std::test::Fail;
+
+    #[test]
+    fn replies_compare_by_their_fields(rt: HostRuntime) -> Result<(), Fail> {
+        let bytes = Bytes::new(Vec::from_slice(rt.alloc(), b"abc")?);
+        let other = Reply::ReadDone {
+            fid: FileId(2),
+            bytes: bytes.try_copy()?,
+        };
+        let done = Reply::ReadDone {
+            fid: FileId(1),
+            bytes,
+        };
+        assert!(rt; done == done);
+        assert!(rt; done != other);
+        assert!(rt; Reply::Break([0; 44]) != Reply::Break([1; 44]));
+        Ok(())
+    }
+}

@@ -13,7 +13,9 @@ pub enum Request {
         contexts: Bytes,
     },
     /// To read the whole file of an open (2.2.19).
-    Read { fid: FileId },
+    Read {
+        fid: FileId,
+    },
     /// To patch the file of an open (2.2.21). The client numbers its writes from 1.
     Write {
         fid: FileId,
@@ -21,7 +23,35 @@ pub enum Request {
         patch: Patch,
     },
     /// To close an open (2.2.15).
-    Close { fid: FileId },
+    Close {
+        fid: FileId,
+    },
     /// To acknowledge the break of a lease: the 36 bytes of 2.2.24.2.
     Ack([u8; 36]),
+}
+
+#[cfg(test)]
+mod tests {
+    use super::*;
+    use std::test::Fail;
+
+    #[test]
+    fn requests_compare_by_their_fields(rt: HostRuntime) -> Result<(), Fail> {
+        let bytes = Bytes::new(Vec::from_slice(rt.alloc(), b"Y")?);
+        let patch = Patch { offset: 4, bytes };
+        let other = Request::Write {
+            fid: FileId(1),
+            number: 1,
+            patch: patch.try_copy()?,
+        };
+        let write = Request::Write {
+            fid: FileId(1),
+            number: 2,
+            patch,
+        };
+        assert!(rt; write == write);
+        assert!(rt; write != other);
+        assert!(rt; Request::Ack([0; 36]) != Request::Ack([1; 36]));
+        Ok(())
+    }
 }

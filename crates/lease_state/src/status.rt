@@ -41,3 +41,28 @@ impl Status {
         }
     }
 }
+
+#[cfg(test)]
+mod tests {
+    use super::*;
+    use std::test::Fail;
+
+    #[test]
+    fn each_status_has_its_code(rt: HostRuntime) -> Result<(), Fail> {
+        let codes = [
+            (Status::Unsuccessful, "C0000001"),
+            (Status::InvalidParameter, "C000000D"),
+            (Status::AccessDenied, "C0000022"),
+            (Status::ObjectNameNotFound, "C0000034"),
+            (Status::SharingViolation, "C0000043"),
+            (Status::InsufficientResources, "C000009A"),
+            (Status::RequestNotAccepted, "C00000D0"),
+            (Status::FileClosed, "C0000128"),
+        ];
+        for (status, code) in codes {
+            let digits = format!(in rt.alloc(); "{:08X}", status.code())?;
+            assert_eq!(rt; digits.as_str(), code, "{status}");
+        }
+        Ok(())
+    }
+}
