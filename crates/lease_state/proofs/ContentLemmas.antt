@@ -1,5 +1,5 @@
 -- The length and the bytes of a patched content.
-use Rattle.std.proofs.Common.{◌≡◌, ◌≤◌, ◌<◌, ℕ, ◌+◌, ◌-◌, max, ◌∙◌, zero, suc, refl, arith, sym, ap, List, [], ◌∷◌, ◌++◌, length, take, drop, replicate, true, false, ◌⊎◌, inl, inr, length-append, length-drop}
+use Rattle.std.proofs.Common.{◌≡◌, ◌≤◌, ◌<◌, ℕ, ◌+◌, ◌-◌, max, ◌∙◌, zero, suc, refl, arith, sym, ap, List, [], ◌∷◌, ◌++◌, length, take, drop, replicate, inl, inr, length-append}
 use Rattle.std.proofs.lemmas.Bool.{le-leb, lt-leb, lt-ltb, le-ltb, cases_lt}
 use Rattle.std.proofs.lemmas.Grind.{same_number_lists, common_steps}
 use Rattle.std.proofs.lemmas.List.{get_or_past, take_all, take_at, get_or-append_right, get_or_append_left, get_or-take, get_or-drop, length-replicate, length-take-le}

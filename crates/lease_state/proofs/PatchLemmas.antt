@@ -1,9 +1,9 @@
 -- The law of patches: what is put on a second time changes nothing.
-use Rattle.std.proofs.Common.{◌≡◌, ◌≤◌, ◌<◌, ℕ, ◌+◌, max, ◌∙◌, zero, suc, refl, arith, sym, ap, List, [], ◌∷◌, ◌++◌, length, ◌⊎◌, inl, inr}
+use Rattle.std.proofs.Common.{◌≡◌, ◌≤◌, ℕ, ◌+◌, max, ◌∙◌, refl, arith, sym, ap, List, [], ◌∷◌, ◌++◌, length, ◌⊎◌, inl, inr}
 use Rattle.std.proofs.lemmas.Bool.{cases_lt}
 use Rattle.std.proofs.lemmas.Grind.{same_number_lists}
 use Rattle.std.proofs.Math.ListN.{get_or}
-use Rattle.lease_state.specs.Content.{byte_at, patch_at, patch, patches}
+use Rattle.lease_state.specs.Content.{byte_at, patch_at, patch, patches, end_of}
 use Rattle.lease_state.specs.declared.patch.Patch.{Patch}
 use Rattle.lease_state.proofs.ContentLemmas.{byte_at_within, byte_at_before, byte_at_behind, length-written, get_or-written}
 
@@ -21,9 +21,18 @@ abbrev pub reach : ℕ → List ℕ → ℕ
 reach o [] = 0
 reach o (b ∷ d) = o + length (b ∷ d)
 
+-- they reach no further than their end
+reach_le_end : (o : ℕ) (d : List ℕ) → reach o d ≤ o + length d
+reach_le_end o [] = omega arith
+reach_le_end o (b ∷ d) = omega arith
+
 pub length-patch_at : (x : List ℕ) (o : ℕ) (d : List ℕ) → length (patch_at x o d) ≡ max (length x) (reach o d)
 length-patch_at x o [] = omega arith
 length-patch_at x o (b ∷ d) = length-written x o (b ∷ d)
+
+-- a patch that ends within a limit leaves a content within it
+pub length-patch-le : (x : List ℕ) (p : Patch) (limit : ℕ) → length x ≤ limit → end_of p ≤ limit → length (patch x p) ≤ limit
+length-patch-le x p limit held fits = omega (arith, held, fits, length-patch_at x p.offset p.bytes, reach_le_end p.offset p.bytes)
 
 -- ---- many patches, by places
 abbrev pub reach_of_all : List Patch → ℕ

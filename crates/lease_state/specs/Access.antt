@@ -1,4 +1,4 @@
--- What opens do with a file, and what they let others do (MS-SMB2 2.2.13, 3.3.5.9).
+-- What opens do with a file, and what they let others do (MS-SMB2 2.2.13, ShareAccess).
 use Rattle.std.specs.Prelude.{ℕ, ◌+◌, Bool, true, false, if◌then◌else◌, ◌&&◌, ◌||◌, not}
 use Rattle.lease_state.specs.declared.access.Access.{Access}
 use Rattle.lease_state.specs.declared.access.Access.TheVariants as access

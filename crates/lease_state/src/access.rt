@@ -41,8 +41,8 @@ impl Access {
         }
     }
 
-    /// Whether another open that shares `share` lets an open of this access be: true exactly
-    /// where `share` allows all that the access does (MS-SMB2 3.3.5.9).
+    /// Whether an open that shares `share` lets an open of this access be: true exactly where
+    /// `share` allows all that the access does (ShareAccess, MS-SMB2 2.2.13).
     pub fn is_within(self, share: Share) -> bool
         ensures { result ≡ is_within (uses_of self) (allowed_by share) }
     {
@@ -50,7 +50,7 @@ impl Access {
     }
 
     /// Whether an open of this access and `share` conflicts with one of `other_access` and
-    /// `other_share` (3.3.5.9): true exactly where the access of one isn't within the share of
+    /// `other_share` (2.2.13): true exactly where the access of one isn't within the share of
     /// the other.
     pub fn conflicts(self, share: Share, other_access: Access, other_share: Share) -> bool
         ensures { result ≡ conflict self share other_access other_share }

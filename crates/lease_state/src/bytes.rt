@@ -26,6 +26,7 @@ impl Bytes {
         Bytes { items }
     }
 
+    /// The bytes, in order.
     pub fn as_slice(&self) -> &[u8]
         ensures { result.now ≡ self.now }
     {

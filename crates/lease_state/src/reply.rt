@@ -11,6 +11,7 @@ pub enum Reply {
         fid: FileId,
         contexts: Bytes,
     },
+    /// No file was opened (2.2.2).
     CreateFailed {
         file: FileNo,
         status: Status,
@@ -20,6 +21,7 @@ pub enum Reply {
         fid: FileId,
         bytes: Bytes,
     },
+    /// Nothing was read (2.2.2).
     ReadFailed {
         fid: FileId,
         status: Status,
@@ -29,6 +31,7 @@ pub enum Reply {
         fid: FileId,
         number: u64,
     },
+    /// The write of this number wasn't done (2.2.2).
     WriteFailed {
         fid: FileId,
         number: u64,
@@ -38,6 +41,7 @@ pub enum Reply {
     Closed {
         fid: FileId,
     },
+    /// No open was closed (2.2.2).
     CloseFailed {
         fid: FileId,
         status: Status,
@@ -46,6 +50,7 @@ pub enum Reply {
     Break([u8; 44]),
     /// The answer to an acknowledgment: the 36 bytes of 2.2.25.2.
     AckDone([u8; 36]),
+    /// The acknowledgment was refused (2.2.2).
     AckFailed {
         status: Status,
     },

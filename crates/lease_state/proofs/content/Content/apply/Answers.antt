@@ -1,5 +1,5 @@
-use Rattle.std.proofs.Common.{arith, rules, sym, ◌∙◌, ap}
-use Rattle.lease_state.proofs.ContentLemmas.{resized-over, over}
+use Rattle.std.proofs.Common.{rules}
+use Rattle.lease_state.proofs.ContentLemmas.{resized-over}
 use Rattle.lease_state.proofs.content.Content.apply.Goals as goal
 
 pub returns-in_ok-resize-clause-patched : goal.returns-in_ok-resize-clause-patched
