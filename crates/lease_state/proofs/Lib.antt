@@ -1,1 +1,3 @@
+pub mod ContentLemmas
+pub mod PatchLemmas
 pub mod StateLemmas

@@ -1,5 +1,5 @@
 -- What the bits of a number say of the state that they name.
-use Rattle.std.proofs.Common.{◌≡◌, ◌≤◌, ◌<◌, ℕ, ◌+◌, ◌∙◌, zero, suc, refl, arith, sym, ap}
+use Rattle.std.proofs.Common.{◌≡◌, ◌≤◌, ℕ, ◌∙◌, zero, suc, refl, arith, sym, ap}
 use Rattle.std.specs.Int.RustNames.{bit_and}
 use Rattle.std.proofs.lemmas.Nat.{and_assoc, and_le_r}
 use Rattle.lease_state.specs.State.{bits_of_state, state_of_bits}

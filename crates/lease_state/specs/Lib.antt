@@ -1,1 +1,5 @@
+pub mod Access
+pub mod Content
+pub mod Laws
 pub mod State
+pub mod Status

@@ -16,3 +16,18 @@ impl LeaseKey {
         Uuid::from_bytes(self.0).hyphenated().encode_lower(buffer)
     }
 }
+
+#[cfg(test)]
+mod tests {
+    use super::*;
+
+    #[test]
+    fn a_key_is_written_byte_by_byte(rt: HostRuntime) {
+        let key = LeaseKey([0, 1, 2, 3, 4, 5, 6, 7, 8, 9, 10, 11, 12, 13, 14, 15]);
+        let mut buffer = [0; 36];
+        assert_eq!(rt;
+            key.text(&mut buffer),
+            "00010203-0405-0607-0809-0a0b0c0d0e0f"
+        );
+    }
+}

@@ -94,3 +94,55 @@ impl LeaseState {
         self.contains(LeaseState::WRITE_CACHING) || self.contains(LeaseState::HANDLE_CACHING)
     }
 }
+
+#[cfg(test)]
+mod tests {
+    use super::*;
+
+    #[test]
+    fn reads_and_writes_the_wire_field(rt: HostRuntime) {
+        for bits in 0..8 {
+            assert_eq!(rt; LeaseState::from_wire(bits).to_wire(), bits);
+        }
+        assert_eq!(rt; LeaseState::from_wire(0xFFFF_FFFF).to_wire(), 7);
+        assert_eq!(rt; LeaseState::from_wire(0x0000_000B).to_wire(), 3);
+    }
+
+    #[test]
+    fn grants_nothing_without_reads(rt: HostRuntime) {
+        for (want, granted) in [
+            (0, 0),
+            (1, 1),
+            (2, 0),
+            (3, 3),
+            (4, 0),
+            (5, 5),
+            (6, 0),
+            (7, 7),
+        ] {
+            let state = LeaseState::from_wire(want).granted_form();
+            assert_eq!(rt; state.to_wire(), granted, "of {want}");
+        }
+    }
+
+    #[test]
+    fn acknowledges_more_than_reads(rt: HostRuntime) {
+        for (state, needs) in [(0, false), (1, false), (3, true), (5, true), (7, true)] {
+            assert_eq!(rt;
+                LeaseState::from_wire(state).needs_ack(),
+                needs,
+                "of {state}"
+            );
+        }
+    }
+
+    #[test]
+    fn passes_over_other_bits(rt: HostRuntime) {
+        let state = LeaseState::from_bits_retain(0xF9);
+        assert_eq!(rt; state, LeaseState::READ_CACHING);
+        assert_eq!(rt; state.to_wire(), 1);
+        assert!(rt; !state.needs_ack());
+        assert_eq!(rt; state.granted_form(), LeaseState::READ_CACHING);
+        assert_ne!(rt; state, LeaseState::from_wire(3));
+    }
+}

@@ -1,3 +1,6 @@
+ghost use Rattle.std.specs.Prelude.{◌≡◌};
+ghost use Rattle.lease_state.specs.Status.{code_of};
+
 use thiserror::Error;
 
 /// The status of a refused request (MS-SMB2 3.3.5; the codes are those of MS-ERREF 2.3.1).
@@ -19,4 +22,47 @@ pub enum Status {
     RequestNotAccepted,
     #[error("STATUS_FILE_CLOSED")]
     FileClosed,
+}
+
+impl Status {
+    /// The 4-byte code of the status (MS-ERREF 2.3.1).
+    pub fn code(self) -> u32
+        ensures { result ≡ code_of self }
+    {
+        match self {
+            Status::Unsuccessful => 0xC000_0001,
+            Status::InvalidParameter => 0xC000_000D,
+            Status::AccessDenied => 0xC000_0022,
+            Status::ObjectNameNotFound => 0xC000_0034,
+            Status::SharingViolation => 0xC000_0043,
+            Status::InsufficientResources => 0xC000_009A,
+            Status::RequestNotAccepted => 0xC000_00D0,
+            Status::FileClosed => 0xC000_0128,
+        }
+    }
+}
+
+#[cfg(test)]
+mod tests {
+    use super::*;
+    use std::test::Fail;
+
+    #[test]
+    fn each_status_has_its_code(rt: HostRuntime) -> Result<(), Fail> {
+        let codes = [
+            (Status::Unsuccessful, "C0000001"),
+            (Status::InvalidParameter, "C000000D"),
+            (Status::AccessDenied, "C0000022"),
+            (Status::ObjectNameNotFound, "C0000034"),
+            (Status::SharingViolation, "C0000043"),
+            (Status::InsufficientResources, "C000009A"),
+            (Status::RequestNotAccepted, "C00000D0"),
+            (Status::FileClosed, "C0000128"),
+        ];
+        for (status, code) in codes {
+            let digits = format!(in rt.alloc(); "{:08X}", status.code())?;
+            assert_eq!(rt; digits.as_str(), code, "{status}");
+        }
+        Ok(())
+    }
 }

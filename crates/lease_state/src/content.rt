@@ -1,0 +1,201 @@
+ghost use Rattle.std.specs.Prelude.{◌≡◌, ◌↔◌, ◌<◌, ◌≤◌, ◌+◌, ◌++◌, ℕ, [], length, take, drop, vec_len, IsOk, IsOkAnd, IfOk, OnOk, OnErr};
+ghost use Rattle.lease_state.specs.Content.{patch, end_of};
+
+use crate::{Memory, Patch};
+use std::alloc::AllocError;
+use std::marker::Model;
+use thiserror::Error;
+
+/// The most bytes that a file holds (own).
+pub const FILE_LIMIT: usize = 65_536;
+
+/// Why bytes didn't become a content, or a content took no patch (own).
+#[derive(Clone, Copy, Debug, PartialEq, Eq, Hash, Error)]
+pub enum ContentFault {
+    /// There are, or would be, more than `FILE_LIMIT` bytes.
+    #[error("1 TooLong")]
+    TooLong,
+    /// There is no memory left for the patched content.
+    #[error("2 Memory")]
+    Memory,
+}
+
+impl From<AllocError> for ContentFault {
+    ghost use Rattle.std.specs.Prelude.{◌≡◌};
+    ghost use Rattle.lease_state.specs.declared.content.ContentFault.TheVariants as fault;
+
+    ghost from_gives = { λ _ e. e ≡ fault.Memory };
+
+    fn from(_refused: AllocError) -> ContentFault {
+        ContentFault::Memory
+    }
+}
+
+/// The bytes of a file (own): `FILE_LIMIT` at most. Contracts see the list of them.
+#[derive(Debug, Drop)]
+pub struct Content {
+    bytes: Vec<u8>,
+}
+
+impl Model for Content {
+    ghost use Rattle.std.specs.Prelude.{◌≤◌, ℕ, List, vec_len};
+    ghost use Rattle.lease_state.specs.declared.content.TheConstants.{FILE_LIMIT};
+
+    ghost Value = { List ℕ };
+
+    ghost view = { λ c. c.bytes.items };
+
+    ghost invariant = { λ c. vec_len c.bytes ≤ FILE_LIMIT };
+}
+
+impl Content {
+    /// The content of these bytes, which stay where they are: no memory is taken. `TooLong`
+    /// where there are more than `FILE_LIMIT`; it never answers `Memory`.
+    pub fn new(bytes: Vec<u8>) -> Result<Content, ContentFault>
+        ensures too_long { (result ≡ Err ContentFault.TooLong) ↔ (FILE_LIMIT < length bytes.items) }
+        ensures held { length bytes.items ≤ FILE_LIMIT → IsOkAnd result (λ content. content ≡ bytes.items) }
+    {
+        if bytes.len() > FILE_LIMIT {
+            return Err(ContentFault::TooLong);
+        }
+        Ok(Content { bytes })
+    }
+
+    /// The bytes of the file, from its start.
+    pub fn bytes(&self) -> &[u8]
+        ensures list { result.now ≡ self.now }
+        ensures within { length self.now ≤ FILE_LIMIT }
+    {
+        self.bytes.as_slice()
+    }
+
+    /// Puts the patch's bytes at its offset, and zeros into a gap before them; an empty patch
+    /// changes nothing. `TooLong` where the patch ends past `FILE_LIMIT`, even an empty one;
+    /// `Memory` only where the content has to grow and there is none left. After either the
+    /// content is as it was.
+    pub fn apply(&mut self, change: &Patch) -> Result<(), ContentFault>
+        ensures too_long { (result ≡ Err ContentFault.TooLong) ↔ (FILE_LIMIT < end_of change.now) }
+        ensures patched { OnOk result (self.new ≡ patch self.old change.now) }
+        ensures err { OnErr result (self.new ≡ self.old) }
+
+        // A patch that adds no byte takes no memory.
+        ensures inside { end_of change.now ≤ length self.old → IsOk result }
+        ensures empty { change.now.bytes ≡ [] → end_of change.now ≤ FILE_LIMIT → IsOk result }
+    {
+        let held = self.bytes.len();
+        let offset = change.offset as usize;
+        let bytes = change.bytes.as_slice();
+        if bytes.len() > FILE_LIMIT || offset > FILE_LIMIT - bytes.len() {
+            return Err(ContentFault::TooLong);
+        }
+        if !bytes.is_empty() {
+            let end = offset + bytes.len();
+            self.bytes.resize(end.max(held), 0)?;
+            write_over(&mut self.bytes, offset, bytes);
+        }
+        Ok(())
+    }
+
+    /// An equal content in memory of its own, from the allocator of this one; `Memory` where
+    /// there is none left.
+    pub fn try_copy(&self) -> Result<Content, Memory>
+        ensures { IfOk result (λ copy. copy ≡ self.now) }
+    {
+        let bytes = Vec::from_slice(*self.bytes.allocator(), self.bytes.as_slice())?;
+        Ok(Content { bytes })
+    }
+}
+
+// Writes bytes over those from `offset` on.
+fn write_over(items: &mut [u8], offset: usize, bytes: &[u8])
+    requires { offset + length bytes.now ≤ length items.old }
+    ensures { items.new ≡ take offset items.old ++ (bytes.now ++ drop (offset + length bytes.now) items.old) }
+{
+    items[offset..offset + bytes.len()].copy_from_slice(bytes);
+}
+
+#[cfg(test)]
+mod tests {
+    use super::*;
+    use crate::Bytes;
+    use std::alloc::Global;
+    use std::test::Fail;
+
+    fn content(alloc: Global, bytes: &[u8]) -> Result<Content, Fail> {
+        Ok(Content::new(Vec::from_slice(alloc, bytes)?)?)
+    }
+
+    fn patch(alloc: Global, offset: u32, bytes: &[u8]) -> Result<Patch, Fail> {
+        Ok(Patch {
+            offset,
+            bytes: Bytes::new(Vec::from_slice(alloc, bytes)?),
+        })
+    }
+
+    #[test]
+    fn patches_a_content(rt: HostRuntime) -> Result<(), Fail> {
+        let alloc = rt.alloc();
+        let cases: [(u32, &[u8], Result<(), ContentFault>, &[u8]); 9] = [
+            (4, b"Y", Ok(()), b"abc\0Y"),
+            (65_536, b"", Ok(()), b"abc"),
+            (65_537, b"", Err(ContentFault::TooLong), b"abc"),
+            (4_294_967_295, b"Y", Err(ContentFault::TooLong), b"abc"),
+            (0, b"", Ok(()), b"abc"),
+            (0, b"X", Ok(()), b"Xbc"),
+            (1, b"XY", Ok(()), b"aXY"),
+            (2, b"XY", Ok(()), b"abXY"),
+            (3, b"X", Ok(()), b"abcX"),
+        ];
+        for (offset, bytes, answer, after) in cases {
+            let mut abc = content(alloc, b"abc")?;
+            assert_eq!(rt;
+                abc.apply(&patch(alloc, offset, bytes)?),
+                answer,
+                "at {offset}"
+            );
+            assert_eq!(rt; abc.bytes(), after, "at {offset}");
+        }
+        Ok(())
+    }
+
+    #[test]
+    fn fills_a_content_to_the_limit(rt: HostRuntime) -> Result<(), Fail> {
+        let alloc = rt.alloc();
+        let mut empty = content(alloc, b"")?;
+        assert_eq!(rt;
+            empty.apply(&patch(alloc, 65_536, b"X")?),
+            Err(ContentFault::TooLong)
+        );
+        assert_eq!(rt; empty.bytes().len(), 0);
+        assert_eq!(rt; empty.apply(&patch(alloc, 65_535, b"X")?), Ok(()));
+        assert_eq!(rt; empty.bytes().len(), 65_536);
+        assert_eq!(rt; empty.bytes().first(), Some(&0));
+        assert_eq!(rt; empty.bytes().last(), Some(&b'X'));
+        Ok(())
+    }
+
+    #[test]
+    fn takes_no_longer_content(rt: HostRuntime) -> Result<(), Fail> {
+        let alloc = rt.alloc();
+        let most = Content::new(vec![in alloc; 7; 65_536]?)?;
+        assert_eq!(rt; most.try_copy()?.bytes(), most.bytes());
+        let more = Content::new(vec![in alloc; 7; 65_537]?);
+        assert_eq!(rt; more.map(|_| ()), Err(ContentFault::TooLong));
+        Ok(())
+    }
+
+    #[test]
+    fn faults_have_numbers(rt: HostRuntime) -> Result<(), Fail> {
+        let alloc = rt.alloc();
+        assert_eq!(rt;
+            format!(in alloc; "{}", ContentFault::TooLong)?.as_str(),
+            "1 TooLong"
+        );
+        assert_eq!(rt;
+            format!(in alloc; "{}", ContentFault::Memory)?.as_str(),
+            "2 Memory"
+        );
+        assert_eq!(rt; ContentFault::from(AllocError), ContentFault::Memory);
+        Ok(())
+    }
+}
