@@ -4,3 +4,6 @@ pub mod HeaderFacts
 pub mod Items
 pub mod Messages
 pub mod Pieces
+pub mod LaidText
+pub mod ReadText
+pub mod Values

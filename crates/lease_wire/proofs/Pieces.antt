@@ -153,3 +153,41 @@ front_is start piece others long none size =
       body = rw (data_offset_of-front piece others long, data_length_of-front piece others long, text)
         (is_data piece (data_offset_of piece) (data_length_of piece) fits.data_behind data_inside);
     }
+
+-- bytes that are a context to their end
+pub whole_is : (start : ℕ) (bytes : List ℕ) → layout_fault start bytes ≡ None → next_of bytes ≡ 0 → IsContext start bytes (context_at start bytes)
+unfolding layout_fault
+whole_is start bytes none last =
+    let fits = header_fits start (length bytes) (header_of bytes) none in
+    let same = append-nil bytes in
+    let long = fits.header in
+    rw same at (front_is start bytes [] long (rw same none) (rw (same, last) refl))
+
+-- bytes that a context with another one behind it begins
+pub record LeadingIs (start : ℕ) (bytes : List ℕ) : Type 0 where
+  pub is : IsContext start (take (next_of bytes) bytes) (context_at start bytes)
+  pub on : LeadsOn (take (next_of bytes) bytes)
+  pub long : length (take (next_of bytes) bytes) ≡ next_of bytes
+  pub less : length (drop (next_of bytes) bytes) + 16 ≤ length bytes
+
+pub leading_is : (start : ℕ) (bytes : List ℕ) → layout_fault start bytes ≡ None → next_of bytes ≢ 0 → LeadingIs start bytes
+unfolding layout_fault
+leading_is start bytes none more =
+    let fits = header_fits start (length bytes) (header_of bytes) none in
+    let next = fits.next more in
+    let piece : List ℕ = take (next_of bytes) bytes in
+    let others : List ℕ = drop (next_of bytes) bytes in
+    let whole : piece ++ others ≡ bytes = take-append-drop (next_of bytes) bytes in
+    let long : length piece ≡ next_of bytes = length-take-le (next_of bytes) bytes next.2 in
+    let header : 16 ≤ length piece = omega arith in
+    let same : next_of (piece ++ others) ≡ next_of piece = next_of-front piece others header in
+    let told : next_of piece ≡ length piece = sym same ∙ ap next_of whole ∙ sym long in
+    let on : LeadsOn piece = record { next = told; aligned = rw long next.1 } in
+    let ends = ends_on piece others header on in
+    let is = front_is start piece others header (rw whole none) ends.size in
+    record {
+      is = rw whole at is;
+      on = on;
+      long = long;
+      less = omega (arith, length-drop {A = ℕ});
+    }

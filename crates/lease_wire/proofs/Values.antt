@@ -1,0 +1,158 @@
+-- One more context: what it adds to the value of those before it, or the rule of names that it breaks.
+use Rattle.std.proofs.Common.{◌≡◌, ℕ, Bool, true, false, if◌then◌else◌, List, [], ◌∷◌, ◌++◌, Option, Some, None, Result, Ok, Err, option_to_list, length, ◌≤◌, ◌+◌, refl, arith, length-append, sym, ◌∙◌, ap}
+use Rattle.std.specs.List.{filter_map, cons_option}
+use Rattle.std.proofs.lemmas.List.{append-nil}
+use Rattle.std.proofs.lemmas.List.Elements.{filter_map-append}
+use Rattle.lease_wire.specs.Chain.{ContextView}
+use Rattle.lease_wire.specs.Names.{Meaning, LeaseView, CreateView, HaveValue, meaning_of, told, lease_in, durable_in, reconnect_in, wrong_length_in}
+use Rattle.lease_wire.specs.Names.Meaning.{Unknown, WrongLength, Lease, Durable, Reconnect}
+use Rattle.lease_wire.specs.Faults.{meaning_fault, twice_if}
+use Rattle.lease_wire.specs.Gathering.{with_meaning, with_lease, with_durable, with_reconnect, nothing_told}
+use Rattle.lease_wire.specs.declared.direction.Direction.{Direction}
+use Rattle.lease_wire.specs.declared.fault.WireFault.{WireFault}
+use Rattle.lease_wire.specs.declared.fault.WireFault.TheVariants.{BadLength, Twice}
+
+pub value_of_nothing : (direction : Direction) → HaveValue direction [] nothing_told
+value_of_nothing direction = record { lengths = refl; lease = refl; durable = refl; reconnect = refl }
+
+-- what is told behind one more context
+told-more : {X : Type 0} (direction : Direction) (part : Meaning → Option X) (before : List ContextView) (context : ContextView) (meaning : Meaning) (behind : List ContextView)
+  → meaning_of direction context ≡ meaning
+  → told direction part (before ++ context ∷ behind) ≡ told direction part before ++ cons_option (part meaning) (told direction part behind)
+told-more direction part before context meaning behind is = rw (filter_map-append, is) refl
+
+abbrev pub fault_in : Result CreateView WireFault → Option WireFault
+fault_in (Ok v) = None
+fault_in (Err fault) = Some fault
+
+-- a value with one more meaning
+abbrev pub Adds : Direction → List ContextView → ContextView → Result CreateView WireFault → Type 0
+Adds direction before context (Ok v) = HaveValue direction (before ++ context ∷ []) v
+Adds direction before context (Err fault) = Unit {0}
+
+not_empty : {X : Type 0} (xs : List X) (y : X) (ys : List X) → xs ++ y ∷ ys ≡ [] → ⊥
+not_empty [] y ys e = cc
+not_empty (x ∷ xs) y ys e = cc
+
+alone_of : {X : Type 0} (xs : List X) (y z : X) (ys : List X) → xs ++ y ∷ ys ≡ z ∷ [] → xs ≡ []
+alone_of [] y z ys e = refl
+alone_of (x ∷ xs) y z ys e = let none : xs ++ y ∷ ys ≡ [] = cc in absurd (not_empty xs y ys none)
+
+alone : {X : Type 0} (xs : List X) (y : X) (ys : List X) (held : Option X) → xs ++ y ∷ ys ≡ option_to_list held → xs ≡ []
+alone xs y ys None e = absurd (not_empty xs y ys e)
+alone xs y ys (Some z) e = alone_of xs y z ys e
+
+alone_if : (xs : List Bool) (y : Bool) (ys : List Bool) (held : Bool) → xs ++ y ∷ ys ≡ (if held then true ∷ [] else []) → xs ≡ []
+alone_if xs y ys false e = absurd (not_empty xs y ys e)
+alone_if xs y ys true e = alone_of xs y true ys e
+
+same_option : {X : Type 0} (x y : Option X) → option_to_list x ≡ option_to_list y → x ≡ y
+same_option None None e = refl
+same_option None (Some y) e = cc
+same_option (Some x) None e = cc
+same_option (Some x) (Some y) e = cc
+
+same_flag : (x y : Bool) → (if x then true ∷ [] else []) ≡ (if y then true ∷ [] else []) → x ≡ y
+same_flag true true e = refl
+same_flag false false e = refl
+same_flag true false e = let clash : true ∷ [] ≡ [] = e in cc
+same_flag false true e = let clash : true ∷ [] ≡ [] = sym e in cc
+
+-- contexts have one value
+pub one_value : (direction : Direction) (contexts : List ContextView) (v w : CreateView) → HaveValue direction contexts v → HaveValue direction contexts w → v ≡ w
+one_value direction contexts v w first second =
+    same_view v.lease w.lease v.durable w.durable v.reconnect w.reconnect
+    (same_option v.lease w.lease (sym first.lease ∙ second.lease))
+    (same_flag v.durable w.durable (sym first.durable ∙ second.durable))
+    (same_option v.reconnect w.reconnect (sym first.reconnect ∙ second.reconnect))
+  where
+    same_view : (a b : Option LeaseView) (c d : Bool) (e f : Option ℕ) → a ≡ b → c ≡ d → e ≡ f
+      → ◌≡◌ {A = CreateView} (record { lease = a; durable = c; reconnect = e }) (record { lease = b; durable = d; reconnect = f })
+    same_view a b c d e f x y z = rw (x, y, z) refl
+
+module _ (direction : Direction) (before : List ContextView) (v : CreateView) (have : HaveValue direction before v) (context : ContextView) where
+  same : {X : Type 0} (part : Meaning → Option X) (meaning : Meaning) → meaning_of direction context ≡ meaning → part meaning ≡ None
+    → told direction part (before ++ context ∷ []) ≡ told direction part before
+  same part meaning is none = told-more direction part before context meaning [] is ∙ rw none (append-nil (told direction part before))
+
+  other : {X : Type 0} (part : Meaning → Option X) (meaning : Meaning) (y : X) → meaning_of direction context ≡ meaning → part meaning ≡ Some y → told direction part before ≡ []
+    → told direction part (before ++ context ∷ []) ≡ y ∷ []
+  other part meaning y is some none = told-more direction part before context meaning [] is ∙ rw (some, none) refl
+
+  adds_lease : (lease : LeaseView) (held : Option LeaseView) → v.lease ≡ held → meaning_of direction context ≡ Lease lease → Adds direction before context (with_lease v context.place lease held)
+  adds_lease lease (Some held) is_held is = tt
+  adds_lease lease None is_held is = record {
+    lengths = same wrong_length_in (Lease lease) is refl ∙ have.lengths;
+    lease = other lease_in (Lease lease) lease is refl (have.lease ∙ ap option_to_list is_held);
+    durable = same durable_in (Lease lease) is refl ∙ have.durable;
+    reconnect = same reconnect_in (Lease lease) is refl ∙ have.reconnect;
+  }
+
+  adds_durable : (held : Bool) → v.durable ≡ held → meaning_of direction context ≡ Durable → Adds direction before context (with_durable v context.place held)
+  adds_durable true is_held is = tt
+  adds_durable false is_held is = record {
+    lengths = same wrong_length_in Durable is refl ∙ have.lengths;
+    lease = same lease_in Durable is refl ∙ have.lease;
+    durable = other durable_in Durable true is refl (have.durable ∙ ap (λ b. if b then true ∷ [] else []) is_held);
+    reconnect = same reconnect_in Durable is refl ∙ have.reconnect;
+  }
+
+  adds_reconnect : (file_id : ℕ) (held : Option ℕ) → v.reconnect ≡ held → meaning_of direction context ≡ Reconnect file_id → Adds direction before context (with_reconnect v context.place file_id held)
+  adds_reconnect file_id (Some held) is_held is = tt
+  adds_reconnect file_id None is_held is = record {
+    lengths = same wrong_length_in (Reconnect file_id) is refl ∙ have.lengths;
+    lease = same lease_in (Reconnect file_id) is refl ∙ have.lease;
+    durable = same durable_in (Reconnect file_id) is refl ∙ have.durable;
+    reconnect = other reconnect_in (Reconnect file_id) file_id is refl (have.reconnect ∙ ap option_to_list is_held);
+  }
+
+  pub adds : (meaning : Meaning) → meaning_of direction context ≡ meaning → Adds direction before context (with_meaning v context.place meaning)
+  adds Unknown is = record {
+    lengths = same wrong_length_in Unknown is refl ∙ have.lengths;
+    lease = same lease_in Unknown is refl ∙ have.lease;
+    durable = same durable_in Unknown is refl ∙ have.durable;
+    reconnect = same reconnect_in Unknown is refl ∙ have.reconnect;
+  }
+  adds WrongLength is = tt
+  adds (Lease lease) is = adds_lease lease v.lease refl is
+  adds Durable is = adds_durable v.durable refl is
+  adds (Reconnect file_id) is = adds_reconnect file_id v.reconnect refl is
+
+  twice-list : {X : Type 0} (told_before : List X) (held : Option X) (place : ℕ) → told_before ≡ option_to_list held → (answer : Option X → Result CreateView WireFault)
+    → fault_in (answer None) ≡ None → ((y : X) → fault_in (answer (Some y)) ≡ Some (Twice place)) → fault_in (answer held) ≡ twice_if told_before place
+  twice-list told_before None place is answer none some = rw is none
+  twice-list told_before (Some y) place is answer none some = rw is (some y)
+
+  twice-bool : (told_before : List Bool) (held : Bool) (place : ℕ) → told_before ≡ (if held then true ∷ [] else []) → (answer : Bool → Result CreateView WireFault)
+    → fault_in (answer false) ≡ None → fault_in (answer true) ≡ Some (Twice place) → fault_in (answer held) ≡ twice_if told_before place
+  twice-bool told_before false place is answer none some = rw is none
+  twice-bool told_before true place is answer none some = rw is some
+
+  -- the fault that stops the gathering is the rule that is broken
+  pub faults : (place : ℕ) (meaning : Meaning) → fault_in (with_meaning v place meaning) ≡ meaning_fault direction before place meaning
+  faults place Unknown = refl
+  faults place WrongLength = refl
+  faults place (Lease lease) = twice-list (told direction lease_in before) v.lease place have.lease (λ held. with_lease v place lease held) refl (λ y. refl)
+  faults place Durable = twice-bool (told direction durable_in before) v.durable place have.durable (λ held. with_durable v place held) refl refl
+  faults place (Reconnect file_id) = twice-list (told direction reconnect_in before) v.reconnect place have.reconnect (λ held. with_reconnect v place file_id held) refl (λ y. refl)
+
+  -- where a value is had with this context and others behind it, the context breaks no rule
+  pub passes : (w : CreateView) (behind : List ContextView) → HaveValue direction (before ++ context ∷ behind) w → (place : ℕ) (meaning : Meaning) → meaning_of direction context ≡ meaning
+    → meaning_fault direction before place meaning ≡ None
+  passes w behind whole place Unknown is = refl
+  passes w behind whole place WrongLength is =
+    let some = told-more direction wrong_length_in before context WrongLength behind is in
+    let none = sym some ∙ whole.lengths in
+    absurd (not_empty (told direction wrong_length_in before) true _ none)
+  passes w behind whole place (Lease lease) is =
+    let some = told-more direction lease_in before context (Lease lease) behind is in
+    let none = alone (told direction lease_in before) lease _ w.lease (sym some ∙ whole.lease) in
+    rw none refl
+  passes w behind whole place Durable is =
+    let some = told-more direction durable_in before context Durable behind is in
+    let none = alone_if (told direction durable_in before) true _ w.durable (sym some ∙ whole.durable) in
+    rw none refl
+  passes w behind whole place (Reconnect file_id) is =
+    let some = told-more direction reconnect_in before context (Reconnect file_id) behind is in
+    let none = alone (told direction reconnect_in before) file_id _ w.reconnect (sym some ∙ whole.reconnect) in
+    rw none refl
