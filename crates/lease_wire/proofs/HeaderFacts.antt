@@ -121,21 +121,21 @@ none_of : (b : Bool) (fault : WireFault) (other : Option WireFault) → b ≡ fa
 none_of b fault other passes e = rw passes e
 
 next_passes : (left next : ℕ) → (next ≢ 0 → (16 ≤ next) × (next % 8 ≡ 0) × (next ≤ left))
-  → (not (next == 0) && (nat_lt next 16 || (not (next % 8 == 0) || nat_lt left next))) ≡ false
+    → (not (next == 0) && (nat_lt next 16 || (not (next % 8 == 0) || nat_lt left next))) ≡ false
 next_passes left next fits =
     elim (eqb_tells next 0) [
       | inl zero ↦ rw (zero.0) refl
       | inr more ↦
-        let facts = fits more.1 in
-        let even : (next % 8 == 0) ≡ true = rw (facts.1) refl in
-        rw (more.0, above_false next 16 facts.0, even, above_false left next facts.2) refl
+          let facts = fits more.1 in
+          let even : (next % 8 == 0) ≡ true = rw (facts.1) refl in
+          rw (more.0, above_false next 16 facts.0, even, above_false left next facts.2) refl
     ]
 
 part_passes : (offset count size : ℕ) → 16 ≤ offset → offset + count ≤ size → (nat_lt offset 16 || nat_lt size (offset + count)) ≡ false
 part_passes offset count size behind within = rw (above_false offset 16 behind, above_false size (offset + count) within) refl
 
 data_passes : (offset count size : ℕ) → (count ≢ 0 → 16 ≤ offset) → (count ≢ 0 → offset + count ≤ size)
-  → (not (count == 0) && (nat_lt offset 16 || nat_lt size (offset + count))) ≡ false
+    → (not (count == 0) && (nat_lt offset 16 || nat_lt size (offset + count))) ≡ false
 data_passes offset count size behind within =
     elim (eqb_tells count 0) [
       | inl zero ↦ rw (zero.0) refl

@@ -18,7 +18,7 @@ use Rattle.lease_wire.proofs.Values.{Adds, adds, faults, fault_in, passes, one_v
 
 -- the items of a last piece
 items_of_last : (start : ℕ) (piece : List ℕ) (context : ContextView) → IsContext start piece context → next_of piece ≡ 0
-  → items_behind start 0 (piece ++ []) ≡ Ok context ∷ []
+    → items_behind start 0 (piece ++ []) ≡ Ok context ∷ []
 items_of_last start piece context is last =
     let reads = front_reads start piece [] context is (ends_last piece last) in
     let end : next_of (piece ++ []) ≡ 0 = next_of-front piece [] is.header ∙ last in
@@ -26,7 +26,7 @@ items_of_last start piece context is last =
 
 -- the items of a piece that others follow
 items_of_leading : (start : ℕ) (piece others : List ℕ) (context : ContextView) → IsContext start piece context → LeadsOn piece
-  → items_behind start 0 (piece ++ others) ≡ Ok context ∷ items_behind (start + length piece) 0 others
+    → items_behind start 0 (piece ++ others) ≡ Ok context ∷ items_behind (start + length piece) 0 others
 items_of_leading start piece others context is on =
     let reads = front_reads start piece others context is (ends_on piece others is.header on) in
     let next : next_of (piece ++ others) ≡ length piece = next_of-front piece others is.header ∙ on.next in
@@ -41,22 +41,22 @@ record Added (direction : Direction) (before : List ContextView) (v : CreateView
   have : HaveValue direction (before ++ context ∷ []) value
 
 added : (direction : Direction) (before : List ContextView) (v w : CreateView) (context : ContextView) (behind : List ContextView)
-  → HaveValue direction before v → HaveValue direction (before ++ context ∷ behind) w → Added direction before v context
+    → HaveValue direction before v → HaveValue direction (before ++ context ∷ behind) w → Added direction before v context
 added direction before v w context behind have whole =
     by_result (with_meaning v context.place (meaning_of direction context)) refl (adds direction before v have context (meaning_of direction context) refl)
   where
     by_result : (answer : Result CreateView WireFault) → with_meaning v context.place (meaning_of direction context) ≡ answer
-      → Adds direction before context (with_meaning v context.place (meaning_of direction context)) → Added direction before v context
+        → Adds direction before context (with_meaning v context.place (meaning_of direction context)) → Added direction before v context
     by_result (Ok value) is has = record { value = value; adds = is; have = rw is at has }
     by_result (Err fault) is has =
-      let told = faults direction before v have context context.place (meaning_of direction context) in
-      let none = passes direction before v have context w behind whole context.place (meaning_of direction context) refl in
-      let clash : ◌≡◌ {A = Option WireFault} (Some fault) None = rw is at told ∙ none in
-      cc
+        let told = faults direction before v have context context.place (meaning_of direction context) in
+        let none = passes direction before v have context w behind whole context.place (meaning_of direction context) refl in
+        let clash : ◌≡◌ {A = Option WireFault} (Some fault) None = rw is at told ∙ none in
+        cc
 
 pub laid_reads : (direction : Direction) (start : ℕ) (pieces : List (List ℕ)) (contexts before : List ContextView) (v w : CreateView)
-  → AreLaidOut start pieces contexts → HaveValue direction before v → HaveValue direction (before ++ contexts) w
-  → gathered direction v (items_behind start 0 (concat pieces)) ≡ Ok w
+    → AreLaidOut start pieces contexts → HaveValue direction before v → HaveValue direction (before ++ contexts) w
+    → gathered direction v (items_behind start 0 (concat pieces)) ≡ Ok w
 unfolding gathered
 laid_reads direction start [] contexts before v w laid have whole = absurd laid
 laid_reads direction start (piece ∷ pieces) [] before v w laid have whole = absurd laid
@@ -71,8 +71,8 @@ laid_reads direction start (piece ∷ next ∷ pieces) (context ∷ contexts) be
 
 -- pieces that lead on are passed with the value that they have
 pub linked_reads : (direction : Direction) (start : ℕ) (pieces : List (List ℕ)) (contexts before : List ContextView) (rest : List ℕ) (v w : CreateView)
-  → AreLinked start pieces contexts → HaveValue direction before v → HaveValue direction (before ++ contexts) w
-  → gathered direction v (items_behind start 0 (concat pieces ++ rest)) ≡ gathered direction w (items_behind (start + length (concat pieces)) 0 rest)
+    → AreLinked start pieces contexts → HaveValue direction before v → HaveValue direction (before ++ contexts) w
+    → gathered direction v (items_behind start 0 (concat pieces ++ rest)) ≡ gathered direction w (items_behind (start + length (concat pieces)) 0 rest)
 unfolding gathered
 linked_reads direction start [] [] before rest v w linked have whole =
     let same : v ≡ w = one_value direction before v w have (rw (append-nil before) at whole) in
@@ -96,7 +96,7 @@ module _ (direction : Direction) (contexts : List ContextView) (w : CreateView) 
       by_result (with_meaning w place (meaning_of direction (context_at place rest))) refl (told ∙ stopped)
     where
       by_result : (answer : Result CreateView WireFault) → with_meaning w place (meaning_of direction (context_at place rest)) ≡ answer
-        → fault_in (with_meaning w place (meaning_of direction (context_at place rest))) ≡ Some fault → with_meaning w place (meaning_of direction (context_at place rest)) ≡ Err fault
+          → fault_in (with_meaning w place (meaning_of direction (context_at place rest))) ≡ Some fault → with_meaning w place (meaning_of direction (context_at place rest)) ≡ Err fault
       by_result (Ok value) is stopped = let clash : ◌≡◌ {A = Option WireFault} None (Some fault) = rw is at stopped in cc
       by_result (Err other) is stopped = let same : ◌≡◌ {A = Option WireFault} (Some other) (Some fault) = rw is at stopped in cc
 
@@ -107,9 +107,9 @@ module _ (direction : Direction) (contexts : List ContextView) (w : CreateView) 
       let equal : other ≡ fault = cc in
       rw (items_behind-fault place rest other is, equal) refl
   stops_by_fault None none = elim (eqb_tells (next_of rest) 0) [
-        | inl last ↦ rw (items_behind-last place rest none last.1, stops_at_name none) refl
-        | inr more ↦ rw (items_behind-more place rest none more.1, stops_at_name none) refl
-      ]
+    | inl last ↦ rw (items_behind-last place rest none last.1, stops_at_name none) refl
+    | inr more ↦ rw (items_behind-more place rest none more.1, stops_at_name none) refl
+  ]
 
   pub stops : gathered direction w (items_behind place 0 rest) ≡ Err fault
   stops = stops_by_fault (layout_fault place rest) refl

@@ -6,4 +6,5 @@ pub mod Messages
 pub mod Pieces
 pub mod LaidText
 pub mod ReadText
+pub mod ReadingLaws
 pub mod Values

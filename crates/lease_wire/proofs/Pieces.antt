@@ -57,17 +57,16 @@ header_of-front piece others long =
 
 -- what the parts of a context say of its header
 data_is : (piece : List ℕ) (offset count : ℕ) (part : List ℕ) → IsData piece offset count part
-  → (part ≡ bytes_at offset count piece) × (count ≢ 0 → 16 ≤ offset) × (count ≢ 0 → offset + count ≤ length piece)
+    → (part ≡ bytes_at offset count piece) × (count ≢ 0 → 16 ≤ offset) × (count ≢ 0 → offset + count ≤ length piece)
 data_is piece offset zero part is = (is, λ no. absurd (no refl), λ no. absurd (no refl))
 data_is piece offset (suc count) part is = (is.bytes, λ _. is.behind_the_header, λ _. is.within)
 
 is_data : (piece : List ℕ) (offset count : ℕ) → (count ≢ 0 → 16 ≤ offset) → (count ≢ 0 → offset + count ≤ length piece)
-  → IsData piece offset count (bytes_at offset count piece)
+    → IsData piece offset count (bytes_at offset count piece)
 is_data piece offset zero behind within = refl
 is_data piece offset (suc count) behind within =
     let some : suc count ≢ 0 = λ e. absurd (omega arith) in
     record { behind_the_header = behind some; within = within some; bytes = refl }
-
 
 data_at-front : (place count : ℕ) (front others : List ℕ) → (count ≢ 0 → place + count ≤ length front) → bytes_at place count (front ++ others) ≡ bytes_at place count front
 data_at-front place zero front others within = refl
@@ -99,8 +98,8 @@ front_fits start piece others context is ends =
     record {
       header = omega arith;
       next = λ more.
-        let on = ends.leads more in
-        (rw (on.next) long, rw (on.next) on.aligned, rw (on.next) (omega arith));
+          let on = ends.leads more in
+          (rw (on.next) long, rw (on.next) on.aligned, rw (on.next) (omega arith));
       name_behind = is.name.behind_the_header;
       name_within = rw (ends.size) is.name.within;
       data_behind = body.1;
@@ -108,15 +107,14 @@ front_fits start piece others context is ends =
     }
 
 pub front_reads : (start : ℕ) (piece others : List ℕ) (context : ContextView) → IsContext start piece context → Ends piece others
-  → (layout_fault start (piece ++ others) ≡ None) × (context_at start (piece ++ others) ≡ context)
+    → (layout_fault start (piece ++ others) ≡ None) × (context_at start (piece ++ others) ≡ context)
 unfolding layout_fault context_at
 front_reads start piece others context is ends =
     let long = is.header in
     let head = header_of-front piece others long in
     let body = data_is piece (data_offset_of piece) (data_length_of piece) context.body is.body in
     let name = bytes_at-front (name_offset_of piece) (name_length_of piece) piece others is.name.within in
-    let text = data_at-front (data_offset_of piece) (data_length_of piece) piece others body.2 in
-    (
+    let text = data_at-front (data_offset_of piece) (data_length_of piece) piece others body.2 in (
       rw head (fitting_header start _ (header_of piece) (front_fits start piece others context is ends)),
       rw (
         name_offset_of-front piece others long,
@@ -133,7 +131,7 @@ front_reads start piece others context is ends =
 
 -- where no test fails, the piece at the front is the context that is read
 pub front_is : (start : ℕ) (piece others : List ℕ) → 16 ≤ length piece → layout_fault start (piece ++ others) ≡ None
-  → size_of (length (piece ++ others)) (header_of piece) ≡ length piece → IsContext start piece (context_at start (piece ++ others))
+    → size_of (length (piece ++ others)) (header_of piece) ≡ length piece → IsContext start piece (context_at start (piece ++ others))
 unfolding layout_fault context_at
 front_is start piece others long none size =
     let head = header_of-front piece others long in
@@ -151,7 +149,7 @@ front_is start piece others long none size =
         bytes = rw (name_offset_of-front piece others long, name_length_of-front piece others long) name;
       };
       body = rw (data_offset_of-front piece others long, data_length_of-front piece others long, text)
-        (is_data piece (data_offset_of piece) (data_length_of piece) fits.data_behind data_inside);
+          (is_data piece (data_offset_of piece) (data_length_of piece) fits.data_behind data_inside);
     }
 
 -- bytes that are a context to their end

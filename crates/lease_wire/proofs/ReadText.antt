@@ -16,14 +16,14 @@ use Rattle.lease_wire.proofs.Pieces.{LeadingIs, whole_is, leading_is}
 use Rattle.lease_wire.proofs.Values.{Adds, adds, faults, fault_in}
 
 -- a value that is carried on
-carried_ok : (r : Result CreateView WireFault) (further : CreateView → Result CreateView WireFault) (w : CreateView) → carried r further ≡ Ok w
-  → (v : CreateView) × (r ≡ Ok v) × (further v ≡ Ok w)
+pub carried_ok : (r : Result CreateView WireFault) (further : CreateView → Result CreateView WireFault) (w : CreateView) → carried r further ≡ Ok w
+    → (v : CreateView) × (r ≡ Ok v) × (further v ≡ Ok w)
 carried_ok (Ok v) further w e = (v, refl, e)
 carried_ok (Err fault) further w e = cc
 
 -- a fault comes at once or later
 carried_err : (r : Result CreateView WireFault) (further : CreateView → Result CreateView WireFault) (fault : WireFault) → carried r further ≡ Err fault
-  → (r ≡ Err fault) ⊎ ((v : CreateView) × (r ≡ Ok v) × (further v ≡ Err fault))
+    → (r ≡ Err fault) ⊎ ((v : CreateView) × (r ≡ Ok v) × (further v ≡ Err fault))
 carried_err (Ok v) further fault e = inr (v, refl, e)
 carried_err (Err other) further fault e = inl e
 
@@ -36,13 +36,13 @@ pub record LaidFrom (direction : Direction) (start : ℕ) (bytes : List ℕ) (be
   pub value : HaveValue direction (before ++ contexts) w
 
 laid_on : (start next : ℕ) (piece : List ℕ) (pieces : List (List ℕ)) (context : ContextView) (contexts : List ContextView) → IsContext start piece context → LeadsOn piece → length piece ≡ next
-  → AreLaidOut (start + next) pieces contexts → AreLaidOut start (piece ∷ pieces) (context ∷ contexts)
+    → AreLaidOut (start + next) pieces contexts → AreLaidOut start (piece ∷ pieces) (context ∷ contexts)
 laid_on start next piece [] context contexts is on long laid = absurd laid
 laid_on start next piece (other ∷ pieces) context contexts is on long laid =
     let P : ℕ → Type 0 = λ size. AreLaidOut (start + size) (other ∷ pieces) contexts in (is, on, subst P (sym long) laid)
 
 laid_last : (direction : Direction) (start : ℕ) (bytes : List ℕ) (before : List ContextView) (w : CreateView) → layout_fault start bytes ≡ None → next_of bytes ≡ 0
-  → HaveValue direction (before ++ context_at start bytes ∷ []) w → LaidFrom direction start bytes before w
+    → HaveValue direction (before ++ context_at start bytes ∷ []) w → LaidFrom direction start bytes before w
 laid_last direction start bytes before w none last value = record {
   pieces = bytes ∷ [];
   contexts = context_at start bytes ∷ [];
@@ -52,7 +52,7 @@ laid_last direction start bytes before w none last value = record {
 }
 
 laid_more : (direction : Direction) (start : ℕ) (bytes : List ℕ) (before : List ContextView) (w : CreateView) → LeadingIs start bytes
-  → LaidFrom direction (start + next_of bytes) (drop (next_of bytes) bytes) (before ++ context_at start bytes ∷ []) w → LaidFrom direction start bytes before w
+    → LaidFrom direction (start + next_of bytes) (drop (next_of bytes) bytes) (before ++ context_at start bytes ∷ []) w → LaidFrom direction start bytes before w
 laid_more direction start bytes before w leading more = record {
   pieces = take (next_of bytes) bytes ∷ more.pieces;
   contexts = context_at start bytes ∷ more.contexts;
@@ -63,23 +63,23 @@ laid_more direction start bytes before w leading more = record {
 
 -- one more context gives the value that it adds to
 value_after : (direction : Direction) (before : List ContextView) (v w : CreateView) (context : ContextView) → HaveValue direction before v
-  → with_meaning v context.place (meaning_of direction context) ≡ Ok w → HaveValue direction (before ++ context ∷ []) w
+    → with_meaning v context.place (meaning_of direction context) ≡ Ok w → HaveValue direction (before ++ context ∷ []) w
 value_after direction before v w context have e =
     let P : Result CreateView WireFault → Type 0 = Adds direction before context in
     subst P e (adds direction before v have context (meaning_of direction context) refl)
 
 last_or_more : (bytes : List ℕ) → (next_of bytes ≡ 0) ⊎ (next_of bytes ≢ 0)
 last_or_more bytes = elim (eqb_tells (next_of bytes) 0) [
-      | inl last ↦ inl last.1
-      | inr more ↦ inr more.1
-    ]
+  | inl last ↦ inl last.1
+  | inr more ↦ inr more.1
+]
 
 -- one context of a text that is read well, given what is behind it
 module _ (direction : Direction) (start : ℕ) (bytes : List ℕ) (before : List ContextView) (v w : CreateView)
     (have : HaveValue direction before v) (e : gathered direction v (items_behind start 0 bytes) ≡ Ok w)
     (further : (x : CreateView) → HaveValue direction (before ++ context_at start bytes ∷ []) x → next_of bytes ≢ 0 → length (drop (next_of bytes) bytes) + 16 ≤ length bytes
-      → gathered direction x (items_behind (start + next_of bytes) 0 (drop (next_of bytes) bytes)) ≡ Ok w
-      → LaidFrom direction (start + next_of bytes) (drop (next_of bytes) bytes) (before ++ context_at start bytes ∷ []) w) where
+    → gathered direction x (items_behind (start + next_of bytes) 0 (drop (next_of bytes) bytes)) ≡ Ok w
+    → LaidFrom direction (start + next_of bytes) (drop (next_of bytes) bytes) (before ++ context_at start bytes ∷ []) w) where
   laid_by_next : layout_fault start bytes ≡ None → ((next_of bytes ≡ 0) ⊎ (next_of bytes ≢ 0)) → LaidFrom direction start bytes before w
   unfolding gathered
   laid_by_next none (inl last) =
@@ -93,7 +93,7 @@ module _ (direction : Direction) (start : ℕ) (bytes : List ℕ) (before : List
       let step = carried_ok _ _ w read in
       let leading = leading_is start bytes none more in
       laid_more direction start bytes before w leading
-        (further step.0 (value_after direction before v step.0 (context_at start bytes) have step.1) more leading.less step.2)
+      (further step.0 (value_after direction before v step.0 (context_at start bytes) have step.1) more leading.less step.2)
 
   laid_by_fault : (answer : Option WireFault) → layout_fault start bytes ≡ answer → LaidFrom direction start bytes before w
   unfolding gathered
@@ -101,7 +101,7 @@ module _ (direction : Direction) (start : ℕ) (bytes : List ℕ) (before : List
   laid_by_fault None none = laid_by_next none (last_or_more bytes)
 
 pub text_laid : (room : ℕ) (direction : Direction) (start : ℕ) (bytes : List ℕ) (before : List ContextView) (v w : CreateView) → length bytes ≤ room → HaveValue direction before v
-  → gathered direction v (items_behind start 0 bytes) ≡ Ok w → LaidFrom direction start bytes before w
+    → gathered direction v (items_behind start 0 bytes) ≡ Ok w → LaidFrom direction start bytes before w
 text_laid zero direction start bytes before v w within have e =
     laid_by_fault direction start bytes before v w have e (λ x value more less read. absurd (omega arith)) (layout_fault start bytes) refl
 text_laid (suc room) direction start bytes before v w within have e =
@@ -119,7 +119,7 @@ pub record FaultyFrom (direction : Direction) (start : ℕ) (bytes : List ℕ) (
   pub first : first_fault direction (before ++ contexts) (start + length (concat pieces)) rest ≡ Some fault
 
 faulty_here : (direction : Direction) (start : ℕ) (bytes : List ℕ) (before : List ContextView) (v : CreateView) (fault : WireFault) → HaveValue direction before v
-  → first_fault direction before start bytes ≡ Some fault → FaultyFrom direction start bytes before fault
+    → first_fault direction before start bytes ≡ Some fault → FaultyFrom direction start bytes before fault
 faulty_here direction start bytes before v fault have first = record {
   pieces = [];
   contexts = [];
@@ -132,7 +132,7 @@ faulty_here direction start bytes before v fault have first = record {
 }
 
 faulty_more : (direction : Direction) (start : ℕ) (bytes : List ℕ) (before : List ContextView) (fault : WireFault) → LeadingIs start bytes
-  → FaultyFrom direction (start + next_of bytes) (drop (next_of bytes) bytes) (before ++ context_at start bytes ∷ []) fault → FaultyFrom direction start bytes before fault
+    → FaultyFrom direction (start + next_of bytes) (drop (next_of bytes) bytes) (before ++ context_at start bytes ∷ []) fault → FaultyFrom direction start bytes before fault
 faulty_more direction start bytes before fault leading more =
     let piece : List ℕ = take (next_of bytes) bytes in
     let far : start + next_of bytes + length (concat more.pieces) ≡ start + length (piece ++ concat more.pieces) = omega (arith, length-append piece (concat more.pieces), leading.long) in
@@ -151,8 +151,8 @@ faulty_more direction start bytes before fault leading more =
 module _ (direction : Direction) (start : ℕ) (bytes : List ℕ) (before : List ContextView) (v : CreateView) (fault : WireFault)
     (have : HaveValue direction before v) (e : gathered direction v (items_behind start 0 bytes) ≡ Err fault)
     (further : (x : CreateView) → HaveValue direction (before ++ context_at start bytes ∷ []) x → length (drop (next_of bytes) bytes) + 16 ≤ length bytes
-      → gathered direction x (items_behind (start + next_of bytes) 0 (drop (next_of bytes) bytes)) ≡ Err fault
-      → FaultyFrom direction (start + next_of bytes) (drop (next_of bytes) bytes) (before ++ context_at start bytes ∷ []) fault) where
+    → gathered direction x (items_behind (start + next_of bytes) 0 (drop (next_of bytes) bytes)) ≡ Err fault
+    → FaultyFrom direction (start + next_of bytes) (drop (next_of bytes) bytes) (before ++ context_at start bytes ∷ []) fault) where
   -- the rule of names that the context here breaks
   faulty_name : layout_fault start bytes ≡ None → with_meaning v (context_at start bytes).place (meaning_of direction (context_at start bytes)) ≡ Err fault → FaultyFrom direction start bytes before fault
   unfolding context_at
@@ -175,7 +175,7 @@ module _ (direction : Direction) (start : ℕ) (bytes : List ℕ) (before : List
       elim (carried_err _ _ fault read) [
         | inl broken ↦ faulty_name none broken
         | inr step ↦ faulty_more direction start bytes before fault leading
-          (further step.0 (value_after direction before v step.0 (context_at start bytes) have step.1) leading.less step.2)
+            (further step.0 (value_after direction before v step.0 (context_at start bytes) have step.1) leading.less step.2)
       ]
 
   faulty_by_fault : (answer : Option WireFault) → layout_fault start bytes ≡ answer → FaultyFrom direction start bytes before fault
@@ -187,7 +187,7 @@ module _ (direction : Direction) (start : ℕ) (bytes : List ℕ) (before : List
   faulty_by_fault None none = faulty_by_next none (last_or_more bytes)
 
 pub text_faulty : (room : ℕ) (direction : Direction) (start : ℕ) (bytes : List ℕ) (before : List ContextView) (v : CreateView) (fault : WireFault) → length bytes ≤ room → HaveValue direction before v
-  → gathered direction v (items_behind start 0 bytes) ≡ Err fault → FaultyFrom direction start bytes before fault
+    → gathered direction v (items_behind start 0 bytes) ≡ Err fault → FaultyFrom direction start bytes before fault
 text_faulty zero direction start bytes before v fault within have e =
     faulty_by_fault direction start bytes before v fault have e (λ x value less read. absurd (omega arith)) (layout_fault start bytes) refl
 text_faulty (suc room) direction start bytes before v fault within have e =

@@ -17,8 +17,8 @@ value_of_nothing direction = record { lengths = refl; lease = refl; durable = re
 
 -- what is told behind one more context
 told-more : {X : Type 0} (direction : Direction) (part : Meaning → Option X) (before : List ContextView) (context : ContextView) (meaning : Meaning) (behind : List ContextView)
-  → meaning_of direction context ≡ meaning
-  → told direction part (before ++ context ∷ behind) ≡ told direction part before ++ cons_option (part meaning) (told direction part behind)
+    → meaning_of direction context ≡ meaning
+    → told direction part (before ++ context ∷ behind) ≡ told direction part before ++ cons_option (part meaning) (told direction part behind)
 told-more direction part before context meaning behind is = rw (filter_map-append, is) refl
 
 abbrev pub fault_in : Result CreateView WireFault → Option WireFault
@@ -67,16 +67,16 @@ one_value direction contexts v w first second =
     (same_option v.reconnect w.reconnect (sym first.reconnect ∙ second.reconnect))
   where
     same_view : (a b : Option LeaseView) (c d : Bool) (e f : Option ℕ) → a ≡ b → c ≡ d → e ≡ f
-      → ◌≡◌ {A = CreateView} (record { lease = a; durable = c; reconnect = e }) (record { lease = b; durable = d; reconnect = f })
+        → ◌≡◌ {A = CreateView} (record { lease = a; durable = c; reconnect = e }) (record { lease = b; durable = d; reconnect = f })
     same_view a b c d e f x y z = rw (x, y, z) refl
 
 module _ (direction : Direction) (before : List ContextView) (v : CreateView) (have : HaveValue direction before v) (context : ContextView) where
   same : {X : Type 0} (part : Meaning → Option X) (meaning : Meaning) → meaning_of direction context ≡ meaning → part meaning ≡ None
-    → told direction part (before ++ context ∷ []) ≡ told direction part before
+      → told direction part (before ++ context ∷ []) ≡ told direction part before
   same part meaning is none = told-more direction part before context meaning [] is ∙ rw none (append-nil (told direction part before))
 
   other : {X : Type 0} (part : Meaning → Option X) (meaning : Meaning) (y : X) → meaning_of direction context ≡ meaning → part meaning ≡ Some y → told direction part before ≡ []
-    → told direction part (before ++ context ∷ []) ≡ y ∷ []
+      → told direction part (before ++ context ∷ []) ≡ y ∷ []
   other part meaning y is some none = told-more direction part before context meaning [] is ∙ rw (some, none) refl
 
   adds_lease : (lease : LeaseView) (held : Option LeaseView) → v.lease ≡ held → meaning_of direction context ≡ Lease lease → Adds direction before context (with_lease v context.place lease held)
@@ -119,12 +119,12 @@ module _ (direction : Direction) (before : List ContextView) (v : CreateView) (h
   adds (Reconnect file_id) is = adds_reconnect file_id v.reconnect refl is
 
   twice-list : {X : Type 0} (told_before : List X) (held : Option X) (place : ℕ) → told_before ≡ option_to_list held → (answer : Option X → Result CreateView WireFault)
-    → fault_in (answer None) ≡ None → ((y : X) → fault_in (answer (Some y)) ≡ Some (Twice place)) → fault_in (answer held) ≡ twice_if told_before place
+      → fault_in (answer None) ≡ None → ((y : X) → fault_in (answer (Some y)) ≡ Some (Twice place)) → fault_in (answer held) ≡ twice_if told_before place
   twice-list told_before None place is answer none some = rw is none
   twice-list told_before (Some y) place is answer none some = rw is (some y)
 
   twice-bool : (told_before : List Bool) (held : Bool) (place : ℕ) → told_before ≡ (if held then true ∷ [] else []) → (answer : Bool → Result CreateView WireFault)
-    → fault_in (answer false) ≡ None → fault_in (answer true) ≡ Some (Twice place) → fault_in (answer held) ≡ twice_if told_before place
+      → fault_in (answer false) ≡ None → fault_in (answer true) ≡ Some (Twice place) → fault_in (answer held) ≡ twice_if told_before place
   twice-bool told_before false place is answer none some = rw is none
   twice-bool told_before true place is answer none some = rw is some
 
@@ -138,21 +138,21 @@ module _ (direction : Direction) (before : List ContextView) (v : CreateView) (h
 
   -- where a value is had with this context and others behind it, the context breaks no rule
   pub passes : (w : CreateView) (behind : List ContextView) → HaveValue direction (before ++ context ∷ behind) w → (place : ℕ) (meaning : Meaning) → meaning_of direction context ≡ meaning
-    → meaning_fault direction before place meaning ≡ None
+      → meaning_fault direction before place meaning ≡ None
   passes w behind whole place Unknown is = refl
   passes w behind whole place WrongLength is =
-    let some = told-more direction wrong_length_in before context WrongLength behind is in
-    let none = sym some ∙ whole.lengths in
-    absurd (not_empty (told direction wrong_length_in before) true _ none)
+      let some = told-more direction wrong_length_in before context WrongLength behind is in
+      let none = sym some ∙ whole.lengths in
+      absurd (not_empty (told direction wrong_length_in before) true _ none)
   passes w behind whole place (Lease lease) is =
-    let some = told-more direction lease_in before context (Lease lease) behind is in
-    let none = alone (told direction lease_in before) lease _ w.lease (sym some ∙ whole.lease) in
-    rw none refl
+      let some = told-more direction lease_in before context (Lease lease) behind is in
+      let none = alone (told direction lease_in before) lease _ w.lease (sym some ∙ whole.lease) in
+      rw none refl
   passes w behind whole place Durable is =
-    let some = told-more direction durable_in before context Durable behind is in
-    let none = alone_if (told direction durable_in before) true _ w.durable (sym some ∙ whole.durable) in
-    rw none refl
+      let some = told-more direction durable_in before context Durable behind is in
+      let none = alone_if (told direction durable_in before) true _ w.durable (sym some ∙ whole.durable) in
+      rw none refl
   passes w behind whole place (Reconnect file_id) is =
-    let some = told-more direction reconnect_in before context (Reconnect file_id) behind is in
-    let none = alone (told direction reconnect_in before) file_id _ w.reconnect (sym some ∙ whole.reconnect) in
-    rw none refl
+      let some = told-more direction reconnect_in before context (Reconnect file_id) behind is in
+      let none = alone (told direction reconnect_in before) file_id _ w.reconnect (sym some ∙ whole.reconnect) in
+      rw none refl

@@ -8,3 +8,5 @@ pub mod Faults
 pub mod Gathering
 pub mod Contexts
 pub mod Found
+pub mod Canonical
+pub mod Create

@@ -1,4 +1,4 @@
-ghost use Rattle.std.specs.Prelude.{◌≡◌, MatchResult};
+ghost use Rattle.std.specs.Prelude.{◌≡◌};
 ghost use Rattle.lease_wire.specs.Gathering.{with_meaning, value_of, nothing_told};
 ghost use Rattle.lease_wire.specs.Found.{found_of, found_result, meaning_view};
 

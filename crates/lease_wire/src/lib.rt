@@ -3,6 +3,7 @@
 
 mod acknowledgment;
 mod chain;
+mod create;
 mod direction;
 mod fault;
 mod field;
@@ -12,12 +13,15 @@ mod header;
 mod key_and_state;
 mod meaning;
 mod notification;
+mod reading;
 mod response;
 mod walk;
 
 pub use acknowledgment::{Acknowledgment, acknowledgment_laws};
 pub use chain::{Context, Contexts};
+pub use create::{CreateAnswer, CreateAsk};
 pub use fault::WireFault;
 pub use notification::{Notification, notification_laws};
+pub use reading::{read_create, read_create_reply, reading_laws};
 pub use response::BreakResponse;
 pub use walk::contexts;

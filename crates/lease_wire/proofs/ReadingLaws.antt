@@ -1,0 +1,168 @@
+-- A reader's answer is right for every text.
+use Rattle.std.proofs.Common.{◌≡◌, ◌≢◌, ℕ, List, [], ◌∷◌, ◌++◌, length, Bool, true, false, ◌||◌, if◌then◌else◌, ◌==◌, Option, Some, None, Result, Ok, Err, refl, arith, zero-add, sym, ◌∙◌, ap, subst, ◌↔◌, IfSome}
+use Rattle.std.specs.List.{concat}
+use Rattle.std.specs.Str.{bytes_eq}
+use Rattle.lease_wire.specs.Chain.{ContextView, HoldsContexts}
+use Rattle.lease_wire.specs.Reading.{Item, items_behind, items_of}
+use Rattle.lease_wire.specs.Names.{Meaning, CreateView, LeaseView, HaveValue, HoldsValue, meaning_of, lease_view, lease_meaning, durable_meaning, reconnect_meaning, lease_name, durable_name, reconnect_name}
+use Rattle.lease_wire.specs.Names.Meaning.{Unknown, WrongLength, Lease, Durable, Reconnect}
+use Rattle.lease_wire.specs.Faults.{IsFaultOf, IsFaultBehind}
+use Rattle.lease_wire.specs.Gathering.{gathered, value_of, nothing_told, with_meaning, with_lease, with_durable, with_reconnect, carried}
+use Rattle.lease_wire.specs.Canonical.{IsDirected}
+use Rattle.lease_wire.specs.Create.{IsReadingOf, ValueIsRead}
+use Rattle.lease_wire.specs.Found.{found_of, lease_of}
+use Rattle.lease_wire.specs.declared.found.Found.{Found}
+use Rattle.lease_wire.specs.declared.meaning.Lease as code
+use Rattle.std.specs.Option.{option_map}
+use Rattle.lease_wire.specs.declared.direction.Direction.{Direction}
+use Rattle.lease_wire.specs.declared.direction.Direction.TheVariants.{Request, Reply}
+use Rattle.lease_wire.specs.declared.fault.WireFault.{WireFault}
+use Rattle.lease_wire.proofs.LaidText.{laid_reads, linked_reads, stops}
+use Rattle.lease_wire.proofs.ReadText.{text_laid, text_faulty, carried_ok}
+use Rattle.lease_wire.proofs.Values.{value_of_nothing, one_value}
+
+value_held : (direction : Direction) (text : List ℕ) (v : CreateView) → value_of direction text ≡ Ok v → HoldsValue direction text v
+unfolding gathered
+value_held direction [] v e =
+    let same : nothing_told ≡ v = cc in
+    let P : CreateView → Type 0 = HaveValue direction [] in
+    ([], refl, subst P same (value_of_nothing direction))
+value_held direction (byte ∷ bytes) v e =
+    let laid = text_laid (length (byte ∷ bytes)) direction 0 (byte ∷ bytes) [] nothing_told v (omega arith) (value_of_nothing direction) e in
+    (laid.contexts, (laid.pieces, laid.whole, laid.laid), laid.value)
+
+held_value : (direction : Direction) (text : List ℕ) (v : CreateView) → HoldsValue direction text v → value_of direction text ≡ Ok v
+unfolding gathered
+held_value direction [] v (contexts, none, value) =
+    let same : nothing_told ≡ v = one_value direction [] nothing_told v (value_of_nothing direction) (rw none at value) in
+    rw same refl
+held_value direction (byte ∷ bytes) v (contexts, (pieces, whole, laid), value) =
+    rw whole at (laid_reads direction 0 pieces contexts [] nothing_told v laid (value_of_nothing direction) value)
+
+fault_had : (direction : Direction) (text : List ℕ) (fault : WireFault) → value_of direction text ≡ Err fault → IsFaultOf direction text fault
+unfolding gathered
+fault_had direction [] fault e = cc
+fault_had direction (byte ∷ bytes) fault e =
+    let faulty = text_faulty (length (byte ∷ bytes)) direction 0 (byte ∷ bytes) [] nothing_told fault (omega arith) (value_of_nothing direction) e in
+    (
+      λ none. cc,
+      (faulty.pieces, faulty.contexts, faulty.rest, record {
+        whole = faulty.whole;
+        linked = faulty.linked;
+        named = (faulty.value, faulty.named);
+        first = rw (zero-add (length (concat faulty.pieces))) at faulty.first;
+      }),
+    )
+
+had_fault : (direction : Direction) (text : List ℕ) (fault : WireFault) → IsFaultOf direction text fault → value_of direction text ≡ Err fault
+had_fault direction [] fault (some, faulty) = absurd (some refl)
+had_fault direction (byte ∷ bytes) fault (some, (pieces, contexts, rest, is)) =
+    let passed = linked_reads direction 0 pieces contexts [] rest nothing_told is.named.0 is.linked (value_of_nothing direction) is.named.1 in
+    rw (is.whole, zero-add (length (concat pieces))) at passed ∙ stops direction contexts is.named.0 (length (concat pieces)) rest fault is.named.1 is.first
+
+pub value_is_read : ValueIsRead
+value_is_read direction text = record {
+  value = λ v. (value_held direction text v, held_value direction text v);
+  fault = λ fault. (fault_had direction text fault, had_fault direction text fault);
+}
+
+pub reading_by_value : (direction : Direction) (text : List ℕ) (answer : Result CreateView WireFault) → answer ≡ value_of direction text → IsReadingOf direction text answer
+reading_by_value direction text answer e =
+    let P : Result CreateView WireFault → Type 0 = IsReadingOf direction text in
+    subst P (sym e) (value_is_read direction text)
+
+-- a request's meaning tells of no break in progress, a response's is no reconnect
+abbrev MeansDirected : Direction → Meaning → Type 0
+MeansDirected Request (Lease lease) = lease.breaking ≡ false
+MeansDirected Reply (Reconnect file_id) = ⊥
+MeansDirected _ _ = Unit {0}
+
+if_either : {X : Type 0} (P : X → Type 0) (b : Bool) (x y : X) → P x → P y → P (if b then x else y)
+if_either P true x y first second = first
+if_either P false x y first second = second
+
+lease_directed : (direction : Direction) (body : List ℕ) → MeansDirected direction (lease_meaning direction body)
+lease_directed Request body = if_either (MeansDirected Request) (length body == 32) (Lease (lease_view Request body)) Unknown refl tt
+lease_directed Reply body = if_either (MeansDirected Reply) (length body == 32) (Lease (lease_view Reply body)) Unknown tt tt
+
+durable_directed : (direction : Direction) (body : List ℕ) → MeansDirected direction (durable_meaning direction body)
+durable_directed Request body = if_either (MeansDirected Request) (length body == 16) Durable WrongLength tt tt
+durable_directed Reply body = if_either (MeansDirected Reply) (length body == 8) Durable WrongLength tt tt
+
+reconnect_directed : (direction : Direction) (body : List ℕ) → MeansDirected direction (reconnect_meaning direction body)
+reconnect_directed Request body = if_either (MeansDirected Request) (length body == 16) (Reconnect _) WrongLength tt tt
+reconnect_directed Reply body = tt
+
+unknown_directed : (direction : Direction) → MeansDirected direction Unknown
+unknown_directed Request = tt
+unknown_directed Reply = tt
+
+meaning_directed : (direction : Direction) (context : ContextView) → MeansDirected direction (meaning_of direction context)
+unfolding meaning_of
+meaning_directed direction context =
+    if_either (MeansDirected direction) (bytes_eq context.name lease_name) _ _ (lease_directed direction context.body)
+    (if_either (MeansDirected direction) (bytes_eq context.name durable_name) _ _ (durable_directed direction context.body)
+    (if_either (MeansDirected direction) (bytes_eq context.name reconnect_name) _ _ (reconnect_directed direction context.body) (unknown_directed direction)))
+
+abbrev StaysDirected : Direction → Result CreateView WireFault → Type 0
+StaysDirected direction (Ok v) = IsDirected direction v
+StaysDirected direction (Err fault) = Unit {0}
+
+with_directed : (direction : Direction) (v : CreateView) (place : ℕ) (meaning : Meaning) → IsDirected direction v → MeansDirected direction meaning → StaysDirected direction (with_meaning v place meaning)
+with_directed direction v place Unknown is means = is
+with_directed direction v place WrongLength is means = tt
+with_directed direction v place (Lease lease) is means = of direction v.lease is means
+  where
+    of : (direction : Direction) (held : Option LeaseView) → IsDirected direction v → MeansDirected direction (Lease lease) → StaysDirected direction (with_lease v place lease held)
+    of direction (Some held) is means = tt
+    of Request None is means = means
+    of Reply None is means = is
+with_directed direction v place Durable is means = of direction v.durable is
+  where
+    of : (direction : Direction) (held : Bool) → IsDirected direction v → StaysDirected direction (with_durable v place held)
+    of direction true is = tt
+    of Request false is = is
+    of Reply false is = is
+with_directed direction v place (Reconnect file_id) is means = of direction v.reconnect is means
+  where
+    of : (direction : Direction) (held : Option ℕ) → IsDirected direction v → MeansDirected direction (Reconnect file_id) → StaysDirected direction (with_reconnect v place file_id held)
+    of direction (Some held) is means = tt
+    of Request None is means = is
+    of Reply None is means = absurd means
+
+gathered_directed : (direction : Direction) (items : List Item) (v w : CreateView) → IsDirected direction v → gathered direction v items ≡ Ok w → IsDirected direction w
+unfolding gathered
+gathered_directed direction [] v w is e = let same : v ≡ w = cc in subst (IsDirected direction) same is
+gathered_directed direction (Err fault ∷ items) v w is e = cc
+gathered_directed direction (Ok context ∷ items) v w is e =
+    let step = carried_ok _ _ w e in
+    let P : Result CreateView WireFault → Type 0 = StaysDirected direction in
+    let next : IsDirected direction step.0 = subst P step.1 (with_directed direction v context.place (meaning_of direction context) is (meaning_directed direction context)) in
+    gathered_directed direction items step.0 w next step.2
+
+nothing_directed : (direction : Direction) → IsDirected direction nothing_told
+nothing_directed Request = tt
+nothing_directed Reply = refl
+
+pub value_directed : (direction : Direction) (text : List ℕ) (v : CreateView) → value_of direction text ≡ Ok v → IsDirected direction v
+value_directed direction text v e = gathered_directed direction (items_of text) nothing_told v (nothing_directed direction) e
+
+-- the lease that a request's reader found tells of no break in progress
+pub asked_is_calm : (text : List ℕ) (found : Found) → Ok (found_of found) ≡ value_of Request text → IfSome found.lease (λ lease. lease.breaking ≡ false)
+asked_is_calm text found e = calm found.lease (value_directed Request text (found_of found) (sym e))
+  where
+    calm : (held : Option code.Lease) → IfSome (option_map lease_of held) (λ lease. lease.breaking ≡ false) → IfSome held (λ lease. lease.breaking ≡ false)
+    calm None is = tt
+    calm (Some lease) is = is
+
+-- a response's reader found no reconnect
+pub answered_value : (text : List ℕ) (found : Found) (v : CreateView) → Ok (found_of found) ≡ value_of Reply text
+  → option_map lease_of found.lease ≡ v.lease → v.durable ≡ found.durable → v.reconnect ≡ None → Ok v ≡ value_of Reply text
+answered_value text found v e lease durable reconnect =
+    let none : (found_of found).reconnect ≡ None = value_directed Reply text (found_of found) (sym e) in
+    let same : v ≡ found_of found = same_view _ _ _ _ _ _ (sym lease) durable (reconnect ∙ sym none) in
+    ap Ok same ∙ e
+  where
+    same_view : (a b : Option LeaseView) (c d : Bool) (e f : Option ℕ) → a ≡ b → c ≡ d → e ≡ f
+      → ◌≡◌ {A = CreateView} (record { lease = a; durable = c; reconnect = e }) (record { lease = b; durable = d; reconnect = f })
+    same_view a b c d e f x y z = rw (x, y, z) refl

@@ -1,0 +1,22 @@
+use lease_state::{FileId, LeaseKey, LeaseState};
+
+/// What the create contexts of a CREATE request ask for (MS-SMB2 2.2.13.2).
+#[derive(Clone, Copy, Debug, PartialEq, Eq)]
+pub struct CreateAsk {
+    /// `RqLs`: the lease key, and the state that is wanted, which may be one that is never granted.
+    pub lease: Option<(LeaseKey, LeaseState)>,
+    /// `DHnQ`: a durable open is asked for.
+    pub durable: bool,
+    /// `DHnC`: the durable open that is to be connected again.
+    pub reconnect: Option<FileId>,
+}
+
+/// What the create contexts of a CREATE response grant (MS-SMB2 2.2.14.2).
+#[derive(Clone, Copy, Debug, PartialEq, Eq)]
+pub struct CreateAnswer {
+    /// `RqLs`: the lease key, the state that the lease has, and whether a break of it is in
+    /// progress.
+    pub lease: Option<(LeaseKey, LeaseState, bool)>,
+    /// `DHnQ`: the open is durable.
+    pub durable: bool,
+}
