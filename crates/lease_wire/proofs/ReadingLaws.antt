@@ -43,15 +43,19 @@ fault_had : (direction : Direction) (text : List ℕ) (fault : WireFault) → va
 unfolding gathered
 fault_had direction [] fault e = cc
 fault_had direction (byte ∷ bytes) fault e =
-    let faulty = text_faulty (length (byte ∷ bytes)) direction 0 (byte ∷ bytes) [] nothing_told fault (omega arith) (value_of_nothing direction) e in
-    (
+    let faulty = text_faulty (length (byte ∷ bytes)) direction 0 (byte ∷ bytes) [] nothing_told fault (omega arith) (value_of_nothing direction) e in (
       λ none. cc,
-      (faulty.pieces, faulty.contexts, faulty.rest, record {
-        whole = faulty.whole;
-        linked = faulty.linked;
-        named = (faulty.value, faulty.named);
-        first = rw (zero-add (length (concat faulty.pieces))) at faulty.first;
-      }),
+      (
+        faulty.pieces,
+        faulty.contexts,
+        faulty.rest,
+        record {
+          whole = faulty.whole;
+          linked = faulty.linked;
+          named = (faulty.value, faulty.named);
+          first = rw (zero-add (length (concat faulty.pieces))) at faulty.first;
+        },
+      ),
     )
 
 had_fault : (direction : Direction) (text : List ℕ) (fault : WireFault) → IsFaultOf direction text fault → value_of direction text ≡ Err fault
@@ -157,12 +161,12 @@ asked_is_calm text found e = calm found.lease (value_directed Request text (foun
 
 -- a response's reader found no reconnect
 pub answered_value : (text : List ℕ) (found : Found) (v : CreateView) → Ok (found_of found) ≡ value_of Reply text
-  → option_map lease_of found.lease ≡ v.lease → v.durable ≡ found.durable → v.reconnect ≡ None → Ok v ≡ value_of Reply text
+    → option_map lease_of found.lease ≡ v.lease → v.durable ≡ found.durable → v.reconnect ≡ None → Ok v ≡ value_of Reply text
 answered_value text found v e lease durable reconnect =
     let none : (found_of found).reconnect ≡ None = value_directed Reply text (found_of found) (sym e) in
     let same : v ≡ found_of found = same_view _ _ _ _ _ _ (sym lease) durable (reconnect ∙ sym none) in
     ap Ok same ∙ e
   where
     same_view : (a b : Option LeaseView) (c d : Bool) (e f : Option ℕ) → a ≡ b → c ≡ d → e ≡ f
-      → ◌≡◌ {A = CreateView} (record { lease = a; durable = c; reconnect = e }) (record { lease = b; durable = d; reconnect = f })
+        → ◌≡◌ {A = CreateView} (record { lease = a; durable = c; reconnect = e }) (record { lease = b; durable = d; reconnect = f })
     same_view a b c d e f x y z = rw (x, y, z) refl

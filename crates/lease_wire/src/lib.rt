@@ -16,6 +16,7 @@ mod notification;
 mod reading;
 mod response;
 mod walk;
+mod writing;
 
 pub use acknowledgment::{Acknowledgment, acknowledgment_laws};
 pub use chain::{Context, Contexts};
@@ -25,3 +26,4 @@ pub use notification::{Notification, notification_laws};
 pub use reading::{read_create, read_create_reply, reading_laws};
 pub use response::BreakResponse;
 pub use walk::contexts;
+pub use writing::{write_create_ask, write_create_reply};
