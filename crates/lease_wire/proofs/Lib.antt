@@ -1,3 +1,4 @@
+pub mod CanonicalLaws
 pub mod Cells
 pub mod Fields
 pub mod HeaderFacts
@@ -8,3 +9,4 @@ pub mod LaidText
 pub mod ReadText
 pub mod ReadingLaws
 pub mod Values
+pub mod WrittenContexts
