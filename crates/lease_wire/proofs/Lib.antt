@@ -2,6 +2,7 @@ pub mod CanonicalLaws
 pub mod Cells
 pub mod Fields
 pub mod HeaderFacts
+pub mod ItemLaws
 pub mod Items
 pub mod Messages
 pub mod Pieces

@@ -35,7 +35,7 @@ pub record LaidFrom (direction : Direction) (start : ℕ) (bytes : List ℕ) (be
   pub laid : AreLaidOut start pieces contexts
   pub value : HaveValue direction (before ++ contexts) w
 
-laid_on : (start next : ℕ) (piece : List ℕ) (pieces : List (List ℕ)) (context : ContextView) (contexts : List ContextView) → IsContext start piece context → LeadsOn piece → length piece ≡ next
+pub laid_on : (start next : ℕ) (piece : List ℕ) (pieces : List (List ℕ)) (context : ContextView) (contexts : List ContextView) → IsContext start piece context → LeadsOn piece → length piece ≡ next
     → AreLaidOut (start + next) pieces contexts → AreLaidOut start (piece ∷ pieces) (context ∷ contexts)
 laid_on start next piece [] context contexts is on long laid = absurd laid
 laid_on start next piece (other ∷ pieces) context contexts is on long laid =
@@ -68,7 +68,7 @@ value_after direction before v w context have e =
     let P : Result CreateView WireFault → Type 0 = Adds direction before context in
     subst P e (adds direction before v have context (meaning_of direction context) refl)
 
-last_or_more : (bytes : List ℕ) → (next_of bytes ≡ 0) ⊎ (next_of bytes ≢ 0)
+pub last_or_more : (bytes : List ℕ) → (next_of bytes ≡ 0) ⊎ (next_of bytes ≢ 0)
 last_or_more bytes = elim (eqb_tells (next_of bytes) 0) [
   | inl last ↦ inl last.1
   | inr more ↦ inr more.1

@@ -1,11 +1,11 @@
 -- Why a text holds no create contexts: the first fault in its order, and where (own: the order of the
 -- tests, and one fault for the whole text).
-use Rattle.std.specs.Prelude.{◌≡◌, ◌≢◌, ℕ, List, [], ◌∷◌, ◌++◌, length, Option, Some, None}
+use Rattle.std.specs.Prelude.{◌≡◌, ◌≢◌, ℕ, List, [], ◌∷◌, ◌++◌, length, map, Option, Some, None, Ok, Err, ◌⊎◌}
 use Rattle.std.specs.List.{concat}
-use Rattle.lease_wire.specs.Chain.{ContextView, AreLinked}
+use Rattle.lease_wire.specs.Chain.{ContextView, AreLinked, HoldsContexts}
 use Rattle.lease_wire.specs.Names.{Meaning, CreateView, HaveValue, meaning_of, told, lease_in, durable_in, reconnect_in}
 use Rattle.lease_wire.specs.Names.Meaning.{Unknown, WrongLength, Lease, Durable, Reconnect}
-use Rattle.lease_wire.specs.Reading.{layout_fault, context_at}
+use Rattle.lease_wire.specs.Reading.{Item, layout_fault, context_at}
 use Rattle.lease_wire.specs.declared.direction.Direction.{Direction}
 use Rattle.lease_wire.specs.declared.fault.WireFault.{WireFault}
 use Rattle.lease_wire.specs.declared.fault.WireFault.TheVariants.{BadLength, Twice}
@@ -44,3 +44,22 @@ pub record IsFaultBehind (direction : Direction) (text : List ℕ) (fault : Wire
 abbrev pub IsFaultOf : Direction → List ℕ → WireFault → Type 0
 IsFaultOf direction text fault =
     (text ≢ []) × ((pieces : List (List ℕ)) × (contexts : List ContextView) × (rest : List ℕ) × IsFaultBehind direction text fault pieces contexts rest)
+
+-- A reader gives all contexts of the text.
+abbrev pub GivesAll : List ℕ → List Item → Type 0
+GivesAll text items = (contexts : List ContextView) × HoldsContexts text contexts × (items ≡ map Ok contexts)
+
+-- A reader gives the contexts of the pieces before the first place where a test of the layout fails, and
+-- then that fault.
+pub record StopsAt (text : List ℕ) (items : List Item) (fault : WireFault) (pieces : List (List ℕ)) (contexts : List ContextView) (rest : List ℕ) : Type 0 where
+  pub some : text ≢ []
+  pub whole : concat pieces ++ rest ≡ text
+  pub linked : AreLinked 0 pieces contexts
+  pub first : layout_fault (length (concat pieces)) rest ≡ Some fault
+  pub given : items ≡ map Ok contexts ++ Err fault ∷ []
+
+-- the items are those of the text
+abbrev pub AreItemsOf : List ℕ → List Item → Type 0
+AreItemsOf text items =
+  GivesAll text items
+  ⊎ ((fault : WireFault) × (pieces : List (List ℕ)) × (contexts : List ContextView) × (rest : List ℕ) × StopsAt text items fault pieces contexts rest)

@@ -26,4 +26,4 @@ pub use notification::{Notification, notification_laws};
 pub use reading::{read_create, read_create_reply, reading_laws};
 pub use response::BreakResponse;
 pub use walk::contexts;
-pub use writing::{write_create_ask, write_create_reply};
+pub use writing::{canonical_laws, write_create_ask, write_create_reply};

@@ -1,5 +1,6 @@
 ghost use Rattle.std.specs.Prelude.{◌≡◌};
 ghost use Rattle.lease_wire.specs.Contexts.{items_left};
+ghost use Rattle.lease_wire.specs.Faults.{AreItemsOf};
 ghost use Rattle.lease_wire.specs.Reading.{items_of};
 
 use crate::chain::Contexts;
@@ -10,7 +11,8 @@ use crate::chain::Contexts;
 /// It gives a fault where the layout breaks, and ends after its one fault. A text of no bytes has
 /// no context.
 pub fn contexts(bytes: &[u8]) -> Contexts<'_>
-    ensures { items_left result ≡ items_of bytes.now }
+    ensures items { AreItemsOf bytes.now (items_left result) }
+    ensures value { items_left result ≡ items_of bytes.now }
 {
     Contexts::from_start(bytes)
 }

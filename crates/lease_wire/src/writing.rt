@@ -3,7 +3,7 @@ ghost use Rattle.lease_wire.specs.Canonical.{header_bytes, context_bytes, lease_
 ghost use Rattle.lease_wire.specs.Found.{lease_of, found_of};
 ghost use Rattle.std.specs.Option.{option_map};
 ghost use Rattle.lease_wire.specs.declared.direction.Direction.TheVariants.{Request, Reply};
-ghost use Rattle.lease_wire.specs.Create.{ask_of, answer_of};
+ghost use Rattle.lease_wire.specs.Create.{ask_of, answer_of, WrittenHoldsValue, WrittenReadsBack};
 
 use crate::create::{CreateAnswer, CreateAsk};
 use crate::direction::Direction;
@@ -189,4 +189,12 @@ pub fn write_create_reply(answer: &CreateAnswer, out: &mut Vec<u8>) -> Result<()
         reconnect: None,
     };
     write(out, Direction::Reply, &found)
+}
+
+/// Laws of the canonical text: it holds the value that it was written for, and so is read back.
+/// Does nothing.
+pub fn canonical_laws()
+    ensures holds { WrittenHoldsValue }
+    ensures reads_back { WrittenReadsBack }
+{
 }
