@@ -1,0 +1,23 @@
+-- To unfold `the_model` is to unfold every definition of the model, so that a worked example computes.
+use Rattle.std.specs.Prelude.{⊤}
+use Rattle.lease_model.specs.Acknowledge.{break_ended, acknowledged}
+use Rattle.lease_model.specs.Allowed.{is_other_on, allowed, conflicts, conflicts_on}
+use Rattle.lease_model.specs.Answers.{changed, closed, answered}
+use Rattle.lease_model.specs.Attempt.{lease_broken, want_met, wants_met, tried_for}
+use Rattle.lease_model.specs.Calls.{file_asked, arrived, receive, joined, join, is_kept, opens_disconnected, client_forgotten, cut, key_expired, expire, scavenge}
+use Rattle.lease_model.specs.Content.{patch_at, patches}
+use Rattle.lease_model.specs.Grant.{offered, lease_granted, granted_with, granted, reconnected}
+use Rattle.lease_model.specs.Key.{key_eq, bytes_before, key_before}
+use Rattle.lease_model.specs.Limits.{file_limit, files_limit, clients_limit, events_limit, last_file_id, last_write_number, count_limit}
+use Rattle.lease_model.specs.Passes.{tried_again, pass_over, passes_for, passes_over, all_passes}
+use Rattle.lease_model.specs.Progress.{with_opens, opens_dropped, lease_lowered, break_begun, request_held, held_left, refused}
+use Rattle.lease_model.specs.Ready.{is_ready, waits_for}
+use Rattle.lease_model.specs.ServerState.{new_server}
+use Rattle.lease_model.specs.Sharing.{permits}
+use Rattle.lease_model.specs.Tables.{put, put_key}
+use Rattle.lease_model.specs.Wants.{key_added, keys_of, wants_where, handle_wants, write_wants, all_wants, is_leased_elsewhere, create_finding, awaits, reconnect_finding, write_finding, finding}
+use Rattle.lease_model.specs.WorkedServer.{server_after, outs_along}
+
+unfoldable pub the_model : ⊤
+unfolding break_ended acknowledged is_other_on allowed conflicts conflicts_on changed closed answered lease_broken want_met wants_met tried_for file_asked arrived receive joined join is_kept opens_disconnected client_forgotten cut key_expired expire scavenge patch_at patches offered lease_granted granted_with granted reconnected key_eq bytes_before key_before file_limit files_limit clients_limit events_limit last_file_id last_write_number count_limit tried_again pass_over passes_for passes_over all_passes with_opens opens_dropped lease_lowered break_begun request_held held_left refused is_ready waits_for new_server permits put put_key key_added keys_of wants_where handle_wants write_wants all_wants is_leased_elsewhere create_finding awaits reconnect_finding write_finding finding server_after outs_along
+the_model = tt
