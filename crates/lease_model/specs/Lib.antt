@@ -3,6 +3,13 @@ pub mod Allowed
 pub mod Answers
 pub mod Attempt
 pub mod Calls
+pub mod ClientCalls
+pub mod ClientCommands
+pub mod ClientConnection
+pub mod ClientReplies
+pub mod ClientState
+pub mod ClientStep
+pub mod Commands
 pub mod Content
 pub mod Grant
 pub mod Key
@@ -20,4 +27,5 @@ pub mod ServerState
 pub mod Sharing
 pub mod Tables
 pub mod Wants
+pub mod WorkedClient
 pub mod WorkedServer

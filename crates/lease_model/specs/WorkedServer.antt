@@ -1,6 +1,7 @@
 -- Worked calls of a server.
-use Rattle.std.specs.Prelude.{◌≡◌, ℕ, true, false, Option, Some, None, List, [], ◌∷◌}
-use Rattle.lease_state.specs.State.{State}
+use Rattle.std.specs.Prelude.{◌≡◌, ℕ, true, false, Option, Some, None, List, [], ◌∷◌, map}
+use Rattle.lease_state.specs.State.{State, state_of_bits, nothing_cached}
+use Rattle.lease_model.specs.Key.{Key}
 use Rattle.lease_state.specs.declared.access.Access.{Access}
 use Rattle.lease_state.specs.declared.access.Share.{Share}
 use Rattle.lease_state.specs.declared.status.Status.{Status}
@@ -23,6 +24,9 @@ outs_along server (call ∷ calls) = (called server call).outs ∷ outs_along (c
 -- the bytes 0 to 15, as a LeaseKey
 abbrev pub sample_key : List ℕ
 sample_key = 0 ∷ 1 ∷ 2 ∷ 3 ∷ 4 ∷ 5 ∷ 6 ∷ 7 ∷ 8 ∷ 9 ∷ 10 ∷ 11 ∷ 12 ∷ 13 ∷ 14 ∷ 15 ∷ []
+
+abbrev pub sample_named : Key
+sample_named = record { client = 1; bytes = sample_key }
 
 -- a create that asks for a lease, and one that asks for none
 abbrev pub leased : ℕ → Access → Share → State → Request
@@ -92,7 +96,7 @@ SharedCalls = outs_along two_files shared_calls ≡
 
 abbrev pub SharedAllowed : Type 0
 SharedAllowed =
-    allowed (server_after two_files shared_calls) (Some (record { client = 1; bytes = sample_key })) 1 RWH ≡ RH
+    allowed (server_after two_files shared_calls) (Some sample_named) 1 RWH ≡ RH
 
 abbrev pub LaterCalls : Type 0
 LaterCalls = outs_along (server_after two_files shared_calls) later_calls ≡
@@ -103,3 +107,61 @@ LaterCalls = outs_along (server_after two_files shared_calls) later_calls ≡
     ∷ (Out.Sent 1 (Reply.CreateFailed 2 Status.InvalidParameter) ∷ [])
     ∷ (Out.Sent 1 (Reply.CreateFailed 3 Status.ObjectNameNotFound) ∷ [])
     ∷ []
+
+-- a lease that is breaking from RWH to RH
+abbrev pub breaking_calls : List Call
+breaking_calls =
+    Call.Join 1
+    ∷ Call.Join 2
+    ∷ Call.Receive 1 (leased 1 Access.ReadWrite Share.ReadWrite RWH)
+    ∷ Call.Receive 2 (leased 1 Access.ReadWrite Share.ReadWrite RWH)
+    ∷ []
+
+abbrev pub acknowledging_calls : List Call
+acknowledging_calls =
+    Call.Receive 1 (Request.Acknowledge (sample_lease RWH))
+    ∷ Call.Receive 1 (Request.Acknowledge None)
+    ∷ Call.Receive 1 (Request.Acknowledge (Some (record { key = []; state = RH })))
+    ∷ Call.Receive 1 (Request.Acknowledge (sample_lease RH))
+    ∷ Call.Receive 1 (Request.Acknowledge (sample_lease RH))
+    ∷ []
+
+-- Acknowledgments above the state broken to, unreadable, of an unknown key, as it should be (the
+-- create that waited is answered), and once more.
+abbrev pub Acknowledgments : Type 0
+Acknowledgments = outs_along (server_after two_files breaking_calls) acknowledging_calls ≡
+    (Out.Sent 1 (Reply.AckFailed Status.RequestNotAccepted) ∷ [])
+    ∷ (Out.Sent 1 (Reply.AckFailed Status.InvalidParameter) ∷ [])
+    ∷ (Out.Sent 1 (Reply.AckFailed Status.ObjectNameNotFound) ∷ [])
+    ∷ (Out.Sent 1 (Reply.AckDone (sample_lease RH))
+    ∷ Out.Opened 1 2 ∷ Out.Sent 2 (created_leased 1 2 RH) ∷ [])
+    ∷ (Out.Sent 1 (Reply.AckFailed Status.Unsuccessful) ∷ [])
+    ∷ []
+
+-- what a create on a file without opens is given for these bits
+abbrev pub given_for : ℕ → List (List Out)
+given_for bits = outs_along two_files
+    (Call.Join 1 ∷ Call.Receive 1 (leased 1 Access.ReadWrite Share.ReadWrite (state_of_bits bits)) ∷ [])
+
+abbrev pub given : State → List (List Out)
+given state = [] ∷ (Out.Opened 1 1 ∷ Out.Sent 1 (created_leased 1 1 state) ∷ []) ∷ []
+
+-- A state without R is granted nothing; of all bits the three that have a name are granted.
+abbrev pub OddStates : Type 0
+OddStates = (given_for 2 ∷ given_for 4 ∷ given_for 6 ∷ given_for 0xffffffff ∷ []) ≡
+    given nothing_cached ∷ given nothing_cached ∷ given nothing_cached ∷ given RWH ∷ []
+
+-- Once the plain open is closed, the lease's client could have RWH for its key, and another client
+-- RH. Closing one of the two opens changes nothing; closing both leaves the file to anybody.
+abbrev pub after_closing : List ℕ → Server
+after_closing file_ids = server_after (server_after (server_after two_files shared_calls) later_calls)
+    (map (λ file_id. Call.Receive 1 (Request.Close file_id)) file_ids)
+
+abbrev pub LaterAllowed : Type 0
+LaterAllowed =
+    (allowed (after_closing []) (Some sample_named) 1 RWH
+    ∷ allowed (after_closing []) None 1 RWH
+    ∷ allowed (after_closing (1 ∷ [])) (Some sample_named) 1 RWH
+    ∷ allowed (after_closing (1 ∷ [])) None 1 RWH
+    ∷ allowed (after_closing (1 ∷ 3 ∷ [])) None 1 RWH ∷ [])
+    ≡ RWH ∷ RH ∷ RWH ∷ RH ∷ RWH ∷ []

@@ -2,6 +2,8 @@
 //! public functions with an empty body whose contracts carry laws and worked examples.
 #![tactic(auto)]
 
+mod worked_client;
 mod worked_server;
 
-pub use worked_server::one_list_of_opens;
+pub use worked_client::{client_never_connected, client_of_one_file};
+pub use worked_server::{acknowledgments, odd_states, one_list_of_opens};

@@ -13,3 +13,7 @@ returns-clause-allowed c = refl
 pub returns-clause-later : goal.returns-clause-later
 unfolding the_model
 returns-clause-later c = refl
+
+pub returns-clause-later_allowed : goal.returns-clause-later_allowed
+unfolding the_model
+returns-clause-later_allowed c = refl
