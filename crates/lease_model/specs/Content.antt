@@ -1,5 +1,5 @@
 -- The content of a file and what a write puts into it (own: MS-SMB2 3.3.5.13 leaves it to the store).
-use Rattle.std.specs.Prelude.{ℕ, ◌+◌, ◌-◌, Bool, List, [], ◌∷◌, ◌++◌, length, take, drop, replicate, nat_le}
+use Rattle.std.specs.Prelude.{ℕ, ◌+◌, ◌-◌, Bool, List, [], ◌∷◌, ◌++◌, length, take, drop, replicate, nat_le, ◌==◌, ◌&&◌, bytes_eq}
 use Rattle.lease_model.specs.Limits.{file_limit}
 
 -- bytes to be put at an offset
@@ -26,3 +26,6 @@ patches content (patch ∷ rest) = patches (patched content patch) rest
 -- the patch ends within the limit of a file (own: also where it has no bytes)
 abbrev pub is_within_limit : Patch → Bool
 is_within_limit patch = nat_le (patch.offset + length patch.bytes) file_limit
+
+abbrev pub same_patch : Patch → Patch → Bool
+same_patch one other = one.offset == other.offset && bytes_eq one.bytes other.bytes

@@ -11,6 +11,7 @@ pub mod ClientState
 pub mod ClientStep
 pub mod Commands
 pub mod Content
+pub mod Facts
 pub mod Grant
 pub mod Key
 pub mod LeaseStates
@@ -18,14 +19,18 @@ pub mod Letters
 pub mod Limits
 pub mod Lists
 pub mod Passes
+pub mod Past
 pub mod Progress
 pub mod Queries
 pub mod Ready
 pub mod Replies
 pub mod Requests
+pub mod Safe
 pub mod ServerState
 pub mod Sharing
 pub mod Tables
+pub mod Verdict
 pub mod Wants
 pub mod WorkedClient
 pub mod WorkedServer
+pub mod WorkedVerdicts

@@ -4,6 +4,8 @@
 
 mod worked_client;
 mod worked_server;
+mod worked_verdicts;
 
 pub use worked_client::{client_never_connected, client_of_one_file};
 pub use worked_server::{acknowledgments, odd_states, one_list_of_opens};
+pub use worked_verdicts::verdicts;
