@@ -11,6 +11,7 @@ pub mod ClientState
 pub mod ClientStep
 pub mod Commands
 pub mod Content
+pub mod Events
 pub mod Facts
 pub mod Grant
 pub mod Key
@@ -25,7 +26,12 @@ pub mod Queries
 pub mod Ready
 pub mod Replies
 pub mod Requests
+pub mod RunsOfBreaks
+pub mod RunsOfCuts
+pub mod RunsOfOthers
+pub mod RunsOfReads
 pub mod Safe
+pub mod Schedules
 pub mod ServerState
 pub mod Sharing
 pub mod Tables
@@ -34,3 +40,4 @@ pub mod Wants
 pub mod WorkedClient
 pub mod WorkedServer
 pub mod WorkedVerdicts
+pub mod World

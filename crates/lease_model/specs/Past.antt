@@ -1,6 +1,6 @@
 -- What a record says at a place. Each notion is a function of the past, the facts before the place,
 -- the newest first; it is meant for every record, whoever made it (own).
-use Rattle.std.specs.Prelude.{ℕ, zero, suc, ◌+◌, Bool, true, false, Option, Some, None, List, [], ◌∷◌, ◌++◌, if◌then◌else◌, ◌==◌, ◌&&◌, ◌||◌, not, slice_get}
+use Rattle.std.specs.Prelude.{ℕ, zero, suc, ◌+◌, Bool, false, Option, None, List, [], ◌∷◌, ◌++◌, if◌then◌else◌, ◌==◌, ◌&&◌, ◌||◌, not, slice_get}
 use Rattle.lease_state.specs.State.{State, nothing_cached}
 use Rattle.lease_model.specs.Content.{Patch, patches, same_patch}
 use Rattle.lease_model.specs.Facts.{Fact}

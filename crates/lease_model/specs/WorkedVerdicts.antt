@@ -1,5 +1,5 @@
 -- Worked verdicts on records, also on records that no run gives.
-use Rattle.std.specs.Prelude.{◌≡◌, ℕ, ◌-◌, Bool, true, false, List, [], ◌∷◌}
+use Rattle.std.specs.Prelude.{◌≡◌, ◌-◌, true, false, [], ◌∷◌}
 use Rattle.lease_model.specs.Commands.{Settlement}
 use Rattle.lease_model.specs.Content.{Patch}
 use Rattle.lease_model.specs.Facts.{Fact}
