@@ -54,11 +54,15 @@ live_parted live sent =
     (without (λ write. write.buffered) (sent ++ live.unsent))
     else offline_turn (parted_from live []) (sent ++ live.unsent)
 
+-- a live entry that isn't durable ends
+unfoldable pub live_noticed : LiveEntry → List Pending → Turn
+live_noticed live sent =
+    if live.durable then live_parted live sent else ended_turn (sent ++ live.unsent)
+
 abbrev pub notice_turn : List Pending → Phase → Turn
 notice_turn sent Phase.Closed = ended_turn sent
 notice_turn sent (Phase.Opening access share) = ended_turn sent
-notice_turn sent (Phase.Live live) =
-    if live.durable then live_parted live sent else ended_turn (sent ++ live.unsent)
+notice_turn sent (Phase.Live live) = live_noticed live sent
 notice_turn sent (Phase.Offline parted) = offline_turn parted sent
 notice_turn sent (Phase.Reconnecting parted) = offline_turn parted sent
 

@@ -125,6 +125,27 @@ abbrev pub KeptOpenBroken : Type 0
 KeptOpenBroken = (recorded two_clients kept_open_broken_events ≡ kept_open_broken_record)
     × (verdict kept_open_broken_record ≡ Verdict.Safe)
 
+-- ---- a breaking lease is cut
+
+-- The lease of client 1 is breaking when its connection is lost, so its open is not kept, though it
+-- is durable: client 2 is answered at once, and the reconnect fails.
+abbrev pub breaking_cut_events : List Event
+breaking_cut_events =
+    Connect 1 ∷ Connect 2 ∷ opening 1 1 Access.ReadWrite Share.ReadWrite RWH true ∷ ServerTakes 1
+    ∷ ClientTakes 1 ∷ writing 1 1 0 (0x58 ∷ []) ∷ opening 2 1 Access.ReadWrite Share.ReadWrite RWH false
+    ∷ ServerTakes 2 ∷ Cut 1 ∷ ClientTakes 2 ∷ Notice 1 ∷ Connect 1 ∷ ServerTakes 1 ∷ ClientTakes 1 ∷ []
+
+abbrev pub breaking_cut_record : List Fact
+breaking_cut_record =
+    Start 1 (0x61 ∷ 0x62 ∷ 0x63 ∷ []) ∷ Joined 1 ∷ Joined 2 ∷ Opened 1 1 ∷ Sent 1 ∷ Took 1
+    ∷ Believes 1 1 RWH ∷ Wrote 1 1 1 (at 0 (0x58 ∷ [])) true ∷ Sent 1 ∷ Dropped 1 ∷ Opened 1 2 ∷ Sent 2
+    ∷ Took 2 ∷ Believes 2 1 RWH ∷ Believes 1 1 nothing_cached ∷ Joined 1 ∷ Sent 1 ∷ Took 1
+    ∷ Settled 1 1 Settlement.Lost ∷ []
+
+abbrev pub BreakingCut : Type 0
+BreakingCut = (recorded two_clients breaking_cut_events ≡ breaking_cut_record)
+    × (verdict breaking_cut_record ≡ Verdict.Safe)
+
 -- ---- scavenged
 
 -- The timer of the kept open runs out, and the reconnect fails.

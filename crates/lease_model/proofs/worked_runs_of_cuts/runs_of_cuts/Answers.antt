@@ -22,6 +22,10 @@ pub returns-clause-kept_open_broken : goal.returns-clause-kept_open_broken
 unfolding the_model
 returns-clause-kept_open_broken c = (refl, refl)
 
+pub returns-clause-breaking_cut : goal.returns-clause-breaking_cut
+unfolding the_model
+returns-clause-breaking_cut c = (refl, refl)
+
 pub returns-clause-scavenged_open : goal.returns-clause-scavenged_open
 unfolding the_model
 returns-clause-scavenged_open c = (refl, refl)
