@@ -146,6 +146,26 @@ abbrev pub BreakingCut : Type 0
 BreakingCut = (recorded two_clients breaking_cut_events ≡ breaking_cut_record)
     × (verdict breaking_cut_record ≡ Verdict.Safe)
 
+-- ---- a breaking lease is cut and nobody waits
+
+-- The same, and client 2 is cut first, so nothing waits for the break. The open of client 1 is not
+-- kept either way.
+abbrev pub breaking_cut_alone_events : List Event
+breaking_cut_alone_events =
+    Connect 1 ∷ Connect 2 ∷ opening 1 1 Access.ReadWrite Share.ReadWrite RWH true ∷ ServerTakes 1
+    ∷ ClientTakes 1 ∷ opening 2 1 Access.ReadWrite Share.ReadWrite RWH false ∷ ServerTakes 2 ∷ Cut 2
+    ∷ Cut 1 ∷ Notice 1 ∷ Connect 1 ∷ ServerTakes 1 ∷ ClientTakes 1 ∷ []
+
+abbrev pub breaking_cut_alone_record : List Fact
+breaking_cut_alone_record =
+    Start 1 (0x61 ∷ 0x62 ∷ 0x63 ∷ []) ∷ Joined 1 ∷ Joined 2 ∷ Opened 1 1 ∷ Sent 1 ∷ Took 1
+    ∷ Believes 1 1 RWH ∷ Sent 1 ∷ Dropped 2 ∷ Dropped 1 ∷ Believes 1 1 nothing_cached ∷ Joined 1 ∷ Sent 1
+    ∷ Took 1 ∷ []
+
+abbrev pub BreakingCutAlone : Type 0
+BreakingCutAlone = (recorded two_clients breaking_cut_alone_events ≡ breaking_cut_alone_record)
+    × (verdict breaking_cut_alone_record ≡ Verdict.Safe)
+
 -- ---- scavenged
 
 -- The timer of the kept open runs out, and the reconnect fails.

@@ -26,6 +26,10 @@ pub returns-clause-breaking_cut : goal.returns-clause-breaking_cut
 unfolding the_model
 returns-clause-breaking_cut c = (refl, refl)
 
+pub returns-clause-breaking_cut_alone : goal.returns-clause-breaking_cut_alone
+unfolding the_model
+returns-clause-breaking_cut_alone c = (refl, refl)
+
 pub returns-clause-scavenged_open : goal.returns-clause-scavenged_open
 unfolding the_model
 returns-clause-scavenged_open c = (refl, refl)
