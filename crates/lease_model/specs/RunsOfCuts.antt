@@ -149,12 +149,12 @@ BreakingCut = (recorded two_clients breaking_cut_events ≡ breaking_cut_record)
 -- ---- a breaking lease is cut and nobody waits
 
 -- The same, and client 2 is cut first, so nothing waits for the break. The open of client 1 is not
--- kept either way.
+-- kept either way, and a read after the failed reconnect is not sent.
 abbrev pub breaking_cut_alone_events : List Event
 breaking_cut_alone_events =
     Connect 1 ∷ Connect 2 ∷ opening 1 1 Access.ReadWrite Share.ReadWrite RWH true ∷ ServerTakes 1
     ∷ ClientTakes 1 ∷ opening 2 1 Access.ReadWrite Share.ReadWrite RWH false ∷ ServerTakes 2 ∷ Cut 2
-    ∷ Cut 1 ∷ Notice 1 ∷ Connect 1 ∷ ServerTakes 1 ∷ ClientTakes 1 ∷ []
+    ∷ Cut 1 ∷ Notice 1 ∷ Connect 1 ∷ ServerTakes 1 ∷ ClientTakes 1 ∷ reading 1 1 ∷ ServerTakes 1 ∷ []
 
 abbrev pub breaking_cut_alone_record : List Fact
 breaking_cut_alone_record =
