@@ -36,6 +36,7 @@ pub mod ServerState
 pub mod Sharing
 pub mod Tables
 pub mod Verdict
+pub mod VerdictLaw
 pub mod Wants
 pub mod WorkedClient
 pub mod WorkedServer
