@@ -1,8 +1,10 @@
 -- The verdict, which computes, against what is promised.
-use Rattle.std.proofs.Common.{◌≡◌, ◌≢◌, inl, inr, ℕ, ◌+◌, Bool, true, false, List, [], ◌∷◌, Option, Some, None, refl, ap, arith}
+use Rattle.std.proofs.Common.{◌≡◌, ◌≢◌, inl, inr, ℕ, ◌+◌, Bool, true, false, List, [], ◌∷◌, Option, Some, None, refl, ap, arith, sym, subst, ◌∙◌, reverse, length}
 use Rattle.std.specs.Prelude.{◌&&◌, ◌||◌, not, ◌==◌, if◌then◌else◌}
 use Rattle.std.proofs.lemmas.Bool.{and_parts, and_from, or_cases, eqb-true, eq-eqb, cases_Bool, both_ways, not-true}
-use mathlib.Core.List.{reverse_aux}
+use mathlib.Core.List.{reverse_aux, reverse_aux-eq}
+use Rattle.std.proofs.lemmas.List.{reverse-reverse, length-reverse}
+use Rattle.lease_model.specs.VerdictLaw.{IsFirstBad, IsMalformed, MakesTwoCaches, IsStaleRead, IsLateWrite, IsFalseDone, Says}
 use lib.Pointwise.{bytes_decides}
 use Rattle.std.specs.List.{list_any}
 use Rattle.lease_state.specs.State.{State, nothing_cached}
@@ -298,3 +300,83 @@ verdict-safe facts e =
 pub safe-verdict : (facts : List Fact) → Safe facts → verdict facts ≡ Verdict.Safe
 safe-verdict facts safe = sound-verdict 1 [] facts
     (joined_parts (reverse_aux facts []) safe.well_formed safe.one_write_cache safe.fresh_reads safe.no_late_write safe.no_false_done)
+
+-- ---- the first bad place
+
+safe_before : (past : List Fact) → EachFact Sound past → Safe (reverse past)
+safe_before past sound =
+    verdict-safe (reverse past) (sound-verdict 1 [] (reverse past)
+    (subst (λ (l : List Fact). EachFact Sound l) (sym (reverse-reverse past)) sound))
+
+bad_here : (wrong : Fact → List Fact → Type 0) (place : ℕ) (fact : Fact) (past facts : List Fact)
+    → place ≡ length past + 1 → EachFact Sound past → wrong fact past
+    → IsFirstBad wrong (reverse_aux past (fact ∷ facts)) place
+bad_here wrong place fact past facts at_place sound is_so = record {
+  before = reverse past;
+  fact = fact;
+  later = facts;
+  parts = reverse_aux-eq past (fact ∷ facts);
+  place_is = at_place ∙ ap (λ (n : ℕ). n + 1) (sym (length-reverse past));
+  safe_before = safe_before past sound;
+  is_wrong = subst (λ (l : List Fact). wrong fact l) (sym (reverse-reverse past)) is_so;
+}
+
+tells : (place : ℕ) (fact : Fact) (past facts : List Fact) (rest : Verdict)
+    → place ≡ length past + 1 → EachFact Sound past
+    → (Sound fact past → Says (reverse_aux past (fact ∷ facts)) rest)
+    → (well two stale late done : Bool)
+    → is_well_formed fact past ≡ well → has_two_caches (fact ∷ past) ≡ two → is_stale_read fact past ≡ stale
+    → is_late_write fact past ≡ late → is_false_done fact past ≡ done
+    → Says (reverse_aux past (fact ∷ facts)) (or_else (flaw place well two stale late done) rest)
+unfolding flaw
+tells place fact past facts rest at_place sound goes_on false two stale late done w t s l d =
+    bad_here IsMalformed place fact past facts at_place sound (both_ways _ w)
+tells place fact past facts rest at_place sound goes_on true true stale late done w t s l d =
+    inl (
+      refl,
+      bad_here MakesTwoCaches place fact past facts at_place sound
+          (w, λ one. both_ways _ (two_caches-test (fact ∷ past) one) t),
+    )
+tells place fact past facts rest at_place sound goes_on true false true late done w t s l d =
+    inr (inl (
+      refl,
+      bad_here IsStaleRead place fact past facts at_place sound
+          (w, one_cache-test (fact ∷ past) t, λ fresh. both_ways _ (stale-test fact past fresh) s),
+    ))
+tells place fact past facts rest at_place sound goes_on true false false true done w t s l d =
+    inr (inr (inl (
+      refl,
+      bad_here IsLateWrite place fact past facts at_place sound
+          (w, one_cache-test (fact ∷ past) t, fresh-test fact past s, λ timely. both_ways _ (late-test fact past timely) l),
+    )))
+tells place fact past facts rest at_place sound goes_on true false false false true w t s l d =
+    inr (inr (inr (
+      refl,
+      bad_here IsFalseDone place fact past facts at_place sound (
+        w,
+        one_cache-test (fact ∷ past) t,
+        fresh-test fact past s,
+        timely-test fact past l,
+        λ true_done. both_ways _ (false_done-test fact past true_done) d,
+      ),
+    )))
+tells place fact past facts rest at_place sound goes_on true false false false false w t s l d = goes_on (record {
+  well_formed = w;
+  one_write_cache = one_cache-test (fact ∷ past) t;
+  fresh_read = fresh-test fact past s;
+  no_late_write = timely-test fact past l;
+  no_false_done = true_done-test fact past d;
+})
+
+tells_from : (place : ℕ) (past facts : List Fact) → place ≡ length past + 1 → EachFact Sound past
+    → Says (reverse_aux past facts) (verdict_from place past facts)
+unfolding verdict_from flaw_at flaw
+tells_from place past [] at_place sound = safe_before past sound
+tells_from place past (fact ∷ facts) at_place sound =
+    tells place fact past facts (verdict_from (place + 1) (fact ∷ past) facts) at_place sound
+    (λ here. tells_from (place + 1) (fact ∷ past) facts (omega arith) (here, sound))
+    (is_well_formed fact past) (has_two_caches (fact ∷ past)) (is_stale_read fact past)
+    (is_late_write fact past) (is_false_done fact past) refl refl refl refl refl
+
+pub verdict-says : (facts : List Fact) → Says facts (verdict facts)
+verdict-says facts = tells_from 1 [] facts refl tt
