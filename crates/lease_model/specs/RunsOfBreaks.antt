@@ -1,13 +1,15 @@
 -- Worked runs: leases are broken for other clients.
-use Rattle.std.specs.Prelude.{◌≡◌, List, [], ◌∷◌, true, false}
+use Rattle.std.specs.Prelude.{◌≡◌, List, [], ◌∷◌, true, false, take}
 use Rattle.lease_state.specs.State.{nothing_cached}
 use Rattle.lease_state.specs.declared.access.Access.{Access}
 use Rattle.lease_state.specs.declared.access.Share.{Share}
+use Rattle.lease_state.specs.declared.status.Status.{Status}
 use Rattle.lease_model.specs.Commands.{Settlement}
 use Rattle.lease_model.specs.Events.{Event, ServerTakes, ClientTakes, Connect, Expire, recorded, after}
 use Rattle.lease_model.specs.Facts.{Fact, Start, Joined, Expired, Sent, Took, Opened, Changed, Wrote, Settled, Believes}
 use Rattle.lease_model.specs.Letters.{RH, RW, RWH}
-use Rattle.lease_model.specs.Schedules.{opening, closing, writing, at, two_clients}
+use Rattle.lease_model.specs.Replies.{Reply}
+use Rattle.lease_model.specs.Schedules.{opening, closing, writing, at, two_clients, created_reply}
 use Rattle.lease_model.specs.Verdict.{Verdict, verdict}
 use Rattle.lease_model.specs.World.{first_world}
 
@@ -123,6 +125,8 @@ used_handle_break_record =
 abbrev pub UsedHandleBreak : Type 0
 UsedHandleBreak = (recorded two_clients used_handle_break_events ≡ used_handle_break_record)
     × (verdict used_handle_break_record ≡ Verdict.Safe)
+    × ((after (first_world two_clients) (take 11 used_handle_break_events)).replies 2
+    ≡ Reply.CreateFailed 1 Status.SharingViolation ∷ [])
 
 -- ---- a timer runs out
 
@@ -147,3 +151,7 @@ timer_record =
 abbrev pub Timer : Type 0
 Timer = (recorded two_clients timer_events ≡ timer_record)
     × (verdict timer_record ≡ Verdict.Safe)
+    × ((after (first_world two_clients) (take 12 timer_events)).replies 1
+    ≡ Reply.WriteFailed 1 1 Status.FileClosed ∷ Reply.AckFailed Status.ObjectNameNotFound ∷ [])
+    × ((after (first_world two_clients) (take 19 timer_events)).replies 1
+    ≡ created_reply 3 nothing_cached ∷ [])

@@ -1,12 +1,14 @@
 -- Worked runs: connections are lost, and durable opens outlive them.
-use Rattle.std.specs.Prelude.{◌≡◌, List, [], ◌∷◌, true, false}
+use Rattle.std.specs.Prelude.{◌≡◌, List, [], ◌∷◌, true, false, take}
 use Rattle.lease_state.specs.State.{nothing_cached}
 use Rattle.lease_state.specs.declared.access.Access.{Access}
 use Rattle.lease_state.specs.declared.access.Share.{Share}
+use Rattle.lease_state.specs.declared.status.Status.{Status}
 use Rattle.lease_model.specs.Commands.{Settlement}
 use Rattle.lease_model.specs.Events.{Event, ServerTakes, ClientTakes, Cut, Notice, Connect, Scavenge, recorded, after}
 use Rattle.lease_model.specs.Facts.{Fact, Start, Joined, Dropped, Sent, Took, Opened, Changed, Wrote, Settled, Believes, CachedRead}
 use Rattle.lease_model.specs.Letters.{RH, RWH}
+use Rattle.lease_model.specs.Replies.{Reply}
 use Rattle.lease_model.specs.Schedules.{opening, reading, writing, flushing, at, two_clients}
 use Rattle.lease_model.specs.Verdict.{Verdict, verdict}
 use Rattle.lease_model.specs.World.{first_world}
@@ -182,6 +184,8 @@ scavenged_open_record =
 abbrev pub ScavengedOpen : Type 0
 ScavengedOpen = (recorded two_clients scavenged_open_events ≡ scavenged_open_record)
     × (verdict scavenged_open_record ≡ Verdict.Safe)
+    × ((after (first_world two_clients) (take 10 scavenged_open_events)).replies 1
+    ≡ Reply.CreateFailed 1 Status.ObjectNameNotFound ∷ [])
 
 -- ---- a created reply is lost
 
@@ -202,6 +206,8 @@ created_lost_record =
 abbrev pub CreatedLost : Type 0
 CreatedLost = (recorded two_clients created_lost_events ≡ created_lost_record)
     × (verdict created_lost_record ≡ Verdict.Safe)
+    × ((after (first_world two_clients) (take 9 created_lost_events)).replies 1
+    ≡ Reply.CreateFailed 1 Status.SharingViolation ∷ [])
 
 -- ---- no base is kept
 

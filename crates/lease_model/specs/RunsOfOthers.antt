@@ -2,12 +2,15 @@
 use Rattle.std.specs.Prelude.{◌≡◌, List, [], ◌∷◌, true, false, Some, None}
 use Rattle.lease_state.specs.declared.access.Access.{Access}
 use Rattle.lease_state.specs.declared.access.Share.{Share}
-use Rattle.lease_model.specs.Events.{Event, ServerTakes, ClientTakes, Cut, Connect, Raw, recorded}
+use Rattle.lease_state.specs.declared.status.Status.{Status}
+use Rattle.lease_model.specs.Events.{Event, ServerTakes, ClientTakes, Cut, Connect, Raw, recorded, after}
 use Rattle.lease_model.specs.Facts.{Fact, Start, Joined, Dropped, Sent, Took, Opened, Changed, Wrote, Believes, Strayed}
 use Rattle.lease_model.specs.Letters.{R, RH, RWH}
+use Rattle.lease_model.specs.Replies.{Reply}
 use Rattle.lease_model.specs.Requests.{Request}
 use Rattle.lease_model.specs.Schedules.{opening, writing, at, first_key, two_clients, two_clients_two_files}
 use Rattle.lease_model.specs.Verdict.{Verdict, verdict}
+use Rattle.lease_model.specs.World.{first_world}
 
 -- ---- held requests on two files
 
@@ -53,3 +56,7 @@ strayed_record =
 abbrev pub StrayedClient : Type 0
 StrayedClient = (recorded two_clients strayed_events ≡ strayed_record)
     × (verdict strayed_record ≡ Verdict.Safe)
+    × ((after (first_world two_clients) strayed_events).replies 2
+    ≡ Reply.AckFailed Status.ObjectNameNotFound
+    ∷ Reply.Created 1 2 (Some (record { lease = None; durable = false }))
+    ∷ Reply.CloseFailed 1 Status.FileClosed ∷ [])

@@ -6,6 +6,7 @@ use Rattle.lease_state.specs.declared.access.Share.{Share}
 use Rattle.lease_model.specs.Events.{Event, ServerTakes, ClientTakes, Connect, recorded, after}
 use Rattle.lease_model.specs.Facts.{Fact, Start, Joined, Sent, Took, Opened, Changed, Wrote, Believes, CachedRead}
 use Rattle.lease_model.specs.Letters.{R, RH, RWH}
+use Rattle.lease_model.specs.Requests.{Request}
 use Rattle.lease_model.specs.Schedules.{opening, reading, writing, at, two_clients}
 use Rattle.lease_model.specs.Verdict.{Verdict, verdict}
 use Rattle.lease_model.specs.World.{first_world}
@@ -31,6 +32,8 @@ staleness_record =
 abbrev pub Staleness : Type 0
 Staleness = (recorded two_clients staleness_events ≡ staleness_record)
     × (verdict staleness_record ≡ Verdict.Safe)
+    × ((after (first_world two_clients) staleness_events).requests 1
+    ≡ Request.Read 1 ∷ [])
 
 -- ---- own writes
 

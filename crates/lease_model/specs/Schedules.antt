@@ -1,11 +1,12 @@
 -- Words for worked runs.
-use Rattle.std.specs.Prelude.{ℕ, Bool, List, [], ◌∷◌, replicate}
+use Rattle.std.specs.Prelude.{ℕ, Bool, false, Some, List, [], ◌∷◌, replicate}
 use Rattle.lease_state.specs.State.{State}
 use Rattle.lease_state.specs.declared.access.Access.{Access}
 use Rattle.lease_state.specs.declared.access.Share.{Share}
 use Rattle.lease_model.specs.Commands.{Command}
 use Rattle.lease_model.specs.Content.{Patch}
 use Rattle.lease_model.specs.Events.{Event}
+use Rattle.lease_model.specs.Replies.{Reply}
 use Rattle.lease_model.specs.World.{Setup}
 
 -- clients whose GUIDs are sixteen bytes 11, and sixteen bytes 22
@@ -33,6 +34,13 @@ two_clients_two_files = record {
   files = (0x61 ∷ 0x62 ∷ 0x63 ∷ []) ∷ (0x78 ∷ []) ∷ [];
   clients = first_guid ∷ second_guid ∷ [];
 }
+
+-- a reply that gives the first client a new open of file 1, with this state for its key
+abbrev pub created_reply : ℕ → State → Reply
+created_reply file_id state = Reply.Created 1 file_id (Some (record {
+  lease = Some (record { key = first_key; state = state; in_progress = false });
+  durable = false;
+}))
 
 abbrev pub at : ℕ → List ℕ → Patch
 at offset bytes = record { offset = offset; bytes = bytes }

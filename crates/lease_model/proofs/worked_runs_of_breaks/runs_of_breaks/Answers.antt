@@ -20,8 +20,8 @@ returns-clause-parked_handle_break c = (refl, refl)
 
 pub returns-clause-used_handle_break : goal.returns-clause-used_handle_break
 unfolding the_model
-returns-clause-used_handle_break c = (refl, refl)
+returns-clause-used_handle_break c = (refl, refl, refl)
 
 pub returns-clause-timer : goal.returns-clause-timer
 unfolding the_model
-returns-clause-timer c = (refl, refl)
+returns-clause-timer c = (refl, refl, refl, refl)

@@ -32,11 +32,11 @@ returns-clause-breaking_cut_alone c = (refl, refl)
 
 pub returns-clause-scavenged_open : goal.returns-clause-scavenged_open
 unfolding the_model
-returns-clause-scavenged_open c = (refl, refl)
+returns-clause-scavenged_open c = (refl, refl, refl)
 
 pub returns-clause-created_lost : goal.returns-clause-created_lost
 unfolding the_model
-returns-clause-created_lost c = (refl, refl)
+returns-clause-created_lost c = (refl, refl, refl)
 
 pub returns-clause-no_base_kept : goal.returns-clause-no_base_kept
 unfolding the_model

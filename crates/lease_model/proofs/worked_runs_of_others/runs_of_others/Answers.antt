@@ -8,4 +8,4 @@ returns-clause-two_files_held c = (refl, refl)
 
 pub returns-clause-strayed : goal.returns-clause-strayed
 unfolding the_model
-returns-clause-strayed c = (refl, refl)
+returns-clause-strayed c = (refl, refl, refl)

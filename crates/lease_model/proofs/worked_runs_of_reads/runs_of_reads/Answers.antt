@@ -4,7 +4,7 @@ use Rattle.lease_model.proofs.worked_runs_of_reads.runs_of_reads.Goals as goal
 
 pub returns-clause-staleness : goal.returns-clause-staleness
 unfolding the_model
-returns-clause-staleness c = (refl, refl)
+returns-clause-staleness c = (refl, refl, refl)
 
 pub returns-clause-own_writes : goal.returns-clause-own_writes
 unfolding the_model
