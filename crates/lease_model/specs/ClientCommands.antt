@@ -134,15 +134,18 @@ write_sent client file live sent patch = wrote_step client file
     (next_write client patch false)
 
 -- under W a write is buffered, else it is sent
+abbrev pub write_taken : Client → ℕ → LiveEntry → List Pending → Patch → Step
+write_taken client file live sent patch =
+    if live.belief.write then write_buffered client file live sent patch
+    else write_sent client file live sent patch
+
+-- first the access, then the write's end, then the numbers that are left
 unfoldable pub write_on_live : Client → ℕ → LiveEntry → List Pending → Patch → Step
 write_on_live client file live sent patch =
-    if may_write live.access
-    then (if is_within_limit patch
-    then (if client.last_number == last_write_number then refused_step client Refusal.UsedUp
-    else (if live.belief.write then write_buffered client file live sent patch
-    else write_sent client file live sent patch))
-    else refused_step client Refusal.TooLong)
-    else refused_step client Refusal.Denied
+    if not (may_write live.access) then refused_step client Refusal.Denied
+    else (if not (is_within_limit patch) then refused_step client Refusal.TooLong
+    else (if client.last_number == last_write_number then refused_step client Refusal.UsedUp
+    else write_taken client file live sent patch))
 
 -- the unsent writes are sent, in order
 unfoldable pub flush_on_live : Client → ℕ → LiveEntry → List Pending → Step

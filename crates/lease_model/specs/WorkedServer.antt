@@ -1,5 +1,5 @@
 -- Worked calls of a server.
-use Rattle.std.specs.Prelude.{◌≡◌, ℕ, true, false, Option, Some, None, List, [], ◌∷◌, map}
+use Rattle.std.specs.Prelude.{◌≡◌, ℕ, Bool, true, false, Option, Some, None, List, [], ◌∷◌, map}
 use Rattle.lease_state.specs.State.{State, state_of_bits, nothing_cached}
 use Rattle.lease_model.specs.Key.{Key}
 use Rattle.lease_state.specs.declared.access.Access.{Access}
@@ -7,7 +7,7 @@ use Rattle.lease_state.specs.declared.access.Share.{Share}
 use Rattle.lease_state.specs.declared.status.Status.{Status}
 use Rattle.lease_model.specs.Allowed.{allowed}
 use Rattle.lease_model.specs.Calls.{Call, called}
-use Rattle.lease_model.specs.Letters.{RH, RWH}
+use Rattle.lease_model.specs.Letters.{R, RH, RWH}
 use Rattle.lease_model.specs.Replies.{Reply, Out}
 use Rattle.lease_model.specs.Requests.{Request, LeaseOf}
 use Rattle.lease_model.specs.ServerState.{Server, new_server}
@@ -165,3 +165,48 @@ LaterAllowed =
     ∷ allowed (after_closing (1 ∷ [])) None 1 RWH
     ∷ allowed (after_closing (1 ∷ 3 ∷ [])) None 1 RWH ∷ [])
     ≡ RWH ∷ RH ∷ RWH ∷ RH ∷ RWH ∷ []
+
+-- clients 2 and 3 have RH, and client 1 wants the file for itself alone
+abbrev pub waiting_calls : List Call
+waiting_calls =
+    Call.Join 1
+    ∷ Call.Join 2
+    ∷ Call.Join 3
+    ∷ Call.Receive 2 (leased 1 Access.ReadWrite Share.ReadWrite RH)
+    ∷ Call.Receive 3 (leased 1 Access.ReadWrite Share.ReadWrite RH)
+    ∷ Call.Receive 1 (plain 1 Access.ReadWrite Share.Nothing)
+    ∷ Call.Receive 2 (Request.Write 1 1 (record { offset = 0; bytes = 0x58 ∷ [] }))
+    ∷ Call.Receive 2 (Request.Close 1)
+    ∷ Call.Receive 3 (Request.Acknowledge (sample_lease R))
+    ∷ []
+
+abbrev pub break_to : ℕ → Bool → State → State → Out
+break_to client ack_required current lowered = Out.Sent client (Reply.Break (Some (record {
+  ack_required = ack_required;
+  key = sample_key;
+  current = current;
+  lowered = lowered;
+})))
+
+-- The create of client 1 waits for two leases, the write of client 2 for one of them, and the close
+-- of client 2 behind its write. With the acknowledgment of client 3 a first pass answers the write,
+-- for which the lease of reads that is left there is broken at once, and the close; a second pass
+-- finds nobody left who could give up handles, and refuses the create.
+abbrev pub TwoPasses : Type 0
+TwoPasses = outs_along two_files waiting_calls ≡
+    []
+    ∷ []
+    ∷ []
+    ∷ (Out.Opened 1 2 ∷ Out.Sent 2 (created_leased 1 1 RH) ∷ [])
+    ∷ (Out.Opened 1 3 ∷ Out.Sent 3 (created_leased 1 2 RH) ∷ [])
+    ∷ (break_to 2 true RH R ∷ break_to 3 true RH R ∷ [])
+    ∷ []
+    ∷ []
+    ∷ (Out.Sent 3 (Reply.AckDone (sample_lease R))
+    ∷ break_to 3 false R nothing_cached
+    ∷ Out.Changed 1 2 1 (record { offset = 0; bytes = 0x58 ∷ [] })
+    ∷ Out.Sent 2 (Reply.WriteDone 1 1)
+    ∷ Out.Sent 2 (Reply.Closed 1)
+    ∷ Out.Sent 1 (Reply.CreateFailed 1 Status.SharingViolation)
+    ∷ [])
+    ∷ []

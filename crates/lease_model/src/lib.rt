@@ -17,5 +17,5 @@ pub use worked_runs_of_breaks::runs_of_breaks;
 pub use worked_runs_of_cuts::runs_of_cuts;
 pub use worked_runs_of_others::runs_of_others;
 pub use worked_runs_of_reads::runs_of_reads;
-pub use worked_server::{acknowledgments, odd_states, one_list_of_opens};
+pub use worked_server::{acknowledgments, odd_states, one_list_of_opens, two_passes};
 pub use worked_verdicts::verdicts;

@@ -1,4 +1,4 @@
-ghost use Rattle.lease_model.specs.WorkedServer.{SharedCalls, SharedAllowed, LaterCalls, LaterAllowed, Acknowledgments, OddStates};
+ghost use Rattle.lease_model.specs.WorkedServer.{SharedCalls, SharedAllowed, LaterCalls, LaterAllowed, Acknowledgments, OddStates, TwoPasses};
 
 /// Two clients and two files: a lease is broken for another client's create, acknowledged, and the
 /// create answered; then a denied write, two closes and refused creates. What the server would
@@ -18,4 +18,9 @@ pub fn acknowledgments()
 /// Creates that ask for states without reads, and for every bit.
 pub fn odd_states()
     ensures { OddStates }
+{}
+
+/// Held requests are tried again in passes, until a pass answers nothing.
+pub fn two_passes()
+    ensures { TwoPasses }
 {}
