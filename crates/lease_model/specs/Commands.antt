@@ -1,0 +1,48 @@
+-- What an application asks of a client machine, what it is answered, and what the machine notes
+-- (own).
+use Rattle.std.specs.Prelude.{ℕ, Bool, List}
+use Rattle.lease_state.specs.State.{State}
+use Rattle.lease_state.specs.declared.access.Access.{Access}
+use Rattle.lease_state.specs.declared.access.Share.{Share}
+use Rattle.lease_state.specs.declared.status.Status.{Status}
+use Rattle.lease_model.specs.Content.{Patch}
+
+pub data Command : Type 0 where
+  Open : (file : ℕ) (access : Access) (share : Share) (want : State) (durable : Bool) → Command
+  Close : (file : ℕ) → Command
+  Read : (file : ℕ) → Command
+  Write : (file : ℕ) (patch : Patch) → Command
+  Flush : (file : ℕ) → Command
+
+-- why a command is refused; it then changes nothing and sends nothing
+pub data Refusal : Type 0 where
+  NotOpen : Refusal
+  Busy : Refusal
+  Differs : Refusal
+  Offline : Refusal
+  TooLong : Refusal
+  Denied : Refusal
+  UsedUp : Refusal
+
+-- `Bytes` says whether they came from the cache; `Failed` is the server's answer; `Quiet` is none
+pub data Answer : Type 0 where
+  Done : Answer
+  Waiting : Answer
+  Bytes : (bytes : List ℕ) (cached : Bool) → Answer
+  Refused : (refusal : Refusal) → Answer
+  Failed : (status : Status) → Answer
+  Quiet : Answer
+
+-- what became of a write: the server did it, the server refused it, nobody knows, or it was never
+-- sent and is given up
+pub data Settlement : Type 0 where
+  Done : Settlement
+  Failed : Settlement
+  Unknown : Settlement
+  Lost : Settlement
+
+pub data Note : Type 0 where
+  Settled : (number : ℕ) (outcome : Settlement) → Note
+  Wrote : (file : ℕ) (number : ℕ) (patch : Patch) (buffered : Bool) → Note
+  Believes : (file : ℕ) (state : State) → Note
+  CachedRead : (file : ℕ) (bytes : List ℕ) → Note

@@ -1,0 +1,7 @@
+ghost use Rattle.lease_model.specs.RunsOfOthers.{TwoFilesHeld, StrayedClient};
+
+/// Runs of requests that are held on two files, and of a client that strays.
+pub fn runs_of_others()
+    ensures two_files_held { TwoFilesHeld }
+    ensures strayed { StrayedClient }
+{}
