@@ -21,6 +21,7 @@ mod writing;
 pub use acknowledgment::{Acknowledgment, acknowledgment_laws};
 pub use chain::{Context, Contexts};
 pub use create::{CreateAnswer, CreateAsk};
+pub use direction::Direction;
 pub use fault::WireFault;
 pub use notification::{Notification, notification_laws};
 pub use reading::{read_create, read_create_reply, reading_laws};

@@ -1,2 +1,5 @@
 pub mod Answer
+pub mod Words
+pub mod Shown
 pub mod Printed
+pub mod Told

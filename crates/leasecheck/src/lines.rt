@@ -23,8 +23,8 @@ fn answered(alloc: Global, notification: &Notification) -> Result<String, AllocE
     }
 }
 
-// Says how many bytes were left over, where there are any.
-fn push_rest(text: &mut String, count: usize) -> Result<(), AllocError>
+/// Says how many bytes were left over, where there are any.
+pub(crate) fn push_rest(text: &mut String, count: usize) -> Result<(), AllocError>
     ensures { OnOk result (string_bytes text.new ≡ string_bytes text.old ++ rest_line count) }
 {
     if count > 0 {

@@ -8,8 +8,10 @@ mod doing;
 mod failure;
 mod hexadecimal;
 mod lines;
+mod shown;
 #[cfg(test)]
 mod tests;
+mod words;
 
 use asked::Usage;
 use command_line::task;

@@ -1,0 +1,10 @@
+use Rattle.std.proofs.Common.{refl, length-drop}
+use Rattle.lease_wire.specs.Notification.{notice_of}
+use Rattle.leasecheck.proofs.shown.show_break.Goals as goal
+
+pub returns-clause-shown : goal.returns-clause-shown
+returns-clause-shown c = (
+    notice_of c.in_ok-notification.notification,
+    c.in_ok-notification.ensures.value,
+    rw (c.in_ok-push_rest.ensures, c.in_ok-text.ensures, c.in_ok-notification.ensures.rest, length-drop) refl,
+  )

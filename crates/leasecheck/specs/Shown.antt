@@ -1,0 +1,21 @@
+-- What `leasecheck show` prints for bytes of each kind.
+use Rattle.std.specs.Prelude.{◌≡◌, ℕ, ◌-◌, ◌++◌, List, length, take, Ok}
+use Rattle.lease_wire.specs.Names.{CreateView}
+use Rattle.lease_wire.specs.Gathering.{value_of}
+use Rattle.lease_wire.specs.Notification.{Notice, IsNotification}
+use Rattle.lease_wire.specs.Acknowledgment.{KeyAndState, IsAcknowledgment}
+use Rattle.lease_wire.specs.declared.direction.Direction.{Direction}
+use Rattle.leasecheck.specs.Answer.{rest_line}
+use Rattle.leasecheck.specs.Words.{create_text, break_line}
+
+abbrev pub ShowsCreate : Direction → List ℕ → List ℕ → Type 0
+ShowsCreate direction bytes text = (v : CreateView) × (value_of direction bytes ≡ Ok v) × (text ≡ create_text bytes v)
+
+abbrev pub ShowsBreak : List ℕ → List ℕ → Type 0
+ShowsBreak bytes text =
+    (v : Notice) × IsNotification (take 44 bytes) v × (text ≡ break_line v ++ rest_line (length bytes - 44))
+
+-- an acknowledgment or a response, by its line
+abbrev pub ShowsKeyAndState : (KeyAndState → List ℕ) → List ℕ → List ℕ → Type 0
+ShowsKeyAndState line bytes text =
+    (v : KeyAndState) × IsAcknowledgment (take 36 bytes) v × (text ≡ line v ++ rest_line (length bytes - 36))
