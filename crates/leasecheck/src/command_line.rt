@@ -1,4 +1,4 @@
-use crate::asked::{Task, Usage};
+use crate::asked::{Kind, Task, Usage};
 use clap::{Arg, ArgMatches, Command, Error};
 use std::alloc::{AllocError, Global};
 
@@ -18,13 +18,45 @@ fn ack_command<'a>(alloc: Global) -> Result<Command<'a>, AllocError> {
         .arg(hex_argument(alloc, "The notification's bytes as hexadecimal digits"))
 }
 
+const KINDS: &[&str] = &["ask", "reply", "break", "ack", "response"];
+
+fn show_command<'a>(alloc: Global) -> Result<Command<'a>, AllocError> {
+    let kind = Arg::new(alloc, "KIND")
+        .required(true)
+        .value_parser(KINDS)
+        .help("ask and reply: create contexts; break, ack and response: break messages");
+    Command::new(alloc, "show")
+        .about("Prints what create contexts or a break message hold")
+        .long_about(
+            "Reads bytes of the given kind, without the SMB2 header. For the create contexts of a \
+             request (ask) or of a response (reply) it prints a line for each context and one for \
+             each part of what they ask for or grant, or 'nothing'. For a lease break notification \
+             (break), acknowledgment (ack) or response (response) it prints one line, and 'rest k' \
+             where k bytes follow.",
+        )
+        .arg(kind)?
+        .arg(hex_argument(alloc, "The bytes as hexadecimal digits"))
+}
+
+fn kind_named(name: &str) -> Option<Kind> {
+    match name {
+        "ask" => Some(Kind::Ask),
+        "reply" => Some(Kind::Reply),
+        "break" => Some(Kind::Break),
+        "ack" => Some(Kind::Ack),
+        "response" => Some(Kind::Response),
+        _ => None,
+    }
+}
+
 fn program<'a>(alloc: Global) -> Result<Command<'a>, AllocError> {
     Command::new(alloc, "leasecheck")
         .about("Reads and answers the messages of SMB 2.1 leases")
         .no_binary_name(true)
         .disable_help_subcommand(true)
         .subcommand_required(true)
-        .subcommand(ack_command(alloc)?)
+        .subcommand(ack_command(alloc)?)?
+        .subcommand(show_command(alloc)?)
 }
 
 fn parse<'a>(alloc: Global, words: &'a [&'a str]) -> Result<ArgMatches<'a>, Error> {
@@ -42,12 +74,21 @@ fn refused(alloc: Global, error: &Error) -> Usage {
     }
 }
 
+fn shown_by(alloc: Global, given: &ArgMatches) -> Result<Option<Task>, AllocError> {
+    let (Some(name), Some(digits)) = (given.get_str("KIND"), given.get_str("HEX")) else {
+        return Ok(None);
+    };
+    let digits = String::from_str(alloc, digits)?;
+    Ok(kind_named(name).map(|kind| Task::Show(kind, digits)))
+}
+
 fn asked_by(alloc: Global, matches: &ArgMatches) -> Result<Option<Task>, AllocError> {
     match matches.subcommand() {
         Some(("ack", given)) => match given.get_str("HEX") {
             Some(digits) => Ok(Some(Task::Ack(String::from_str(alloc, digits)?))),
             None => Ok(None),
         },
+        Some(("show", given)) => shown_by(alloc, given),
         _ => Ok(None),
     }
 }

@@ -5,7 +5,7 @@ ghost use Rattle.leasecheck.specs.Printed.{IsTextOf, HasNoBytes, Prints};
 
 use crate::asked::Task;
 use crate::failure::Failure;
-use crate::{hexadecimal, lines};
+use crate::{hexadecimal, lines, shown};
 use std::alloc::Global;
 use std::io::{Read, Write};
 
@@ -18,6 +18,10 @@ fn text_of(alloc: Global, asked: &Task) -> Result<String, Failure>
         Task::Ack(digits) => {
             let bytes = hexadecimal::bytes_of(alloc, digits.as_str())?;
             lines::ack_lines(alloc, bytes.as_slice())
+        }
+        Task::Show(kind, digits) => {
+            let bytes = hexadecimal::bytes_of(alloc, digits.as_str())?;
+            shown::show(alloc, *kind, bytes.as_slice())
         }
     }
 }
@@ -43,7 +47,7 @@ fn done<O: Write>(alloc: Global, asked: &Task, out: &mut O) -> Result<(), Failur
 ///
 /// The whole text is made before anything is written to `out`; on a refusal nothing is, and
 /// `faults` gets one line. A failed write to `faults` changes no status. `input` has the bytes of
-/// the task's file, none for `ack`.
+/// the task's file, none for `ack` and `show`.
 pub fn perform<I: Read, O: Write, F: Write>(
     alloc: Global,
     asked: &Task,

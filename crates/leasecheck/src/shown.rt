@@ -7,10 +7,11 @@ ghost use Rattle.lease_wire.specs.Notification.{notice_of};
 ghost use Rattle.lease_wire.specs.declared.direction.Direction.TheVariants.{Request, Reply};
 ghost use Rattle.lease_wire.specs.declared.fault.WireFault.{WireFault};
 ghost use Rattle.lease_wire.specs.declared.fault.WireFault.TheVariants.{Short, WrongSize};
-ghost use Rattle.leasecheck.specs.Shown.{ShowsCreate, ShowsBreak, ShowsKeyAndState};
+ghost use Rattle.leasecheck.specs.Shown.{ShowsCreate, ShowsBreak, ShowsKeyAndState, Shows};
 ghost use Rattle.leasecheck.specs.Told.{told_view};
 ghost use Rattle.leasecheck.specs.Words.{create_text, break_line, acknowledgment_line, response_line};
 
+use crate::asked::Kind;
 use crate::failure::Failure;
 use crate::lines::push_rest;
 use crate::words::{Told, push_contexts, push_told, state_letters};
@@ -136,4 +137,18 @@ pub fn show_response(alloc: Global, bytes: &[u8]) -> Result<String, Failure>
     let mut text = response_told(alloc, &response)?;
     push_rest(&mut text, rest.len())?;
     Ok(text)
+}
+
+/// What `leasecheck show` prints for bytes of a kind. Refused as their reading is, and as `Memory`
+/// where there is none.
+pub fn show(alloc: Global, kind: Kind, bytes: &[u8]) -> Result<String, Failure>
+    ensures { IfOk result (λ text. Shows kind bytes.now (string_bytes text)) }
+{
+    match kind {
+        Kind::Ask => show_ask(alloc, bytes),
+        Kind::Reply => show_reply(alloc, bytes),
+        Kind::Break => show_break(alloc, bytes),
+        Kind::Ack => show_acknowledgment(alloc, bytes),
+        Kind::Response => show_response(alloc, bytes),
+    }
 }

@@ -4,7 +4,7 @@ use Rattle.leasecheck.proofs.shown.show_acknowledgment.Goals as goal
 
 pub returns-clause-shown : goal.returns-clause-shown
 returns-clause-shown c = (
-    acknowledged_of c.in_ok-acknowledgment.acknowledgment,
-    c.in_ok-acknowledgment.ensures.value,
-    rw (c.in_ok-push_rest.ensures, c.in_ok-text.ensures, c.in_ok-acknowledgment.ensures.rest, length-drop) refl,
-  )
+  acknowledged_of c.in_ok-acknowledgment.acknowledgment,
+  c.in_ok-acknowledgment.ensures.value,
+  rw (c.in_ok-push_rest.ensures, c.in_ok-text.ensures, c.in_ok-acknowledgment.ensures.rest, length-drop) refl,
+)
