@@ -29,7 +29,7 @@ record FaultyItems (start : ℕ) (bytes : List ℕ) : Type 0 where
 
 module _ (start : ℕ) (bytes : List ℕ)
     (further : length (drop (next_of bytes) bytes) + 16 ≤ length bytes
-      → LaidItems (start + next_of bytes) (drop (next_of bytes) bytes) ⊎ FaultyItems (start + next_of bytes) (drop (next_of bytes) bytes)) where
+    → LaidItems (start + next_of bytes) (drop (next_of bytes) bytes) ⊎ FaultyItems (start + next_of bytes) (drop (next_of bytes) bytes)) where
   laid_more : layout_fault start bytes ≡ None → next_of bytes ≢ 0 → LeadingIs start bytes → LaidItems (start + next_of bytes) (drop (next_of bytes) bytes) → LaidItems start bytes
   laid_more none more leading behind = record {
     pieces = take (next_of bytes) bytes ∷ behind.pieces;
@@ -90,12 +90,18 @@ items_read (suc room) start bytes within = by_fault start bytes (λ less. items_
 pub items_are : (text : List ℕ) → AreItemsOf text (items_of text)
 items_are [] = inl ([], refl, refl)
 items_are (byte ∷ bytes) = elim (items_read (length (byte ∷ bytes)) 0 (byte ∷ bytes) (omega arith)) [
-      | inl laid ↦ inl (laid.contexts, (laid.pieces, laid.whole, laid.laid), laid.given)
-      | inr faulty ↦ inr (faulty.fault, faulty.pieces, faulty.contexts, faulty.rest, record {
-          some = λ none. cc;
-          whole = faulty.whole;
-          linked = faulty.linked;
-          first = rw (zero-add (length (concat faulty.pieces))) at faulty.first;
-          given = faulty.given;
-        })
-    ]
+  | inl laid ↦ inl (laid.contexts, (laid.pieces, laid.whole, laid.laid), laid.given)
+  | inr faulty ↦ inr (
+    faulty.fault,
+    faulty.pieces,
+    faulty.contexts,
+    faulty.rest,
+    record {
+      some = λ none. cc;
+      whole = faulty.whole;
+      linked = faulty.linked;
+      first = rw (zero-add (length (concat faulty.pieces))) at faulty.first;
+      given = faulty.given;
+    },
+  )
+]

@@ -73,7 +73,7 @@ Calm Request lease = lease.breaking ≡ false
 Calm Reply lease = Unit {0}
 
 same_lease : (direction : Direction) (key : List ℕ) (read : State) (lease : LeaseView) (told : Bool) → read ≡ lease.state → told ≡ lease.breaking
-  → ◌≡◌ {A = Meaning} (Lease (record { key = key; state = read; breaking = told })) (Lease (record lease { key = key }))
+    → ◌≡◌ {A = Meaning} (Lease (record { key = key; state = read; breaking = told })) (Lease (record lease { key = key }))
 same_lease direction key read lease told state breaking = rw (state, breaking) refl
 
 breaking-written : (b : Bool) → (bit_and (little_number 4 (little_bytes 4 (if b then 2 else 0))) 2 == 2) ≡ b
@@ -81,7 +81,7 @@ breaking-written true = refl
 breaking-written false = refl
 
 pub lease_is : (direction : Direction) (start : ℕ) (lease : LeaseView) → length lease.key ≡ 16 → Calm direction lease
-  → meaning_of direction (written start lease_name (lease_body lease)) ≡ Lease lease
+    → meaning_of direction (written start lease_name (lease_body lease)) ≡ Lease lease
 unfolding meaning_of
 lease_is Request start lease =
     sixteen_cells (λ cells. Calm Request lease → meaning_of Request (written start lease_name (lease_body (record lease { key = cells }))) ≡ Lease (record lease { key = cells }))

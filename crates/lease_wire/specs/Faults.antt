@@ -61,5 +61,5 @@ pub record StopsAt (text : List ℕ) (items : List Item) (fault : WireFault) (pi
 -- the items are those of the text
 abbrev pub AreItemsOf : List ℕ → List Item → Type 0
 AreItemsOf text items =
-  GivesAll text items
-  ⊎ ((fault : WireFault) × (pieces : List (List ℕ)) × (contexts : List ContextView) × (rest : List ℕ) × StopsAt text items fault pieces contexts rest)
+    GivesAll text items
+    ⊎ ((fault : WireFault) × (pieces : List (List ℕ)) × (contexts : List ContextView) × (rest : List ℕ) × StopsAt text items fault pieces contexts rest)

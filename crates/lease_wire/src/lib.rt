@@ -15,6 +15,8 @@ mod meaning;
 mod notification;
 mod reading;
 mod response;
+#[cfg(test)]
+mod tests;
 mod walk;
 mod writing;
 

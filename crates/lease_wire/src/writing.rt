@@ -196,5 +196,4 @@ pub fn write_create_reply(answer: &CreateAnswer, out: &mut Vec<u8>) -> Result<()
 pub fn canonical_laws()
     ensures holds { WrittenHoldsValue }
     ensures reads_back { WrittenReadsBack }
-{
-}
+{}
