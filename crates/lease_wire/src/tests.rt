@@ -72,14 +72,15 @@ fn writes_a_response(rt: HostRuntime) -> Result<(), Fail> {
 
 #[test]
 fn borrows_the_parts_of_contexts(rt: HostRuntime) {
-    let mut seen = 0;
-    for item in contexts(ASK.as_slice()) {
-        if let Ok(context) = item {
-            assert_eq!(&rt; context.place, seen * 56);
-            assert!(&rt; context.name == [b"RqLs", b"DHnQ"][seen.min(1)].as_slice());
-            assert_eq!(&rt; context.body.len(), [32, 16][seen.min(1)]);
-            seen = 1;
-        }
+    let wanted = [(0, b"RqLs", 32), (56, b"DHnQ", 16)];
+    for (item, (place, name, length)) in contexts(ASK.as_slice()).zip(wanted.iter().copied()) {
+        let Ok(context) = item else {
+            assert!(&rt; false, "no context at {place}");
+            return;
+        };
+        assert_eq!(&rt; context.place, place);
+        assert!(&rt; context.name == name.as_slice());
+        assert_eq!(&rt; context.body.len(), length);
     }
     let mut cut = contexts(&ASK[..60]);
     assert!(&rt; cut.next().is_some_and(|item| item.is_ok()));
