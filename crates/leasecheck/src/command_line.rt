@@ -52,7 +52,6 @@ fn kind_named(name: &str) -> Option<Kind> {
 fn program<'a>(alloc: Global) -> Result<Command<'a>, AllocError> {
     Command::new(alloc, "leasecheck")
         .about("Reads and answers the messages of SMB 2.1 leases")
-        .no_binary_name(true)
         .disable_help_subcommand(true)
         .subcommand_required(true)
         .subcommand(ack_command(alloc)?)?
@@ -63,14 +62,27 @@ fn parse<'a>(alloc: Global, words: &'a [&'a str]) -> Result<ArgMatches<'a>, Erro
     program(alloc)?.try_get_matches_from(words)
 }
 
+// The words behind the program's name, by which usage lines begin.
+fn with_name<'a>(alloc: Global, words: &[&'a str]) -> Result<Vec<&'a str>, AllocError> {
+    let mut all = Vec::new(alloc);
+    all.push("leasecheck")?;
+    all.extend_from_slice(words)?;
+    Ok(all)
+}
+
+// There is no memory to say why.
+fn untold(alloc: Global) -> Usage {
+    Usage {
+        status: 2,
+        text: String::new(alloc),
+    }
+}
+
 fn refused(alloc: Global, error: &Error) -> Usage {
     let status = if error.use_stderr() { 2 } else { 0 };
     match format!(in alloc; "{error}") {
         Ok(text) => Usage { status, text },
-        Err(_) => Usage {
-            status: 2,
-            text: String::new(alloc),
-        },
+        Err(_) => untold(alloc),
     }
 }
 
@@ -98,15 +110,15 @@ fn asked_by(alloc: Global, matches: &ArgMatches) -> Result<Option<Task>, AllocEr
 /// `Err` has help (status 0) where the words ask for it, and else says why they are refused
 /// (status 2). Where there is no memory for the answer the words are refused with no text.
 pub fn task(alloc: Global, words: &[&str]) -> Result<Task, Usage> {
-    let matches = match parse(alloc, words) {
+    let Ok(all) = with_name(alloc, words) else {
+        return Err(untold(alloc));
+    };
+    let matches = match parse(alloc, all.as_slice()) {
         Ok(matches) => matches,
         Err(error) => return Err(refused(alloc, &error)),
     };
     match asked_by(alloc, &matches) {
         Ok(Some(asked)) => Ok(asked),
-        _ => Err(Usage {
-            status: 2,
-            text: String::new(alloc),
-        }),
+        _ => Err(untold(alloc)),
     }
 }
