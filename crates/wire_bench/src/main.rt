@@ -1,0 +1,72 @@
+//! Reads or writes create contexts many times, for `bench/contexts` to time from outside.
+#![tactic(auto)]
+
+use lease_state::{LeaseKey, LeaseState, Memory};
+use lease_wire::{CreateAsk, read_create, write_create_ask};
+use std::alloc::{AllocError, Global};
+use std::process::ExitCode;
+use std::rt::Env;
+use std::{env, io};
+
+// A request with a lease of RWH, a foreign context and a durable open.
+const CHAIN: [u8; 120] = *b"\x38\0\0\0\x10\0\x04\0\0\0\x18\0\x20\0\0\0RqLs\0\0\0\0\
+\0\x01\x02\x03\x04\x05\x06\x07\x08\x09\x0a\x0b\x0c\x0d\x0e\x0f\x07\0\0\0\0\0\0\0\0\0\0\0\0\0\0\0\
+\x18\0\0\0\x10\0\x04\0\xff\xff\0\0\0\0\0\0MxAc\0\0\0\0\
+\0\0\0\0\x10\0\x04\0\0\0\x18\0\x10\0\0\0DHnQ\0\0\0\0\0\0\0\0\0\0\0\0\0\0\0\0\0\0\0\0";
+
+fn read_many(count: u32) -> u64 {
+    let mut text = CHAIN;
+    let mut sum = 0u64;
+    for turn in 0..count {
+        text[24] = (turn % 256) as u8;
+        if let Ok(ask) = read_create(&text)
+            && let Some((key, _)) = ask.lease
+        {
+            sum = sum.wrapping_add(u64::from(key.0[0]));
+        }
+    }
+    sum
+}
+
+fn write_many(alloc: Global, count: u32) -> Result<u64, Memory> {
+    let mut out = Vec::new(alloc);
+    let mut sum = 0u64;
+    for turn in 0..count {
+        let ask = CreateAsk {
+            lease: Some((LeaseKey([(turn % 256) as u8; 16]), LeaseState::from_wire(3))),
+            durable: true,
+            reconnect: None,
+        };
+        out.clear();
+        write_create_ask(&ask, &mut out)?;
+        sum = sum.wrapping_add(u64::from(out.get(30).copied().unwrap_or(0)));
+    }
+    Ok(sum)
+}
+
+fn words_given<R: Env + AllocGlobal>(rt: &R) -> io::Result<Vec<String>> {
+    let words: Vec<String> = env::args(rt)?.skip(1).collect(rt.alloc())?;
+    Ok(words)
+}
+
+fn done(alloc: Global, words: &[String]) -> Option<u64> {
+    let count = words.get(1)?.as_str().parse::<u32>().ok()?;
+    match words.first()?.as_str() {
+        "read" => Some(read_many(count)),
+        "write" => write_many(alloc, count).ok(),
+        _ => None,
+    }
+}
+
+fn main(rt: HostRuntime) -> ExitCode {
+    let Ok(words) = words_given(&rt) else {
+        return ExitCode::from(2);
+    };
+    match done(rt.alloc(), words.as_slice()) {
+        Some(sum) => {
+            let _ = println!(rt; "{sum}");
+            ExitCode::from(0)
+        }
+        None => ExitCode::from(2),
+    }
+}
