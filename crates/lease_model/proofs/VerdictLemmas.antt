@@ -9,7 +9,7 @@ use lib.Pointwise.{bytes_decides}
 use Rattle.std.specs.List.{list_any}
 use Rattle.lease_state.specs.State.{State, nothing_cached}
 use Rattle.lease_model.specs.Commands.{Settlement}
-use Rattle.lease_model.specs.Content.{patches}
+use Rattle.lease_state.specs.Content.{patches}
 use Rattle.lease_model.specs.Facts.{Fact}
 use Rattle.lease_model.specs.LeaseStates.{holds_any}
 use Rattle.lease_model.specs.Past.{is_good, believed, last_sending, content_at, unanswered}

@@ -3,7 +3,8 @@ use Rattle.std.specs.Prelude.{ℕ, Bool, Option, Some, None, [], ◌∷◌, ◌=
 use Rattle.lease_state.specs.declared.access.Access.{Access}
 use Rattle.lease_state.specs.declared.access.Share.{Share}
 use Rattle.lease_model.specs.Attempt.{Outcome}
-use Rattle.lease_model.specs.Content.{Patch, patched}
+use Rattle.lease_state.specs.declared.patch.Patch.{Patch}
+use Rattle.lease_state.specs.Content.{patch as patched}
 use Rattle.lease_model.specs.Grant.{granted, reconnected}
 use Rattle.lease_model.specs.Progress.{Progress, stepped, opens_dropped, replied, refused}
 use Rattle.lease_model.specs.Replies.{Reply, Out}

@@ -6,7 +6,8 @@ use Rattle.lease_state.specs.declared.access.Share.{Share}
 use Rattle.lease_model.specs.ClientState.{Client, Entry, LiveEntry, Pending, Phase, closed_entry, live_entry, lease_key, knows_file, view}
 use Rattle.lease_model.specs.ClientStep.{Step, Turn, turned, refused_step, write_requests}
 use Rattle.lease_model.specs.Commands.{Command, Answer, Refusal, Note}
-use Rattle.lease_model.specs.Content.{Patch, is_within_limit}
+use Rattle.lease_state.specs.declared.patch.Patch.{Patch}
+use Rattle.lease_model.specs.Content.{is_within_limit}
 use Rattle.lease_model.specs.Limits.{count_limit, last_write_number}
 use Rattle.lease_model.specs.Lists.{is_empty}
 use Rattle.lease_model.specs.Requests.{Request}

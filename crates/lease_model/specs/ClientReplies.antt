@@ -8,9 +8,9 @@ use Rattle.lease_state.specs.declared.status.Status.{Status}
 use Rattle.lease_model.specs.ClientState.{Client, Entry, LiveEntry, Parted, Pending, Phase, closed_entry, live_entry, lease_key, view}
 use Rattle.lease_model.specs.ClientStep.{Step, Turn, turned, quiet_step, write_requests, settled_as}
 use Rattle.lease_model.specs.Commands.{Answer, Note, Settlement}
-use Rattle.lease_model.specs.Content.{patched}
+use Rattle.lease_state.specs.Content.{patch as patched}
 use Rattle.lease_model.specs.LeaseStates.{meet}
-use Rattle.lease_model.specs.Limits.{file_limit}
+use Rattle.lease_state.specs.declared.content.TheConstants.{FILE_LIMIT}
 use Rattle.lease_model.specs.Lists.{numbers_to}
 use Rattle.lease_model.specs.Replies.{Reply, BreakNotice, CreateAnswer, LeaseGiven}
 use Rattle.lease_model.specs.Requests.{Request}
@@ -216,7 +216,7 @@ read_on client file bytes sent phase = quiet_step client
 -- a Read of more bytes than a file may have is ignored
 unfoldable pub read_answered : Client → ℕ → List ℕ → Step
 read_answered client file_id bytes =
-    if nat_le (length bytes) file_limit
+    if nat_le (length bytes) FILE_LIMIT
     then on_file client (file_where client (λ file. reads_under file_id (client.entries file).phase))
     (λ file. read_on client file bytes (client.entries file).sent (client.entries file).phase)
     else quiet_step client

@@ -5,7 +5,7 @@ use Rattle.lease_state.specs.State.{State}
 use Rattle.lease_state.specs.declared.access.Access.{Access}
 use Rattle.lease_state.specs.declared.access.Share.{Share}
 use Rattle.lease_state.specs.declared.status.Status.{Status}
-use Rattle.lease_model.specs.Content.{Patch}
+use Rattle.lease_state.specs.declared.patch.Patch.{Patch}
 
 pub data Command : Type 0 where
   Open : (file : ℕ) (access : Access) (share : Share) (want : State) (durable : Bool) → Command

@@ -3,7 +3,7 @@
 use Rattle.std.specs.Prelude.{ℕ, Bool, List}
 use Rattle.lease_state.specs.State.{State}
 use Rattle.lease_model.specs.Commands.{Settlement}
-use Rattle.lease_model.specs.Content.{Patch}
+use Rattle.lease_state.specs.declared.patch.Patch.{Patch}
 
 -- Start: a file with its first bytes. Joined, Dropped: a client's connection came, or was lost.
 -- Expired: the timer of a client's broken lease ran out. Sent, Took: a message was sent to a

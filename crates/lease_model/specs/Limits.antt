@@ -1,9 +1,6 @@
--- The limits of the profile (own). Each is named here alone; no other definition has its number.
+-- The limits of the profile (own), but that of a file, which is a constant of the shared values. Each is
+-- named once; no other definition has its number.
 use Rattle.std.specs.Prelude.{ℕ}
-
--- the most bytes that a file has
-unfoldable pub file_limit : ℕ
-file_limit = 65536
 
 -- the most files and the most clients of a setup, and the most events of a run
 unfoldable pub files_limit : ℕ

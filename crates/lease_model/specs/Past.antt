@@ -2,7 +2,9 @@
 -- the newest first; it is meant for every record, whoever made it (own).
 use Rattle.std.specs.Prelude.{ℕ, zero, suc, ◌+◌, Bool, false, Option, None, List, [], ◌∷◌, ◌++◌, if◌then◌else◌, ◌==◌, ◌&&◌, ◌||◌, not, slice_get}
 use Rattle.lease_state.specs.State.{State, nothing_cached}
-use Rattle.lease_model.specs.Content.{Patch, patches, same_patch}
+use Rattle.lease_state.specs.declared.patch.Patch.{Patch}
+use Rattle.lease_state.specs.Content.{patches}
+use Rattle.lease_model.specs.Content.{same_patch}
 use Rattle.lease_model.specs.Facts.{Fact}
 
 -- the file was started

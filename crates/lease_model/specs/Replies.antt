@@ -2,7 +2,7 @@
 use Rattle.std.specs.Prelude.{ℕ, Bool, List, Option}
 use Rattle.lease_state.specs.State.{State}
 use Rattle.lease_state.specs.declared.status.Status.{Status}
-use Rattle.lease_model.specs.Content.{Patch}
+use Rattle.lease_state.specs.declared.patch.Patch.{Patch}
 use Rattle.lease_model.specs.Requests.{LeaseOf}
 
 -- the RqLs context of a reply (MS-SMB2 2.2.14.2.10), with the flag BREAK_IN_PROGRESS

@@ -4,7 +4,7 @@ use Rattle.std.specs.Prelude.{ℕ, Bool, List, Option}
 use Rattle.lease_state.specs.State.{State}
 use Rattle.lease_state.specs.declared.access.Access.{Access}
 use Rattle.lease_state.specs.declared.access.Share.{Share}
-use Rattle.lease_model.specs.Content.{Patch}
+use Rattle.lease_state.specs.declared.patch.Patch.{Patch}
 
 -- a LeaseKey with a state: the RqLs context of a request (MS-SMB2 2.2.13.2.8), and what an
 -- acknowledgment (2.2.24.2) and its response (2.2.25.2) say

@@ -2,7 +2,8 @@
 use Rattle.std.specs.Prelude.{◌≡◌, ◌≢◌, ⊤, ℕ, Bool, true, false, Some, List, [], ◌∷◌, length, reverse, nat_lt, ◌&&◌, not}
 use Rattle.lease_state.specs.State.{nothing_cached}
 use Rattle.lease_model.specs.Commands.{Settlement}
-use Rattle.lease_model.specs.Content.{patches, is_within_limit}
+use Rattle.lease_state.specs.Content.{patches}
+use Rattle.lease_model.specs.Content.{is_within_limit}
 use Rattle.lease_model.specs.Facts.{Fact}
 use Rattle.lease_model.specs.Past.{is_started, has_joined, sendings, takings, has_number, is_good, believed, last_sending, content_at, unanswered, has_strayed, is_touched, is_accepted}
 

@@ -4,7 +4,7 @@ use Rattle.lease_state.specs.State.{State}
 use Rattle.lease_state.specs.declared.access.Access.{Access}
 use Rattle.lease_state.specs.declared.access.Share.{Share}
 use Rattle.lease_model.specs.Commands.{Command}
-use Rattle.lease_model.specs.Content.{Patch}
+use Rattle.lease_state.specs.declared.patch.Patch.{Patch}
 use Rattle.lease_model.specs.Events.{Event}
 use Rattle.lease_model.specs.Replies.{Reply}
 use Rattle.lease_model.specs.World.{Setup}

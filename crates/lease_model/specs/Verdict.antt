@@ -2,7 +2,7 @@
 use Rattle.std.specs.Prelude.{ℕ, ◌+◌, Bool, false, Option, Some, None, List, [], ◌∷◌, if◌then◌else◌, ◌==◌, ◌&&◌, not, bytes_eq}
 use Rattle.std.specs.List.{list_any}
 use Rattle.lease_model.specs.Commands.{Settlement}
-use Rattle.lease_model.specs.Content.{patches}
+use Rattle.lease_state.specs.Content.{patches}
 use Rattle.lease_model.specs.Facts.{Fact}
 use Rattle.lease_model.specs.LeaseStates.{holds_any}
 use Rattle.lease_model.specs.Past.{is_good, believed, last_sending, content_at, unanswered, has_strayed, is_touched, is_accepted}

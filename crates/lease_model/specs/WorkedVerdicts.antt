@@ -1,10 +1,10 @@
 -- Worked verdicts on records, also on records that no run gives.
 use Rattle.std.specs.Prelude.{◌≡◌, ◌-◌, true, false, [], ◌∷◌}
 use Rattle.lease_model.specs.Commands.{Settlement}
-use Rattle.lease_model.specs.Content.{Patch}
+use Rattle.lease_state.specs.declared.patch.Patch.{Patch}
 use Rattle.lease_model.specs.Facts.{Fact}
 use Rattle.lease_model.specs.Letters.{R, RW}
-use Rattle.lease_model.specs.Limits.{file_limit}
+use Rattle.lease_state.specs.declared.content.TheConstants.{FILE_LIMIT}
 use Rattle.lease_model.specs.Verdict.{Verdict, verdict}
 
 abbrev pub x_at_0 : Patch
@@ -49,7 +49,7 @@ StrangeOrder =
 abbrev pub LimitVerdicts : Type 0
 LimitVerdicts =
     (verdict (Fact.Start 1 [] ∷ Fact.Joined 1
-    ∷ Fact.Wrote 1 1 1 (record { offset = file_limit - 1; bytes = 0x58 ∷ [] }) false ∷ [])
+    ∷ Fact.Wrote 1 1 1 (record { offset = FILE_LIMIT - 1; bytes = 0x58 ∷ [] }) false ∷ [])
     ∷ verdict (Fact.Start 1 [] ∷ Fact.Joined 1
-    ∷ Fact.Wrote 1 1 1 (record { offset = file_limit; bytes = 0x58 ∷ [] }) false ∷ []) ∷ [])
+    ∷ Fact.Wrote 1 1 1 (record { offset = FILE_LIMIT; bytes = 0x58 ∷ [] }) false ∷ []) ∷ [])
     ≡ Verdict.Safe ∷ Verdict.Malformed 3 ∷ []
