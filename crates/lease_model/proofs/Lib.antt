@@ -1,2 +1,3 @@
 pub mod Computing
 pub mod VerdictLemmas
+pub mod FromBytesLemmas

@@ -13,6 +13,8 @@ pub mod Commands
 pub mod Content
 pub mod Events
 pub mod Facts
+pub mod FromBytes
+pub mod FromBytesLaws
 pub mod Grant
 pub mod Key
 pub mod LeaseStates

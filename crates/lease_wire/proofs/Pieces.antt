@@ -189,3 +189,16 @@ leading_is start bytes none more =
       long = long;
       less = omega (arith, length-drop {A = ℕ});
     }
+
+-- a field of the first bytes is a field of them all
+pub number_at-taken : (place count size : ℕ) (bytes : List ℕ) → place + count ≤ size → size ≤ length bytes → number_at place count bytes ≡ number_at place count (take size bytes)
+number_at-taken place count size bytes within long =
+    let whole = take-append-drop size bytes in
+    let taken = length-take-le size bytes long in
+    rw whole at (number_at-front place count (take size bytes) (drop size bytes) (omega arith))
+
+pub bytes_at-taken : (place count size : ℕ) (bytes : List ℕ) → place + count ≤ size → size ≤ length bytes → bytes_at place count bytes ≡ bytes_at place count (take size bytes)
+bytes_at-taken place count size bytes within long =
+    let whole = take-append-drop size bytes in
+    let taken = length-take-le size bytes long in
+    rw whole at (bytes_at-front place count (take size bytes) (drop size bytes) (omega arith))
