@@ -1,10 +1,9 @@
 -- The canonical text of a value holds that value.
-use Rattle.std.proofs.Common.{◌≡◌, ◌<◌, ◌%◌, ◌^◌, ℕ, ◌+◌, List, [], ◌∷◌, ◌++◌, length, Bool, true, false, Option, Some, None, Ok, refl, arith, sym, IfSome}
-use Rattle.std.specs.List.{concat}
+use Rattle.std.proofs.Common.{◌≡◌, ◌<◌, ◌^◌, ℕ, ◌+◌, List, [], ◌∷◌, length, Bool, true, false, Option, Some, None, refl, arith, IfSome}
 use Rattle.std.proofs.lemmas.List.{append-nil}
-use Rattle.lease_wire.specs.Chain.{ContextView, IsContext, LeadsOn, next_of, HoldsContexts}
-use Rattle.lease_wire.specs.Names.{LeaseView, CreateView, HaveValue, HoldsValue, lease_name, durable_name, reconnect_name}
-use Rattle.lease_wire.specs.Canonical.{canonical_text, context_bytes, lease_body, durable_body, reconnect_body, IsDirected, IsWritable}
+use Rattle.lease_wire.specs.Chain.{ContextView, IsContext, LeadsOn, next_of}
+use Rattle.lease_wire.specs.Names.{LeaseView, CreateView, HoldsValue, lease_name, durable_name, reconnect_name}
+use Rattle.lease_wire.specs.Canonical.{canonical_text, context_bytes, lease_body, durable_body, reconnect_body, IsDirected}
 use Rattle.lease_wire.specs.Create.{WrittenHoldsValue, WrittenReadsBack}
 use Rattle.lease_wire.specs.declared.direction.Direction.{Direction}
 use Rattle.lease_wire.specs.declared.direction.Direction.TheVariants.{Request, Reply}

@@ -1,5 +1,5 @@
 -- A list of known length, cell by cell.
-use Rattle.std.proofs.Common.{◌≡◌, ℕ, ◌+◌, suc, List, [], ◌∷◌, length, arith}
+use Rattle.std.proofs.Common.{◌≡◌, ℕ, suc, List, [], ◌∷◌, length, arith}
 
 -- what holds of every first cell with n cells behind it holds of every list of one cell more
 first_cell : (P : List ℕ → Type 0) (n : ℕ) → ((x : ℕ) (xs : List ℕ) → length xs ≡ n → P (x ∷ xs)) → (xs : List ℕ) → length xs ≡ suc n → P xs

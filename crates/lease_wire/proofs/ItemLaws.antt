@@ -1,10 +1,10 @@
 -- The items that a reader gives are those of the text.
-use Rattle.std.proofs.Common.{◌≡◌, ◌≢◌, ◌≤◌, ℕ, zero, suc, ◌+◌, List, [], ◌∷◌, ◌++◌, map, length, take, drop, Option, Some, None, Result, Ok, Err, refl, arith, zero-add, add-zero, sym, ◌∙◌, ap, subst, ◌⊎◌, inl, inr, length-append}
+use Rattle.std.proofs.Common.{◌≡◌, ◌≢◌, ◌≤◌, ℕ, zero, suc, ◌+◌, List, [], ◌∷◌, ◌++◌, map, length, take, drop, Option, Some, None, Ok, Err, refl, arith, zero-add, add-zero, sym, ◌∙◌, subst, ◌⊎◌, inl, inr, length-append}
 use Rattle.std.specs.List.{concat}
 use Rattle.std.proofs.lemmas.List.{take-append-drop, append-nil, append_assoc}
 use Rattle.lease_wire.specs.Chain.{ContextView, AreLinked, AreLaidOut, next_of}
-use Rattle.lease_wire.specs.Reading.{Item, items_behind, items_of, layout_fault, context_at}
-use Rattle.lease_wire.specs.Faults.{AreItemsOf, StopsAt}
+use Rattle.lease_wire.specs.Reading.{items_behind, items_of, layout_fault, context_at}
+use Rattle.lease_wire.specs.Faults.{AreItemsOf}
 use Rattle.lease_wire.specs.declared.fault.WireFault.{WireFault}
 use Rattle.lease_wire.proofs.Items.{items_behind-fault, items_behind-last, items_behind-more}
 use Rattle.lease_wire.proofs.Pieces.{LeadingIs, whole_is, leading_is}

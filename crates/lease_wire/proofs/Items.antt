@@ -1,8 +1,8 @@
 -- What a reader gives of the bytes at a place where a context is due.
-use Rattle.std.proofs.Common.{◌≡◌, ◌≢◌, ◌≤◌, ◌<◌, ℕ, zero, suc, ◌+◌, ◌-◌, ◌==◌, if◌then◌else◌, Bool, true, false, List, [], ◌∷◌, length, drop, Option, Some, None, Result, Ok, Err, refl, arith, sym, ◌∙◌, ◌⊎◌, inl, inr}
+use Rattle.std.proofs.Common.{◌≡◌, ◌≢◌, ◌≤◌, ℕ, zero, suc, ◌+◌, ◌-◌, ◌==◌, if◌then◌else◌, false, List, [], ◌∷◌, length, drop, Option, Some, None, Ok, Err, refl, arith, sym, ◌∙◌, inl, inr}
 use Rattle.std.proofs.lemmas.Bool.Decides.{eqb_tells, nat_tests}
 use Rattle.lease_wire.specs.Chain.{next_of, ContextView}
-use Rattle.lease_wire.specs.Reading.{Item, items_behind, item_before, layout_fault, header_fault, context_at, header_of}
+use Rattle.lease_wire.specs.Reading.{items_behind, item_before, layout_fault, header_fault, context_at, header_of}
 use Rattle.lease_wire.specs.declared.fault.WireFault.{WireFault}
 use Rattle.lease_wire.specs.declared.fault.WireFault.TheVariants.{Short}
 use Rattle.lease_wire.specs.Field.{bytes_at}

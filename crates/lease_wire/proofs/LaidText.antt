@@ -1,19 +1,19 @@
 -- What a reader makes of a text is the value that the text holds, or its fault; part two: from the
 -- layout to the reader.
-use Rattle.std.proofs.Common.{◌≡◌, ◌≢◌, ℕ, ◌+◌, List, [], ◌∷◌, ◌++◌, length, Option, Some, None, Result, Ok, Err, refl, arith, sym, ◌∙◌, ap, subst, ◌⊎◌, inl, inr, length-append, add-zero}
+use Rattle.std.proofs.Common.{◌≡◌, ◌≢◌, ℕ, ◌+◌, List, [], ◌∷◌, ◌++◌, length, Option, Some, None, Result, Ok, Err, refl, arith, ◌∙◌, inl, inr, length-append, add-zero}
 use Rattle.std.specs.List.{concat}
 use Rattle.std.proofs.Math.Seq.{drop-append_seam}
 use Rattle.std.proofs.lemmas.List.{append-nil, append_assoc}
 use Rattle.std.proofs.lemmas.Bool.Decides.{eqb_tells}
 use Rattle.lease_wire.specs.Chain.{ContextView, IsContext, LeadsOn, AreLinked, AreLaidOut, next_of}
-use Rattle.lease_wire.specs.Reading.{Item, items_behind, layout_fault, context_at}
-use Rattle.lease_wire.specs.Names.{Meaning, CreateView, HaveValue, meaning_of}
-use Rattle.lease_wire.specs.Faults.{first_fault, option_or, meaning_fault}
-use Rattle.lease_wire.specs.Gathering.{gathered, carried, with_meaning}
+use Rattle.lease_wire.specs.Reading.{items_behind, layout_fault, context_at}
+use Rattle.lease_wire.specs.Names.{CreateView, HaveValue, meaning_of}
+use Rattle.lease_wire.specs.Faults.{first_fault, meaning_fault}
+use Rattle.lease_wire.specs.Gathering.{gathered, with_meaning}
 use Rattle.lease_wire.specs.declared.direction.Direction.{Direction}
 use Rattle.lease_wire.specs.declared.fault.WireFault.{WireFault}
 use Rattle.lease_wire.proofs.Items.{items_behind-fault, items_behind-last, items_behind-more}
-use Rattle.lease_wire.proofs.Pieces.{Ends, ends_last, ends_on, front_reads, next_of-front}
+use Rattle.lease_wire.proofs.Pieces.{ends_last, ends_on, front_reads, next_of-front}
 use Rattle.lease_wire.proofs.Values.{Adds, adds, faults, fault_in, passes, one_value}
 
 -- the items of a last piece

@@ -1,5 +1,5 @@
 -- What is written of a break message is read back, and has 0 in all that is free.
-use Rattle.std.proofs.Common.{◌≡◌, ℕ, List, ◌++◌, length, take, drop, refl, sym}
+use Rattle.std.proofs.Common.{◌≡◌, ◌++◌, length, take, drop, refl, sym}
 use Rattle.lease_wire.specs.Notification.{Notice, IsNotification, HasFreeFieldsZero, notification_bytes, NotificationReadsBack, NotificationFreeFields}
 use Rattle.lease_wire.specs.Acknowledgment.{KeyAndState, IsAcknowledgment, AcknowledgmentFreeFieldsZero, acknowledgment_bytes, AcknowledgmentReadsBack, AcknowledgmentFreeFields}
 use Rattle.lease_wire.proofs.Cells.{sixteen_cells}

@@ -1,14 +1,12 @@
 -- A piece that stands at the front of some bytes is read as the context that it is, and what is read
 -- there is the context that stands there.
-use Rattle.std.proofs.Common.{◌≡◌, ◌≢◌, ◌≤◌, ◌<◌, ◌%◌, ℕ, zero, suc, ◌+◌, ◌-◌, ◌==◌, false, if◌then◌else◌, List, [], ◌∷◌, ◌++◌, length, take, drop, Option, Some, None, refl, arith, sym, ◌∙◌, ap, subst, ◌⊎◌, inl, inr, length-append, length-drop}
+use Rattle.std.proofs.Common.{◌≡◌, ◌≢◌, ◌≤◌, ℕ, zero, suc, ◌+◌, ◌==◌, false, List, [], ◌++◌, length, take, drop, None, refl, arith, sym, ◌∙◌, ap, length-append, length-drop}
 use Rattle.std.proofs.lemmas.List.{drop-append-le, take-append-le, take-append-drop, length-take-le, append-nil}
-use Rattle.std.proofs.lemmas.Bool.Decides.{eqb_tells, nat_tests}
-use Rattle.byteorder.specs.Endian.{little_number}
+use Rattle.std.proofs.lemmas.Bool.Decides.{nat_tests}
 use Rattle.byteorder.specs.Numbers.{little_from-append}
 use Rattle.lease_wire.specs.Field.{number_at, bytes_at}
-use Rattle.lease_wire.specs.Chain.{ContextView, IsPart, IsData, IsContext, LeadsOn, next_of, name_offset_of, name_length_of, data_offset_of, data_length_of}
+use Rattle.lease_wire.specs.Chain.{ContextView, IsData, IsContext, LeadsOn, next_of, name_offset_of, name_length_of, data_offset_of, data_length_of}
 use Rattle.lease_wire.specs.Reading.{layout_fault, header_of, context_at, size_of}
-use Rattle.lease_wire.specs.declared.header.Header.{Header}
 use Rattle.lease_wire.proofs.HeaderFacts.{HeaderFits, header_fits, fitting_header}
 
 -- a field within the front is read from the front

@@ -1,13 +1,13 @@
 -- What a reader makes of a text is the value that the text holds, or its fault; part one: from the
 -- reader to the layout.
-use Rattle.std.proofs.Common.{◌≡◌, ◌≢◌, ◌≤◌, ◌<◌, ℕ, zero, suc, ◌+◌, List, [], ◌∷◌, ◌++◌, length, take, drop, Option, Some, None, Result, Ok, Err, refl, arith, sym, ◌∙◌, ap, subst, ◌⊎◌, inl, inr, length-append, add-zero, add_assoc}
+use Rattle.std.proofs.Common.{◌≡◌, ◌≢◌, ◌≤◌, ℕ, zero, suc, ◌+◌, List, [], ◌∷◌, ◌++◌, length, take, drop, Option, Some, None, Result, Ok, Err, refl, arith, sym, ◌∙◌, subst, ◌⊎◌, inl, inr, length-append, add-zero}
 use Rattle.std.specs.List.{concat}
 use Rattle.std.proofs.lemmas.List.{take-append-drop, append-nil, append_assoc}
 use Rattle.std.proofs.lemmas.Bool.Decides.{eqb_tells}
 use Rattle.lease_wire.specs.Chain.{ContextView, IsContext, LeadsOn, AreLinked, AreLaidOut, next_of}
-use Rattle.lease_wire.specs.Reading.{Item, items_behind, layout_fault, context_at}
-use Rattle.lease_wire.specs.Names.{Meaning, CreateView, HaveValue, meaning_of}
-use Rattle.lease_wire.specs.Faults.{first_fault, option_or, meaning_fault}
+use Rattle.lease_wire.specs.Reading.{items_behind, layout_fault, context_at}
+use Rattle.lease_wire.specs.Names.{CreateView, HaveValue, meaning_of}
+use Rattle.lease_wire.specs.Faults.{first_fault}
 use Rattle.lease_wire.specs.Gathering.{gathered, carried, with_meaning}
 use Rattle.lease_wire.specs.declared.direction.Direction.{Direction}
 use Rattle.lease_wire.specs.declared.fault.WireFault.{WireFault}

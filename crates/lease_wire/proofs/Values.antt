@@ -1,6 +1,6 @@
 -- One more context: what it adds to the value of those before it, or the rule of names that it breaks.
-use Rattle.std.proofs.Common.{◌≡◌, ℕ, Bool, true, false, if◌then◌else◌, List, [], ◌∷◌, ◌++◌, Option, Some, None, Result, Ok, Err, option_to_list, length, ◌≤◌, ◌+◌, refl, arith, length-append, sym, ◌∙◌, ap}
-use Rattle.std.specs.List.{filter_map, cons_option}
+use Rattle.std.proofs.Common.{◌≡◌, ℕ, Bool, true, false, if◌then◌else◌, List, [], ◌∷◌, ◌++◌, Option, Some, None, Result, Ok, Err, option_to_list, refl, sym, ◌∙◌, ap}
+use Rattle.std.specs.List.{cons_option}
 use Rattle.std.proofs.lemmas.List.{append-nil}
 use Rattle.std.proofs.lemmas.List.Elements.{filter_map-append}
 use Rattle.lease_wire.specs.Chain.{ContextView}
@@ -10,7 +10,7 @@ use Rattle.lease_wire.specs.Faults.{meaning_fault, twice_if}
 use Rattle.lease_wire.specs.Gathering.{with_meaning, with_lease, with_durable, with_reconnect, nothing_told}
 use Rattle.lease_wire.specs.declared.direction.Direction.{Direction}
 use Rattle.lease_wire.specs.declared.fault.WireFault.{WireFault}
-use Rattle.lease_wire.specs.declared.fault.WireFault.TheVariants.{BadLength, Twice}
+use Rattle.lease_wire.specs.declared.fault.WireFault.TheVariants.{Twice}
 
 pub value_of_nothing : (direction : Direction) → HaveValue direction [] nothing_told
 value_of_nothing direction = record { lengths = refl; lease = refl; durable = refl; reconnect = refl }

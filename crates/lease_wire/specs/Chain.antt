@@ -1,6 +1,6 @@
 -- Create contexts as they are laid out in a CREATE request or response (MS-SMB2 2.2.13.2, 2.2.14.2):
 -- a relation between a whole text and the contexts that it holds.
-use Rattle.std.specs.Prelude.{◌≡◌, ℕ, zero, suc, ◌+◌, ◌≤◌, ◌%◌, ◌++◌, List, [], ◌∷◌, length}
+use Rattle.std.specs.Prelude.{◌≡◌, ℕ, zero, suc, ◌+◌, ◌≤◌, ◌%◌, List, [], ◌∷◌, length}
 use Rattle.std.specs.List.{concat}
 use Rattle.lease_wire.specs.Field.{number_at, bytes_at}
 

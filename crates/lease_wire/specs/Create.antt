@@ -1,5 +1,5 @@
 -- What a request asks for and what a response grants, as the definitions see them.
-use Rattle.std.specs.Prelude.{◌≡◌, ℕ, Bool, false, Option, Some, None, Result, Ok, Err, List, ◌↔◌}
+use Rattle.std.specs.Prelude.{◌≡◌, ℕ, Bool, false, None, Result, Ok, Err, List, ◌↔◌}
 use Rattle.std.specs.Option.{option_map}
 use Rattle.lease_state.specs.State.{state_of}
 use Rattle.lease_state.specs.declared.key.LeaseKey.{LeaseKey}

@@ -1,5 +1,5 @@
 -- The code's values as the definitions see them.
-use Rattle.std.specs.Prelude.{ℕ, Bool, Option, Some, None, Result, Ok, Err}
+use Rattle.std.specs.Prelude.{Result, Ok, Err}
 use Rattle.std.specs.Option.{option_map}
 use Rattle.lease_state.specs.State.{state_of}
 use Rattle.lease_wire.specs.Names as names

@@ -1,6 +1,5 @@
 -- The value or the fault of a text as a function of its items, for callers to compute with.
-use Rattle.std.specs.Prelude.{◌≡◌, ℕ, Bool, true, false, List, [], ◌∷◌, Option, Some, None, Result, Ok, Err}
-use Rattle.lease_wire.specs.Chain.{ContextView}
+use Rattle.std.specs.Prelude.{ℕ, Bool, true, false, List, [], ◌∷◌, Option, Some, None, Result, Ok, Err}
 use Rattle.lease_wire.specs.Names.{Meaning, LeaseView, CreateView, meaning_of}
 use Rattle.lease_wire.specs.Names.Meaning.{Unknown, WrongLength, Lease, Durable, Reconnect}
 use Rattle.lease_wire.specs.Reading.{Item, items_of}

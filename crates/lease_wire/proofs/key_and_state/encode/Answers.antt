@@ -1,4 +1,4 @@
-use Rattle.std.proofs.Common.{◌≡◌, ℕ, List, length, refl, sym, subst, arith}
+use Rattle.std.proofs.Common.{◌≡◌, ℕ, List, length, refl, sym, subst}
 use Rattle.lease_state.specs.State.{state_of}
 use Rattle.lease_wire.specs.Acknowledgment.{KeyAndState, IsAcknowledgment}
 use Rattle.lease_wire.proofs.Messages.{acknowledgment_layout}

@@ -1,5 +1,5 @@
-use Rattle.std.proofs.Common.{refl, sym, subst, ℕ, List, ◌≡◌, if◌then◌else◌, rules, arith, length}
-use Rattle.lease_wire.specs.Notification.{IsNotification, notice_of, notification_bytes}
+use Rattle.std.proofs.Common.{refl, sym, subst, ℕ, List, ◌≡◌, if◌then◌else◌, rules, length}
+use Rattle.lease_wire.specs.Notification.{IsNotification, notice_of}
 use Rattle.lease_wire.proofs.Messages.{notification_layout}
 use Rattle.lease_wire.proofs.notification.Notification.encode.Goals as goal
 
