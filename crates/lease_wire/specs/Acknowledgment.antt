@@ -45,7 +45,8 @@ AcknowledgmentReadsBack = (v : KeyAndState) (rest : List ℕ) → length v.key �
 
 -- no bytes hold two values
 abbrev pub AcknowledgmentIsUnique : Type 0
-AcknowledgmentIsUnique = (bytes : List ℕ) (v w : KeyAndState) → IsAcknowledgment bytes v → IsAcknowledgment bytes w → v ≡ w
+AcknowledgmentIsUnique = (bytes : List ℕ) (v w : KeyAndState)
+    → IsAcknowledgment bytes v → IsAcknowledgment bytes w → v ≡ w
 
 -- what is written has 0 in all that is free
 abbrev pub AcknowledgmentFreeFields : Type 0

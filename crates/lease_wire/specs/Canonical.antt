@@ -22,7 +22,8 @@ context_bytes followed name body =
 -- LeaseKey, LeaseState, LeaseFlags, LeaseDuration 0
 abbrev pub lease_body : LeaseView → List ℕ
 lease_body lease =
-    lease.key ++ (little_bytes 4 (bits_of_state lease.state) ++ (little_bytes 4 (if lease.breaking then 2 else 0) ++ little_bytes 8 0))
+    lease.key ++ (little_bytes 4 (bits_of_state lease.state)
+    ++ (little_bytes 4 (if lease.breaking then 2 else 0) ++ little_bytes 8 0))
 
 -- 16 zero bytes in a request, 8 in a response
 abbrev pub durable_body : Direction → List ℕ

@@ -62,7 +62,8 @@ AreLinked place (piece ∷ pieces) (context ∷ contexts) =
 abbrev pub AreLaidOut : ℕ → List (List ℕ) → List ContextView → Type 0
 AreLaidOut place [] contexts = ⊥
 AreLaidOut place (piece ∷ pieces) [] = ⊥
-AreLaidOut place (piece ∷ []) (context ∷ contexts) = IsContext place piece context × (next_of piece ≡ 0) × (contexts ≡ [])
+AreLaidOut place (piece ∷ []) (context ∷ contexts) =
+    IsContext place piece context × (next_of piece ≡ 0) × (contexts ≡ [])
 AreLaidOut place (piece ∷ next ∷ pieces) (context ∷ contexts) =
     IsContext place piece context × LeadsOn piece × AreLaidOut (place + length piece) (next ∷ pieces) contexts
 

@@ -55,8 +55,10 @@ ValueIsRead = (direction : Direction) (text : List ℕ) → IsReadingOf directio
 
 -- what is written holds the value
 abbrev pub WrittenHoldsValue : Type 0
-WrittenHoldsValue = (direction : Direction) (v : CreateView) → IsWritable direction v → HoldsValue direction (canonical_text direction v) v
+WrittenHoldsValue = (direction : Direction) (v : CreateView) → IsWritable direction v
+    → HoldsValue direction (canonical_text direction v) v
 
 -- and so it is read back
 abbrev pub WrittenReadsBack : Type 0
-WrittenReadsBack = (direction : Direction) (v : CreateView) → IsWritable direction v → value_of direction (canonical_text direction v) ≡ Ok v
+WrittenReadsBack = (direction : Direction) (v : CreateView) → IsWritable direction v
+    → value_of direction (canonical_text direction v) ≡ Ok v

@@ -31,10 +31,12 @@ option_or None other = other
 -- the first test that the context at a place fails, behind others
 abbrev pub first_fault : Direction → List ContextView → ℕ → List ℕ → Option WireFault
 first_fault direction before place bytes =
-    option_or (layout_fault place bytes) (meaning_fault direction before place (meaning_of direction (context_at place bytes)))
+    option_or (layout_fault place bytes)
+    (meaning_fault direction before place (meaning_of direction (context_at place bytes)))
 
 -- The pieces before the fault lead on, and break no rule; what is left begins with the fault.
-pub record IsFaultBehind (direction : Direction) (text : List ℕ) (fault : WireFault) (pieces : List (List ℕ)) (contexts : List ContextView) (rest : List ℕ) : Type 0 where
+pub record IsFaultBehind (direction : Direction) (text : List ℕ) (fault : WireFault)
+    (pieces : List (List ℕ)) (contexts : List ContextView) (rest : List ℕ) : Type 0 where
   pub whole : concat pieces ++ rest ≡ text
   pub linked : AreLinked 0 pieces contexts
   pub named : (v : CreateView) × HaveValue direction contexts v
@@ -43,7 +45,8 @@ pub record IsFaultBehind (direction : Direction) (text : List ℕ) (fault : Wire
 -- the text's fault; no bytes at all have none
 abbrev pub IsFaultOf : Direction → List ℕ → WireFault → Type 0
 IsFaultOf direction text fault =
-    (text ≢ []) × ((pieces : List (List ℕ)) × (contexts : List ContextView) × (rest : List ℕ) × IsFaultBehind direction text fault pieces contexts rest)
+    (text ≢ []) × ((pieces : List (List ℕ)) × (contexts : List ContextView) × (rest : List ℕ)
+    × IsFaultBehind direction text fault pieces contexts rest)
 
 -- A reader gives all contexts of the text.
 abbrev pub GivesAll : List ℕ → List Item → Type 0
@@ -51,7 +54,8 @@ GivesAll text items = (contexts : List ContextView) × HoldsContexts text contex
 
 -- A reader gives the contexts of the pieces before the first place where a test of the layout fails, and
 -- then that fault.
-pub record StopsAt (text : List ℕ) (items : List Item) (fault : WireFault) (pieces : List (List ℕ)) (contexts : List ContextView) (rest : List ℕ) : Type 0 where
+pub record StopsAt (text : List ℕ) (items : List Item) (fault : WireFault)
+    (pieces : List (List ℕ)) (contexts : List ContextView) (rest : List ℕ) : Type 0 where
   pub some : text ≢ []
   pub whole : concat pieces ++ rest ≡ text
   pub linked : AreLinked 0 pieces contexts

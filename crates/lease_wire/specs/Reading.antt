@@ -20,7 +20,9 @@ header_of bytes = record {
 
 -- the fields are numbers of four and of two bytes
 abbrev pub HasFieldsInRange : Header → Type 0
-HasFieldsInRange h = (h.next < 2 ^ 32) × (h.name_offset < 2 ^ 16) × (h.name_length < 2 ^ 16) × (h.data_offset < 2 ^ 16) × (h.data_length < 2 ^ 32)
+HasFieldsInRange h =
+    (h.next < 2 ^ 32) × (h.name_offset < 2 ^ 16) × (h.name_length < 2 ^ 16)
+    × (h.data_offset < 2 ^ 16) × (h.data_length < 2 ^ 32)
 
 -- how long the context is, where so many bytes are left of the text
 abbrev pub size_of : ℕ → Header → ℕ

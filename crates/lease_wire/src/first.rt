@@ -28,7 +28,9 @@ pub(crate) fn read_context<'a>(
     place: usize,
     bytes: &'a [u8],
 ) -> Result<(Context<'a>, usize), WireFault>
-    ensures items { MatchResult result (λ r. items_behind place 0 bytes.now ≡ Ok (view_of r.0) ∷ items_after place r.1 bytes.now) (λ fault. items_behind place 0 bytes.now ≡ Err fault ∷ []) }
+    ensures items { MatchResult result
+        (λ r. items_behind place 0 bytes.now ≡ Ok (view_of r.0) ∷ items_after place r.1 bytes.now)
+        (λ fault. items_behind place 0 bytes.now ≡ Err fault ∷ []) }
     ensures next { IfOk result (λ r. r.1 ≤ length bytes.now) }
 {
     if bytes.len() < 16 {

@@ -25,7 +25,8 @@ pub(crate) fn encode(key: LeaseKey, state: LeaseState) -> [u8; 36]
 /// A key with its state, from the front of `bytes`, and the bytes after its 36.
 pub(crate) fn decode(bytes: &[u8]) -> Result<(LeaseKey, LeaseState, &[u8]), WireFault>
     ensures short { IsErrOf result (WireFault.Short 0) ↔ (length bytes.now < 36) }
-    ensures wrong_size { IsErrOf result (WireFault.WrongSize 0) ↔ ((36 ≤ length bytes.now) × (number_at 0 2 bytes.now ≢ 36)) }
+    ensures wrong_size { IsErrOf result (WireFault.WrongSize 0)
+        ↔ ((36 ≤ length bytes.now) × (number_at 0 2 bytes.now ≢ 36)) }
     ensures read { IsOk result ↔ ((36 ≤ length bytes.now) × (number_at 0 2 bytes.now ≡ 36)) }
     ensures value { IfOk result (λ r. IsAcknowledgment (take 36 bytes.now) (record { key = r.0.0; state = state_of r.1 })) }
     ensures rest { IfOk result (λ r. r.2.now ≡ drop 36 bytes.now) }

@@ -45,7 +45,8 @@ impl Notification {
     /// over.
     pub fn decode(bytes: &[u8]) -> Result<(Notification, &[u8]), WireFault>
         ensures short { IsErrOf result (WireFault.Short 0) ↔ (length bytes.now < 44) }
-        ensures wrong_size { IsErrOf result (WireFault.WrongSize 0) ↔ ((44 ≤ length bytes.now) × (number_at 0 2 bytes.now ≢ 44)) }
+        ensures wrong_size { IsErrOf result (WireFault.WrongSize 0)
+            ↔ ((44 ≤ length bytes.now) × (number_at 0 2 bytes.now ≢ 44)) }
         ensures read { IsOk result ↔ ((44 ≤ length bytes.now) × (number_at 0 2 bytes.now ≡ 44)) }
         ensures value { IfOk result (λ r. IsNotification (take 44 bytes.now) (notice_of r.0)) }
         ensures rest { IfOk result (λ r. r.1.now ≡ drop 44 bytes.now) }

@@ -30,7 +30,8 @@ impl BreakResponse {
     /// not 36. Other fields, and state bits past 7, are passed over.
     pub fn decode(bytes: &[u8]) -> Result<(BreakResponse, &[u8]), WireFault>
         ensures short { IsErrOf result (WireFault.Short 0) ↔ (length bytes.now < 36) }
-        ensures wrong_size { IsErrOf result (WireFault.WrongSize 0) ↔ ((36 ≤ length bytes.now) × (number_at 0 2 bytes.now ≢ 36)) }
+        ensures wrong_size { IsErrOf result (WireFault.WrongSize 0)
+            ↔ ((36 ≤ length bytes.now) × (number_at 0 2 bytes.now ≢ 36)) }
         ensures read { IsOk result ↔ ((36 ≤ length bytes.now) × (number_at 0 2 bytes.now ≡ 36)) }
         ensures value { IfOk result (λ r. IsAcknowledgment (take 36 bytes.now) (responded_of r.0)) }
         ensures rest { IfOk result (λ r. r.1.now ≡ drop 36 bytes.now) }

@@ -1,3 +1,5 @@
+ghost use Rattle.std.specs.Prelude.{◌≡◌, ◌⊎◌, IfErr};
+
 use crate::asked::{Kind, Task, Usage};
 use clap::{Arg, ArgMatches, Command, Error};
 use std::alloc::{AllocError, Global};
@@ -71,14 +73,18 @@ fn with_name<'a>(alloc: Global, words: &[&'a str]) -> Result<Vec<&'a str>, Alloc
 }
 
 // There is no memory to say why.
-fn untold(alloc: Global) -> Usage {
+fn untold(alloc: Global) -> Usage
+    ensures { result.status ≡ 2 }
+{
     Usage {
         status: 2,
         text: String::new(alloc),
     }
 }
 
-fn refused(alloc: Global, error: &Error) -> Usage {
+fn refused(alloc: Global, error: &Error) -> Usage
+    ensures { (result.status ≡ 0) ⊎ (result.status ≡ 2) }
+{
     let status = if error.use_stderr() { 2 } else { 0 };
     match format!(in alloc; "{error}") {
         Ok(text) => Usage { status, text },
@@ -109,7 +115,9 @@ fn asked_by(alloc: Global, matches: &ArgMatches) -> Result<Option<Task>, AllocEr
 ///
 /// `Err` has help (status 0) where the words ask for it, and else says why they are refused
 /// (status 2). Where there is no memory for the answer the words are refused with no text.
-pub fn task(alloc: Global, words: &[&str]) -> Result<Task, Usage> {
+pub fn task(alloc: Global, words: &[&str]) -> Result<Task, Usage>
+    ensures { IfErr result (λ usage. (usage.status ≡ 0) ⊎ (usage.status ≡ 2)) }
+{
     let Ok(all) = with_name(alloc, words) else {
         return Err(untold(alloc));
     };

@@ -11,7 +11,8 @@ use std::alloc::Global;
 /// where there is none for the bytes.
 pub fn bytes_of(alloc: Global, digits: &str) -> Result<Vec<u8>, Failure>
     ensures bytes { IfOk result (λ bytes. decode_of digits.now ≡ Ok bytes.items) }
-    ensures refused { IfErr result (λ failure. (failure ≡ Failure.Memory) ⊎ ((failure ≡ Failure.Hex) × IsErr (decode_of digits.now))) }
+    ensures refused { IfErr result (λ failure. (failure ≡ Failure.Memory)
+        ⊎ ((failure ≡ Failure.Hex) × IsErr (decode_of digits.now))) }
 {
     match hex::decode(alloc, digits) {
         Ok(bytes) => Ok(bytes),

@@ -38,7 +38,8 @@ pub(crate) fn push_rest(text: &mut String, count: usize) -> Result<(), AllocErro
 pub fn ack_lines(alloc: Global, bytes: &[u8]) -> Result<String, Failure>
     ensures printed { IfOk result (λ text. AnswersWith bytes.now (string_bytes text)) }
     ensures short { IsErrOf result (Failure.Wire (Short 0)) ↔ (length bytes.now < 44) }
-    ensures wrong_size { IsErrOf result (Failure.Wire (WrongSize 0)) ↔ ((44 ≤ length bytes.now) × (number_at 0 2 bytes.now ≢ 44)) }
+    ensures wrong_size { IsErrOf result (Failure.Wire (WrongSize 0))
+        ↔ ((44 ≤ length bytes.now) × (number_at 0 2 bytes.now ≢ 44)) }
 {
     let (notification, rest) = Notification::decode(bytes)?;
     let mut text = answered(alloc, &notification)?;

@@ -83,7 +83,8 @@ fn break_told(alloc: Global, notification: &Notification) -> Result<String, Allo
 pub fn show_break(alloc: Global, bytes: &[u8]) -> Result<String, Failure>
     ensures shown { IfOk result (λ text. ShowsBreak bytes.now (string_bytes text)) }
     ensures short { IsErrOf result (Failure.Wire (Short 0)) ↔ (length bytes.now < 44) }
-    ensures wrong_size { IsErrOf result (Failure.Wire (WrongSize 0)) ↔ ((44 ≤ length bytes.now) × (number_at 0 2 bytes.now ≢ 44)) }
+    ensures wrong_size { IsErrOf result (Failure.Wire (WrongSize 0))
+        ↔ ((44 ≤ length bytes.now) × (number_at 0 2 bytes.now ≢ 44)) }
 {
     let (notification, rest) = Notification::decode(bytes)?;
     let mut text = break_told(alloc, &notification)?;
@@ -107,7 +108,8 @@ fn acknowledgment_told(alloc: Global, acknowledgment: &Acknowledgment) -> Result
 pub fn show_acknowledgment(alloc: Global, bytes: &[u8]) -> Result<String, Failure>
     ensures shown { IfOk result (λ text. ShowsKeyAndState acknowledgment_line bytes.now (string_bytes text)) }
     ensures short { IsErrOf result (Failure.Wire (Short 0)) ↔ (length bytes.now < 36) }
-    ensures wrong_size { IsErrOf result (Failure.Wire (WrongSize 0)) ↔ ((36 ≤ length bytes.now) × (number_at 0 2 bytes.now ≢ 36)) }
+    ensures wrong_size { IsErrOf result (Failure.Wire (WrongSize 0))
+        ↔ ((36 ≤ length bytes.now) × (number_at 0 2 bytes.now ≢ 36)) }
 {
     let (acknowledgment, rest) = Acknowledgment::decode(bytes)?;
     let mut text = acknowledgment_told(alloc, &acknowledgment)?;
@@ -131,7 +133,8 @@ fn response_told(alloc: Global, response: &BreakResponse) -> Result<String, Allo
 pub fn show_response(alloc: Global, bytes: &[u8]) -> Result<String, Failure>
     ensures shown { IfOk result (λ text. ShowsKeyAndState response_line bytes.now (string_bytes text)) }
     ensures short { IsErrOf result (Failure.Wire (Short 0)) ↔ (length bytes.now < 36) }
-    ensures wrong_size { IsErrOf result (Failure.Wire (WrongSize 0)) ↔ ((36 ≤ length bytes.now) × (number_at 0 2 bytes.now ≢ 36)) }
+    ensures wrong_size { IsErrOf result (Failure.Wire (WrongSize 0))
+        ↔ ((36 ≤ length bytes.now) × (number_at 0 2 bytes.now ≢ 36)) }
 {
     let (response, rest) = BreakResponse::decode(bytes)?;
     let mut text = response_told(alloc, &response)?;

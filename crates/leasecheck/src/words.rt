@@ -72,7 +72,8 @@ fn push_lease(
     state: LeaseState,
     breaking: bool,
 ) -> Result<(), AllocError>
-    ensures { OnOk result (string_bytes text.new ≡ string_bytes text.old ++ lease_line (record { key = key.now.0; state = state_of state; breaking = breaking })) }
+    ensures { OnOk result (string_bytes text.new ≡ string_bytes text.old
+        ++ lease_line (record { key = key.now.0; state = state_of state; breaking = breaking })) }
 {
     let mut buffer = [0u8; 36];
     let key = key.text(&mut buffer);
@@ -103,7 +104,8 @@ fn push_durable(text: &mut String, durable: bool) -> Result<(), AllocError>
 }
 
 fn push_reconnect(text: &mut String, reconnect: Option<FileId>) -> Result<(), AllocError>
-    ensures { OnOk result (string_bytes text.new ≡ string_bytes text.old ++ reconnect_lines (option_map (λ file_id. file_id.0) reconnect)) }
+    ensures { OnOk result (string_bytes text.new ≡ string_bytes text.old
+        ++ reconnect_lines (option_map (λ file_id. file_id.0) reconnect)) }
 {
     match reconnect {
         Some(file_id) => {
