@@ -1,5 +1,5 @@
 -- The words in which states, keys and contexts are told.
-use Rattle.std.specs.Prelude.{◌≡◌, ℕ, ◌==◌, ◌++◌, Bool, true, false, not, ◌||◌, ◌&&◌, List, [], ◌∷◌, length, codes, if◌then◌else◌, Option, Some, None, is_some, Result, Ok, Err}
+use Rattle.std.specs.Prelude.{ℕ, ◌++◌, Bool, true, false, ◌||◌, List, [], ◌∷◌, length, codes, if◌then◌else◌, Option, Some, None, is_some, Ok, Err}
 use Rattle.std.specs.Fmt.{decimal}
 use Rattle.std.specs.List.{flat_map}
 use Rattle.hex.specs.Hex.{encode_lower}
@@ -10,7 +10,6 @@ use Rattle.lease_wire.specs.Names.{LeaseView, CreateView}
 use Rattle.lease_wire.specs.Notification.{Notice}
 use Rattle.lease_wire.specs.Acknowledgment.{KeyAndState}
 use Rattle.lease_wire.specs.Reading.{Item, items_of}
-use Rattle.lease_wire.specs.declared.fault.WireFault.{WireFault}
 
 -- the letters of a state in the order R, W, H, or "none"
 abbrev pub state_word : State → List ℕ
