@@ -1,2 +1,3 @@
+pub mod ClientLemmas
 pub mod Computing
 pub mod VerdictLemmas

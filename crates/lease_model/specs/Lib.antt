@@ -6,6 +6,7 @@ pub mod Calls
 pub mod ClientCalls
 pub mod ClientCommands
 pub mod ClientConnection
+pub mod ClientLaws
 pub mod ClientReplies
 pub mod ClientState
 pub mod ClientStep

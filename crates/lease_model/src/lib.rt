@@ -2,6 +2,7 @@
 //! public functions with an empty body whose contracts carry laws and worked examples.
 #![tactic(auto)]
 
+mod client_laws;
 mod verdict_law;
 mod worked_client;
 mod worked_runs_of_breaks;
@@ -11,6 +12,7 @@ mod worked_runs_of_reads;
 mod worked_server;
 mod worked_verdicts;
 
+pub use client_laws::clients_are_sound;
 pub use verdict_law::verdict_decides;
 pub use worked_client::{client_never_connected, client_of_one_file};
 pub use worked_runs_of_breaks::runs_of_breaks;
