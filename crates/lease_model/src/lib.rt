@@ -2,6 +2,7 @@
 //! public functions with an empty body whose contracts carry laws and worked examples.
 #![tactic(auto)]
 
+mod server_laws;
 mod worked_client;
 mod worked_runs_of_breaks;
 mod worked_runs_of_cuts;
@@ -10,6 +11,7 @@ mod worked_runs_of_reads;
 mod worked_server;
 mod worked_verdicts;
 
+pub use server_laws::laws_of_servers;
 pub use worked_client::{client_never_connected, client_of_one_file};
 pub use worked_runs_of_breaks::runs_of_breaks;
 pub use worked_runs_of_cuts::runs_of_cuts;
