@@ -1,3 +1,17 @@
 pub mod ClientLemmas
 pub mod Computing
+pub mod ServerAnswers
+pub mod ServerBreaks
+pub mod ServerCalls
+pub mod ServerGrants
+pub mod ServerKeys
+pub mod ServerLeases
+pub mod ServerLists
+pub mod ServerPasses
+pub mod ServerProgress
+pub mod ServerReady
+pub mod ServerStates
+pub mod ServerSteps
+pub mod ServerTries
+pub mod ServerWants
 pub mod VerdictLemmas

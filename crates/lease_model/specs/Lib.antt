@@ -33,6 +33,7 @@ pub mod RunsOfOthers
 pub mod RunsOfReads
 pub mod Safe
 pub mod Schedules
+pub mod ServerLaws
 pub mod ServerState
 pub mod Sharing
 pub mod Tables
