@@ -1,5 +1,8 @@
 pub mod ClientLemmas
 pub mod Computing
+pub mod EnoughPasses
+pub mod EnoughRounds
+pub mod EnoughTries
 pub mod ServerAnswers
 pub mod ServerBreaks
 pub mod ServerCalls

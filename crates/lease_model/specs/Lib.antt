@@ -12,6 +12,7 @@ pub mod ClientState
 pub mod ClientStep
 pub mod Commands
 pub mod Content
+pub mod EnoughLaws
 pub mod Events
 pub mod Facts
 pub mod Grant

@@ -3,6 +3,7 @@
 #![tactic(auto)]
 
 mod client_laws;
+mod enough_laws;
 mod server_laws;
 mod verdict_law;
 mod worked_client;
@@ -14,6 +15,7 @@ mod worked_server;
 mod worked_verdicts;
 
 pub use client_laws::clients_are_sound;
+pub use enough_laws::rounds_and_passes_end;
 pub use server_laws::laws_of_servers;
 pub use verdict_law::verdict_decides;
 pub use worked_client::{client_never_connected, client_of_one_file};
