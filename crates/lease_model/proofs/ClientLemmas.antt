@@ -1,7 +1,7 @@
 -- The laws of every client machine hold of the first one, and every call keeps them.
 use Rattle.std.proofs.Common.{◌≡◌, ℕ, ◌+◌, Bool, true, false, List, [], ◌∷◌, ◌++◌, Option, Some, None, refl, arith, sym, subst}
 use Rattle.std.specs.Prelude.{◌&&◌, ◌||◌, not, ◌==◌, if◌then◌else◌, nat_le, nat_lt, length, filter}
-use Rattle.std.proofs.lemmas.Bool.{and_parts, and_from, both_ways}
+use Rattle.lease_model.proofs.ServerLists.{if_cases, clash, and_parts, and_both}
 use Rattle.lease_state.specs.State.{State}
 use Rattle.lease_model.specs.ClientCalls.{ClientCall, client_called}
 use Rattle.lease_model.specs.ClientCommands.{turn_of, on_closed, handle_added, open_other, open_on_live, last_handle_closed, close_on_live, cached_read, read_sent, read_from, read_on_live, write_buffered, write_sent, write_taken, write_on_live, flush_on_live, on_live, on_entry, commanded, one_handle_less, has_unanswered, file_of}
@@ -26,34 +26,24 @@ if_either : {X : Type 0} (P : X → Type 0) (b : Bool) (x y : X) → P x → P y
 if_either P true x y p q = p
 if_either P false x y p q = q
 
--- the same, where each branch may use the test
-if_cases : {X : Type 0} (P : X → Type 0) (b : Bool) (x y : X) → (b ≡ true → P x) → (b ≡ false → P y)
-    → P (if b then x else y)
-if_cases P true x y p q = p refl
-if_cases P false x y p q = q refl
-
 -- what holds of a table and of a new value holds of the table with the value put in
 put_each : {X : Type 0} (P : X → Type 0) (table : ℕ → X) (place : ℕ) (x : X) → P x → ((n : ℕ) → P (table n))
     → (n : ℕ) → P (put table place x n)
 unfolding put
 put_each P table place x new old n = if_either P (n == place) x (table n) new (old n)
 
--- where a test is true it isn't false
-not_false : {X : Type 0} (b : Bool) → b ≡ true → b ≡ false → X
-not_false b t f = absurd (both_ways b f t)
-
 -- writes joined from buffered ones are buffered
 joined_buffered : (xs ys : List Pending) → are_buffered xs ≡ true → are_buffered ys ≡ true → are_buffered (xs ++ ys) ≡ true
 joined_buffered [] ys x y = y
 joined_buffered (w ∷ xs) ys x y =
-    and_from _ _ (and_parts _ _ x).0 (joined_buffered xs ys (and_parts _ _ x).1 y)
+    and_both _ _ (and_parts _ _ x).0 (joined_buffered xs ys (and_parts _ _ x).1 y)
 
 -- the buffered ones of some writes are buffered
 filter_buffered : (xs : List Pending) → are_buffered (filter (λ write. write.buffered) xs) ≡ true
 filter_buffered [] = refl
 filter_buffered (w ∷ xs) = if_cases (λ (l : List Pending). are_buffered l ≡ true) w.buffered
     (w ∷ filter (λ write. write.buffered) xs) (filter (λ write. write.buffered) xs)
-    (λ b. and_from _ _ b (filter_buffered xs)) (λ b. filter_buffered xs)
+    (λ b. and_both _ _ b (filter_buffered xs)) (λ b. filter_buffered xs)
 
 -- of no writes, none is taken away
 sent_without-none : (number : ℕ) (sent : List Pending) → sent ≡ [] → sent_without number sent ≡ []
@@ -123,7 +113,7 @@ turned_sound client file turn sound entry =
 closed_sound : (client : Client) (file : ℕ) (turn : Turn) (sent : List Pending) → IsSoundClient client
     → client.connected ≡ true → turn.entry ≡ closed_entry sent → Sound (turned client file turn)
 closed_sound client file turn sent sound on e = turned_sound client file turn sound
-    (subst (λ (x : Entry). IsSoundEntry client.connected x) (sym e) (λ away. not_false client.connected on away))
+    (subst (λ (x : Entry). IsSoundEntry client.connected x) (sym e) (λ away. clash client.connected on away))
 
 -- ---- commands
 
@@ -197,7 +187,7 @@ buffered_sound client file live sent patch sound on s writes =
     put_each (IsSoundEntry client.connected) client.entries file _
     (on, record {
       base_under_reads = s.base_under_reads;
-      unsent_under_writes = λ w. not_false live.belief.write writes w;
+      unsent_under_writes = λ w. clash live.belief.write writes w;
       unsent_buffered = joined_buffered live.unsent _ s.unsent_buffered refl;
     })
     sound
@@ -302,7 +292,7 @@ break_turn_sound client file live sent notice new sound on s = turned_sound clie
     (if_either (λ (t : Turn). IsSoundEntry client.connected t.entry)
     (live.handles == 0 && (live.belief.handle && not new.handle))
     (parked_closed live sent) (belief_lowered live sent notice new)
-    (λ away. not_false client.connected on away)
+    (λ away. clash client.connected on away)
     (lowered_sound client live sent notice new on s))
 
 break_on_sound : (client : Client) (file : ℕ) (notice : BreakNotice) (sent : List Pending) (phase : Phase)
@@ -396,7 +386,7 @@ read_failed_on_sound client file status sent (Phase.Live live) sound s = turned_
     (if_either (λ (t : Turn). IsSoundEntry client.connected t.entry) (is_file_closed status)
     (closed_by_server live sent [] status)
     (still_open (live_entry (record live { reads = one_read_less live.reads }) sent) [] status)
-    (λ away. not_false client.connected s.0 away)
+    (λ away. clash client.connected s.0 away)
     (s.0, counted live live.handles (one_read_less live.reads) s.1))
 read_failed_on_sound client file status sent Phase.Closed sound s = sound
 read_failed_on_sound client file status sent (Phase.Opening access share) sound s = sound
@@ -422,7 +412,7 @@ write_failed_in_sound client file_id number status sent (Phase.Live live) s =
     if_either (λ (t : Turn). IsSoundEntry client.connected t.entry) (is_file_closed status && live.file_id == file_id)
     (closed_by_server live (sent_without number sent) (Note.Settled number Settlement.Failed ∷ []) status)
     (still_open (live_entry live (sent_without number sent)) (Note.Settled number Settlement.Failed ∷ []) status)
-    (λ away. not_false client.connected s.0 away) s
+    (λ away. clash client.connected s.0 away) s
 write_failed_in_sound client file_id number status sent Phase.Closed s =
     λ away. sent_without-none number sent (s away)
 write_failed_in_sound client file_id number status sent (Phase.Opening access share) s = s
@@ -479,7 +469,7 @@ noticed_sound client sound file =
 
 connect_sound : (client : Client) (file : ℕ) (sent : List Pending) (phase : Phase)
     → IsSoundPhase client.connected sent phase → IsSoundEntry true (connect_turn client file sent phase).entry
-connect_sound client file sent Phase.Closed s = λ away. not_false true refl away
+connect_sound client file sent Phase.Closed s = λ away. clash true refl away
 connect_sound client file sent (Phase.Opening access share) s = refl
 connect_sound client file sent (Phase.Live live) s = (refl, s.1)
 connect_sound client file sent (Phase.Offline parted) s = (refl, s.1, s.2)

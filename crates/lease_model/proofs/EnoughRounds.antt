@@ -1,5 +1,5 @@
 -- What is wanted and doesn't keep a request waiting is gone after one round.
-use Rattle.std.proofs.Common.{◌≡◌, ◌⊎◌, inl, inr, ⊎_elim, arith, refl, sym, ap, ◌∙◌, subst, ℕ, Bool, true, false, not, List, [], ◌∷◌, map, true≢false}
+use Rattle.std.proofs.Common.{◌≡◌, ◌⊎◌, inl, inr, ⊎_elim, arith, refl, sym, ap, ◌∙◌, subst, ℕ, Bool, true, false, not, List, [], ◌∷◌, map}
 use Rattle.std.specs.Prelude.{if◌then◌else◌, ◌&&◌, filter, find, Option, Some, None}
 use Rattle.std.specs.List.{list_any}
 use Rattle.lease_state.specs.State.{State, nothing_cached, needs_acknowledgment}
@@ -12,7 +12,7 @@ use Rattle.lease_model.specs.ServerLaws.{Among}
 use Rattle.lease_model.specs.ServerState.{Server, Open, Lease, no_lease, has_key, is_key, is_breaking, has_lease}
 use Rattle.lease_model.specs.Wants.{Want, key_added, open_key_added, key_of, keys_of, lease_by, lease_of, wants_where}
 use Rattle.lease_model.proofs.ServerKeys.{key_eq-same, is_key-refl, put_key-cases, put_key-here}
-use Rattle.lease_model.proofs.ServerLists.{if_cases, either, clash, and_parts, and_both, not_true, not_false, among_filter, among_filtered, among_map, any_has, has_any, none_has}
+use Rattle.lease_model.proofs.ServerLists.{if_cases, clash, and_parts, and_both, not_true, not_false, among_filter, among_filtered, among_map, any_has, has_any}
 
 -- ---- words on lists
 

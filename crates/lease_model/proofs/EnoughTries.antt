@@ -1,5 +1,5 @@
 -- A try ends by itself within three rounds.
-use Rattle.std.proofs.Common.{◌≡◌, ◌≤◌, inl, refl, sym, ap, arith, ◌∙◌, subst, ℕ, zero, suc, Bool, true, false, List, [], ◌∷◌}
+use Rattle.std.proofs.Common.{◌≡◌, ◌≤◌, refl, sym, ap, arith, ◌∙◌, subst, ℕ, zero, suc, Bool, true, false, List, []}
 use Rattle.std.specs.Prelude.{if◌then◌else◌, ◌&&◌, ◌==◌, nat_le, Option, Some, None}
 use Rattle.std.specs.List.{list_any}
 use Rattle.lease_state.specs.State.{State, nothing_cached}
@@ -7,7 +7,7 @@ use Rattle.lease_state.specs.declared.access.Access.{Access}
 use Rattle.lease_state.specs.declared.access.Share.{Share}
 use Rattle.lease_state.specs.declared.status.Status.{Status}
 use Rattle.lease_model.specs.Allowed.{is_other_on, conflicts_on}
-use Rattle.lease_model.specs.Attempt.{Outcome, Tried, ended, must_wait, after_breaks, after_finding, tried_for, tried, wants_met}
+use Rattle.lease_model.specs.Attempt.{Outcome, Tried, ended, must_wait, after_breaks, after_finding, tried_for, wants_met}
 use Rattle.lease_model.specs.Content.{Patch, is_within_limit}
 use Rattle.lease_model.specs.EnoughLaws.{EndsFor, TriesEnd, ThreeRoundsAreEnough}
 use Rattle.lease_model.specs.Key.{Key}
@@ -17,10 +17,10 @@ use Rattle.lease_model.specs.Progress.{Progress}
 use Rattle.lease_model.specs.Ready.{is_ready}
 use Rattle.lease_model.specs.Requests.{Request, CreateAsk, LeaseOf}
 use Rattle.lease_model.specs.ServerLaws.{Among}
-use Rattle.lease_model.specs.ServerState.{Server, Open, has_key, has_file}
+use Rattle.lease_model.specs.ServerState.{Server, Open, has_file}
 use Rattle.lease_model.specs.Sharing.{may_read, may_write}
-use Rattle.lease_model.specs.Wants.{Want, Finding, finding, handle_wants, write_wants, all_wants, create_finding, reconnect_finding, write_finding, read_finding, asked_finding, by_open, own_key, key_of_open, connected_open, is_leased_elsewhere, awaits}
-use Rattle.lease_model.proofs.EnoughRounds.{IsAfterBreaks, IsRoundDone, is_wanted, wanted, nothing_wanted, round_done}
+use Rattle.lease_model.specs.Wants.{Want, Finding, finding, handle_wants, write_wants, all_wants, create_finding, reconnect_finding, write_finding, read_finding, by_open, own_key, key_of_open, connected_open, is_leased_elsewhere, awaits}
+use Rattle.lease_model.proofs.EnoughRounds.{IsAfterBreaks, IsRoundDone, is_wanted, nothing_wanted, round_done}
 use Rattle.lease_model.proofs.ServerLists.{if_cases, either, clash, and_parts, not_true, any_has, has_any}
 
 -- ---- so many rounds are enough for a try
