@@ -1,4 +1,7 @@
-pub mod ClientLemmas
+pub mod ClientEntries
+pub mod ClientNumbers
+pub mod ClientThin
+pub mod ClientWords
 pub mod Computing
 pub mod EnoughPasses
 pub mod EnoughRounds

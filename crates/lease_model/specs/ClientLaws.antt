@@ -1,7 +1,8 @@
 -- What is true of every client machine, whatever commands and messages come to it, in any order.
-use Rattle.std.specs.Prelude.{◌≡◌, ℕ, Bool, true, false, None, List, []}
-use Rattle.std.specs.List.{list_all}
+use Rattle.std.specs.Prelude.{◌≡◌, ◌≢◌, ℕ, Bool, true, false, None, List, [], ◌∷◌, ◌++◌, ◌&&◌, nat_lt, nat_le}
+use Rattle.std.specs.List.{list_all, list_any}
 use Rattle.lease_model.specs.ClientCalls.{ClientCall, client_called}
+use Rattle.lease_model.specs.ClientReplies.{is_numbered}
 use Rattle.lease_model.specs.ClientState.{Client, Entry, LiveEntry, Pending, Phase, new_client}
 
 -- each of the writes was answered before it was sent
@@ -30,8 +31,39 @@ IsSoundPhase connected sent (Phase.Reconnecting parted) =
 abbrev pub IsSoundEntry : Bool → Entry → Type 0
 IsSoundEntry connected entry = IsSoundPhase connected entry.sent entry.phase
 
-abbrev pub IsSoundClient : Client → Type 0
-IsSoundClient client = (file : ℕ) → IsSoundEntry client.connected (client.entries file)
+-- the buffered writes of an entry that aren't sent: a live one's, and those kept while it isn't live
+abbrev pub unsent_in : Phase → List Pending
+unsent_in Phase.Closed = []
+unsent_in (Phase.Opening access share) = []
+unsent_in (Phase.Live live) = live.unsent
+unsent_in (Phase.Offline parted) = parted.kept
+unsent_in (Phase.Reconnecting parted) = parted.kept
+
+-- the unanswered writes of an entry, the sent ones first
+abbrev pub unanswered_in : Entry → List Pending
+unanswered_in entry = entry.sent ++ unsent_in entry.phase
+
+-- the numbers of the writes rise, from above `low` to `last` at most
+abbrev pub are_rising : ℕ → ℕ → List Pending → Bool
+are_rising low last [] = true
+are_rising low last (write ∷ writes) =
+    nat_lt low write.number && nat_le write.number last && are_rising write.number last writes
+
+-- a write of this number is among the writes
+abbrev pub has_number : ℕ → List Pending → Bool
+has_number number writes = list_any (is_numbered number) writes
+
+-- The unanswered writes of each file stand in the order of their numbers, from 1 to the last number
+-- given, and no two of a client have one number.
+pub record HaveOwnNumbers (last : ℕ) (writes : ℕ → List Pending) : Type 0 where
+  pub rising : (file : ℕ) → are_rising 0 last (writes file) ≡ true
+  pub apart : (file other number : ℕ) → file ≢ other → has_number number (writes file) ≡ true
+      → has_number number (writes other) ≡ false
+
+-- The laws of a client.
+pub record IsSoundClient (client : Client) : Type 0 where
+  pub entries : (file : ℕ) → IsSoundEntry client.connected (client.entries file)
+  pub numbers : HaveOwnNumbers client.last_number (λ file. unanswered_in (client.entries file))
 
 -- The laws hold of a new client,
 abbrev pub FirstClientIsSound : Type 0

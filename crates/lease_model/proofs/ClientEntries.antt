@@ -1,13 +1,13 @@
--- The laws of every client machine hold of the first one, and every call keeps them.
-use Rattle.std.proofs.Common.{◌≡◌, ℕ, ◌+◌, Bool, true, false, List, [], ◌∷◌, ◌++◌, Option, Some, None, refl, arith, sym, subst}
-use Rattle.std.specs.Prelude.{◌&&◌, ◌||◌, not, ◌==◌, if◌then◌else◌, nat_le, nat_lt, length, filter}
-use Rattle.lease_model.proofs.ServerLists.{if_cases, clash, and_parts, and_both}
+-- The laws of the entries of a client hold of a new one, and every call keeps them.
+use Rattle.std.proofs.Common.{◌≡◌, ℕ, ◌+◌, Bool, true, false, List, [], ◌∷◌, ◌++◌, Option, Some, None, refl, sym, subst}
+use Rattle.std.specs.Prelude.{◌&&◌, not, ◌==◌, if◌then◌else◌, nat_le, nat_lt, length}
+use Rattle.lease_model.proofs.ServerLists.{if_cases, clash}
 use Rattle.lease_state.specs.State.{State}
 use Rattle.lease_model.specs.ClientCalls.{ClientCall, client_called}
 use Rattle.lease_model.specs.ClientCommands.{turn_of, on_closed, handle_added, open_other, open_on_live, last_handle_closed, close_on_live, cached_read, read_sent, read_from, read_on_live, write_buffered, write_sent, write_taken, write_on_live, flush_on_live, on_live, on_entry, commanded, one_handle_less, has_unanswered, file_of}
 use Rattle.lease_model.specs.ClientConnection.{all_turned, live_parted, live_noticed, notice_turn, noticed, connect_turn, connected}
-use Rattle.lease_model.specs.ClientReplies.{file_where, on_file, belief_lowered, parked_closed, break_turn, break_on, broken, opened_turn, reconnected_turn, created_on_live, created_on, create_answered, create_failed_on_live, failed_on, create_failed, reads_under, read_turn, read_on, read_answered, closed_by_server, read_failed_turn, read_failed_on, read_failed, sent_without, base_with, phase_with, write_done_turn, write_done, write_failed_in, write_failed, taken, is_file_closed, still_open, one_read_less, gives_up}
-use Rattle.lease_model.specs.ClientLaws.{are_buffered, IsSoundLive, IsSoundPhase, IsSoundEntry, IsSoundClient}
+use Rattle.lease_model.specs.ClientReplies.{file_where, on_file, belief_lowered, parked_closed, break_turn, break_on, broken, opened_turn, reconnected_turn, created_on_live, created_on, create_answered, create_failed_on_live, failed_on, create_failed, reads_under, read_turn, read_on, read_answered, closed_by_server, read_failed_turn, read_failed_on, read_failed, sent_without, write_done_turn, write_done, write_failed_in, write_failed, taken, is_file_closed, still_open, one_read_less, gives_up}
+use Rattle.lease_model.specs.ClientLaws.{are_buffered, IsSoundLive, IsSoundPhase, IsSoundEntry}
 use Rattle.lease_model.specs.ClientState.{Client, Entry, LiveEntry, Pending, Phase, new_client, closed_entry, live_entry}
 use Rattle.lease_model.specs.ClientStep.{Step, Turn, turned, quiet_step, refused_step, write_requests}
 use Rattle.lease_model.specs.Commands.{Command, Answer, Refusal, Note, Settlement}
@@ -17,100 +17,23 @@ use Rattle.lease_model.specs.Limits.{file_limit, last_write_number}
 use Rattle.lease_model.specs.Requests.{Request}
 use Rattle.lease_model.specs.Sharing.{may_write}
 use Rattle.lease_model.specs.Replies.{Reply, BreakNotice, CreateAnswer}
-use Rattle.lease_model.specs.Tables.{put}
+use Rattle.lease_model.proofs.ClientWords.{if_either, put_each, joined_buffered, filter_buffered, sent_without-none, HasSoundEntries, kept_under, read_under, unflushed-none, again_under, done_sound}
 
--- ---- words on tables, tests and lists
-
--- what holds of both branches holds of the choice
-if_either : {X : Type 0} (P : X → Type 0) (b : Bool) (x y : X) → P x → P y → P (if b then x else y)
-if_either P true x y p q = p
-if_either P false x y p q = q
-
--- what holds of a table and of a new value holds of the table with the value put in
-put_each : {X : Type 0} (P : X → Type 0) (table : ℕ → X) (place : ℕ) (x : X) → P x → ((n : ℕ) → P (table n))
-    → (n : ℕ) → P (put table place x n)
-unfolding put
-put_each P table place x new old n = if_either P (n == place) x (table n) new (old n)
-
--- writes joined from buffered ones are buffered
-joined_buffered : (xs ys : List Pending) → are_buffered xs ≡ true → are_buffered ys ≡ true → are_buffered (xs ++ ys) ≡ true
-joined_buffered [] ys x y = y
-joined_buffered (w ∷ xs) ys x y =
-    and_both _ _ (and_parts _ _ x).0 (joined_buffered xs ys (and_parts _ _ x).1 y)
-
--- the buffered ones of some writes are buffered
-filter_buffered : (xs : List Pending) → are_buffered (filter (λ write. write.buffered) xs) ≡ true
-filter_buffered [] = refl
-filter_buffered (w ∷ xs) = if_cases (λ (l : List Pending). are_buffered l ≡ true) w.buffered
-    (w ∷ filter (λ write. write.buffered) xs) (filter (λ write. write.buffered) xs)
-    (λ b. and_both _ _ b (filter_buffered xs)) (λ b. filter_buffered xs)
-
--- of no writes, none is taken away
-sent_without-none : (number : ℕ) (sent : List Pending) → sent ≡ [] → sent_without number sent ≡ []
-unfolding sent_without
-sent_without-none number [] e = refl
-sent_without-none number (w ∷ sent) e = let c : ⊥ = cc in absurd c
-
--- ---- one entry
-
--- no base is patched where there is none
-base_with-none : (write : Option Pending) (base : Option (List ℕ)) → base ≡ None → base_with write base ≡ None
-base_with-none None base e = e
-base_with-none (Some write) None e = refl
-base_with-none (Some write) (Some bytes) e = let c : ⊥ = cc in absurd c
-
--- a base that is kept only under R is none without R
-kept_under : (b : Bool) (base : Option (List ℕ)) → b ≡ false → (if b then base else None) ≡ None
-kept_under true base e = let c : ⊥ = cc in absurd c
-kept_under false base e = refl
-
--- bytes become the base only under R
-read_under : (b : Bool) (bytes : List ℕ) (base : Option (List ℕ)) → (b ≡ false → base ≡ None) → b ≡ false
-    → (if b then Some bytes else base) ≡ None
-read_under true bytes base old e = let c : ⊥ = cc in absurd c
-read_under false bytes base old e = old e
-
--- without W, nothing stays unsent at a break
-unflushed-none : (old new : State) (unsent : List Pending) → (old.write ≡ false → unsent ≡ []) → new.write ≡ false
-    → (if gives_up old new then [] else unsent) ≡ []
-unflushed-none old new unsent law lowered = if_cases (λ (l : List Pending). l ≡ []) (gives_up old new) [] unsent
-    (λ up. refl) (λ down. law (kept_none old.write new.write old.handle new.handle lowered down))
-  where
-    kept_none : (ow nw oh nh : Bool) → nw ≡ false → ((ow && not nw) || (oh && not nh)) ≡ false → ow ≡ false
-    kept_none ow nw oh nh n e = grind arith
-
--- what was kept is unsent again only under W
-again_under : (b : Bool) (kept : List Pending) → b ≡ false → (if b then kept else []) ≡ []
-again_under true kept e = let c : ⊥ = cc in absurd c
-again_under false kept e = refl
-
--- a write that is answered leaves a sound entry
-done_sound : (connected : Bool) (number : ℕ) (write : Option Pending) (sent : List Pending) (phase : Phase)
-    → IsSoundPhase connected sent phase → IsSoundPhase connected (sent_without number sent) (phase_with write phase)
-done_sound connected number write sent Phase.Closed s = λ away. sent_without-none number sent (s away)
-done_sound connected number write sent (Phase.Opening access share) s = s
-done_sound connected number write sent (Phase.Live live) s = (s.0, record {
-  base_under_reads = λ r. base_with-none write live.base (s.1.base_under_reads r);
-  unsent_under_writes = s.1.unsent_under_writes;
-  unsent_buffered = s.1.unsent_buffered;
-})
-done_sound connected number write sent (Phase.Offline parted) s = (s.0, sent_without-none number sent s.1, s.2)
-done_sound connected number write sent (Phase.Reconnecting parted) s = (s.0, sent_without-none number sent s.1, s.2)
 
 -- ---- steps
 
 abbrev Sound : Step → Type 0
-Sound step = IsSoundClient step.client
+Sound step = HasSoundEntries step.client
 
 -- a turn that leaves its entry sound leaves the client sound
-turned_sound : (client : Client) (file : ℕ) (turn : Turn) → IsSoundClient client
+turned_sound : (client : Client) (file : ℕ) (turn : Turn) → HasSoundEntries client
     → IsSoundEntry client.connected turn.entry → Sound (turned client file turn)
 unfolding turned
 turned_sound client file turn sound entry =
     put_each (IsSoundEntry client.connected) client.entries file turn.entry entry sound
 
 -- a turn that closes the entry of a connected client
-closed_sound : (client : Client) (file : ℕ) (turn : Turn) (sent : List Pending) → IsSoundClient client
+closed_sound : (client : Client) (file : ℕ) (turn : Turn) (sent : List Pending) → HasSoundEntries client
     → client.connected ≡ true → turn.entry ≡ closed_entry sent → Sound (turned client file turn)
 closed_sound client file turn sent sound on e = turned_sound client file turn sound
     (subst (λ (x : Entry). IsSoundEntry client.connected x) (sym e) (λ away. clash client.connected on away))
@@ -126,20 +49,20 @@ counted live handles reads s = record {
   unsent_buffered = s.unsent_buffered;
 }
 
-handle_added_sound : (client : Client) (file : ℕ) (live : LiveEntry) (sent : List Pending) → IsSoundClient client
+handle_added_sound : (client : Client) (file : ℕ) (live : LiveEntry) (sent : List Pending) → HasSoundEntries client
     → client.connected ≡ true → IsSoundLive live → Sound (handle_added client file live sent)
 unfolding handle_added
 handle_added_sound client file live sent sound on s = if_either Sound _ _ _ sound
     (turned_sound client file _ sound (on, counted live (live.handles + 1) live.reads s))
 
 open_on_live_sound : (client : Client) (file : ℕ) (live : LiveEntry) (sent : List Pending) (access : _) (share : _)
-    (want : State) (durable : Bool) → IsSoundClient client → client.connected ≡ true → IsSoundLive live
+    (want : State) (durable : Bool) → HasSoundEntries client → client.connected ≡ true → IsSoundLive live
     → Sound (open_on_live client file live sent access share want durable)
 unfolding open_on_live open_other
 open_on_live_sound client file live sent access share want durable sound on s =
     if_either Sound _ _ _ (handle_added_sound client file live sent sound on s) sound
 
-last_handle_sound : (client : Client) (file : ℕ) (live : LiveEntry) (sent : List Pending) → IsSoundClient client
+last_handle_sound : (client : Client) (file : ℕ) (live : LiveEntry) (sent : List Pending) → HasSoundEntries client
     → client.connected ≡ true → IsSoundLive live → Sound (last_handle_closed client file live sent)
 unfolding last_handle_closed
 last_handle_sound client file live sent sound on s = if_either Sound live.belief.handle
@@ -149,7 +72,7 @@ last_handle_sound client file live sent sound on s = if_either Sound live.belief
     (turned_sound client file _ sound (on, counted live 0 live.reads s))
     (closed_sound client file _ (sent ++ live.unsent) sound on refl)
 
-close_sound : (client : Client) (file : ℕ) (live : LiveEntry) (sent : List Pending) → IsSoundClient client
+close_sound : (client : Client) (file : ℕ) (live : LiveEntry) (sent : List Pending) → HasSoundEntries client
     → client.connected ≡ true → IsSoundLive live → Sound (close_on_live client file live sent)
 unfolding close_on_live
 close_sound client file live sent sound on s = if_either Sound (nat_lt 1 live.handles)
@@ -159,47 +82,49 @@ close_sound client file live sent sound on s = if_either Sound (nat_lt 1 live.ha
     (turned_sound client file _ sound (on, counted live (one_handle_less live.handles) live.reads s))
     (if_either Sound _ _ _ sound (last_handle_sound client file live sent sound on s))
 
-read_sent_sound : (client : Client) (file : ℕ) (live : LiveEntry) (sent : List Pending) → IsSoundClient client
+read_sent_sound : (client : Client) (file : ℕ) (live : LiveEntry) (sent : List Pending) → HasSoundEntries client
     → client.connected ≡ true → IsSoundLive live → Sound (read_sent client file live sent)
 unfolding read_sent
 read_sent_sound client file live sent sound on s = if_either Sound _ _ _ sound
     (turned_sound client file _ sound (on, counted live live.handles (live.reads + 1) s))
 
 read_from_sound : (client : Client) (file : ℕ) (live : LiveEntry) (sent : List Pending) (reads : Bool)
-    (base : Option (List ℕ)) → IsSoundClient client → client.connected ≡ true → IsSoundLive live
+    (base : Option (List ℕ)) → HasSoundEntries client → client.connected ≡ true → IsSoundLive live
     → Sound (read_from client file live sent reads base)
 unfolding cached_read
 read_from_sound client file live sent true (Some base) sound on s = sound
 read_from_sound client file live sent true None sound on s = read_sent_sound client file live sent sound on s
 read_from_sound client file live sent false base sound on s = read_sent_sound client file live sent sound on s
 
-read_sound : (client : Client) (file : ℕ) (live : LiveEntry) (sent : List Pending) → IsSoundClient client
+read_sound : (client : Client) (file : ℕ) (live : LiveEntry) (sent : List Pending) → HasSoundEntries client
     → client.connected ≡ true → IsSoundLive live → Sound (read_on_live client file live sent)
 unfolding read_on_live
 read_sound client file live sent sound on s = if_either Sound _ _ _
     (read_from_sound client file live sent live.belief.read live.base sound on s) sound
 
-buffered_sound : (client : Client) (file : ℕ) (live : LiveEntry) (sent : List Pending) (patch : _) → IsSoundClient client
+buffered_sound : (client : Client) (file : ℕ) (live : LiveEntry) (sent : List Pending) (patch : _) → HasSoundEntries client
     → client.connected ≡ true → IsSoundLive live → live.belief.write ≡ true
     → Sound (write_buffered client file live sent patch)
 unfolding write_buffered
 buffered_sound client file live sent patch sound on s writes =
-    put_each (IsSoundEntry client.connected) client.entries file _
-    (on, record {
-      base_under_reads = s.base_under_reads;
-      unsent_under_writes = λ w. clash live.belief.write writes w;
-      unsent_buffered = joined_buffered live.unsent _ s.unsent_buffered refl;
-    })
+    put_each (IsSoundEntry client.connected) client.entries file _ (
+      on,
+      record {
+        base_under_reads = s.base_under_reads;
+        unsent_under_writes = λ w. clash live.belief.write writes w;
+        unsent_buffered = joined_buffered live.unsent _ s.unsent_buffered refl;
+      },
+    )
     sound
 
-sent_sound : (client : Client) (file : ℕ) (live : LiveEntry) (sent : List Pending) (patch : _) → IsSoundClient client
+sent_sound : (client : Client) (file : ℕ) (live : LiveEntry) (sent : List Pending) (patch : _) → HasSoundEntries client
     → client.connected ≡ true → IsSoundLive live → Sound (write_sent client file live sent patch)
 unfolding write_sent
 sent_sound client file live sent patch sound on s =
     put_each (IsSoundEntry client.connected) client.entries file _ (on, s) sound
 
 -- three tests, each of which refuses, stand before a step
-three_tests : (client : Client) (a b c : Bool) (x y z : Refusal) (step : Step) → IsSoundClient client → Sound step
+three_tests : (client : Client) (a b c : Bool) (x y z : Refusal) (step : Step) → HasSoundEntries client → Sound step
     → Sound (if a then refused_step client x
     else (if b then refused_step client y else (if c then refused_step client z else step)))
 three_tests client true b c x y z step sound s = sound
@@ -207,7 +132,7 @@ three_tests client false true c x y z step sound s = sound
 three_tests client false false true x y z step sound s = sound
 three_tests client false false false x y z step sound s = s
 
-write_sound : (client : Client) (file : ℕ) (live : LiveEntry) (sent : List Pending) (patch : _) → IsSoundClient client
+write_sound : (client : Client) (file : ℕ) (live : LiveEntry) (sent : List Pending) (patch : _) → HasSoundEntries client
     → client.connected ≡ true → IsSoundLive live → Sound (write_on_live client file live sent patch)
 unfolding write_on_live
 write_sound client file live sent patch sound on s = three_tests client (not (may_write live.access))
@@ -217,17 +142,20 @@ write_sound client file live sent patch sound on s = three_tests client (not (ma
     (buffered_sound client file live sent patch sound on s)
     (λ w. sent_sound client file live sent patch sound on s))
 
-flush_sound : (client : Client) (file : ℕ) (live : LiveEntry) (sent : List Pending) → IsSoundClient client
+flush_sound : (client : Client) (file : ℕ) (live : LiveEntry) (sent : List Pending) → HasSoundEntries client
     → client.connected ≡ true → IsSoundLive live → Sound (flush_on_live client file live sent)
 unfolding flush_on_live
-flush_sound client file live sent sound on s = turned_sound client file _ sound (on, record {
-  base_under_reads = s.base_under_reads;
-  unsent_under_writes = λ w. refl;
-  unsent_buffered = refl;
-})
+flush_sound client file live sent sound on s = turned_sound client file _ sound (
+  on,
+  record {
+    base_under_reads = s.base_under_reads;
+    unsent_under_writes = λ w. refl;
+    unsent_buffered = refl;
+  },
+)
 
 live_command_sound : (client : Client) (file : ℕ) (live : LiveEntry) (sent : List Pending) (command : Command)
-    → IsSoundClient client → client.connected ≡ true → IsSoundLive live → Sound (on_live client file live sent command)
+    → HasSoundEntries client → client.connected ≡ true → IsSoundLive live → Sound (on_live client file live sent command)
 live_command_sound client file live sent (Command.Open f access share want durable) sound on s =
     open_on_live_sound client file live sent access share want durable sound on s
 live_command_sound client file live sent (Command.Close f) sound on s =
@@ -240,7 +168,7 @@ live_command_sound client file live sent (Command.Flush f) sound on s =
     if_either Sound _ _ _ sound (flush_sound client file live sent sound on s)
 
 closed_command_sound : (client : Client) (file : ℕ) (sent : List Pending) (command : Command)
-    → IsSoundClient client → Sound (on_closed client file sent command)
+    → HasSoundEntries client → Sound (on_closed client file sent command)
 closed_command_sound client file sent (Command.Open f access share want durable) sound =
     if_cases Sound client.connected _ _ (λ on. turned_sound client file _ sound on) (λ off. sound)
 closed_command_sound client file sent (Command.Close f) sound = sound
@@ -249,7 +177,7 @@ closed_command_sound client file sent (Command.Write f patch) sound = sound
 closed_command_sound client file sent (Command.Flush f) sound = sound
 
 entry_command_sound : (client : Client) (file : ℕ) (command : Command) (sent : List Pending) (phase : Phase)
-    → IsSoundClient client → IsSoundPhase client.connected sent phase
+    → HasSoundEntries client → IsSoundPhase client.connected sent phase
     → Sound (on_entry client file command sent phase)
 entry_command_sound client file command sent Phase.Closed sound s =
     closed_command_sound client file sent command sound
@@ -259,7 +187,7 @@ entry_command_sound client file command sent (Phase.Live live) sound s =
 entry_command_sound client file command sent (Phase.Offline parted) sound s = sound
 entry_command_sound client file command sent (Phase.Reconnecting parted) sound s = sound
 
-commanded_sound : (client : Client) (command : Command) → IsSoundClient client → Sound (commanded client command)
+commanded_sound : (client : Client) (command : Command) → HasSoundEntries client → Sound (commanded client command)
 unfolding commanded
 commanded_sound client command sound = if_either Sound _ _ _
     (entry_command_sound client (file_of command) command (client.entries (file_of command)).sent
@@ -268,7 +196,7 @@ commanded_sound client command sound = if_either Sound _ _ _
 
 -- ---- messages
 
-on_file_sound : (client : Client) (found : Option ℕ) (step : ℕ → Step) → IsSoundClient client
+on_file_sound : (client : Client) (found : Option ℕ) (step : ℕ → Step) → HasSoundEntries client
     → ((file : ℕ) → Sound (step file)) → Sound (on_file client found step)
 on_file_sound client None step sound each = sound
 on_file_sound client (Some file) step sound each = each file
@@ -277,15 +205,18 @@ lowered_sound : (client : Client) (live : LiveEntry) (sent : List Pending) (noti
     → client.connected ≡ true → IsSoundLive live
     → IsSoundEntry client.connected (belief_lowered live sent notice new).entry
 unfolding belief_lowered
-lowered_sound client live sent notice new on s = (on, record {
-  base_under_reads = kept_under new.read live.base;
-  unsent_under_writes = unflushed-none live.belief new live.unsent s.unsent_under_writes;
-  unsent_buffered = if_either (λ (l : List Pending). are_buffered l ≡ true) (gives_up live.belief new) [] live.unsent
-      refl s.unsent_buffered;
-})
+lowered_sound client live sent notice new on s = (
+  on,
+  record {
+    base_under_reads = kept_under new.read live.base;
+    unsent_under_writes = unflushed-none live.belief new live.unsent s.unsent_under_writes;
+    unsent_buffered = if_either (λ (l : List Pending). are_buffered l ≡ true) (gives_up live.belief new) [] live.unsent
+        refl s.unsent_buffered;
+  },
+)
 
 break_turn_sound : (client : Client) (file : ℕ) (live : LiveEntry) (sent : List Pending) (notice : BreakNotice) (new : State)
-    → IsSoundClient client → client.connected ≡ true → IsSoundLive live
+    → HasSoundEntries client → client.connected ≡ true → IsSoundLive live
     → Sound (turned client file (break_turn live sent notice new))
 unfolding break_turn parked_closed
 break_turn_sound client file live sent notice new sound on s = turned_sound client file _ sound
@@ -296,7 +227,7 @@ break_turn_sound client file live sent notice new sound on s = turned_sound clie
     (lowered_sound client live sent notice new on s))
 
 break_on_sound : (client : Client) (file : ℕ) (notice : BreakNotice) (sent : List Pending) (phase : Phase)
-    → IsSoundClient client → IsSoundPhase client.connected sent phase → Sound (break_on client file notice sent phase)
+    → HasSoundEntries client → IsSoundPhase client.connected sent phase → Sound (break_on client file notice sent phase)
 break_on_sound client file notice sent (Phase.Live live) sound s =
     break_turn_sound client file live sent notice (meet live.belief notice.lowered) sound s.0 s.1
 break_on_sound client file notice sent Phase.Closed sound s = sound
@@ -304,40 +235,46 @@ break_on_sound client file notice sent (Phase.Opening access share) sound s = so
 break_on_sound client file notice sent (Phase.Offline parted) sound s = sound
 break_on_sound client file notice sent (Phase.Reconnecting parted) sound s = sound
 
-broken_sound : (client : Client) (notice : Option BreakNotice) → IsSoundClient client → Sound (broken client notice)
+broken_sound : (client : Client) (notice : Option BreakNotice) → HasSoundEntries client → Sound (broken client notice)
 unfolding broken
 broken_sound client None sound = sound
 broken_sound client (Some notice) sound = on_file_sound client _ _ sound (λ file.
     break_on_sound client file notice (client.entries file).sent (client.entries file).phase sound (sound file))
 
 created_sound : (client : Client) (file file_id : ℕ) (answer : CreateAnswer) (belief : State) (sent : List Pending)
-    (phase : Phase) → IsSoundClient client → IsSoundPhase client.connected sent phase
+    (phase : Phase) → HasSoundEntries client → IsSoundPhase client.connected sent phase
     → Sound (created_on client file file_id answer belief sent phase)
 unfolding opened_turn reconnected_turn created_on_live
 created_sound client file file_id answer belief sent (Phase.Opening access share) sound s =
-    turned_sound client file _ sound (s, record {
-      base_under_reads = λ r. refl;
-      unsent_under_writes = λ w. refl;
-      unsent_buffered = refl;
-    })
+    turned_sound client file _ sound (
+      s,
+      record {
+        base_under_reads = λ r. refl;
+        unsent_under_writes = λ w. refl;
+        unsent_buffered = refl;
+      },
+    )
 created_sound client file file_id answer belief sent (Phase.Reconnecting parted) sound s =
-    turned_sound client file _ sound (s.0, record {
-      base_under_reads = λ r. refl;
-      unsent_under_writes = again_under belief.write parted.kept;
-      unsent_buffered = if_either (λ (l : List Pending). are_buffered l ≡ true) belief.write parted.kept [] s.2 refl;
-    })
+    turned_sound client file _ sound (
+      s.0,
+      record {
+        base_under_reads = λ r. refl;
+        unsent_under_writes = again_under belief.write parted.kept;
+        unsent_buffered = if_either (λ (l : List Pending). are_buffered l ≡ true) belief.write parted.kept [] s.2 refl;
+      },
+    )
 created_sound client file file_id answer belief sent (Phase.Live live) sound s = sound
 created_sound client file file_id answer belief sent Phase.Closed sound s = sound
 created_sound client file file_id answer belief sent (Phase.Offline parted) sound s = sound
 
-create_answered_sound : (client : Client) (file file_id : ℕ) (contexts : Option CreateAnswer) → IsSoundClient client
+create_answered_sound : (client : Client) (file file_id : ℕ) (contexts : Option CreateAnswer) → HasSoundEntries client
     → Sound (create_answered client file file_id contexts)
 unfolding create_answered
 create_answered_sound client file file_id None sound = sound
 create_answered_sound client file file_id (Some answer) sound = created_sound client file file_id answer _
     (client.entries file).sent (client.entries file).phase sound (sound file)
 
-failed_on_sound : (client : Client) (file : ℕ) (status : _) (sent : List Pending) (phase : Phase) → IsSoundClient client
+failed_on_sound : (client : Client) (file : ℕ) (status : _) (sent : List Pending) (phase : Phase) → HasSoundEntries client
     → IsSoundPhase client.connected sent phase → Sound (failed_on client file status sent phase)
 unfolding create_failed_on_live
 failed_on_sound client file status sent (Phase.Opening access share) sound s =
@@ -348,26 +285,29 @@ failed_on_sound client file status sent (Phase.Live live) sound s = sound
 failed_on_sound client file status sent Phase.Closed sound s = sound
 failed_on_sound client file status sent (Phase.Offline parted) sound s = sound
 
-create_failed_sound : (client : Client) (file : ℕ) (status : _) → IsSoundClient client
+create_failed_sound : (client : Client) (file : ℕ) (status : _) → HasSoundEntries client
     → Sound (create_failed client file status)
 unfolding create_failed
 create_failed_sound client file status sound =
     failed_on_sound client file status (client.entries file).sent (client.entries file).phase sound (sound file)
 
 read_on_sound : (client : Client) (file : ℕ) (bytes : List ℕ) (sent : List Pending) (phase : Phase)
-    → IsSoundClient client → IsSoundPhase client.connected sent phase → Sound (read_on client file bytes sent phase)
+    → HasSoundEntries client → IsSoundPhase client.connected sent phase → Sound (read_on client file bytes sent phase)
 unfolding read_turn
-read_on_sound client file bytes sent (Phase.Live live) sound s = turned_sound client file _ sound (s.0, record {
-  base_under_reads = read_under live.belief.read bytes live.base s.1.base_under_reads;
-  unsent_under_writes = s.1.unsent_under_writes;
-  unsent_buffered = s.1.unsent_buffered;
-})
+read_on_sound client file bytes sent (Phase.Live live) sound s = turned_sound client file _ sound (
+  s.0,
+  record {
+    base_under_reads = read_under live.belief.read bytes live.base s.1.base_under_reads;
+    unsent_under_writes = s.1.unsent_under_writes;
+    unsent_buffered = s.1.unsent_buffered;
+  },
+)
 read_on_sound client file bytes sent Phase.Closed sound s = sound
 read_on_sound client file bytes sent (Phase.Opening access share) sound s = sound
 read_on_sound client file bytes sent (Phase.Offline parted) sound s = sound
 read_on_sound client file bytes sent (Phase.Reconnecting parted) sound s = sound
 
-read_answered_sound : (client : Client) (file_id : ℕ) (bytes : List ℕ) → IsSoundClient client
+read_answered_sound : (client : Client) (file_id : ℕ) (bytes : List ℕ) → HasSoundEntries client
     → Sound (read_answered client file_id bytes)
 unfolding read_answered
 read_answered_sound client file_id bytes sound = if_either Sound (nat_le (length bytes) file_limit)
@@ -379,7 +319,7 @@ read_answered_sound client file_id bytes sound = if_either Sound (nat_le (length
     sound
 
 read_failed_on_sound : (client : Client) (file : ℕ) (status : _) (sent : List Pending) (phase : Phase)
-    → IsSoundClient client → IsSoundPhase client.connected sent phase
+    → HasSoundEntries client → IsSoundPhase client.connected sent phase
     → Sound (read_failed_on client file status sent phase)
 unfolding read_failed_turn closed_by_server
 read_failed_on_sound client file status sent (Phase.Live live) sound s = turned_sound client file _ sound
@@ -393,13 +333,13 @@ read_failed_on_sound client file status sent (Phase.Opening access share) sound 
 read_failed_on_sound client file status sent (Phase.Offline parted) sound s = sound
 read_failed_on_sound client file status sent (Phase.Reconnecting parted) sound s = sound
 
-read_failed_sound : (client : Client) (file_id : ℕ) (status : _) → IsSoundClient client
+read_failed_sound : (client : Client) (file_id : ℕ) (status : _) → HasSoundEntries client
     → Sound (read_failed client file_id status)
 unfolding read_failed
 read_failed_sound client file_id status sound = on_file_sound client _ _ sound (λ file.
     read_failed_on_sound client file status (client.entries file).sent (client.entries file).phase sound (sound file))
 
-write_done_sound : (client : Client) (number : ℕ) → IsSoundClient client → Sound (write_done client number)
+write_done_sound : (client : Client) (number : ℕ) → HasSoundEntries client → Sound (write_done client number)
 unfolding write_done write_done_turn
 write_done_sound client number sound = on_file_sound client _ _ sound (λ file. turned_sound client file _ sound
     (done_sound client.connected number _ (client.entries file).sent (client.entries file).phase (sound file)))
@@ -421,7 +361,7 @@ write_failed_in_sound client file_id number status sent (Phase.Offline parted) s
 write_failed_in_sound client file_id number status sent (Phase.Reconnecting parted) s =
     (s.0, sent_without-none number sent s.1, s.2)
 
-write_failed_sound : (client : Client) (file_id number : ℕ) (status : _) → IsSoundClient client
+write_failed_sound : (client : Client) (file_id number : ℕ) (status : _) → HasSoundEntries client
     → Sound (write_failed client file_id number status)
 unfolding write_failed
 write_failed_sound client file_id number status sound = on_file_sound client _ _ sound (λ file.
@@ -429,7 +369,7 @@ write_failed_sound client file_id number status sound = on_file_sound client _ _
     (write_failed_in_sound client file_id number status (client.entries file).sent (client.entries file).phase
     (sound file)))
 
-taken_sound : (client : Client) (reply : Reply) → IsSoundClient client → Sound (taken client reply)
+taken_sound : (client : Client) (reply : Reply) → HasSoundEntries client → Sound (taken client reply)
 unfolding taken
 taken_sound client (Reply.Created file file_id contexts) sound =
     create_answered_sound client file file_id contexts sound
@@ -462,7 +402,7 @@ notice_sound connected sent (Phase.Live live) s = live_noticed_sound live sent
 notice_sound connected sent (Phase.Offline parted) s = (refl, refl, s.2)
 notice_sound connected sent (Phase.Reconnecting parted) s = (refl, refl, s.2)
 
-noticed_sound : (client : Client) → IsSoundClient client → Sound (noticed client)
+noticed_sound : (client : Client) → HasSoundEntries client → Sound (noticed client)
 unfolding noticed all_turned
 noticed_sound client sound file =
     notice_sound client.connected (client.entries file).sent (client.entries file).phase (sound file)
@@ -475,20 +415,20 @@ connect_sound client file sent (Phase.Live live) s = (refl, s.1)
 connect_sound client file sent (Phase.Offline parted) s = (refl, s.1, s.2)
 connect_sound client file sent (Phase.Reconnecting parted) s = (refl, s.1, s.2)
 
-connected_sound : (client : Client) → IsSoundClient client → Sound (connected client)
+connected_sound : (client : Client) → HasSoundEntries client → Sound (connected client)
 unfolding connected all_turned
 connected_sound client sound file =
     connect_sound client file (client.entries file).sent (client.entries file).phase (sound file)
 
 -- ---- the laws
 
-pub first_sound : (guid : List ℕ) (files : ℕ) → IsSoundClient (new_client guid files)
+pub first_entries : (guid : List ℕ) (files : ℕ) → HasSoundEntries (new_client guid files)
 unfolding new_client
-first_sound guid files file = λ away. refl
+first_entries guid files file = λ away. refl
 
-pub called_sound : (client : Client) (call : ClientCall) → IsSoundClient client
-    → IsSoundClient (client_called client call).client
-called_sound client (ClientCall.Commanded command) sound = commanded_sound client command sound
-called_sound client (ClientCall.Taken reply) sound = taken_sound client reply sound
-called_sound client ClientCall.Noticed sound = noticed_sound client sound
-called_sound client ClientCall.Connected sound = connected_sound client sound
+pub called_entries : (client : Client) (call : ClientCall) → HasSoundEntries client
+    → HasSoundEntries (client_called client call).client
+called_entries client (ClientCall.Commanded command) sound = commanded_sound client command sound
+called_entries client (ClientCall.Taken reply) sound = taken_sound client reply sound
+called_entries client ClientCall.Noticed sound = noticed_sound client sound
+called_entries client ClientCall.Connected sound = connected_sound client sound
