@@ -19,9 +19,9 @@ use Rattle.lease_model.specs.Sharing.{may_write}
 use Rattle.lease_model.specs.Replies.{Reply, BreakNotice, CreateAnswer}
 use Rattle.lease_model.proofs.ClientWords.{if_either, put_each, joined_buffered, filter_buffered, sent_without-none, HasSoundEntries, kept_under, read_under, unflushed-none, again_under, done_sound}
 
-
 -- ---- steps
 
+-- the entries are sound after the step
 abbrev Sound : Step → Type 0
 Sound step = HasSoundEntries step.client
 
@@ -49,12 +49,14 @@ counted live handles reads s = record {
   unsent_buffered = s.unsent_buffered;
 }
 
+-- one handle more
 handle_added_sound : (client : Client) (file : ℕ) (live : LiveEntry) (sent : List Pending) → HasSoundEntries client
     → client.connected ≡ true → IsSoundLive live → Sound (handle_added client file live sent)
 unfolding handle_added
 handle_added_sound client file live sent sound on s = if_either Sound _ _ _ sound
     (turned_sound client file _ sound (on, counted live (live.handles + 1) live.reads s))
 
+-- an Open of a live entry
 open_on_live_sound : (client : Client) (file : ℕ) (live : LiveEntry) (sent : List Pending) (access : _) (share : _)
     (want : State) (durable : Bool) → HasSoundEntries client → client.connected ≡ true → IsSoundLive live
     → Sound (open_on_live client file live sent access share want durable)
@@ -62,6 +64,7 @@ unfolding open_on_live open_other
 open_on_live_sound client file live sent access share want durable sound on s =
     if_either Sound _ _ _ (handle_added_sound client file live sent sound on s) sound
 
+-- the last handle goes: the entry is parked or closed
 last_handle_sound : (client : Client) (file : ℕ) (live : LiveEntry) (sent : List Pending) → HasSoundEntries client
     → client.connected ≡ true → IsSoundLive live → Sound (last_handle_closed client file live sent)
 unfolding last_handle_closed
@@ -72,6 +75,7 @@ last_handle_sound client file live sent sound on s = if_either Sound live.belief
     (turned_sound client file _ sound (on, counted live 0 live.reads s))
     (closed_sound client file _ (sent ++ live.unsent) sound on refl)
 
+-- a Close of a live entry
 close_sound : (client : Client) (file : ℕ) (live : LiveEntry) (sent : List Pending) → HasSoundEntries client
     → client.connected ≡ true → IsSoundLive live → Sound (close_on_live client file live sent)
 unfolding close_on_live
@@ -82,12 +86,14 @@ close_sound client file live sent sound on s = if_either Sound (nat_lt 1 live.ha
     (turned_sound client file _ sound (on, counted live (one_handle_less live.handles) live.reads s))
     (if_either Sound _ _ _ sound (last_handle_sound client file live sent sound on s))
 
+-- a Read is sent
 read_sent_sound : (client : Client) (file : ℕ) (live : LiveEntry) (sent : List Pending) → HasSoundEntries client
     → client.connected ≡ true → IsSoundLive live → Sound (read_sent client file live sent)
 unfolding read_sent
 read_sent_sound client file live sent sound on s = if_either Sound _ _ _ sound
     (turned_sound client file _ sound (on, counted live live.handles (live.reads + 1) s))
 
+-- a Read is answered from the cache or sent
 read_from_sound : (client : Client) (file : ℕ) (live : LiveEntry) (sent : List Pending) (reads : Bool)
     (base : Option (List ℕ)) → HasSoundEntries client → client.connected ≡ true → IsSoundLive live
     → Sound (read_from client file live sent reads base)
@@ -96,12 +102,14 @@ read_from_sound client file live sent true (Some base) sound on s = sound
 read_from_sound client file live sent true None sound on s = read_sent_sound client file live sent sound on s
 read_from_sound client file live sent false base sound on s = read_sent_sound client file live sent sound on s
 
+-- a Read of a live entry
 read_sound : (client : Client) (file : ℕ) (live : LiveEntry) (sent : List Pending) → HasSoundEntries client
     → client.connected ≡ true → IsSoundLive live → Sound (read_on_live client file live sent)
 unfolding read_on_live
 read_sound client file live sent sound on s = if_either Sound _ _ _
     (read_from_sound client file live sent live.belief.read live.base sound on s) sound
 
+-- a write is buffered, which is done only under W
 buffered_sound : (client : Client) (file : ℕ) (live : LiveEntry) (sent : List Pending) (patch : _) → HasSoundEntries client
     → client.connected ≡ true → IsSoundLive live → live.belief.write ≡ true
     → Sound (write_buffered client file live sent patch)
@@ -117,6 +125,7 @@ buffered_sound client file live sent patch sound on s writes =
     )
     sound
 
+-- a write is sent
 sent_sound : (client : Client) (file : ℕ) (live : LiveEntry) (sent : List Pending) (patch : _) → HasSoundEntries client
     → client.connected ≡ true → IsSoundLive live → Sound (write_sent client file live sent patch)
 unfolding write_sent
@@ -132,6 +141,7 @@ three_tests client false true c x y z step sound s = sound
 three_tests client false false true x y z step sound s = sound
 three_tests client false false false x y z step sound s = s
 
+-- a Write to a live entry
 write_sound : (client : Client) (file : ℕ) (live : LiveEntry) (sent : List Pending) (patch : _) → HasSoundEntries client
     → client.connected ≡ true → IsSoundLive live → Sound (write_on_live client file live sent patch)
 unfolding write_on_live
@@ -142,6 +152,7 @@ write_sound client file live sent patch sound on s = three_tests client (not (ma
     (buffered_sound client file live sent patch sound on s)
     (λ w. sent_sound client file live sent patch sound on s))
 
+-- a Flush leaves nothing unsent
 flush_sound : (client : Client) (file : ℕ) (live : LiveEntry) (sent : List Pending) → HasSoundEntries client
     → client.connected ≡ true → IsSoundLive live → Sound (flush_on_live client file live sent)
 unfolding flush_on_live
@@ -154,6 +165,7 @@ flush_sound client file live sent sound on s = turned_sound client file _ sound 
   },
 )
 
+-- any command for a live entry
 live_command_sound : (client : Client) (file : ℕ) (live : LiveEntry) (sent : List Pending) (command : Command)
     → HasSoundEntries client → client.connected ≡ true → IsSoundLive live → Sound (on_live client file live sent command)
 live_command_sound client file live sent (Command.Open f access share want durable) sound on s =
@@ -167,6 +179,7 @@ live_command_sound client file live sent (Command.Write f patch) sound on s =
 live_command_sound client file live sent (Command.Flush f) sound on s =
     if_either Sound _ _ _ sound (flush_sound client file live sent sound on s)
 
+-- any command for a closed entry
 closed_command_sound : (client : Client) (file : ℕ) (sent : List Pending) (command : Command)
     → HasSoundEntries client → Sound (on_closed client file sent command)
 closed_command_sound client file sent (Command.Open f access share want durable) sound =
@@ -176,6 +189,7 @@ closed_command_sound client file sent (Command.Read f) sound = sound
 closed_command_sound client file sent (Command.Write f patch) sound = sound
 closed_command_sound client file sent (Command.Flush f) sound = sound
 
+-- any command for an entry in any phase
 entry_command_sound : (client : Client) (file : ℕ) (command : Command) (sent : List Pending) (phase : Phase)
     → HasSoundEntries client → IsSoundPhase client.connected sent phase
     → Sound (on_entry client file command sent phase)
@@ -187,6 +201,7 @@ entry_command_sound client file command sent (Phase.Live live) sound s =
 entry_command_sound client file command sent (Phase.Offline parted) sound s = sound
 entry_command_sound client file command sent (Phase.Reconnecting parted) sound s = sound
 
+-- any command
 commanded_sound : (client : Client) (command : Command) → HasSoundEntries client → Sound (commanded client command)
 unfolding commanded
 commanded_sound client command sound = if_either Sound _ _ _
@@ -196,11 +211,13 @@ commanded_sound client command sound = if_either Sound _ _ _
 
 -- ---- messages
 
+-- a step of the file that is found, or none
 on_file_sound : (client : Client) (found : Option ℕ) (step : ℕ → Step) → HasSoundEntries client
     → ((file : ℕ) → Sound (step file)) → Sound (on_file client found step)
 on_file_sound client None step sound each = sound
 on_file_sound client (Some file) step sound each = each file
 
+-- a lowered belief: no base without R, nothing unsent without W
 lowered_sound : (client : Client) (live : LiveEntry) (sent : List Pending) (notice : BreakNotice) (new : State)
     → client.connected ≡ true → IsSoundLive live
     → IsSoundEntry client.connected (belief_lowered live sent notice new).entry
@@ -215,6 +232,7 @@ lowered_sound client live sent notice new on s = (
   },
 )
 
+-- a break of a live entry
 break_turn_sound : (client : Client) (file : ℕ) (live : LiveEntry) (sent : List Pending) (notice : BreakNotice) (new : State)
     → HasSoundEntries client → client.connected ≡ true → IsSoundLive live
     → Sound (turned client file (break_turn live sent notice new))
@@ -226,6 +244,7 @@ break_turn_sound client file live sent notice new sound on s = turned_sound clie
     (λ away. clash client.connected on away)
     (lowered_sound client live sent notice new on s))
 
+-- a break of an entry in any phase
 break_on_sound : (client : Client) (file : ℕ) (notice : BreakNotice) (sent : List Pending) (phase : Phase)
     → HasSoundEntries client → IsSoundPhase client.connected sent phase → Sound (break_on client file notice sent phase)
 break_on_sound client file notice sent (Phase.Live live) sound s =
@@ -235,12 +254,14 @@ break_on_sound client file notice sent (Phase.Opening access share) sound s = so
 break_on_sound client file notice sent (Phase.Offline parted) sound s = sound
 break_on_sound client file notice sent (Phase.Reconnecting parted) sound s = sound
 
+-- any break
 broken_sound : (client : Client) (notice : Option BreakNotice) → HasSoundEntries client → Sound (broken client notice)
 unfolding broken
 broken_sound client None sound = sound
 broken_sound client (Some notice) sound = on_file_sound client _ _ sound (λ file.
     break_on_sound client file notice (client.entries file).sent (client.entries file).phase sound (sound file))
 
+-- a create is answered: the new live entry has no base
 created_sound : (client : Client) (file file_id : ℕ) (answer : CreateAnswer) (belief : State) (sent : List Pending)
     (phase : Phase) → HasSoundEntries client → IsSoundPhase client.connected sent phase
     → Sound (created_on client file file_id answer belief sent phase)
@@ -267,6 +288,7 @@ created_sound client file file_id answer belief sent (Phase.Live live) sound s =
 created_sound client file file_id answer belief sent Phase.Closed sound s = sound
 created_sound client file file_id answer belief sent (Phase.Offline parted) sound s = sound
 
+-- any answer to a create
 create_answered_sound : (client : Client) (file file_id : ℕ) (contexts : Option CreateAnswer) → HasSoundEntries client
     → Sound (create_answered client file file_id contexts)
 unfolding create_answered
@@ -274,6 +296,7 @@ create_answered_sound client file file_id None sound = sound
 create_answered_sound client file file_id (Some answer) sound = created_sound client file file_id answer _
     (client.entries file).sent (client.entries file).phase sound (sound file)
 
+-- a create failed: the entry is closed
 failed_on_sound : (client : Client) (file : ℕ) (status : _) (sent : List Pending) (phase : Phase) → HasSoundEntries client
     → IsSoundPhase client.connected sent phase → Sound (failed_on client file status sent phase)
 unfolding create_failed_on_live
@@ -285,12 +308,14 @@ failed_on_sound client file status sent (Phase.Live live) sound s = sound
 failed_on_sound client file status sent Phase.Closed sound s = sound
 failed_on_sound client file status sent (Phase.Offline parted) sound s = sound
 
+-- any failed create
 create_failed_sound : (client : Client) (file : ℕ) (status : _) → HasSoundEntries client
     → Sound (create_failed client file status)
 unfolding create_failed
 create_failed_sound client file status sound =
     failed_on_sound client file status (client.entries file).sent (client.entries file).phase sound (sound file)
 
+-- the bytes of a Read become the base under R
 read_on_sound : (client : Client) (file : ℕ) (bytes : List ℕ) (sent : List Pending) (phase : Phase)
     → HasSoundEntries client → IsSoundPhase client.connected sent phase → Sound (read_on client file bytes sent phase)
 unfolding read_turn
@@ -307,6 +332,7 @@ read_on_sound client file bytes sent (Phase.Opening access share) sound s = soun
 read_on_sound client file bytes sent (Phase.Offline parted) sound s = sound
 read_on_sound client file bytes sent (Phase.Reconnecting parted) sound s = sound
 
+-- any answer to a Read
 read_answered_sound : (client : Client) (file_id : ℕ) (bytes : List ℕ) → HasSoundEntries client
     → Sound (read_answered client file_id bytes)
 unfolding read_answered
@@ -318,6 +344,7 @@ read_answered_sound client file_id bytes sound = if_either Sound (nat_le (length
     read_on_sound client file bytes (client.entries file).sent (client.entries file).phase sound (sound file)))
     sound
 
+-- a Read failed
 read_failed_on_sound : (client : Client) (file : ℕ) (status : _) (sent : List Pending) (phase : Phase)
     → HasSoundEntries client → IsSoundPhase client.connected sent phase
     → Sound (read_failed_on client file status sent phase)
@@ -333,17 +360,20 @@ read_failed_on_sound client file status sent (Phase.Opening access share) sound 
 read_failed_on_sound client file status sent (Phase.Offline parted) sound s = sound
 read_failed_on_sound client file status sent (Phase.Reconnecting parted) sound s = sound
 
+-- any failed Read
 read_failed_sound : (client : Client) (file_id : ℕ) (status : _) → HasSoundEntries client
     → Sound (read_failed client file_id status)
 unfolding read_failed
 read_failed_sound client file_id status sound = on_file_sound client _ _ sound (λ file.
     read_failed_on_sound client file status (client.entries file).sent (client.entries file).phase sound (sound file))
 
+-- any write that is done
 write_done_sound : (client : Client) (number : ℕ) → HasSoundEntries client → Sound (write_done client number)
 unfolding write_done write_done_turn
 write_done_sound client number sound = on_file_sound client _ _ sound (λ file. turned_sound client file _ sound
     (done_sound client.connected number _ (client.entries file).sent (client.entries file).phase (sound file)))
 
+-- a write failed
 write_failed_in_sound : (client : Client) (file_id number : ℕ) (status : _) (sent : List Pending) (phase : Phase)
     → IsSoundPhase client.connected sent phase
     → IsSoundEntry client.connected (write_failed_in file_id number status (sent_without number sent) phase).entry
@@ -361,6 +391,7 @@ write_failed_in_sound client file_id number status sent (Phase.Offline parted) s
 write_failed_in_sound client file_id number status sent (Phase.Reconnecting parted) s =
     (s.0, sent_without-none number sent s.1, s.2)
 
+-- any failed write
 write_failed_sound : (client : Client) (file_id number : ℕ) (status : _) → HasSoundEntries client
     → Sound (write_failed client file_id number status)
 unfolding write_failed
@@ -369,6 +400,7 @@ write_failed_sound client file_id number status sound = on_file_sound client _ _
     (write_failed_in_sound client file_id number status (client.entries file).sent (client.entries file).phase
     (sound file)))
 
+-- any message
 taken_sound : (client : Client) (reply : Reply) → HasSoundEntries client → Sound (taken client reply)
 unfolding taken
 taken_sound client (Reply.Created file file_id contexts) sound =
@@ -387,6 +419,7 @@ taken_sound client (Reply.AckFailed status) sound = sound
 
 -- ---- connections
 
+-- a live entry whose connection is lost
 live_noticed_sound : (live : LiveEntry) (sent : List Pending) → IsSoundEntry false (live_noticed live sent).entry
 unfolding live_noticed live_parted
 live_noticed_sound live sent = if_either (λ (t : Turn). IsSoundEntry false t.entry) live.durable _ _
@@ -394,6 +427,7 @@ live_noticed_sound live sent = if_either (λ (t : Turn). IsSoundEntry false t.en
     (refl, refl, filter_buffered (sent ++ live.unsent)) (refl, refl, refl))
     (λ away. refl)
 
+-- an entry whose connection is lost, in any phase
 notice_sound : (connected : Bool) (sent : List Pending) (phase : Phase) → IsSoundPhase connected sent phase
     → IsSoundEntry false (notice_turn sent phase).entry
 notice_sound connected sent Phase.Closed s = λ away. refl
@@ -402,11 +436,13 @@ notice_sound connected sent (Phase.Live live) s = live_noticed_sound live sent
 notice_sound connected sent (Phase.Offline parted) s = (refl, refl, s.2)
 notice_sound connected sent (Phase.Reconnecting parted) s = (refl, refl, s.2)
 
+-- a lost connection
 noticed_sound : (client : Client) → HasSoundEntries client → Sound (noticed client)
 unfolding noticed all_turned
 noticed_sound client sound file =
     notice_sound client.connected (client.entries file).sent (client.entries file).phase (sound file)
 
+-- an entry, in any phase, of a client that connects
 connect_sound : (client : Client) (file : ℕ) (sent : List Pending) (phase : Phase)
     → IsSoundPhase client.connected sent phase → IsSoundEntry true (connect_turn client file sent phase).entry
 connect_sound client file sent Phase.Closed s = λ away. clash true refl away
@@ -415,6 +451,7 @@ connect_sound client file sent (Phase.Live live) s = (refl, s.1)
 connect_sound client file sent (Phase.Offline parted) s = (refl, s.1, s.2)
 connect_sound client file sent (Phase.Reconnecting parted) s = (refl, s.1, s.2)
 
+-- a new connection
 connected_sound : (client : Client) → HasSoundEntries client → Sound (connected client)
 unfolding connected all_turned
 connected_sound client sound file =
@@ -422,10 +459,12 @@ connected_sound client sound file =
 
 -- ---- the laws
 
+-- the entries of a new client are sound
 pub first_entries : (guid : List ℕ) (files : ℕ) → HasSoundEntries (new_client guid files)
 unfolding new_client
 first_entries guid files file = λ away. refl
 
+-- and stay so with every call
 pub called_entries : (client : Client) (call : ClientCall) → HasSoundEntries client
     → HasSoundEntries (client_called client call).client
 called_entries client (ClientCall.Commanded command) sound = commanded_sound client command sound

@@ -25,6 +25,7 @@ use Rattle.lease_model.proofs.ClientThin.{IsThinner, thin_same, thin_equal, thin
 
 -- ---- one step
 
+-- the writes of a client have their own numbers
 abbrev Numbers : Client → Type 0
 Numbers client = HaveOwnNumbers client.last_number (λ file. unanswered_in (client.entries file))
 
@@ -32,9 +33,11 @@ Numbers client = HaveOwnNumbers client.last_number (λ file. unanswered_in (clie
 record Own (step : Step) : Type 0 where
   after : Numbers step.client
 
+-- a step that does nothing
 quiet_own : (client : Client) → Numbers client → Own (quiet_step client)
 quiet_own client own = record { after = own }
 
+-- a refused command
 refused_own : (client : Client) (refusal : Refusal) → Numbers client → Own (refused_step client refusal)
 refused_own client refusal own = record { after = own }
 
@@ -79,6 +82,7 @@ without_left number sent unsent = thin_then (sent_without number sent ++ []) (se
 
 -- ---- commands
 
+-- a turn that leaves the unsent writes as they were
 live_same : (client : Client) (file : ℕ) (live new : LiveEntry) (sent : List Pending) (answer : Answer) (requests : List Request)
     → Numbers client → unanswered_in (client.entries file) ≡ sent ++ live.unsent → new.unsent ≡ live.unsent
     → Own (turned client file (turn_of (live_entry new sent) answer requests))
@@ -86,6 +90,7 @@ live_same client file live new sent answer requests own is same =
     turned_own client file (turn_of (live_entry new sent) answer requests) (sent ++ live.unsent) own is
     (thin_equal (sent ++ new.unsent) (sent ++ live.unsent) (ap (λ (l : List Pending). sent ++ l) same))
 
+-- an Open of a live entry
 open_own : (client : Client) (file : ℕ) (live : LiveEntry) (sent : List Pending) (access : Access) (share : Share)
     (want : State) (durable : Bool) → Numbers client → unanswered_in (client.entries file) ≡ sent ++ live.unsent
     → Own (open_on_live client file live sent access share want durable)
@@ -95,6 +100,7 @@ open_own client file live sent access share want durable own is = if_either Own 
     (live_same client file live (record live { handles = live.handles + 1 }) sent Answer.Done [] own is refl))
     (refused_own client Refusal.Differs own)
 
+-- the last handle goes: the entry is parked or closed
 last_handle_own : (client : Client) (file : ℕ) (live : LiveEntry) (sent : List Pending) → Numbers client
     → unanswered_in (client.entries file) ≡ sent ++ live.unsent → Own (last_handle_closed client file live sent)
 unfolding last_handle_closed
@@ -102,6 +108,7 @@ last_handle_own client file live sent own is = if_either Own _ _ _
     (live_same client file live (record live { handles = 0 }) sent Answer.Done [] own is refl)
     (turned_own client file _ (sent ++ live.unsent) own is (all_sent sent live.unsent))
 
+-- a Close of a live entry
 close_own : (client : Client) (file : ℕ) (live : LiveEntry) (sent : List Pending) → Numbers client
     → unanswered_in (client.entries file) ≡ sent ++ live.unsent → Own (close_on_live client file live sent)
 unfolding close_on_live
@@ -109,6 +116,7 @@ close_own client file live sent own is = if_either Own _ _ _
     (live_same client file live (record live { handles = one_handle_less live.handles }) sent Answer.Done [] own is refl)
     (if_either Own _ _ _ (refused_own client Refusal.Busy own) (last_handle_own client file live sent own is))
 
+-- a Read is sent
 read_sent_own : (client : Client) (file : ℕ) (live : LiveEntry) (sent : List Pending) → Numbers client
     → unanswered_in (client.entries file) ≡ sent ++ live.unsent → Own (read_sent client file live sent)
 unfolding read_sent
@@ -116,6 +124,7 @@ read_sent_own client file live sent own is = if_either Own _ _ _ (refused_own cl
     (live_same client file live (record live { reads = live.reads + 1 }) sent Answer.Waiting
     (Request.Read live.file_id ∷ []) own is refl)
 
+-- a Read is answered from the cache or sent
 read_from_own : (client : Client) (file : ℕ) (live : LiveEntry) (sent : List Pending) (reads : Bool)
     (base : Option (List ℕ)) → Numbers client → unanswered_in (client.entries file) ≡ sent ++ live.unsent
     → Own (read_from client file live sent reads base)
@@ -124,12 +133,14 @@ read_from_own client file live sent true (Some base) own is = record { after = o
 read_from_own client file live sent true None own is = read_sent_own client file live sent own is
 read_from_own client file live sent false base own is = read_sent_own client file live sent own is
 
+-- a Read of a live entry
 read_own : (client : Client) (file : ℕ) (live : LiveEntry) (sent : List Pending) → Numbers client
     → unanswered_in (client.entries file) ≡ sent ++ live.unsent → Own (read_on_live client file live sent)
 unfolding read_on_live
 read_own client file live sent own is = if_either Own _ _ _
     (read_from_own client file live sent live.belief.read live.base own is) (refused_own client Refusal.Denied own)
 
+-- a buffered write comes behind the unsent ones
 buffered_own : (client : Client) (file : ℕ) (live : LiveEntry) (sent : List Pending) (patch : Patch) → Numbers client
     → unanswered_in (client.entries file) ≡ sent ++ live.unsent → Own (write_buffered client file live sent patch)
 unfolding write_buffered
@@ -138,6 +149,7 @@ buffered_own client file live sent patch own is =
     wrote_own client file (live_entry (record live { unsent = live.unsent ++ write ∷ [] }) sent) Answer.Done [] write own refl
     (sym (append_assoc sent live.unsent (write ∷ [])) ∙ ap (λ (l : List Pending). l ++ write ∷ []) (sym is))
 
+-- a write is sent only where none is unsent, so it comes last
 write_sent_own : (client : Client) (file : ℕ) (live : LiveEntry) (sent : List Pending) (patch : Patch) → Numbers client
     → unanswered_in (client.entries file) ≡ sent ++ live.unsent → live.unsent ≡ []
     → Own (write_sent client file live sent patch)
@@ -152,6 +164,7 @@ write_sent_own client file live sent patch own is none =
         → (sent ++ write ∷ []) ++ unsent ≡ (sent ++ unsent) ++ write ∷ []
     behind write unsent e = rw (e, append-nil (sent ++ write ∷ []), append-nil sent) refl
 
+-- a Write to a live entry
 write_own : (client : Client) (file : ℕ) (live : LiveEntry) (sent : List Pending) (patch : Patch) → Numbers client
     → unanswered_in (client.entries file) ≡ sent ++ live.unsent → (live.belief.write ≡ false → live.unsent ≡ [])
     → Own (write_on_live client file live sent patch)
@@ -163,12 +176,14 @@ write_own client file live sent patch own is none = if_either Own _ _ _ (refused
     (λ w. buffered_own client file live sent patch own is)
     (λ w. write_sent_own client file live sent patch own is (none w)))))
 
+-- a Flush
 flush_own : (client : Client) (file : ℕ) (live : LiveEntry) (sent : List Pending) → Numbers client
     → unanswered_in (client.entries file) ≡ sent ++ live.unsent → Own (flush_on_live client file live sent)
 unfolding flush_on_live
 flush_own client file live sent own is =
     turned_own client file _ (sent ++ live.unsent) own is (all_sent sent live.unsent)
 
+-- any command for a live entry
 live_command_own : (client : Client) (file : ℕ) (live : LiveEntry) (sent : List Pending) (command : Command)
     → Numbers client → unanswered_in (client.entries file) ≡ sent ++ live.unsent
     → (live.belief.write ≡ false → live.unsent ≡ []) → Own (on_live client file live sent command)
@@ -183,6 +198,7 @@ live_command_own client file live sent (Command.Write f patch) own is none =
 live_command_own client file live sent (Command.Flush f) own is none =
     if_either Own _ _ _ (refused_own client Refusal.NotOpen own) (flush_own client file live sent own is)
 
+-- any command for a closed entry
 closed_command_own : (client : Client) (file : ℕ) (sent : List Pending) (command : Command) → Numbers client
     → unanswered_in (client.entries file) ≡ sent ++ [] → Own (on_closed client file sent command)
 closed_command_own client file sent (Command.Open f access share want durable) own is =
@@ -193,6 +209,7 @@ closed_command_own client file sent (Command.Read f) own is = refused_own client
 closed_command_own client file sent (Command.Write f patch) own is = refused_own client Refusal.NotOpen own
 closed_command_own client file sent (Command.Flush f) own is = refused_own client Refusal.NotOpen own
 
+-- any command for an entry in any phase
 entry_command_own : (client : Client) (file : ℕ) (command : Command) (sent : List Pending) (phase : Phase)
     → Numbers client → unanswered_in (client.entries file) ≡ sent ++ unsent_in phase
     → IsSoundPhase client.connected sent phase → Own (on_entry client file command sent phase)
@@ -203,6 +220,7 @@ entry_command_own client file command sent (Phase.Live live) own is s =
 entry_command_own client file command sent (Phase.Offline parted) own is s = refused_own client Refusal.Offline own
 entry_command_own client file command sent (Phase.Reconnecting parted) own is s = refused_own client Refusal.Busy own
 
+-- any command
 commanded_own : (client : Client) (command : Command) → HasSoundEntries client → Numbers client
     → Own (commanded client command)
 unfolding commanded
@@ -213,17 +231,20 @@ commanded_own client command sound own = if_either Own _ _ _
 
 -- ---- messages
 
+-- a step of the file that is found, or none
 on_file_own : (client : Client) (found : Option ℕ) (step : ℕ → Step) → Numbers client
     → ((file : ℕ) → Own (step file)) → Own (on_file client found step)
 on_file_own client None step own each = quiet_own client own
 on_file_own client (Some file) step own each = each file
 
+-- a lowered belief sends the unsent writes or leaves them
 lowered_thin : (gives : Bool) (sent unsent : List Pending)
     → IsThinner ((sent ++ (if gives then unsent else [])) ++ (if gives then [] else unsent)) (sent ++ unsent)
 lowered_thin true sent unsent = all_sent sent unsent
 lowered_thin false sent unsent = thin_equal ((sent ++ []) ++ unsent) (sent ++ unsent)
     (ap (λ (l : List Pending). l ++ unsent) (append-nil sent))
 
+-- a break of a live entry loses no order
 break_thin : (live : LiveEntry) (sent : List Pending) (notice : BreakNotice) (new : State)
     → IsThinner (unanswered_in (break_turn live sent notice new).entry) (sent ++ live.unsent)
 unfolding break_turn parked_closed belief_lowered
@@ -233,6 +254,7 @@ break_thin live sent notice new =
     (parked_closed live sent) (belief_lowered live sent notice new)
     (all_sent sent live.unsent) (lowered_thin (gives_up live.belief new) sent live.unsent)
 
+-- a break of an entry in any phase
 break_on_own : (client : Client) (file : ℕ) (notice : BreakNotice) (sent : List Pending) (phase : Phase) → Numbers client
     → unanswered_in (client.entries file) ≡ sent ++ unsent_in phase → Own (break_on client file notice sent phase)
 break_on_own client file notice sent (Phase.Live live) own is =
@@ -243,17 +265,20 @@ break_on_own client file notice sent (Phase.Opening access share) own is = quiet
 break_on_own client file notice sent (Phase.Offline parted) own is = quiet_own client own
 break_on_own client file notice sent (Phase.Reconnecting parted) own is = quiet_own client own
 
+-- any break
 broken_own : (client : Client) (notice : Option BreakNotice) → Numbers client → Own (broken client notice)
 unfolding broken
 broken_own client None own = quiet_own client own
 broken_own client (Some notice) own = on_file_own client _ _ own (λ file.
     break_on_own client file notice (client.entries file).sent (client.entries file).phase own refl)
 
+-- what was kept is unsent again, or given up
 again_thin : (writes : Bool) (sent kept : List Pending)
     → IsThinner (sent ++ (if writes then kept else [])) (sent ++ kept)
 again_thin true sent kept = thin_same (sent ++ kept)
 again_thin false sent kept = sent_left sent kept
 
+-- a create is answered
 created_own : (client : Client) (file file_id : ℕ) (answer : CreateAnswer) (belief : State) (sent : List Pending)
     (phase : Phase) → Numbers client → unanswered_in (client.entries file) ≡ sent ++ unsent_in phase
     → Own (created_on client file file_id answer belief sent phase)
@@ -267,6 +292,7 @@ created_own client file file_id answer belief sent (Phase.Live live) own is = qu
 created_own client file file_id answer belief sent Phase.Closed own is = quiet_own client own
 created_own client file file_id answer belief sent (Phase.Offline parted) own is = quiet_own client own
 
+-- any answer to a create
 create_answered_own : (client : Client) (file file_id : ℕ) (contexts : Option CreateAnswer) → Numbers client
     → Own (create_answered client file file_id contexts)
 unfolding create_answered
@@ -274,6 +300,7 @@ create_answered_own client file file_id None own = quiet_own client own
 create_answered_own client file file_id (Some answer) own = created_own client file file_id answer _
     (client.entries file).sent (client.entries file).phase own refl
 
+-- a create failed
 failed_on_own : (client : Client) (file : ℕ) (status : Status) (sent : List Pending) (phase : Phase) → Numbers client
     → unanswered_in (client.entries file) ≡ sent ++ unsent_in phase → Own (failed_on client file status sent phase)
 unfolding create_failed_on_live
@@ -285,11 +312,13 @@ failed_on_own client file status sent (Phase.Live live) own is = quiet_own clien
 failed_on_own client file status sent Phase.Closed own is = quiet_own client own
 failed_on_own client file status sent (Phase.Offline parted) own is = quiet_own client own
 
+-- any failed create
 create_failed_own : (client : Client) (file : ℕ) (status : Status) → Numbers client → Own (create_failed client file status)
 unfolding create_failed
 create_failed_own client file status own =
     failed_on_own client file status (client.entries file).sent (client.entries file).phase own refl
 
+-- a Read is answered
 read_on_own : (client : Client) (file : ℕ) (bytes : List ℕ) (sent : List Pending) (phase : Phase) → Numbers client
     → unanswered_in (client.entries file) ≡ sent ++ unsent_in phase → Own (read_on client file bytes sent phase)
 unfolding read_turn
@@ -300,6 +329,7 @@ read_on_own client file bytes sent (Phase.Opening access share) own is = quiet_o
 read_on_own client file bytes sent (Phase.Offline parted) own is = quiet_own client own
 read_on_own client file bytes sent (Phase.Reconnecting parted) own is = quiet_own client own
 
+-- any answer to a Read
 read_answered_own : (client : Client) (file_id : ℕ) (bytes : List ℕ) → Numbers client
     → Own (read_answered client file_id bytes)
 unfolding read_answered
@@ -308,6 +338,7 @@ read_answered_own client file_id bytes own = if_either Own _ _ _
     read_on_own client file bytes (client.entries file).sent (client.entries file).phase own refl))
     (quiet_own client own)
 
+-- a Read failed
 read_failed_on_own : (client : Client) (file : ℕ) (status : Status) (sent : List Pending) (phase : Phase) → Numbers client
     → unanswered_in (client.entries file) ≡ sent ++ unsent_in phase → Own (read_failed_on client file status sent phase)
 unfolding read_failed_turn closed_by_server
@@ -322,11 +353,13 @@ read_failed_on_own client file status sent (Phase.Opening access share) own is =
 read_failed_on_own client file status sent (Phase.Offline parted) own is = quiet_own client own
 read_failed_on_own client file status sent (Phase.Reconnecting parted) own is = quiet_own client own
 
+-- any failed Read
 read_failed_own : (client : Client) (file_id : ℕ) (status : Status) → Numbers client → Own (read_failed client file_id status)
 unfolding read_failed
 read_failed_own client file_id status own = on_file_own client _ _ own (λ file.
     read_failed_on_own client file status (client.entries file).sent (client.entries file).phase own refl)
 
+-- a write that is done goes from the sent ones
 done_thin : (number : ℕ) (write : Option Pending) (sent : List Pending) (phase : Phase)
     → IsThinner (sent_without number sent ++ unsent_in (phase_with write phase)) (sent ++ unsent_in phase)
 done_thin number write sent Phase.Closed = thin_without number sent []
@@ -335,12 +368,14 @@ done_thin number write sent (Phase.Live live) = thin_without number sent live.un
 done_thin number write sent (Phase.Offline parted) = thin_without number sent parted.kept
 done_thin number write sent (Phase.Reconnecting parted) = thin_without number sent parted.kept
 
+-- any write that is done
 write_done_own : (client : Client) (number : ℕ) → Numbers client → Own (write_done client number)
 unfolding write_done write_done_turn
 write_done_own client number own = on_file_own client _ _ own (λ file.
     turned_own client file (write_done_turn number (client.entries file)) (unanswered_in (client.entries file)) own refl
     (done_thin number _ (client.entries file).sent (client.entries file).phase))
 
+-- so does a write that failed
 failed_thin : (file_id number : ℕ) (status : Status) (sent : List Pending) (phase : Phase)
     → IsThinner (unanswered_in (write_failed_in file_id number status (sent_without number sent) phase).entry)
     (sent ++ unsent_in phase)
@@ -356,6 +391,7 @@ failed_thin file_id number status sent (Phase.Opening access share) = thin_witho
 failed_thin file_id number status sent (Phase.Offline parted) = thin_without number sent parted.kept
 failed_thin file_id number status sent (Phase.Reconnecting parted) = thin_without number sent parted.kept
 
+-- any failed write
 write_failed_own : (client : Client) (file_id number : ℕ) (status : Status) → Numbers client
     → Own (write_failed client file_id number status)
 unfolding write_failed
@@ -365,6 +401,7 @@ write_failed_own client file_id number status own = on_file_own client _ _ own (
     (unanswered_in (client.entries file)) own refl
     (failed_thin file_id number status (client.entries file).sent (client.entries file).phase))
 
+-- any message
 taken_own : (client : Client) (reply : Reply) → Numbers client → Own (taken client reply)
 unfolding taken
 taken_own client (Reply.Created file file_id contexts) own = create_answered_own client file file_id contexts own
@@ -381,6 +418,7 @@ taken_own client (Reply.AckFailed status) own = quiet_own client own
 
 -- ---- connections
 
+-- a live entry whose connection is lost keeps buffered writes, or none
 live_noticed_thin : (live : LiveEntry) (sent : List Pending)
     → IsThinner (unanswered_in (live_noticed live sent).entry) (sent ++ live.unsent)
 unfolding live_noticed live_parted
@@ -390,6 +428,7 @@ live_noticed_thin live sent =
     (thin_filter (λ write. write.buffered) (sent ++ live.unsent)) (thin_none (sent ++ live.unsent)))
     (thin_none (sent ++ live.unsent))
 
+-- an entry whose connection is lost, in any phase
 notice_thin : (sent : List Pending) (phase : Phase)
     → IsThinner (unanswered_in (notice_turn sent phase).entry) (sent ++ unsent_in phase)
 notice_thin sent Phase.Closed = thin_none (sent ++ [])
@@ -398,6 +437,7 @@ notice_thin sent (Phase.Live live) = live_noticed_thin live sent
 notice_thin sent (Phase.Offline parted) = thin_behind sent parted.kept
 notice_thin sent (Phase.Reconnecting parted) = thin_behind sent parted.kept
 
+-- a lost connection
 noticed_own : (client : Client) → Numbers client → Own (noticed client)
 unfolding noticed all_turned
 noticed_own client own = record {
@@ -406,6 +446,7 @@ noticed_own client own = record {
       (λ f. notice_thin (client.entries f).sent (client.entries f).phase) own;
 }
 
+-- an entry, in any phase, of a client that connects
 connect_thin : (client : Client) (file : ℕ) (sent : List Pending) (phase : Phase)
     → IsThinner (unanswered_in (connect_turn client file sent phase).entry) (sent ++ unsent_in phase)
 connect_thin client file sent Phase.Closed = thin_same (sent ++ [])
@@ -414,6 +455,7 @@ connect_thin client file sent (Phase.Live live) = thin_same (sent ++ live.unsent
 connect_thin client file sent (Phase.Offline parted) = thin_same (sent ++ parted.kept)
 connect_thin client file sent (Phase.Reconnecting parted) = thin_same (sent ++ parted.kept)
 
+-- a new connection
 connected_own : (client : Client) → Numbers client → Own (connected client)
 unfolding connected all_turned
 connected_own client own = record {
@@ -424,10 +466,12 @@ connected_own client own = record {
 
 -- ---- the laws
 
+-- a new client has no writes
 pub first_numbers : (guid : List ℕ) (files : ℕ) → Numbers (new_client guid files)
 unfolding new_client
 first_numbers guid files = record { rising = λ file. refl; apart = λ file other number ne h. refl }
 
+-- and every call keeps their numbers apart
 pub called_numbers : (client : Client) (call : ClientCall) → HasSoundEntries client → Numbers client
     → Numbers (client_called client call).client
 called_numbers client (ClientCall.Commanded command) sound own = (commanded_own client command sound own).after

@@ -11,16 +11,20 @@ use Rattle.lease_model.proofs.ServerLists.{if_cases, either, clash, and_parts, a
 
 -- ---- words on tests and tables
 
+-- where none of two tests is true, both are false
 or_false : (a b : Bool) → (a || b) ≡ false → (a ≡ false) × (b ≡ false)
 or_false true b e = clash true refl e
 or_false false b e = (refl, e)
 
+-- and the other way round
 neither : (a b : Bool) → a ≡ false → b ≡ false → (a || b) ≡ false
 neither a b e f = rw (e, f) refl
 
+-- numbers that test as different are
 apart_test : (a b : ℕ) → (a == b) ≡ false → a ≢ b
 apart_test a b e same = clash (a == b) (eq-eqb a b same) e
 
+-- and different ones test so
 test_apart : (a b : ℕ) → a ≢ b → (a == b) ≡ false
 test_apart a b ne = not_true (a == b) (λ e. absurd (ne (eqb-true a b e)))
 
@@ -31,16 +35,19 @@ unfolding put
 put_at P table place x here old n = if_cases (λ z. P n z) (n == place) x (table n)
     (λ e. subst (λ (m : ℕ). P m x) (sym (eqb-true n place e)) here) (λ e. old n)
 
+-- at its place stands the value that was put in
 pub put_same : {X : Type 0} (table : ℕ → X) (place : ℕ) (x : X) → put table place x place ≡ x
 unfolding put
 put_same table place x = rw (eq-eqb place place refl) refl
 
+-- elsewhere stands what stood there
 pub put_other : {X : Type 0} (table : ℕ → X) (place : ℕ) (x : X) (n : ℕ) → n ≢ place → put table place x n ≡ table n
 unfolding put
 put_other table place x n ne = rw (test_apart n place ne) refl
 
 -- ---- rising numbers
 
+-- numbers above a bound are above a lower one
 low_down : (low lower last : ℕ) (xs : List Pending) → lower ≤ low → are_rising low last xs ≡ true
     → are_rising lower last xs ≡ true
 low_down low lower last [] le e = refl
@@ -52,6 +59,7 @@ low_down low lower last (x ∷ xs) le e =
     lower_first : (a b c : ℕ) (d : Bool) → b ≤ a → (nat_lt a c && d) ≡ true → (nat_lt b c && d) ≡ true
     lower_first a b c d le e = grind arith
 
+-- numbers up to a last one are up to the next
 pub last_up : (low last : ℕ) (xs : List Pending) → are_rising low last xs ≡ true → are_rising low (last + 1) xs ≡ true
 last_up low last [] e = refl
 last_up low last (x ∷ xs) e =
@@ -102,6 +110,7 @@ number_of number xs write e = ⊎_elim (λ before. inl before)
     (or_true (has_number number xs) (has_number number (write ∷ []))
     (sym (list_any-append (is_numbered number) xs (write ∷ [])) ∙ e))
 
+-- a number that neither the list nor the new write has
 number_none : (number : ℕ) (xs : List Pending) (write : Pending) → has_number number xs ≡ false
     → write.number ≢ number → has_number number (xs ++ write ∷ []) ≡ false
 number_none number xs write none ne = list_any-append (is_numbered number) xs (write ∷ [])
@@ -115,21 +124,25 @@ pub record IsThinner (new : List Pending) (old : List Pending) : Type 0 where
   pub rising : (low last : ℕ) → are_rising low last old ≡ true → are_rising low last new ≡ true
   pub none : (number : ℕ) → has_number number old ≡ false → has_number number new ≡ false
 
+-- none is gone
 pub thin_same : (xs : List Pending) → IsThinner xs xs
 thin_same xs = record { rising = λ low last e. e; none = λ number e. e }
 
 pub thin_equal : (new old : List Pending) → new ≡ old → IsThinner new old
 thin_equal new old e = subst (λ (l : List Pending). IsThinner l old) (sym e) (thin_same old)
 
+-- all are gone
 pub thin_none : (xs : List Pending) → IsThinner [] xs
 thin_none xs = record { rising = λ low last e. refl; none = λ number e. refl }
 
+-- some are gone, and then some more
 pub thin_then : (new middle old : List Pending) → IsThinner new middle → IsThinner middle old → IsThinner new old
 thin_then new middle old n o = record {
   rising = λ low last e. n.rising low last (o.rising low last e);
   none = λ number e. n.none number (o.none number e);
 }
 
+-- some behind the first are gone
 thin_cons : (x : Pending) (new old : List Pending) → IsThinner new old → IsThinner (x ∷ new) (x ∷ old)
 thin_cons x new old t = record {
   rising = λ low last e.
@@ -141,6 +154,7 @@ thin_cons x new old t = record {
       neither (x.number == number) (has_number number new) parts.0 (t.none number parts.1);
 }
 
+-- the first is gone
 thin_skip : (x : Pending) (new old : List Pending) → IsThinner new old → IsThinner new (x ∷ old)
 thin_skip x new old t = record {
   rising = λ low last e.
@@ -152,6 +166,7 @@ thin_skip x new old t = record {
     below : (a b : ℕ) (c : Bool) → (nat_lt a b && c) ≡ true → a ≤ b
     below a b c e = grind arith
 
+-- some of those behind are gone
 pub thin_after : (xs new old : List Pending) → IsThinner new old → IsThinner (xs ++ new) (xs ++ old)
 thin_after [] new old t = t
 thin_after (x ∷ xs) new old t = thin_cons x (xs ++ new) (xs ++ old) (thin_after xs new old t)
@@ -170,6 +185,7 @@ thin_without number (x ∷ xs) ys =
     (λ e. thin_skip x (xs ++ ys) (xs ++ ys) (thin_same (xs ++ ys)))
     (λ e. thin_cons x (sent_without number xs ++ ys) (xs ++ ys) (thin_without number xs ys))
 
+-- those that fail a test are gone
 pub thin_filter : (test : Pending → Bool) (xs : List Pending) → IsThinner (filter test xs) xs
 thin_filter test [] = thin_same []
 thin_filter test (x ∷ xs) =

@@ -24,13 +24,16 @@ use Rattle.lease_model.proofs.ServerLists.{if_cases, either, clash}
 
 -- ---- what holds no request, and lets none go
 
+-- the same requests are held
 abbrev HoldsSame : Progress → Progress → Type 0
 HoldsSame before after = after.server.held ≡ before.server.held
 
+-- opens are closed
 dropped_holds : (test : Open → Bool) (progress : Progress) → HoldsSame progress (opens_dropped test progress)
 unfolding opens_dropped with_opens
 dropped_holds test progress = refl
 
+-- a lease is broken
 lease_broken_holds : (key : Key) (lowered : State) (progress : Progress)
     → HoldsSame progress (lease_broken key lowered progress)
 unfolding lease_broken break_begun lease_lowered
@@ -43,17 +46,20 @@ lease_broken_holds key lowered progress =
     (break_begun key lowered progress) (lease_lowered key lowered progress) (λ n. refl) (λ n. refl))
     (λ e. refl)
 
+-- a want is met
 want_met_holds : (want : Want) (progress : Progress) → HoldsSame progress (want_met want progress)
 unfolding want_met
 want_met_holds want progress =
     lease_broken_holds want.key want.lowered (opens_dropped (is_left_open want.key) progress)
     ∙ dropped_holds (is_left_open want.key) progress
 
+-- wants are met
 wants_met_holds : (wants : List Want) (progress : Progress) → HoldsSame progress (wants_met wants progress)
 unfolding wants_met
 wants_met_holds [] progress = refl
 wants_met_holds (want ∷ wants) progress = wants_met_holds wants (want_met want progress) ∙ want_met_holds want progress
 
+-- a round of a try
 after_finding_holds : (again : Progress → Tried) (request : Request) (progress : Progress) (found : Finding)
     → ((q : Progress) → HoldsSame q (again q).progress)
     → HoldsSame progress (after_finding again request progress found).progress
@@ -67,6 +73,7 @@ after_finding_holds again request progress (Finding.Wants wants) same =
     (λ w. wants_met_holds wants progress)
     (λ w. same (wants_met wants progress) ∙ wants_met_holds wants progress))
 
+-- a try
 tried_holds : (rounds client : ℕ) (request : Request) (progress : Progress)
     → HoldsSame progress (tried_for rounds client request progress).progress
 unfolding tried_for
@@ -75,17 +82,20 @@ tried_holds (suc rounds) client request progress =
     after_finding_holds (tried_for rounds client request) request progress (finding progress.server client request)
     (tried_holds rounds client request)
 
+-- a lease is granted
 lease_put_holds : (server : Server) (client : ℕ) (asked : Option LeaseOf) (lease : Lease)
     → (lease_put server client asked lease).held ≡ server.held
 lease_put_holds server client None lease = refl
 lease_put_holds server client (Some asked) lease = refl
 
+-- an open is granted with its lease
 granted_with_holds : (client file : ℕ) (access : Access) (share : Share) (asked : Option LeaseOf) (durable : Bool)
     (lease : Lease) (progress : Progress) → HoldsSame progress (granted_with client file access share asked durable lease progress)
 unfolding granted_with
 granted_with_holds client file access share asked durable lease progress =
     lease_put_holds progress.server client asked lease
 
+-- a create is granted or fails
 granted_holds : (client file : ℕ) (access : Access) (share : Share) (asked : Option LeaseOf) (durable : Bool)
     (progress : Progress) → HoldsSame progress (granted client file access share asked durable progress)
 unfolding granted
@@ -96,6 +106,7 @@ granted_holds client file access share asked durable progress =
     (λ e. refl)
     (λ e. granted_with_holds client file access share asked durable (lease_after progress.server client file asked) progress)
 
+-- a create is answered
 created_holds : (client file : ℕ) (access : Access) (share : Share) (asked : Option LeaseOf) (durable : Bool)
     (again : Option ℕ) (progress : Progress) → HoldsSame progress (created client file access share asked durable again progress)
 unfolding reconnected
@@ -103,11 +114,13 @@ created_holds client file access share asked durable None progress =
     granted_holds client file access share asked durable progress
 created_holds client file access share asked durable (Some file_id) progress = refl
 
+-- a request by an open is answered
 on_open_holds : (found : Option Open) (done : ℕ → Progress → Progress) (progress : Progress)
     → ((file : ℕ) → HoldsSame progress (done file progress)) → HoldsSame progress (on_open found done progress)
 on_open_holds None done progress same = refl
 on_open_holds (Some one) done progress same = same one.file
 
+-- a create is answered by its contexts
 on_contexts_holds : (client file : ℕ) (access : Access) (share : Share) (contexts : Option CreateAsk) (progress : Progress)
     → HoldsSame progress (on_contexts contexts
     (λ ask. created client file access share ask.lease ask.durable ask.reconnect) progress)
@@ -115,6 +128,7 @@ on_contexts_holds client file access share None progress = refl
 on_contexts_holds client file access share (Some ask) progress =
     created_holds client file access share ask.lease ask.durable ask.reconnect progress
 
+-- any request that is ready is answered
 answered_holds : (client : ℕ) (request : Request) (progress : Progress) → HoldsSame progress (answered client request progress)
 unfolding answered changed closed
 answered_holds client (Request.Create file access share contexts) progress =
@@ -128,6 +142,7 @@ answered_holds client (Request.Close file_id) progress =
     (λ file. dropped_holds (λ one. one.file_id == file_id) progress)
 answered_holds client (Request.Acknowledge acknowledged) progress = refl
 
+-- a try that ended is answered
 concluded_holds : (client : ℕ) (request : Request) (progress : Progress) (outcome : Outcome)
     → HoldsSame progress (concluded client request progress outcome)
 unfolding refused
@@ -161,6 +176,7 @@ kept_on file one waiting count pass progress same way =
     length_more : (x : Held) (xs : List Held) → length (x ∷ xs) ≡ length xs + 1
     length_more x xs = omega arith
 
+-- at its place stands what was put in
 put_here : (table : ℕ → List Held) (file : ℕ) (new : List Held) → put table file new file ≡ new
 unfolding put
 put_here table file new = rw (eq-eqb file file refl) refl
@@ -179,6 +195,7 @@ answered_on file one waiting count pass done way =
       fewer = λ a. let before = way.no_more in omega arith;
     }
 
+-- one was tried again
 after_try_on : (file : ℕ) (one : Held) (waiting : List Held) (count : ℕ) (pass : Pass) (progress : Progress)
     (outcome : Outcome) → HoldsSame pass.progress progress → IsUnderWay file (one ∷ waiting) count pass
     → IsUnderWay file waiting count (after_try file one waiting pass progress outcome)
@@ -188,6 +205,7 @@ after_try_on file one waiting count pass progress (Outcome.Refused status) same 
 after_try_on file one waiting count pass progress Outcome.Ready same way =
     answered_on file one waiting count pass (record { progress = progress; outcome = Outcome.Ready }) way
 
+-- one was tried again or passed over
 tried_again_on : (file : ℕ) (one : Held) (waiting : List Held) (count : ℕ) (pass : Pass)
     → IsUnderWay file (one ∷ waiting) count pass → IsUnderWay file waiting count (tried_again file one waiting pass)
 unfolding tried_again
@@ -233,6 +251,7 @@ more_passes file (suc count) (suc other) progress lt less =
     rw a (more_passes file count other (one_pass file progress).progress (omega arith) (omega arith)))
     (λ n. rw n refl)
 
+-- where more passes are allowed than requests are held, the last one answered nothing
 last_pass : (file count : ℕ) (progress : Progress) → length (progress.server.held file) < count
     → (before : Progress) × ((one_pass file before).has_answered ≡ false)
     × (passes_for count file progress ≡ (one_pass file before).progress)
@@ -245,9 +264,11 @@ last_pass file (suc count) progress lt =
     (rest.0, rest.1, rw a rest.2))
     (λ n. (progress, n, rw n refl))
 
+-- one more than are held is such a number
 pub passes_end : PassesEnd
 passes_end file progress = last_pass file (length (progress.server.held file) + 1) progress (omega arith)
 
+-- and all larger ones do the same
 pub passes_are_enough : PassesAreEnough
 passes_are_enough count file progress lt =
     more_passes file count (length (progress.server.held file) + 1) progress lt (omega arith)

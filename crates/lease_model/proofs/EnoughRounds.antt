@@ -41,6 +41,7 @@ find_kept test keep left (y ∷ xs) =
 
 -- ---- the keys of opens
 
+-- an added key is among the keys
 key_added-self : (new : Key) (keys : List Key) → Among new (key_added new keys)
 unfolding key_added
 key_added-self new [] = inl refl
@@ -51,6 +52,7 @@ key_added-self new (other ∷ keys) =
     (λ e. if_cases (λ l. Among new l) (key_before new other) (new ∷ other ∷ keys) (other ∷ key_added new keys)
     (λ b. inl refl) (λ b. inr (key_added-self new keys)))
 
+-- and those that were there stay
 key_added-keeps : (key new : Key) (keys : List Key) → Among key keys → Among key (key_added new keys)
 unfolding key_added
 key_added-keeps key new [] a = absurd a
@@ -61,11 +63,13 @@ key_added-keeps key new (other ∷ keys) a =
     (λ e. if_cases (λ l. Among key l) (key_before new other) (new ∷ other ∷ keys) (other ∷ key_added new keys)
     (λ b. inr a) (λ b. ⊎_elim (λ same. inl same) (λ later. inr (key_added-keeps key new keys later)) a))
 
+-- they also stay where an open has no key
 open_key_added-keeps : (key : Key) (client : ℕ) (bytes : Option (List ℕ)) (keys : List Key) → Among key keys
     → Among key (open_key_added client bytes keys)
 open_key_added-keeps key client None keys a = a
 open_key_added-keeps key client (Some bytes) keys a = key_added-keeps key (key_of client bytes) keys a
 
+-- the key of an open with a key is added
 open_key_added-self : (client : ℕ) (bytes : List ℕ) (key : Option (List ℕ)) (keys : List Key) → key ≡ Some bytes
     → Among (key_of client bytes) (open_key_added client key keys)
 open_key_added-self client bytes key keys e =
@@ -95,6 +99,7 @@ pub record IsAfterBreaks (holds : State → Bool) (before : Server) (after : Ser
       → is_breaking (after.leases key) ≡ true
   pub no_new_right : (key : Key) → holds (before.leases key).state ≡ false → holds (after.leases key).state ≡ false
 
+-- where nothing is broken
 itself : (holds : State → Bool) (server : Server) → IsAfterBreaks holds server server
 itself holds server = record {
   no_new_open = λ one a. a;
@@ -111,6 +116,7 @@ lease_before before after key was h =
     let found = any_has (has_key key) after.opens h in
     has_any (has_key key) found.0 before.opens (was found.0 found.1) found.2
 
+-- breaks, and then more of them
 and_then : (holds : State → Bool) (first middle last : Server) → IsAfterBreaks holds first middle
     → IsAfterBreaks holds middle last → IsAfterBreaks holds first last
 and_then holds first middle last f l = record {
@@ -144,6 +150,7 @@ dropped_after holds key progress nothing =
     left_out : (t c k : Bool) → not (k && not c) ≡ false → (t && c) ≡ false
     left_out t c k e = grind arith
 
+-- a break is begun
 break_begun_after : (holds : State → Bool) (key : Key) (lowered : State) (progress : Progress)
     → IsAfterBreaks holds progress.server (break_begun key lowered progress).server
 unfolding break_begun
@@ -159,6 +166,7 @@ break_begun_after holds key lowered progress =
           (λ same. ap (λ k. holds (progress.server.leases k).state) (sym same) ∙ h) (λ apart. h);
     }
 
+-- a lease is lowered at once, which is done only where it is not breaking
 lease_lowered_after : (holds : State → Bool) (key : Key) (lowered : State) (progress : Progress)
     → holds lowered ≡ false → is_breaking (progress.server.leases key) ≡ false
     → IsAfterBreaks holds progress.server (lease_lowered key lowered progress).server
@@ -183,6 +191,7 @@ abbrev pub IsMet : (State → Bool) → Key → Server → Type 0
 IsMet holds key server = has_lease server key ≡ true
     → (is_breaking (server.leases key) ≡ true) ⊎ (holds (server.leases key).state ≡ false)
 
+-- one key was dealt with
 record IsBroken (holds : State → Bool) (key : Key) (before : Server) (after : Server) : Type 0 where
   goes_on : IsAfterBreaks holds before after
   met : IsMet holds key after
@@ -195,6 +204,7 @@ met_later holds key before after later met h = ⊎_elim
     (λ r. inr (later.no_new_right key r))
     (met (lease_before before after key later.no_new_open h))
 
+-- a break that is begun leaves the lease breaking
 break_begun_met : (holds : State → Bool) (key : Key) (lowered : State) (progress : Progress)
     → IsBroken holds key progress.server (break_begun key lowered progress).server
 unfolding break_begun
@@ -204,6 +214,7 @@ break_begun_met holds key lowered progress = record {
       (record { state = (progress.server.leases key).state; broken_to = Some lowered })));
 }
 
+-- a lease that is lowered at once gives up what it should
 lease_lowered_met : (holds : State → Bool) (key : Key) (lowered : State) (progress : Progress) → holds lowered ≡ false
     → is_breaking (progress.server.leases key) ≡ false
     → IsBroken holds key progress.server (lease_lowered key lowered progress).server
@@ -214,6 +225,7 @@ lease_lowered_met holds key lowered progress low settled = record {
       (record { state = lowered; broken_to = None })) ∙ low);
 }
 
+-- so with whichever of these a lease is broken
 lease_broken_met : (holds : State → Bool) (key : Key) (lowered : State) (progress : Progress) → holds lowered ≡ false
     → IsBroken holds key progress.server (lease_broken key lowered progress).server
 unfolding lease_broken
@@ -237,6 +249,7 @@ lease_broken_met holds key lowered progress low =
     goes_on : (t b : Bool) → (t && not b) ≡ false → t ≡ true → b ≡ true
     goes_on t b e h = grind arith
 
+-- one want
 want_met_met : (holds : State → Bool) (want : Want) (progress : Progress) → holds nothing_cached ≡ false
     → holds want.lowered ≡ false → IsBroken holds want.key progress.server (want_met want progress).server
 unfolding want_met
@@ -255,6 +268,7 @@ pub record IsRound (holds : State → Bool) (wants : List Want) (before : Server
   pub goes_on : IsAfterBreaks holds before after
   pub met : (want : Want) → Among want wants → IsMet holds want.key after
 
+-- all the wants of a round
 wants_met_met : (holds : State → Bool) (wants : List Want) (progress : Progress) → holds nothing_cached ≡ false
     → ((want : Want) → Among want wants → holds want.lowered ≡ false)
     → IsRound holds wants progress.server (wants_met wants progress).server
@@ -281,6 +295,7 @@ wants_met_met holds (first ∷ wants) progress nothing low =
 abbrev pub is_wanted : (State → Bool) → (Open → Bool) → Server → Open → Bool
 is_wanted holds base server one = base one && holds (lease_of server one).state
 
+-- what is wanted of such opens: that each lease be so lowered
 abbrev pub wanted : (State → Bool) → (Open → Bool) → (State → State) → Server → List Want
 wanted holds base lowering server = wants_where server (is_wanted holds base server) lowering
 
@@ -311,6 +326,7 @@ wanted_has holds base lowering server one bytes a e b h =
     (and_both (base one) (holds (lease_of server one).state) b
     (ap (λ (key : Option (List ℕ)). holds (lease_by server one.client key).state) e ∙ h))) e)
 
+-- a breaking lease keeps a request waiting
 breaking_waits : (request : Request) (lease : Lease) → is_breaking lease ≡ true → waits_for request lease ≡ true
 unfolding waits_for
 breaking_waits request lease b = b
@@ -359,6 +375,7 @@ pub record IsRoundDone (holds : State → Bool) (base : Open → Bool) (before :
   pub goes_on : IsAfterBreaks holds before after
   pub none_left : (one : Open) → Among one after.opens → is_wanted holds base after one ≡ false
 
+-- after a round that does not keep the request waiting, nothing of the kind is wanted
 pub round_done : (holds : State → Bool) (base : Open → Bool) (lowering : State → State) (request : Request) (progress : Progress)
     → holds nothing_cached ≡ false → ((state : State) → holds (lowering state) ≡ false)
     → must_wait request (wants_met (wanted holds base lowering progress.server) progress)

@@ -25,11 +25,13 @@ use Rattle.lease_model.proofs.ServerLists.{if_cases, either, clash, and_parts, n
 
 -- ---- so many rounds are enough for a try
 
+-- after a look, the try ends or the rest of it does
 abbrev EndsAfter : (Progress → Type 0) → Request → Progress → Finding → Type 0
 EndsAfter next request progress (Finding.Refused status) = Unit {0}
 EndsAfter next request progress (Finding.Wants wants) = is_ready request progress.server.leases wants ≡ false
     → must_wait request (wants_met wants progress) wants ≡ false → next (wants_met wants progress)
 
+-- the try ends in so many rounds
 Ends : ℕ → ℕ → Request → Progress → Type 0
 Ends zero client request progress = ⊥
 Ends (suc rounds) client request progress =
@@ -74,6 +76,7 @@ after_reason again next client request progress (Finding.Wants wants) e good end
     (λ w. (progress, wants, e, refl, w))
     (λ w. good (wants_met wants progress) (ends r w)))
 
+-- a try of so many rounds ends for a reason
 with_reason : (rounds client : ℕ) (request : Request) (progress : Progress) → Ends rounds client request progress
     → EndsFor client request (tried_for rounds client request progress).progress
     (tried_for rounds client request progress).outcome
@@ -85,12 +88,14 @@ with_reason (suc rounds) client request progress ends =
 
 -- ---- one round more
 
+-- a look refuses the request
 ends_refused : (rounds client : ℕ) (request : Request) (progress : Progress) (status : Status)
     → finding progress.server client request ≡ Finding.Refused status → Ends (suc rounds) client request progress
 unfolding Ends
 ends_refused rounds client request progress status e =
     subst (λ (f : Finding). EndsAfter (Ends rounds client request) request progress f) (sym e) tt
 
+-- a look wants leases broken, and then the rest of the try ends
 ends_wants : (rounds client : ℕ) (request : Request) (progress : Progress) (wants : List Want)
     → finding progress.server client request ≡ Finding.Wants wants
     → (must_wait request (wants_met wants progress) wants ≡ false → Ends rounds client request (wants_met wants progress))
@@ -99,6 +104,7 @@ unfolding Ends
 ends_wants rounds client request progress wants e next =
     subst (λ (f : Finding). EndsAfter (Ends rounds client request) request progress f) (sym e) (λ r w. next w)
 
+-- a look wants nothing
 ends_ready : (rounds client : ℕ) (request : Request) (progress : Progress)
     → finding progress.server client request ≡ Finding.Wants [] → Ends (suc rounds) client request progress
 unfolding Ends is_ready
@@ -125,6 +131,7 @@ fewer_none test before after was none = not_true (list_any test after.opens) (λ
     let found = any_has test after.opens some in
     clash (list_any test before.opens) (has_any test found.0 before.opens (was found.0 found.1) found.2) none)
 
+-- breaks give a key no lease on another file
 home_after : (own : Option Key) (file : ℕ) (before after : Server)
     → ((one : Open) → Among one after.opens → Among one before.opens)
     → is_leased_elsewhere before own file ≡ false → is_leased_elsewhere after own file ≡ false
@@ -132,6 +139,7 @@ unfolding is_leased_elsewhere
 home_after None file before after was home = refl
 home_after (Some key) file before after was home = fewer_none _ before after was home
 
+-- breaks change nothing of this
 at_after : (holds : State → Bool) (own : Option Key) (file : ℕ) (before after : Server)
     → IsAfterBreaks holds before after → IsAt own file before → IsAt own file after
 at_after holds own file before after later at = record {
@@ -146,12 +154,14 @@ finds_nowhere : (client file : ℕ) (access : Access) (share : Share) (lease : O
 unfolding finding
 finds_nowhere client file access share lease durable server e = rw e refl
 
+-- its key has a lease on another file
 finds_elsewhere : (client file : ℕ) (access : Access) (share : Share) (lease : Option LeaseOf) (durable : Bool) (server : Server)
     → has_file server file ≡ true → is_leased_elsewhere server (own_key client lease) file ≡ true
     → finding server client (create file access share lease durable) ≡ Finding.Refused Status.InvalidParameter
 unfolding finding create_finding
 finds_elsewhere client file access share lease durable server e h = rw (e, h) refl
 
+-- no conflict: it wants writes given up
 finds_writes : (client file : ℕ) (access : Access) (share : Share) (lease : Option LeaseOf) (durable : Bool) (server : Server)
     → IsAt (own_key client lease) file server → list_any (conflicts_on file access share) server.opens ≡ false
     → finding server client (create file access share lease durable)
@@ -159,6 +169,7 @@ finds_writes : (client file : ℕ) (access : Access) (share : Share) (lease : Op
 unfolding finding create_finding
 finds_writes client file access share lease durable server at calm = rw (at.there, at.home, calm) refl
 
+-- a conflict, and no handle to be given up: it is refused
 finds_violation : (client file : ℕ) (access : Access) (share : Share) (lease : Option LeaseOf) (durable : Bool) (server : Server)
     → IsAt (own_key client lease) file server → list_any (conflicts_on file access share) server.opens ≡ true
     → is_empty (handle_wants server (own_key client lease) file access share) ≡ true
@@ -167,6 +178,7 @@ unfolding finding create_finding
 finds_violation client file access share lease durable server at clash none =
     rw (at.there, at.home, clash, none) refl
 
+-- a conflict, and handles to be given up
 finds_handles : (client file : ℕ) (access : Access) (share : Share) (lease : Option LeaseOf) (durable : Bool) (server : Server)
     → IsAt (own_key client lease) file server → list_any (conflicts_on file access share) server.opens ≡ true
     → is_empty (handle_wants server (own_key client lease) file access share) ≡ false
@@ -180,9 +192,11 @@ finds_handles client file access share lease durable server at clash some =
 abbrev writes : State → Bool
 writes state = state.write
 
+-- the state holds H
 abbrev handles : State → Bool
 handles state = state.handle
 
+-- an open of another key that conflicts
 abbrev in_conflict : Option Key → ℕ → Access → Share → Open → Bool
 in_conflict own file access share one = conflicts_on file access share one && is_other_on own file one
 
@@ -235,6 +249,7 @@ handles_gone client file access share lease durable progress at none =
     (nothing_wanted handles (in_conflict (own_key client lease) file access share) without_handle progress.server none))))
     (λ calm. write_round 0 client file access share lease durable progress at calm)
 
+-- where a conflict can be resolved, three rounds are enough
 handle_round : (client file : ℕ) (access : Access) (share : Share) (lease : Option LeaseOf) (durable : Bool) (progress : Progress)
     → IsAt (own_key client lease) file progress.server
     → list_any (conflicts_on file access share) progress.server.opens ≡ true
@@ -254,6 +269,7 @@ handle_round client file access share lease durable progress at clash some =
     handles_gone client file access share lease durable next
     (at_after handles own file progress.server next.server done.goes_on at) done.none_left)
 
+-- a create that does not reconnect ends in three rounds
 create_ends : (client file : ℕ) (access : Access) (share : Share) (lease : Option LeaseOf) (durable : Bool) (progress : Progress)
     → Ends 3 client (create file access share lease durable) progress
 create_ends client file access share lease durable progress =
@@ -279,12 +295,14 @@ abbrev IsPlain : Finding → Type 0
 IsPlain (Finding.Refused status) = Unit {0}
 IsPlain (Finding.Wants wants) = wants ≡ []
 
+-- such a request ends at once
 plain_ends : (client : ℕ) (request : Request) (progress : Progress) (found : Finding)
     → finding progress.server client request ≡ found → IsPlain found → Ends 3 client request progress
 plain_ends client request progress (Finding.Refused status) e plain = ends_refused 2 client request progress status e
 plain_ends client request progress (Finding.Wants wants) e plain =
     ends_ready 2 client request progress (e ∙ ap (λ (w : List Want). Finding.Wants w) plain)
 
+-- a reconnect wants nothing
 reconnect_plain : (server : Server) (client file : ℕ) (own : Option Key) (file_id : ℕ)
     → IsPlain (reconnect_finding server client file own file_id)
 unfolding reconnect_finding
@@ -292,6 +310,7 @@ reconnect_plain server client file own file_id =
     if_cases IsPlain (list_any (awaits client file own file_id) server.opens)
     (Finding.Wants []) (Finding.Refused Status.ObjectNameNotFound) (λ e. refl) (λ e. tt)
 
+-- also where its file is looked for
 again_plain : (server : Server) (client file : ℕ) (own : Option Key) (file_id : ℕ)
     → IsPlain (if has_file server file then reconnect_finding server client file own file_id
     else Finding.Refused Status.ObjectNameNotFound)
@@ -299,6 +318,7 @@ again_plain server client file own file_id = if_cases IsPlain (has_file server f
     (reconnect_finding server client file own file_id) (Finding.Refused Status.ObjectNameNotFound)
     (λ e. reconnect_plain server client file own file_id) (λ e. tt)
 
+-- a create, whether it reconnects or not
 any_create_ends : (client file : ℕ) (access : Access) (share : Share) (lease : Option LeaseOf) (durable : Bool)
     (again : Option ℕ) (progress : Progress)
     → Ends 3 client (Request.Create file access share
@@ -309,6 +329,7 @@ any_create_ends client file access share lease durable None progress =
 any_create_ends client file access share lease durable (Some file_id) progress =
     plain_ends client _ progress _ refl (again_plain progress.server client file (own_key client lease) file_id)
 
+-- a create, whether its contexts can be read or not
 contexts_end : (client file : ℕ) (access : Access) (share : Share) (contexts : Option CreateAsk) (progress : Progress)
     → Ends 3 client (Request.Create file access share contexts) progress
 unfolding finding
@@ -325,6 +346,7 @@ unfolding finding write_finding
 finds_all client file_id number patch server one e may fits =
     ap (λ (o : Option Open). by_open o (λ one. write_finding server one patch)) e ∙ rw (may, fits) refl
 
+-- a write without access, or too long, is refused
 finds_refused : (client file_id number : ℕ) (patch : Patch) (server : Server) (one : Open)
     → connected_open server client file_id ≡ Some one → (may_write one.access && is_within_limit patch) ≡ false
     → IsPlain (finding server client (Request.Write file_id number patch))
@@ -340,12 +362,14 @@ finds_refused client file_id number patch server one e refused =
     refuses true false wants e = tt
     refuses false fits wants e = tt
 
+-- a write by an open that is gone is refused
 finds_closed : (client file_id number : ℕ) (patch : Patch) (server : Server) → connected_open server client file_id ≡ None
     → finding server client (Request.Write file_id number patch) ≡ Finding.Refused Status.FileClosed
 unfolding finding
 finds_closed client file_id number patch server e =
     ap (λ (o : Option Open). by_open o (λ one. write_finding server one patch)) e
 
+-- a write that others cache against is ready after one round
 all_round : (client file_id number : ℕ) (patch : Patch) (progress : Progress) (one : Open)
     → connected_open progress.server client file_id ≡ Some one → may_write one.access ≡ true → is_within_limit patch ≡ true
     → Ends 3 client (Request.Write file_id number patch) progress
@@ -365,6 +389,7 @@ all_round client file_id number patch progress one e may fits =
     ∙ ap (λ (w : List Want). Finding.Wants w)
     (nothing_wanted holds_any others (λ state. nothing_cached) next.server done.none_left)))
 
+-- a write
 write_ends : (client file_id number : ℕ) (patch : Patch) (progress : Progress) (found : Option Open)
     → connected_open progress.server client file_id ≡ found
     → Ends 3 client (Request.Write file_id number patch) progress
@@ -379,15 +404,18 @@ write_ends client file_id number patch progress (Some one) e =
     (λ bad. plain_ends client (Request.Write file_id number patch) progress _ refl
     (finds_refused client file_id number patch progress.server one e bad))
 
+-- a read wants nothing
 read_plain : (found : Option Open) → IsPlain (by_open found read_finding)
 read_plain None = tt
 read_plain (Some one) = if_cases IsPlain (may_read one.access) (Finding.Wants []) (Finding.Refused Status.AccessDenied)
     (λ e. refl) (λ e. tt)
 
+-- a close wants nothing
 close_plain : (found : Option Open) → IsPlain (by_open found (λ one. Finding.Wants []))
 close_plain None = tt
 close_plain (Some one) = refl
 
+-- every try ends in three rounds
 tries_settle : (client : ℕ) (request : Request) (progress : Progress) → Ends 3 client request progress
 unfolding finding
 tries_settle client (Request.Create file access share contexts) progress =
@@ -401,9 +429,11 @@ tries_settle client (Request.Close file_id) progress =
 tries_settle client (Request.Acknowledge acknowledged) progress =
     plain_ends client (Request.Acknowledge acknowledged) progress _ refl refl
 
+-- so it ends for a reason
 pub tries_end : TriesEnd
 tries_end client request progress = with_reason 3 client request progress (tries_settle client request progress)
 
+-- and more rounds do the same
 pub three_are_enough : ThreeRoundsAreEnough
 three_are_enough rounds client request progress le =
     more_same 3 rounds client request progress (tries_settle client request progress) le
