@@ -6,6 +6,8 @@ pub mod Computing
 pub mod EnoughPasses
 pub mod EnoughRounds
 pub mod EnoughTries
+pub mod PastContent
+pub mod PastRuns
 pub mod ServerAnswers
 pub mod ServerBreaks
 pub mod ServerCalls

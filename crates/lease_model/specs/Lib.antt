@@ -23,6 +23,7 @@ pub mod Limits
 pub mod Lists
 pub mod Passes
 pub mod Past
+pub mod PastLaws
 pub mod Progress
 pub mod Queries
 pub mod Ready

@@ -4,6 +4,7 @@
 
 mod client_laws;
 mod enough_laws;
+mod past_laws;
 mod server_laws;
 mod verdict_law;
 mod worked_client;
@@ -16,6 +17,7 @@ mod worked_verdicts;
 
 pub use client_laws::clients_are_sound;
 pub use enough_laws::rounds_and_passes_end;
+pub use past_laws::contents_of_runs;
 pub use server_laws::laws_of_servers;
 pub use verdict_law::verdict_decides;
 pub use worked_client::{client_never_connected, client_of_one_file};
