@@ -8,6 +8,7 @@ pub mod EnoughRounds
 pub mod EnoughTries
 pub mod PastContent
 pub mod PastRuns
+pub mod PastWrites
 pub mod ServerAnswers
 pub mod ServerBreaks
 pub mod ServerCalls
