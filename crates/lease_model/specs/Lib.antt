@@ -6,11 +6,13 @@ pub mod Calls
 pub mod ClientCalls
 pub mod ClientCommands
 pub mod ClientConnection
+pub mod ClientLaws
 pub mod ClientReplies
 pub mod ClientState
 pub mod ClientStep
 pub mod Commands
 pub mod Content
+pub mod EnoughLaws
 pub mod Events
 pub mod Facts
 pub mod FromBytes
@@ -23,6 +25,7 @@ pub mod Limits
 pub mod Lists
 pub mod Passes
 pub mod Past
+pub mod PastLaws
 pub mod Progress
 pub mod Queries
 pub mod Ready
@@ -34,6 +37,7 @@ pub mod RunsOfOthers
 pub mod RunsOfReads
 pub mod Safe
 pub mod Schedules
+pub mod ServerLaws
 pub mod ServerState
 pub mod Sharing
 pub mod Tables

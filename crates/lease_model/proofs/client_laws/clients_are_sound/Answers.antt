@@ -1,0 +1,15 @@
+use Rattle.lease_model.proofs.ClientEntries.{first_entries, called_entries}
+use Rattle.lease_model.proofs.ClientNumbers.{first_numbers, called_numbers}
+use Rattle.lease_model.proofs.client_laws.clients_are_sound.Goals as goal
+
+pub returns-clause-first : goal.returns-clause-first
+returns-clause-first c = λ guid files. record {
+  entries = first_entries guid files;
+  numbers = first_numbers guid files;
+}
+
+pub returns-clause-kept : goal.returns-clause-kept
+returns-clause-kept c = λ client call sound. record {
+  entries = called_entries client call sound.entries;
+  numbers = called_numbers client call sound.entries sound.numbers;
+}

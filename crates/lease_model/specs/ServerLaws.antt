@@ -1,0 +1,70 @@
+-- The laws of every server: they hold of the first one, and every call keeps them.
+use Rattle.std.specs.Prelude.{◌≡◌, ℕ, ◌≤◌, ◌≢◌, ◌⊎◌, Bool, true, false, Some, List, [], ◌∷◌, ⊤}
+use Rattle.std.specs.List.{list_any}
+use Rattle.lease_state.specs.State.{State, granted_form_of, needs_acknowledgment}
+use Rattle.lease_model.specs.Allowed.{conflicts}
+use Rattle.lease_model.specs.Key.{Key}
+use Rattle.lease_model.specs.LeaseStates.{is_within, same_state}
+use Rattle.lease_model.specs.ServerState.{Server, Open, Lease, no_lease, is_breaking, has_key}
+
+-- the element is on the list
+abbrev pub Among : {X : Type 0} → X → List X → Type 0
+Among x [] = ⊥
+Among x (y ∷ ys) = (x ≡ y) ⊎ Among x ys
+
+-- no two opens on the list have one FileId
+abbrev pub HaveOwnIds : List Open → Type 0
+HaveOwnIds [] = ⊤
+HaveOwnIds (one ∷ opens) =
+    ((other : Open) → Among other opens → other.file_id ≢ one.file_id) × HaveOwnIds opens
+
+-- A state that a lease may be broken to: a granted form and a proper part of the lease's state,
+-- which holds more than reads.
+pub record IsBreak (state : State) (lowered : State) : Type 0 where
+  pub is_part : is_within lowered state ≡ true
+  pub is_less : same_state lowered state ≡ false
+  pub is_granted_form : granted_form_of lowered ≡ lowered
+  pub is_acknowledged : needs_acknowledgment state ≡ true
+
+-- what any lease is
+pub record IsLawful (lease : Lease) : Type 0 where
+  pub is_granted_form : granted_form_of lease.state ≡ lease.state
+  pub is_broken_so : (lowered : State) → lease.broken_to ≡ Some lowered → IsBreak lease.state lowered
+
+-- An open that outlives its connection is durable and has a key, whose lease holds H and isn't
+-- breaking.
+pub record IsLasting (leases : Key → Lease) (one : Open) : Type 0 where
+  pub is_durable : one.durable ≡ true
+  pub key : Key
+  pub has_the_key : has_key key one ≡ true
+  pub holds_handle : (leases key).state.handle ≡ true
+  pub is_settled : is_breaking (leases key) ≡ false
+
+-- The laws of a server, by its opens, its leases, the keys whose timer ran out, and the FileId
+-- given last; the rest of a server is free.
+--   one_writer: a key that holds W is the key of every open on a file that it has an open on
+--   no_conflict: two opens on a file don't conflict
+--   disconnected: an open without its client's connection is one that outlives it
+--   lawful: each lease is lawful
+--   one_file: the opens of a key are on one file
+--   no_open: a key without an open has no lease
+--   numbered: FileIds are from 1 to the last one given
+--   own_ids: no two opens have one FileId
+--   timed_out: a key whose timer ran out holds nothing and isn't breaking
+pub record AreSound (opens : List Open) (leases : Key → Lease) (expired : Key → Bool) (last_id : ℕ) : Type 0 where
+  pub one_writer : (key : Key) (one other : Open) → (leases key).state.write ≡ true
+      → Among one opens → has_key key one ≡ true
+      → Among other opens → other.file ≡ one.file → has_key key other ≡ true
+  pub no_conflict : (one other : Open) → Among one opens → Among other opens
+      → other.file ≡ one.file → other.file_id ≢ one.file_id → conflicts one.access one.share other ≡ false
+  pub disconnected : (one : Open) → Among one opens → one.connected ≡ false → IsLasting leases one
+  pub lawful : (key : Key) → IsLawful (leases key)
+  pub one_file : (key : Key) (one other : Open) → Among one opens → has_key key one ≡ true
+      → Among other opens → has_key key other ≡ true → other.file ≡ one.file
+  pub no_open : (key : Key) → list_any (has_key key) opens ≡ false → leases key ≡ no_lease
+  pub numbered : (one : Open) → Among one opens → (1 ≤ one.file_id) × (one.file_id ≤ last_id)
+  pub own_ids : HaveOwnIds opens
+  pub timed_out : (key : Key) → expired key ≡ true → leases key ≡ no_lease
+
+abbrev pub IsSound : Server → Type 0
+IsSound server = AreSound server.opens server.leases server.expired server.last_id

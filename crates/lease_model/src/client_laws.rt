@@ -1,0 +1,9 @@
+ghost use Rattle.lease_model.specs.ClientLaws.{FirstClientIsSound, ClientsStaySound};
+
+/// The laws of every client machine: a base only under R, unsent writes only under W, what an entry
+/// has in each phase, and each write's own number. They hold of a new client, and every call keeps
+/// them.
+pub fn clients_are_sound()
+    ensures first { FirstClientIsSound }
+    ensures kept { ClientsStaySound }
+{}
