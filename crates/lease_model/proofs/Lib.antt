@@ -6,6 +6,10 @@ pub mod ServerGrants
 pub mod ServerKeys
 pub mod ServerLeases
 pub mod ServerLists
+pub mod ServerOutAnswers
+pub mod ServerOutCalls
+pub mod ServerOutLists
+pub mod ServerOutSteps
 pub mod ServerPasses
 pub mod ServerProgress
 pub mod ServerReady
