@@ -3,9 +3,11 @@ pub mod ServerAnswers
 pub mod ServerBreaks
 pub mod ServerCalls
 pub mod ServerGrants
+pub mod ServerHeld
 pub mod ServerKeys
 pub mod ServerLeases
 pub mod ServerLists
+pub mod ServerMet
 pub mod ServerOutAnswers
 pub mod ServerOutCalls
 pub mod ServerOutLists
@@ -13,6 +15,7 @@ pub mod ServerOutSteps
 pub mod ServerPasses
 pub mod ServerProgress
 pub mod ServerReady
+pub mod ServerRounds
 pub mod ServerStates
 pub mod ServerSteps
 pub mod ServerTries

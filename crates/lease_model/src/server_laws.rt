@@ -1,8 +1,9 @@
-ghost use Rattle.std.specs.Prelude.{List, ℕ, ◌≡◌, Some, None};
+ghost use Rattle.std.specs.Prelude.{◌≤◌, ◌<◌, length, List, ℕ, ◌≡◌, Some, None};
 ghost use Rattle.lease_model.specs.Answers.{concluded};
-ghost use Rattle.lease_model.specs.Attempt.{Outcome, tried};
+ghost use Rattle.lease_model.specs.Attempt.{Outcome, tried, tried_for};
 ghost use Rattle.lease_model.specs.Calls.{Call, called, receive};
 ghost use Rattle.lease_model.specs.Content.{Patch};
+ghost use Rattle.lease_model.specs.Passes.{passes, passes_for};
 ghost use Rattle.lease_model.specs.Progress.{Progress};
 ghost use Rattle.lease_model.specs.Requests.{Request};
 ghost use Rattle.lease_model.specs.ServerLaws.{IsSound};
@@ -34,4 +35,13 @@ pub fn outs_of_calls()
         → (tried client (Request.Write file_id number patch) progress).outcome ≡ Outcome.Ready
         → connected_open (tried client (Request.Write file_id number patch) progress).progress.server client file_id ≡ Some one
         → CachesAlone (tried client (Request.Write file_id number patch) progress).progress.server one }
+{}
+
+/// The numbers by which tries and passes are bounded are enough: a try of more rounds than three, and
+/// more passes than requests are held, come to the same.
+pub fn enough_rounds_and_passes()
+    ensures rounds { (rounds : ℕ) (client : ℕ) (request : Request) (progress : Progress) → IsSound progress.server → 3 ≤ rounds
+        → tried_for rounds client request progress ≡ tried client request progress }
+    ensures passes { (count : ℕ) (file : ℕ) (progress : Progress) → length (progress.server.held file) < count
+        → passes_for count file progress ≡ passes file progress }
 {}
