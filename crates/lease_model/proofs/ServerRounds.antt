@@ -15,45 +15,61 @@ use Rattle.lease_model.specs.Lists.{is_empty}
 use Rattle.lease_model.specs.Progress.{Progress}
 use Rattle.lease_model.specs.Ready.{is_ready}
 use Rattle.lease_model.specs.Requests.{Request, CreateAsk, LeaseOf}
-use Rattle.lease_model.specs.ServerLaws.{IsSound}
+use Rattle.lease_model.specs.ServerLaws.{IsSound, HasToWait}
 use Rattle.lease_model.specs.ServerState.{Server, Open, Lease, has_file}
 use Rattle.lease_model.specs.Sharing.{may_read, may_write}
 use Rattle.lease_model.specs.Wants.{Want, Finding, finding, wants_where, handle_wants, write_wants, all_wants, create_finding, reconnect_finding, write_finding, asked_finding, read_finding, by_open, own_key, key_of_open, connected_open, is_leased_elsewhere, awaits}
 use Rattle.lease_model.proofs.ServerBreaks.{wants_met-sound}
+use Rattle.lease_model.proofs.ServerBlocked.{round_waits}
 use Rattle.lease_model.proofs.ServerLists.{if_cases, clash, not_true, has_any, any_has, among_map}
 use Rattle.lease_model.proofs.ServerMet.{AllQuiet, holder, wanted_no_more, wants_where-empty, wants_met-were, wants_met-found}
 use Rattle.lease_model.proofs.ServerStates.{light_state}
-use Rattle.lease_model.proofs.ServerWants.{handle_wants-fit, write_wants-fit, all_wants-fit}
+use Rattle.lease_model.proofs.ServerWants.{FindingFits, finding-fits, handle_wants-fit, write_wants-fit, all_wants-fit}
 
--- any two numbers of rounds from this one on come to one
+-- where it waits, the request has to wait
+abbrev pub IsExcused : ℕ → Request → Tried → Type 0
+IsExcused client request tried = tried.outcome ≡ Outcome.Waits → HasToWait tried.progress.server client request
+
+-- what two tries come to, and a reason where they wait
+pub record AreAlike (client : ℕ) (request : Request) (one : Tried) (other : Tried) : Type 0 where
+  pub is_same : one ≡ other
+  pub is_excused : IsExcused client request one
+
+-- any two numbers of rounds from this one on come to one, and wait only for a reason
 abbrev pub Ends : ℕ → Request → ℕ → Progress → Type 0
 Ends client request rounds progress = (one other : ℕ) → rounds ≤ one → rounds ≤ other
-    → tried_for one client request progress ≡ tried_for other client request progress
+    → AreAlike client request (tried_for one client request progress) (tried_for other client request progress)
 
-cond_else : {X : Type 0} (b : Bool) (x y z : X) → (b ≡ false → y ≡ z) → cond b x y ≡ cond b x z
-cond_else true x y z e = refl
-cond_else false x y z e = e refl
+alike_cases : (client : ℕ) (request : Request) (b : Bool) (x y z : Tried) → (b ≡ true → IsExcused client request x)
+    → (b ≡ false → AreAlike client request y z) → AreAlike client request (cond b x y) (cond b x z)
+alike_cases client request true x y z e a = record { is_same = refl; is_excused = e refl }
+alike_cases client request false x y z e a = a refl
 
-after_finding-same : (f g : Progress → Tried) (request : Request) (progress : Progress) (found : Finding)
+after_finding-same : (f g : Progress → Tried) (client : ℕ) (request : Request) (progress : Progress) (found : Finding)
+    → IsSound progress.server → FindingFits progress.server found → finding progress.server client request ≡ found
     → ((wants : List Want) → found ≡ Finding.Wants wants → is_ready request progress.server.leases wants ≡ false
-    → must_wait request (wants_met wants progress) wants ≡ false → f (wants_met wants progress) ≡ g (wants_met wants progress))
-    → after_finding f request progress found ≡ after_finding g request progress found
-after_finding-same f g request progress (Finding.Refused status) more = refl
-after_finding-same f g request progress (Finding.Wants wants) more =
+    → must_wait request (wants_met wants progress) wants ≡ false → AreAlike client request (f (wants_met wants progress)) (g (wants_met wants progress)))
+    → AreAlike client request (after_finding f request progress found) (after_finding g request progress found)
+after_finding-same f g client request progress (Finding.Refused status) s fits e more = record { is_same = refl; is_excused = λ never. absurd (cc) }
+after_finding-same f g client request progress (Finding.Wants wants) s fits e more =
     let met = wants_met wants progress in
-    cond_else (is_ready request progress.server.leases wants) (ended progress Outcome.Ready) (after_breaks f request wants met) (after_breaks g request wants met)
-    (λ r. cond_else (must_wait request met wants) (ended met Outcome.Waits) (f met) (g met) (λ w. more wants refl r w))
+    alike_cases client request (is_ready request progress.server.leases wants) (ended progress Outcome.Ready) (after_breaks f request wants met) (after_breaks g request wants met)
+    (λ r never. absurd (cc))
+    (λ r. alike_cases client request (must_wait request met wants) (ended met Outcome.Waits) (f met) (g met)
+    (λ w waits. round_waits client request progress wants s (wants_met-sound wants progress s fits) e w)
+    (λ w. more wants refl r w))
 
 -- a try ends by one more round than those that go on from it
-ends_step : (client : ℕ) (request : Request) (rounds : ℕ) (progress : Progress)
+ends_step : (client : ℕ) (request : Request) (rounds : ℕ) (progress : Progress) → IsSound progress.server
     → ((wants : List Want) → finding progress.server client request ≡ Finding.Wants wants → is_ready request progress.server.leases wants ≡ false
     → must_wait request (wants_met wants progress) wants ≡ false → Ends client request rounds (wants_met wants progress))
     → Ends client request (suc rounds) progress
 unfolding tried_for
-ends_step client request rounds progress more zero other a b = absurd (omega (arith, a))
-ends_step client request rounds progress more (suc one) zero a b = absurd (omega (arith, b))
-ends_step client request rounds progress more (suc one) (suc other) a b =
-    after_finding-same (tried_for one client request) (tried_for other client request) request progress (finding progress.server client request)
+ends_step client request rounds progress s more zero other a b = absurd (omega (arith, a))
+ends_step client request rounds progress s more (suc one) zero a b = absurd (omega (arith, b))
+ends_step client request rounds progress s more (suc one) (suc other) a b =
+    after_finding-same (tried_for one client request) (tried_for other client request) client request progress
+    (finding progress.server client request) s (finding-fits progress.server client request s) refl
     (λ wants e r w. more wants e r w one other (omega (arith, a)) (omega (arith, b)))
 
 ends_later : (client : ℕ) (request : Request) (few many : ℕ) (progress : Progress) → few ≤ many → Ends client request few progress → Ends client request many progress
@@ -165,7 +181,7 @@ writes_end : (client : ℕ) (request : Request) (own : Option Key) (file : ℕ) 
 writes_end client request own file access share progress create s peace wait =
     let met = wants_met (write_wants progress.server own file) progress in
     let still = fewer_conflicts file access share (write_wants progress.server own file) progress peace in
-    ends_step client request 0 met (λ wants found unready w. ⊎_elim
+    ends_step client request 0 met (wants_met-sound (write_wants progress.server own file) progress s (write_wants-fit progress.server own file s)) (λ wants found unready w. ⊎_elim
     (λ h. clash (list_any (conflicts_on file access share) met.server.opens) h.conflict still)
     (λ h. absurd (not_empty request met.server.leases wants (ap is_empty h.are_writes ∙ writes_gone request own file progress s wait) unready))
     (create_wants met.server own file access share wants (create met.server wants found)))
@@ -177,7 +193,7 @@ handles_end : (client : ℕ) (request : Request) (own : Option Key) (file : ℕ)
 handles_end client request own file access share progress create s wait =
     let met = wants_met (handle_wants progress.server own file access share) progress in
     let sound = wants_met-sound (handle_wants progress.server own file access share) progress s (handle_wants-fit progress.server own file access share s) in
-    ends_step client request 1 met (λ wants found unready w. ⊎_elim
+    ends_step client request 1 met sound (λ wants found unready w. ⊎_elim
     (λ h. clash (is_empty (handle_wants met.server own file access share)) (handles_gone request own file access share progress s wait) h.are_some)
     (λ h. subst (λ x. Ends client request 1 (wants_met x met)) (sym h.are_writes)
     (writes_end client request own file access share met create sound h.no_conflict
@@ -187,7 +203,7 @@ handles_end client request own file access share progress create s wait =
 create_ends : (client : ℕ) (request : Request) (own : Option Key) (file : ℕ) (access : Access) (share : Share) (progress : Progress)
     → IsCreate client request own file access share → IsSound progress.server → Ends client request 3 progress
 create_ends client request own file access share progress create s =
-    ends_step client request 2 progress (λ wants found unready w. ⊎_elim
+    ends_step client request 2 progress s (λ wants found unready w. ⊎_elim
     (λ h. subst (λ x. Ends client request 2 (wants_met x progress)) (sym h.are_handles)
     (handles_end client request own file access share progress create s
     (subst (λ x. must_wait request (wants_met x progress) x ≡ false) h.are_handles w)))
@@ -201,8 +217,8 @@ create_ends client request own file access share progress create s =
 abbrev pub WantsNothing : ℕ → Request → Type 0
 WantsNothing client request = (server : Server) (wants : List Want) → finding server client request ≡ Finding.Wants wants → is_empty wants ≡ true
 
-nothing_ends : (client : ℕ) (request : Request) (progress : Progress) → WantsNothing client request → Ends client request 1 progress
-nothing_ends client request progress nothing = ends_step client request 0 progress
+nothing_ends : (client : ℕ) (request : Request) (progress : Progress) → IsSound progress.server → WantsNothing client request → Ends client request 1 progress
+nothing_ends client request progress s nothing = ends_step client request 0 progress s
     (λ wants found unready w. absurd (not_empty request progress.server.leases wants (nothing progress.server wants found) unready))
 
 reconnect_nothing : (server : Server) (client file : ℕ) (own : Option Key) (file_id : ℕ) (wants : List Want)
@@ -229,7 +245,7 @@ asked_ends : (client file : ℕ) (access : Access) (share : Share) (lease : Opti
 asked_ends client file access share lease None request progress found s =
     create_ends client request (own_key client lease) file access share progress found s
 asked_ends client file access share lease (Some file_id) request progress found s =
-    ends_later client request 1 3 progress (omega arith) (nothing_ends client request progress (λ server wants e.
+    ends_later client request 1 3 progress (omega arith) (nothing_ends client request progress s (λ server wants e.
     reconnect_nothing server client file (own_key client lease) file_id wants (found server wants e)))
 
 faulty_nothing : (client file : ℕ) (access : Access) (share : Share) → WantsNothing client (Request.Create file access share None)
@@ -240,7 +256,7 @@ contexts_end : (client file : ℕ) (access : Access) (share : Share) (contexts :
     → Ends client (Request.Create file access share contexts) 3 progress
 contexts_end client file access share None progress s =
     ends_later client (Request.Create file access share None) 1 3 progress (omega arith)
-    (nothing_ends client (Request.Create file access share None) progress (faulty_nothing client file access share))
+    (nothing_ends client (Request.Create file access share None) progress s (faulty_nothing client file access share))
 contexts_end client file access share (Some ask) progress s =
     asked_ends client file access share ask.lease ask.reconnect (Request.Create file access share (Some ask)) progress
     (λ server wants e. create_found server client file access share ask wants e) s
@@ -298,11 +314,13 @@ write_ends : (client file_id number : ℕ) (patch : Patch) (progress : Progress)
     → Ends client (Request.Write file_id number patch) 2 progress
 write_ends client file_id number patch progress s =
     let request = Request.Write file_id number patch in
-    ends_step client request 1 progress (λ wants found unready wait.
+    ends_step client request 1 progress s (λ wants found unready wait.
     let all = write_all progress.server client file_id number patch wants found in
     let own = key_of_open all.one in
     let met = wants_met wants progress in
-    ends_step client request 0 met (λ others again still w.
+    let next = subst (λ x. IsSound (wants_met x progress).server) (sym all.are_all)
+    (wants_met-sound (all_wants progress.server own (all.one).file) progress s (all_wants-fit progress.server own (all.one).file s)) in
+    ends_step client request 0 met next (λ others again still w.
     let more = write_all met.server client file_id number patch others again in
     let same : more.one ≡ all.one = some_same more.one all.one (sym more.found ∙ wants_met-found wants progress client file_id ∙ all.found) in
     let gone : is_empty (all_wants met.server own (all.one).file) ≡ true =
@@ -315,15 +333,20 @@ write_ends client file_id number patch progress s =
 pub tried_for-ends : (client : ℕ) (request : Request) (progress : Progress) → IsSound progress.server → Ends client request 3 progress
 tried_for-ends client (Request.Create file access share contexts) progress s = contexts_end client file access share contexts progress s
 tried_for-ends client (Request.Read file_id) progress s = ends_later client (Request.Read file_id) 1 3 progress (omega arith)
-    (nothing_ends client (Request.Read file_id) progress (read_nothing client file_id))
+    (nothing_ends client (Request.Read file_id) progress s (read_nothing client file_id))
 tried_for-ends client (Request.Write file_id number patch) progress s = ends_later client (Request.Write file_id number patch) 2 3 progress (omega arith)
     (write_ends client file_id number patch progress s)
 tried_for-ends client (Request.Close file_id) progress s = ends_later client (Request.Close file_id) 1 3 progress (omega arith)
-    (nothing_ends client (Request.Close file_id) progress (close_nothing client file_id))
+    (nothing_ends client (Request.Close file_id) progress s (close_nothing client file_id))
 tried_for-ends client (Request.Acknowledge given) progress s = ends_later client (Request.Acknowledge given) 1 3 progress (omega arith)
-    (nothing_ends client (Request.Acknowledge given) progress (acknowledge_nothing client given))
+    (nothing_ends client (Request.Acknowledge given) progress s (acknowledge_nothing client given))
 
 -- more rounds than three come to what three do
 pub rounds-enough : (rounds client : ℕ) (request : Request) (progress : Progress) → IsSound progress.server → 3 ≤ rounds
     → tried_for rounds client request progress ≡ tried client request progress
-rounds-enough rounds client request progress s le = tried_for-ends client request progress s rounds 3 le (omega arith)
+rounds-enough rounds client request progress s le = (tried_for-ends client request progress s rounds 3 le (omega arith)).is_same
+
+-- a try waits only where the request has to
+pub tried-waits : (client : ℕ) (request : Request) (progress : Progress) → IsSound progress.server
+    → (tried client request progress).outcome ≡ Outcome.Waits → HasToWait (tried client request progress).progress.server client request
+tried-waits client request progress s = (tried_for-ends client request progress s 3 3 (omega arith) (omega arith)).is_excused

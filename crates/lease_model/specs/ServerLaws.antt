@@ -1,11 +1,13 @@
 -- The laws of every server: they hold of the first one, and every call keeps them.
-use Rattle.std.specs.Prelude.{◌≡◌, ℕ, ◌≤◌, ◌<◌, ◌≢◌, ◌⊎◌, Bool, true, false, Some, List, [], ◌∷◌, ⊤}
+use Rattle.std.specs.Prelude.{◌≡◌, ℕ, ◌≤◌, ◌<◌, ◌≢◌, ◌⊎◌, Bool, true, false, Option, Some, List, [], ◌∷◌, ⊤}
 use Rattle.std.specs.List.{list_any}
 use Rattle.lease_state.specs.State.{State, granted_form_of, needs_acknowledgment}
 use Rattle.lease_model.specs.Allowed.{conflicts}
 use Rattle.lease_model.specs.Key.{Key}
 use Rattle.lease_model.specs.LeaseStates.{is_within, same_state}
-use Rattle.lease_model.specs.ServerState.{Server, Open, Lease, no_lease, is_breaking, has_key}
+use Rattle.lease_model.specs.Requests.{Request}
+use Rattle.lease_model.specs.ServerState.{Server, Open, Lease, no_lease, is_breaking, has_key, has_own_key}
+use Rattle.lease_model.specs.Wants.{own_key, key_of_open, connected_open}
 
 -- the element is on the list
 abbrev pub Among : {X : Type 0} → X → List X → Type 0
@@ -68,3 +70,26 @@ pub record AreSound (opens : List Open) (leases : Key → Lease) (expired : Key 
 
 abbrev pub IsSound : Server → Type 0
 IsSound server = AreSound server.opens server.leases server.expired server.last_id
+
+-- On the file an open has another key than the one, and its lease is breaking.
+pub record IsBlocked (server : Server) (own : Option Key) (file : ℕ) : Type 0 where
+  pub key : Key
+  pub is_breaking : is_breaking (server.leases key) ≡ true
+  pub one : Open
+  pub is_there : Among one server.opens
+  pub is_on_file : one.file ≡ file
+  pub has_the_key : has_key key one ≡ true
+  pub is_other : has_own_key own one ≡ false
+
+-- the same for a request by an open of its client
+pub record IsOpenBlocked (server : Server) (client : ℕ) (file_id : ℕ) : Type 0 where
+  pub one : Open
+  pub is_open : connected_open server client file_id ≡ Some one
+  pub is_blocked : IsBlocked server (key_of_open one) one.file
+
+-- A request that has to wait is blocked: on its file another key is breaking. (It may be one that the
+-- request no longer needs broken, once disconnected opens of the key were closed.)
+abbrev pub HasToWait : Server → ℕ → Request → Type 0
+HasToWait server client (Request.Create file access share (Some ask)) = IsBlocked server (own_key client ask.lease) file
+HasToWait server client (Request.Write file_id number patch) = IsOpenBlocked server client file_id
+HasToWait server client request = ⊥

@@ -6,7 +6,7 @@ ghost use Rattle.lease_model.specs.Content.{Patch};
 ghost use Rattle.lease_model.specs.Passes.{passes, passes_for};
 ghost use Rattle.lease_model.specs.Progress.{Progress};
 ghost use Rattle.lease_model.specs.Requests.{Request};
-ghost use Rattle.lease_model.specs.ServerLaws.{IsSound};
+ghost use Rattle.lease_model.specs.ServerLaws.{IsSound, HasToWait};
 ghost use Rattle.lease_model.specs.ServerOuts.{EachOut, IsFlaggedRightly, ArePaired, IsBreak, IsNoBreak, GoOn, AreBreaksFirst, IsAlone, CachesAlone};
 ghost use Rattle.lease_model.specs.ServerState.{Server, Open, new_server};
 ghost use Rattle.lease_model.specs.Wants.{connected_open};
@@ -38,10 +38,14 @@ pub fn outs_of_calls()
 {}
 
 /// The numbers by which tries and passes are bounded are enough: a try of more rounds than three, and
-/// more passes than requests are held, come to the same.
+/// more passes than requests are held, come to the same. And a try waits only where the request has to,
+/// never for want of rounds.
 pub fn enough_rounds_and_passes()
     ensures rounds { (rounds : ℕ) (client : ℕ) (request : Request) (progress : Progress) → IsSound progress.server → 3 ≤ rounds
         → tried_for rounds client request progress ≡ tried client request progress }
+    ensures waits { (client : ℕ) (request : Request) (progress : Progress) → IsSound progress.server
+        → (tried client request progress).outcome ≡ Outcome.Waits
+        → HasToWait (tried client request progress).progress.server client request }
     ensures passes { (count : ℕ) (file : ℕ) (progress : Progress) → length (progress.server.held file) < count
         → passes_for count file progress ≡ passes file progress }
 {}
