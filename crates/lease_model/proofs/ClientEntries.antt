@@ -13,7 +13,8 @@ use Rattle.lease_model.specs.ClientStep.{Step, Turn, turned, quiet_step, refused
 use Rattle.lease_model.specs.Commands.{Command, Answer, Refusal, Note, Settlement}
 use Rattle.lease_model.specs.LeaseStates.{meet}
 use Rattle.lease_model.specs.Content.{is_within_limit}
-use Rattle.lease_model.specs.Limits.{file_limit, last_write_number}
+use Rattle.lease_state.specs.declared.content.TheConstants.{FILE_LIMIT}
+use Rattle.lease_model.specs.Limits.{last_write_number}
 use Rattle.lease_model.specs.Requests.{Request}
 use Rattle.lease_model.specs.Sharing.{may_write}
 use Rattle.lease_model.specs.Replies.{Reply, BreakNotice, CreateAnswer}
@@ -336,7 +337,7 @@ read_on_sound client file bytes sent (Phase.Reconnecting parted) sound s = sound
 read_answered_sound : (client : Client) (file_id : ℕ) (bytes : List ℕ) → HasSoundEntries client
     → Sound (read_answered client file_id bytes)
 unfolding read_answered
-read_answered_sound client file_id bytes sound = if_either Sound (nat_le (length bytes) file_limit)
+read_answered_sound client file_id bytes sound = if_either Sound (nat_le (length bytes) FILE_LIMIT)
     (on_file client (file_where client (λ file. reads_under file_id (client.entries file).phase))
     (λ file. read_on client file bytes (client.entries file).sent (client.entries file).phase))
     (quiet_step client)

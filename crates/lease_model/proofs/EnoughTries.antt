@@ -8,7 +8,8 @@ use Rattle.lease_state.specs.declared.access.Share.{Share}
 use Rattle.lease_state.specs.declared.status.Status.{Status}
 use Rattle.lease_model.specs.Allowed.{is_other_on, conflicts_on}
 use Rattle.lease_model.specs.Attempt.{Outcome, Tried, ended, must_wait, after_breaks, after_finding, tried_for, wants_met}
-use Rattle.lease_model.specs.Content.{Patch, is_within_limit}
+use Rattle.lease_state.specs.declared.patch.Patch.{Patch}
+use Rattle.lease_model.specs.Content.{is_within_limit}
 use Rattle.lease_model.specs.EnoughLaws.{EndsFor, TriesEnd, ThreeRoundsAreEnough}
 use Rattle.lease_model.specs.Key.{Key}
 use Rattle.lease_model.specs.LeaseStates.{holds_any, without_write, without_handle}

@@ -85,12 +85,12 @@ notification_taken v long =
 
 pub written_messages_found : WrittenMessagesAreFound
 written_messages_found = (
-    λ v long. acknowledgment_found (acknowledgment_bytes v) v (acknowledgment_taken v long),
-    λ v long. notification_found (notification_bytes v) v (notification_taken v long),
-  )
+  λ v long. acknowledgment_found (acknowledgment_bytes v) v (acknowledgment_taken v long),
+  λ v long. notification_found (notification_bytes v) v (notification_taken v long),
+)
 
 pub written_contexts_found : WrittenContextsAreFound
 written_contexts_found = (
-    λ v is. ap ask_found (written_reads_back Direction.Request v is),
-    λ v is. ap answer_found (written_reads_back Direction.Reply v is),
-  )
+  λ v is. ap ask_found (written_reads_back Direction.Request v is),
+  λ v is. ap answer_found (written_reads_back Direction.Reply v is),
+)

@@ -2,7 +2,8 @@
 use Rattle.std.proofs.Common.{◌≡◌, ⊎_elim, refl, sym, ap, ◌∙◌, subst, ℕ, true, false, List, [], ◌∷◌, ◌++◌}
 use Rattle.std.specs.Prelude.{◌==◌}
 use Rattle.std.specs.List.{list_all}
-use Rattle.lease_model.specs.Content.{Patch, patched, patches}
+use Rattle.lease_state.specs.declared.patch.Patch.{Patch}
+use Rattle.lease_state.specs.Content.{patch as patched, patches}
 use Rattle.lease_model.specs.Facts.{Fact}
 use Rattle.lease_model.specs.Past.{start_of, changes_of, content_at, sendings}
 use Rattle.lease_model.specs.PastLaws.{is_start, starts_first, content_of, ContentNow, ContentWhenSent}
@@ -12,7 +13,6 @@ use Rattle.lease_model.proofs.ServerLists.{if_cases, either, clash, among_append
 -- a last patch is put into what the others give
 patches_more : (content : List ℕ) (before : List Patch) (patch : Patch)
     → patches content (before ++ patch ∷ []) ≡ patched (patches content before) patch
-unfolding patches
 patches_more content [] patch = refl
 patches_more content (first ∷ before) patch = patches_more (patched content first) before patch
 
@@ -39,7 +39,7 @@ all_unsent client (_ ∷ past) all = clash false all refl
 
 -- the content now
 pub content_now : ContentNow
-unfolding content_at content_of start_of changes_of starts_first patches
+unfolding content_at content_of start_of changes_of starts_first
 content_now file [] first = refl
 content_now file (Fact.Start other bytes ∷ past) first =
     either (other == file)

@@ -3,7 +3,7 @@ use Rattle.std.proofs.Common.{◌≡◌, refl, sym, ap, arith, ◌∙◌, ℕ, B
 use Rattle.std.specs.Prelude.{◌==◌, ◌&&◌, ◌||◌, if◌then◌else◌, filter}
 use Rattle.lease_model.specs.ClientReplies.{is_numbered}
 use Rattle.lease_model.specs.ClientState.{Pending, patches_of}
-use Rattle.lease_model.specs.Content.{Patch}
+use Rattle.lease_state.specs.declared.patch.Patch.{Patch}
 use Rattle.lease_model.specs.Facts.{Fact}
 use Rattle.lease_model.specs.Lists.{without}
 use Rattle.lease_model.specs.Past.{is_settled, unsettled}

@@ -8,7 +8,7 @@ use Rattle.lease_state.specs.declared.status.Status.{Status}
 use Rattle.lease_model.specs.Acknowledge.{break_ended, judged, acknowledged}
 use Rattle.lease_model.specs.Answers.{changed, read_done, closed, created, on_open, on_contexts, answered, concluded}
 use Rattle.lease_model.specs.Attempt.{Outcome}
-use Rattle.lease_model.specs.Content.{Patch}
+use Rattle.lease_state.specs.declared.patch.Patch.{Patch}
 use Rattle.lease_model.specs.Grant.{reconnected, connected_again}
 use Rattle.lease_model.specs.Key.{Key}
 use Rattle.lease_model.specs.LeaseStates.{is_within}

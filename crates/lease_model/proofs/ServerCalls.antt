@@ -37,7 +37,7 @@ new_server-sound contents = record {
   one_file = λ key one other a k b j. absurd a;
   no_open = λ key e. refl;
   numbered = λ one a. absurd a;
-  own_ids = tt;
+  in_order = tt;
   timed_out = λ key e. refl;
 }
 
@@ -52,7 +52,7 @@ fewer_timers server expired s fewer = record {
   one_file = s.one_file;
   no_open = s.no_open;
   numbered = s.numbered;
-  own_ids = s.own_ids;
+  in_order = s.in_order;
   timed_out = λ key e. s.timed_out key (fewer key e);
 }
 
@@ -67,7 +67,7 @@ one_timer server key s none = record {
   one_file = s.one_file;
   no_open = s.no_open;
   numbered = s.numbered;
-  own_ids = s.own_ids;
+  in_order = s.in_order;
   timed_out = λ k. put_key-cases (λ b. b ≡ true → server.leases k ≡ no_lease) server.expired key true k
       (λ same e. ap (λ x. server.leases x) same ∙ none) (λ differs. s.timed_out k);
 }

@@ -38,6 +38,7 @@ pub mod RunsOfReads
 pub mod Safe
 pub mod Schedules
 pub mod ServerLaws
+pub mod ServerOuts
 pub mod ServerState
 pub mod Sharing
 pub mod Tables

@@ -5,7 +5,7 @@ use Rattle.std.specs.List.{list_all}
 use Rattle.lease_model.specs.ClientReplies.{is_numbered}
 use Rattle.lease_model.specs.ClientState.{Pending, patches_of}
 use Rattle.lease_model.specs.Lists.{without}
-use Rattle.lease_model.specs.Content.{patched}
+use Rattle.lease_state.specs.Content.{patch as patched}
 use Rattle.lease_model.specs.Events.{Event, after}
 use Rattle.lease_model.specs.Facts.{Fact}
 use Rattle.lease_model.specs.Past.{content_at, sendings, is_settled, unanswered}

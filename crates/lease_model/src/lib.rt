@@ -2,9 +2,9 @@
 //! public functions with an empty body whose contracts carry laws and worked examples.
 #![tactic(auto)]
 
-mod from_bytes;
 mod client_laws;
 mod enough_laws;
+mod from_bytes;
 mod past_laws;
 mod server_laws;
 mod verdict_law;
@@ -16,11 +16,11 @@ mod worked_runs_of_reads;
 mod worked_server;
 mod worked_verdicts;
 
-pub use from_bytes::bytes_laws;
 pub use client_laws::clients_are_sound;
 pub use enough_laws::rounds_and_passes_end;
+pub use from_bytes::bytes_laws;
 pub use past_laws::{contents_of_runs, unanswered_writes};
-pub use server_laws::laws_of_servers;
+pub use server_laws::{laws_of_servers, outs_of_calls, waits_of_tries};
 pub use verdict_law::verdict_decides;
 pub use worked_client::{client_never_connected, client_of_one_file};
 pub use worked_runs_of_breaks::runs_of_breaks;
