@@ -1,19 +1,17 @@
 -- The map from bytes finds what the layouts say.
-use Rattle.std.proofs.Common.{◌≡◌, ◌≢◌, ◌≤◌, ◌<◌, ◌==◌, ◌&&◌, ℕ, ◌+◌, Bool, true, false, if◌then◌else◌, nat_le, List, [], ◌++◌, length, take, Option, Some, None, refl, arith, sym, ◌∙◌, ap, subst, ◌⊎◌, inl, inr}
+use Rattle.std.proofs.Common.{◌≡◌, ◌≢◌, ◌≤◌, ◌<◌, ◌==◌, ◌&&◌, ℕ, Bool, true, false, nat_le, List, length, take, refl, arith, sym, ◌∙◌, ap, subst, inl, inr}
 use Rattle.std.proofs.Math.Seq.{take-length}
 use Rattle.std.proofs.lemmas.List.{length-take}
 use Rattle.std.proofs.lemmas.Bool.Decides.{nat_tests}
-use Rattle.lease_state.specs.State.{state_of_bits}
 use Rattle.lease_wire.specs.Acknowledgment.{KeyAndState, IsAcknowledgment, acknowledgment_bytes}
-use Rattle.lease_wire.specs.Canonical.{canonical_text, IsWritable}
-use Rattle.lease_wire.specs.Field.{number_at, bytes_at}
+use Rattle.lease_wire.specs.Field.{number_at}
 use Rattle.lease_wire.specs.Notification.{Notice, IsNotification, notification_bytes}
 use Rattle.lease_wire.specs.declared.direction.Direction.{Direction}
 use Rattle.lease_wire.proofs.CanonicalLaws.{written_reads_back}
 use Rattle.lease_wire.proofs.Messages.{acknowledgment_layout, notification_layout}
 use Rattle.lease_wire.proofs.Pieces.{number_at-taken, bytes_at-taken}
 use Rattle.lease_model.specs.FromBytes.{ask_found, answer_found, acknowledged_in, notice_in}
-use Rattle.lease_model.specs.FromBytesLaws.{acknowledged_as, noticed_as, AcknowledgmentIsFound, NotificationIsFound, NoAcknowledgmentIsFound, NoNotificationIsFound, WrittenMessagesAreFound, WrittenContextsAreFound}
+use Rattle.lease_model.specs.FromBytesLaws.{AcknowledgmentIsFound, NotificationIsFound, NoAcknowledgmentIsFound, NoNotificationIsFound, WrittenMessagesAreFound, WrittenContextsAreFound}
 
 -- bytes whose first ones are so many are as many
 reaches : (size : ℕ) (bytes : List ℕ) → length (take size bytes) ≡ size → size ≤ length bytes

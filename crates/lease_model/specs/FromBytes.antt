@@ -1,15 +1,13 @@
 -- From real messages to those of the model: in place of bytes stands what a reader finds in them.
-use Rattle.std.specs.Prelude.{◌≡◌, ℕ, ◌==◌, ◌&&◌, List, length, nat_le, Option, Some, None, Result, Ok, Err, if◌then◌else◌}
+use Rattle.std.specs.Prelude.{ℕ, ◌==◌, ◌&&◌, List, length, nat_le, Option, Some, None, Result, Ok, Err, if◌then◌else◌}
 use Rattle.std.specs.Option.{option_map}
 use Rattle.std.specs.Int.RustNames.{bit_and}
 use Rattle.lease_state.specs.State.{state_of_bits}
 use Rattle.lease_state.specs.declared.request.Request as real_request
 use Rattle.lease_state.specs.declared.reply.Reply as real_reply
-use Rattle.lease_wire.specs.Acknowledgment.{KeyAndState}
 use Rattle.lease_wire.specs.Field.{number_at, bytes_at}
 use Rattle.lease_wire.specs.Gathering.{value_of}
 use Rattle.lease_wire.specs.Names.{LeaseView, CreateView}
-use Rattle.lease_wire.specs.Notification.{Notice}
 use Rattle.lease_wire.specs.declared.direction.Direction.{Direction}
 use Rattle.lease_wire.specs.declared.fault.WireFault.{WireFault}
 use Rattle.lease_model.specs.Replies as replies

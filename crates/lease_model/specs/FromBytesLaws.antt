@@ -1,6 +1,5 @@
 -- The map from bytes finds what the layouts say, and what was written is found again.
 use Rattle.std.specs.Prelude.{◌≡◌, ℕ, ◌≢◌, ◌<◌, ◌⊎◌, List, length, take, Some, None, Ok}
-use Rattle.std.specs.Option.{option_map}
 use Rattle.lease_wire.specs.Acknowledgment.{KeyAndState, IsAcknowledgment, acknowledgment_bytes}
 use Rattle.lease_wire.specs.Canonical.{canonical_text, IsWritable}
 use Rattle.lease_wire.specs.Field.{number_at}
@@ -8,7 +7,7 @@ use Rattle.lease_wire.specs.Gathering.{value_of}
 use Rattle.lease_wire.specs.Names.{CreateView}
 use Rattle.lease_wire.specs.Notification.{Notice, IsNotification, notification_bytes}
 use Rattle.lease_wire.specs.declared.direction.Direction.{Direction}
-use Rattle.lease_model.specs.FromBytes.{ask_found, answer_found, lease_asked, lease_given, acknowledged_in, notice_in}
+use Rattle.lease_model.specs.FromBytes.{ask_found, answer_found, acknowledged_in, notice_in}
 use Rattle.lease_model.specs.Replies.{BreakNotice}
 use Rattle.lease_model.specs.Requests.{LeaseOf}
 
