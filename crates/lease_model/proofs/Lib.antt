@@ -1,4 +1,5 @@
 pub mod ClientEntries
+pub mod ClientNotes
 pub mod ClientNumbers
 pub mod ClientThin
 pub mod ClientWords
