@@ -8,6 +8,7 @@ pub mod EnoughPasses
 pub mod EnoughRounds
 pub mod EnoughTries
 pub mod PastContent
+pub mod PastGiven
 pub mod PastRuns
 pub mod PastWrites
 pub mod ServerAnswers

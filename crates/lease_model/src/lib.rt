@@ -17,7 +17,7 @@ mod worked_verdicts;
 
 pub use client_laws::clients_are_sound;
 pub use enough_laws::rounds_and_passes_end;
-pub use past_laws::{contents_of_runs, unanswered_writes};
+pub use past_laws::{contents_of_runs, writes_of_runs};
 pub use server_laws::laws_of_servers;
 pub use verdict_law::verdict_decides;
 pub use worked_client::{client_never_connected, client_of_one_file};
