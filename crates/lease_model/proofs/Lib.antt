@@ -3,16 +3,20 @@ pub mod ServerAnswers
 pub mod ServerBlocked
 pub mod ServerBreaks
 pub mod ServerCalls
+pub mod ServerGoes
 pub mod ServerGrants
 pub mod ServerHeld
+pub mod ServerKeeps
 pub mod ServerKeys
 pub mod ServerLeases
 pub mod ServerLists
 pub mod ServerMet
+pub mod ServerOrderly
 pub mod ServerOutAnswers
 pub mod ServerOutCalls
 pub mod ServerOutLists
 pub mod ServerOutSteps
+pub mod ServerPassWaits
 pub mod ServerPasses
 pub mod ServerProgress
 pub mod ServerReady
@@ -20,4 +24,5 @@ pub mod ServerRounds
 pub mod ServerStates
 pub mod ServerSteps
 pub mod ServerTries
+pub mod ServerWaitCalls
 pub mod ServerWants

@@ -143,7 +143,7 @@ concluded-held client request progress (Outcome.Refused status) = refused-held c
 concluded-held client request progress Outcome.Waits = refl
 concluded-held client request progress Outcome.Ready = answered-held client request progress
 
-held_left-here : (file : ℕ) (left : List Held) (progress : Progress) → (held_left file left progress).server.held file ≡ left
+pub held_left-here : (file : ℕ) (left : List Held) (progress : Progress) → (held_left file left progress).server.held file ≡ left
 unfolding held_left put
 held_left-here file left progress = rw ((Decides-eqb file file).1 refl) refl
 
@@ -167,7 +167,7 @@ all_counted held = omega arith
 nothing_more : (kept count left : ℕ) → kept + length {A = Held} [] < count → left ≡ kept → left < count
 nothing_more kept count left less same = omega (arith, less, same)
 
-pass_kept-in : (file count : ℕ) (one : Held) (waiting : List Held) (pass : Pass) (progress : Progress)
+pub pass_kept-in : (file count : ℕ) (one : Held) (waiting : List Held) (pass : Pass) (progress : Progress)
     → InPass file count (one ∷ waiting) pass → SameHeld pass.progress progress → InPass file count waiting (pass_kept one pass progress)
 pass_kept-in file count one waiting pass progress i same =
     let longer : length (pass.kept ++ one ∷ []) + length waiting ≡ length pass.kept + length (one ∷ waiting) =
@@ -178,7 +178,7 @@ pass_kept-in file count one waiting pass progress i same =
       is_fewer = λ e. let less = i.is_fewer e in omega (arith, longer, less);
     }
 
-pass_answered-in : (file count : ℕ) (one : Held) (waiting : List Held) (pass : Pass) (done : Tried)
+pub pass_answered-in : (file count : ℕ) (one : Held) (waiting : List Held) (pass : Pass) (done : Tried)
     → InPass file count (one ∷ waiting) pass → InPass file count waiting (pass_answered file one waiting pass done)
 pass_answered-in file count one waiting pass done i =
     let shorter : length (one ∷ waiting) ≡ length waiting + 1 = length_cons one waiting in
@@ -213,7 +213,7 @@ pass_over-in file count [] pass i = i
 pass_over-in file count (one ∷ waiting) pass i = pass_over-in file count waiting (tried_again file one waiting pass) (tried_again-in file count one waiting pass i)
 
 -- a pass that answers a request leaves fewer
-one_pass-fewer : (file : ℕ) (progress : Progress) → (one_pass file progress).has_answered ≡ true
+pub one_pass-fewer : (file : ℕ) (progress : Progress) → (one_pass file progress).has_answered ≡ true
     → length ((one_pass file progress).progress.server.held file) < length (progress.server.held file)
 one_pass-fewer file progress e =
     let i = pass_over-in file (length (progress.server.held file)) (progress.server.held file)

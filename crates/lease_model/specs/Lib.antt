@@ -35,6 +35,7 @@ pub mod Schedules
 pub mod ServerLaws
 pub mod ServerOuts
 pub mod ServerState
+pub mod ServerWaiting
 pub mod Sharing
 pub mod Tables
 pub mod Verdict

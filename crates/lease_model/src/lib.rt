@@ -11,7 +11,9 @@ mod worked_runs_of_reads;
 mod worked_server;
 mod worked_verdicts;
 
-pub use server_laws::{enough_rounds_and_passes, laws_of_servers, outs_of_calls};
+pub use server_laws::{
+    enough_rounds_and_passes, laws_of_servers, outs_of_calls, waiting_of_servers,
+};
 pub use worked_client::{client_never_connected, client_of_one_file};
 pub use worked_runs_of_breaks::runs_of_breaks;
 pub use worked_runs_of_cuts::runs_of_cuts;
