@@ -36,7 +36,7 @@ under-itself server = record {
 }
 
 -- to drop opens goes on under it
-opens_dropped-under : (base : Server) (test : Open → Bool) (progress : Progress) → IsUnder base progress.server
+pub opens_dropped-under : (base : Server) (test : Open → Bool) (progress : Progress) → IsUnder base progress.server
     → IsUnder base (opens_dropped test progress).server
 unfolding opens_dropped with_opens
 opens_dropped-under base test progress u =
@@ -133,14 +133,14 @@ lease_broken-along base want progress i fits present =
     (λ f. i)
 
 -- once a key's disconnected opens are dropped, those that it has are connected
-left_present : (key : Key) (progress : Progress) (one : Open)
+pub left_present : (key : Key) (progress : Progress) (one : Open)
     → Among one (opens_dropped (is_left_open key) progress).server.opens → has_key key one ≡ true → one.connected ≡ true
 unfolding opens_dropped with_opens
 left_present key progress one a k = not_false one.connected (λ d.
     clash (is_left_open key one) (and_both (has_key key one) (not one.connected) k (ap not d))
     (not_parts (is_left_open key one) (among_filter (λ x. not (is_left_open key x)) one progress.server.opens a).1))
 
-want_met-along : (base : Server) (want : Want) (progress : Progress) → IsAlong base progress → Fits base want → IsAlong base (want_met want progress)
+pub want_met-along : (base : Server) (want : Want) (progress : Progress) → IsAlong base progress → Fits base want → IsAlong base (want_met want progress)
 unfolding want_met
 want_met-along base want progress i fits = lease_broken-along base want (opens_dropped (is_left_open want.key) progress)
     (record {

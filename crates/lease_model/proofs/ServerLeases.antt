@@ -1,10 +1,10 @@
 -- The small steps that change a lease or add an open keep a server's laws.
-use Rattle.std.proofs.Common.{◌≡◌, ◌⊎◌, inl, inr, ⊎_elim, refl, sym, ap, ◌∙◌, ℕ, ◌+◌, Bool, true, false, not, List, [], ◌∷◌, ◌++◌, arith, ◌≢◌}
+use Rattle.std.proofs.Common.{◌≡◌, ◌⊎◌, inl, inr, ⊎_elim, refl, sym, ap, ◌∙◌, subst, ℕ, ◌+◌, ◌<◌, Bool, true, false, not, List, [], ◌∷◌, ◌++◌, arith}
 use Rattle.std.specs.Prelude.{◌&&◌}
 use Rattle.std.specs.List.{list_any}
 use Rattle.lease_model.specs.Allowed.{conflicts}
 use Rattle.lease_model.specs.Key.{Key}
-use Rattle.lease_model.specs.ServerLaws.{Among, HaveOwnIds, IsLawful, AreSound}
+use Rattle.lease_model.specs.ServerLaws.{Among, AreInOrder, IsLawful, AreSound}
 use Rattle.lease_model.specs.ServerState.{Open, Lease, no_lease, has_key, is_breaking}
 use Rattle.lease_model.specs.Sharing.{permits}
 use Rattle.lease_model.specs.Tables.{put_key}
@@ -49,7 +49,7 @@ put_sound opens leases expired last_id key new s there fresh may = record {
       (λ same. clash (list_any (has_key key) opens) there (ap (λ x. list_any (has_key x) opens) (sym same) ∙ none))
       (λ e. s.no_open k none);
   numbered = s.numbered;
-  own_ids = s.own_ids;
+  in_order = s.in_order;
   timed_out = λ k out. put_key-cases (λ l. l ≡ no_lease) leases key new k
       (λ same. fresh (ap expired (sym same) ∙ out))
       (λ e. s.timed_out k out);
@@ -66,14 +66,14 @@ pub conflict_back : (one other : Open) → conflicts one.access one.share other 
 unfolding conflicts
 conflict_back one other = ap not (and_back (permits one.share other.access) (permits other.share one.access))
 
-own_ids-append : (opens : List Open) (new : Open) → HaveOwnIds opens
-    → ((one : Open) → Among one opens → new.file_id ≢ one.file_id) → HaveOwnIds (opens ++ new ∷ [])
-own_ids-append [] new own fresh = ((λ other a. absurd a), tt)
-own_ids-append (one ∷ opens) new own fresh = (
+in_order-append : (opens : List Open) (new : Open) → AreInOrder opens
+    → ((one : Open) → Among one opens → one.file_id < new.file_id) → AreInOrder (opens ++ new ∷ [])
+in_order-append [] new own last = ((λ other a. absurd a), tt)
+in_order-append (one ∷ opens) new own last = (
   (λ other a. ⊎_elim (λ h. own.0 other h)
-      (λ h. ⊎_elim (λ same. λ e. fresh one (inl refl) (ap (λ o. o.file_id) (sym same) ∙ e)) (λ never. absurd never) h)
+      (λ h. ⊎_elim (λ same. subst (λ o. one.file_id < o.file_id) (sym same) (last one (inl refl))) (λ never. absurd never) h)
       (among_append other opens (new ∷ []) a)),
-  own_ids-append opens new own.1 (λ x a. fresh x (inr a)),
+  in_order-append opens new own.1 (λ x a. last x (inr a)),
 )
 
 -- What a new open has to be: it conflicts with none on its file; its key has no open elsewhere; and no
@@ -98,8 +98,8 @@ pub open_sound : (opens : List Open) (leases : Key → Lease) (expired : Key →
 open_sound opens leases expired last_id new s id may =
     let split : (one : Open) → Among one (opens ++ new ∷ []) → Among one opens ⊎ (one ≡ new) =
     λ one a. ⊎_elim (λ h. inl h) (λ h. inr (⊎_elim (λ e. e) (λ never. absurd never) h)) (among_append one opens (new ∷ []) a) in
-    let fresh : (one : Open) → Among one opens → new.file_id ≢ one.file_id =
-    λ one a e. let n = s.numbered one a in absurd (omega (arith, n.0, n.1, id, e)) in
+    let last : (one : Open) → Among one opens → one.file_id < new.file_id =
+    λ one a. let n = s.numbered one a in omega (arith, n.1, id) in
     record {
       one_writer = λ key one other w a k b f.
           ⊎_elim
@@ -145,6 +145,6 @@ open_sound opens leases expired last_id new s id may =
       numbered = λ one a. ⊎_elim
           (λ p. let n = s.numbered one p in (n.0, omega (arith, n.1)))
           (λ p. let e : one.file_id ≡ last_id + 1 = ap (λ o. o.file_id) p ∙ id in (omega (arith, e), omega (arith, e))) (split one a);
-      own_ids = own_ids-append opens new s.own_ids fresh;
+      in_order = in_order-append opens new s.in_order last;
       timed_out = s.timed_out;
     }

@@ -3,7 +3,7 @@ use Rattle.std.proofs.Common.{◌≡◌, refl, sym, ap, subst, Bool, true, false
 use Rattle.std.specs.Prelude.{◌||◌, Some, None}
 use Rattle.lease_state.specs.State.{State, granted_form_of, nothing_cached, needs_acknowledgment}
 use Rattle.lease_model.specs.LeaseStates.{is_within, same_state, without_write, without_handle}
-use Rattle.lease_model.specs.ServerLaws.{IsBreak, IsLawful}
+use Rattle.lease_model.specs.ServerLaws.{IsBrokenTo, IsLawful}
 use Rattle.lease_model.specs.ServerState.{no_lease}
 use Rattle.lease_model.proofs.ServerLists.{if_cases}
 
@@ -132,10 +132,18 @@ pub breaking-lawful : (state lowered : State) → granted_form_of state ≡ stat
     → IsLowered state lowered → IsLawful (record { state = state; broken_to = Some lowered })
 breaking-lawful state lowered form needs low = record {
   is_granted_form = form;
-  is_broken_so = λ other e. subst (λ s. IsBreak state s) (some_same lowered other e) (record {
+  is_broken_so = λ other e. subst (λ s. IsBrokenTo state s) (some_same lowered other e) (record {
     is_part = low.is_part;
     is_less = low.is_less needs;
     is_granted_form = low.is_granted_form;
     is_acknowledged = needs;
   });
 }
+
+or_false : (a b : Bool) → (a || b) ≡ false → (a ≡ false) × (b ≡ false)
+or_false true b e = absurd (true≢false e)
+or_false false b e = (refl, e)
+
+-- what needs no acknowledgment holds neither W nor H
+pub light_state : (state : State) → needs_acknowledgment state ≡ false → (state.write ≡ false) × (state.handle ≡ false)
+light_state state light = or_false state.write state.handle light

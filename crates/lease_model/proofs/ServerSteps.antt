@@ -1,11 +1,11 @@
 -- The small steps of a server keep its laws: opens dropped, opens connected or not, a lease changed,
 -- an open added.
-use Rattle.std.proofs.Common.{◌≡◌, refl, sym, ap, ap₂, ◌∙◌, subst, ℕ, ◌≤◌, Bool, true, false, List, [], ◌∷◌, map}
+use Rattle.std.proofs.Common.{◌≡◌, refl, sym, ap, ap₂, ◌∙◌, subst, ℕ, ◌≤◌, ◌<◌, Bool, true, false, List, [], ◌∷◌, map}
 use Rattle.std.specs.Prelude.{if◌then◌else◌, ◌||◌, filter}
 use Rattle.std.specs.List.{list_any}
 use Rattle.lease_model.specs.Allowed.{conflicts}
 use Rattle.lease_model.specs.Key.{Key}
-use Rattle.lease_model.specs.ServerLaws.{Among, HaveOwnIds, IsLawful, IsLasting, AreSound}
+use Rattle.lease_model.specs.ServerLaws.{Among, AreInOrder, IsLawful, IsLasting, AreSound}
 use Rattle.lease_model.specs.ServerState.{Open, Lease, no_lease, has_key, is_breaking}
 use Rattle.lease_model.proofs.ServerLists.{if_cases, among_filter, among_map, has_any}
 use Rattle.lease_model.proofs.ServerStates.{no_lease-lawful}
@@ -19,11 +19,11 @@ pub left_here : (leases : Key → Lease) (opens : List Open) (key : Key) (one : 
     → Among one opens → has_key key one ≡ true → left_leases leases opens key ≡ leases key
 left_here leases opens key one a k = rw (has_any (has_key key) one opens a k) refl
 
-own_ids-filter : (test : Open → Bool) (opens : List Open) → HaveOwnIds opens → HaveOwnIds (filter test opens)
-own_ids-filter test [] own = tt
-own_ids-filter test (one ∷ opens) own =
-    let later = own_ids-filter test opens own.1 in
-    if_cases HaveOwnIds (test one) (one ∷ filter test opens) (filter test opens)
+in_order-filter : (test : Open → Bool) (opens : List Open) → AreInOrder opens → AreInOrder (filter test opens)
+in_order-filter test [] own = tt
+in_order-filter test (one ∷ opens) own =
+    let later = in_order-filter test opens own.1 in
+    if_cases AreInOrder (test one) (one ∷ filter test opens) (filter test opens)
     (λ e. ((λ other a. own.0 other (among_filter test other opens a).0), later))
     (λ e. later)
 
@@ -53,7 +53,7 @@ drop_sound test opens leases expired last_id s =
       one_file = λ key one other a k b j. s.one_file key one other (was one a) k (was other b) j;
       no_open = λ key e. rw e refl;
       numbered = λ one a. s.numbered one (was one a);
-      own_ids = own_ids-filter test opens s.own_ids;
+      in_order = in_order-filter test opens s.in_order;
       timed_out = λ key e. if_cases (λ l. l ≡ no_lease) (list_any (has_key key) (filter test opens)) (leases key) no_lease
           (λ t. s.timed_out key e) (λ t. refl);
     }
@@ -62,12 +62,12 @@ drop_sound test opens leases expired last_id s =
 abbrev pub with_connection : (Open → Bool) → Open → Open
 with_connection up one = record one { connected = up one }
 
-own_ids-connection : (up : Open → Bool) (opens : List Open) → HaveOwnIds opens → HaveOwnIds (map (with_connection up) opens)
-own_ids-connection up [] own = tt
-own_ids-connection up (one ∷ opens) own = (
+in_order-connection : (up : Open → Bool) (opens : List Open) → AreInOrder opens → AreInOrder (map (with_connection up) opens)
+in_order-connection up [] own = tt
+in_order-connection up (one ∷ opens) own = (
   (λ other a. let x = among_map (with_connection up) other opens a in
-      λ e. own.0 x.0 x.1 (sym (ap (λ o. o.file_id) x.2) ∙ e)),
-  own_ids-connection up opens own.1,
+      subst (λ n. one.file_id < n) (sym (ap (λ o. o.file_id) x.2)) (own.0 x.0 x.1)),
+  in_order-connection up opens own.1,
 )
 
 any_key-connection : (up : Open → Bool) (key : Key) (opens : List Open)
@@ -115,6 +115,6 @@ connection_sound up opens leases expired last_id s lasting =
       no_open = λ key e. s.no_open key (sym (any_key-connection up key opens) ∙ e);
       numbered = λ one a. let x = was one a in
           subst (λ n. (1 ≤ n) × (n ≤ last_id)) (sym (ap (λ o. o.file_id) x.2)) (s.numbered x.0 x.1);
-      own_ids = own_ids-connection up opens s.own_ids;
+      in_order = in_order-connection up opens s.in_order;
       timed_out = s.timed_out;
     }

@@ -36,7 +36,9 @@ pub mod RunsOfReads
 pub mod Safe
 pub mod Schedules
 pub mod ServerLaws
+pub mod ServerOuts
 pub mod ServerState
+pub mod ServerWaiting
 pub mod Sharing
 pub mod Tables
 pub mod Verdict

@@ -1,26 +1,28 @@
 -- The laws of every server: they hold of the first one, and every call keeps them.
-use Rattle.std.specs.Prelude.{◌≡◌, ℕ, ◌≤◌, ◌≢◌, ◌⊎◌, Bool, true, false, Some, List, [], ◌∷◌, ⊤}
+use Rattle.std.specs.Prelude.{◌≡◌, ℕ, ◌≤◌, ◌<◌, ◌≢◌, ◌⊎◌, Bool, true, false, Option, Some, List, [], ◌∷◌, ⊤}
 use Rattle.std.specs.List.{list_any}
 use Rattle.lease_state.specs.State.{State, granted_form_of, needs_acknowledgment}
 use Rattle.lease_model.specs.Allowed.{conflicts}
 use Rattle.lease_model.specs.Key.{Key}
 use Rattle.lease_model.specs.LeaseStates.{is_within, same_state}
-use Rattle.lease_model.specs.ServerState.{Server, Open, Lease, no_lease, is_breaking, has_key}
+use Rattle.lease_model.specs.Requests.{Request}
+use Rattle.lease_model.specs.ServerState.{Server, Open, Lease, no_lease, is_breaking, has_key, has_own_key}
+use Rattle.lease_model.specs.Wants.{own_key, key_of_open, connected_open}
 
 -- the element is on the list
 abbrev pub Among : {X : Type 0} → X → List X → Type 0
 Among x [] = ⊥
 Among x (y ∷ ys) = (x ≡ y) ⊎ Among x ys
 
--- no two opens on the list have one FileId
-abbrev pub HaveOwnIds : List Open → Type 0
-HaveOwnIds [] = ⊤
-HaveOwnIds (one ∷ opens) =
-    ((other : Open) → Among other opens → other.file_id ≢ one.file_id) × HaveOwnIds opens
+-- the opens stand in the order of their FileIds, and no two have one FileId
+abbrev pub AreInOrder : List Open → Type 0
+AreInOrder [] = ⊤
+AreInOrder (one ∷ opens) =
+    ((other : Open) → Among other opens → one.file_id < other.file_id) × AreInOrder opens
 
 -- A state that a lease may be broken to: a granted form and a proper part of the lease's state,
 -- which holds more than reads.
-pub record IsBreak (state : State) (lowered : State) : Type 0 where
+pub record IsBrokenTo (state : State) (lowered : State) : Type 0 where
   pub is_part : is_within lowered state ≡ true
   pub is_less : same_state lowered state ≡ false
   pub is_granted_form : granted_form_of lowered ≡ lowered
@@ -29,7 +31,7 @@ pub record IsBreak (state : State) (lowered : State) : Type 0 where
 -- what any lease is
 pub record IsLawful (lease : Lease) : Type 0 where
   pub is_granted_form : granted_form_of lease.state ≡ lease.state
-  pub is_broken_so : (lowered : State) → lease.broken_to ≡ Some lowered → IsBreak lease.state lowered
+  pub is_broken_so : (lowered : State) → lease.broken_to ≡ Some lowered → IsBrokenTo lease.state lowered
 
 -- An open that outlives its connection is durable and has a key, whose lease holds H and isn't
 -- breaking.
@@ -49,7 +51,7 @@ pub record IsLasting (leases : Key → Lease) (one : Open) : Type 0 where
 --   one_file: the opens of a key are on one file
 --   no_open: a key without an open has no lease
 --   numbered: FileIds are from 1 to the last one given
---   own_ids: no two opens have one FileId
+--   in_order: opens stand in the order of their FileIds, each of which one open has
 --   timed_out: a key whose timer ran out holds nothing and isn't breaking
 pub record AreSound (opens : List Open) (leases : Key → Lease) (expired : Key → Bool) (last_id : ℕ) : Type 0 where
   pub one_writer : (key : Key) (one other : Open) → (leases key).state.write ≡ true
@@ -63,8 +65,31 @@ pub record AreSound (opens : List Open) (leases : Key → Lease) (expired : Key 
       → Among other opens → has_key key other ≡ true → other.file ≡ one.file
   pub no_open : (key : Key) → list_any (has_key key) opens ≡ false → leases key ≡ no_lease
   pub numbered : (one : Open) → Among one opens → (1 ≤ one.file_id) × (one.file_id ≤ last_id)
-  pub own_ids : HaveOwnIds opens
+  pub in_order : AreInOrder opens
   pub timed_out : (key : Key) → expired key ≡ true → leases key ≡ no_lease
 
 abbrev pub IsSound : Server → Type 0
 IsSound server = AreSound server.opens server.leases server.expired server.last_id
+
+-- On the file an open has another key than the one, and its lease is breaking.
+pub record IsBlocked (server : Server) (own : Option Key) (file : ℕ) : Type 0 where
+  pub key : Key
+  pub is_breaking : is_breaking (server.leases key) ≡ true
+  pub one : Open
+  pub is_there : Among one server.opens
+  pub is_on_file : one.file ≡ file
+  pub has_the_key : has_key key one ≡ true
+  pub is_other : has_own_key own one ≡ false
+
+-- the same for a request by an open of its client
+pub record IsOpenBlocked (server : Server) (client : ℕ) (file_id : ℕ) : Type 0 where
+  pub one : Open
+  pub is_open : connected_open server client file_id ≡ Some one
+  pub is_blocked : IsBlocked server (key_of_open one) one.file
+
+-- A request that has to wait is blocked: on its file another key is breaking. (It may be one that the
+-- request no longer needs broken, once disconnected opens of the key were closed.)
+abbrev pub HasToWait : Server → ℕ → Request → Type 0
+HasToWait server client (Request.Create file access share (Some ask)) = IsBlocked server (own_key client ask.lease) file
+HasToWait server client (Request.Write file_id number patch) = IsOpenBlocked server client file_id
+HasToWait server client request = ⊥

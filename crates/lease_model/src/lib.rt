@@ -18,7 +18,9 @@ mod worked_verdicts;
 pub use client_laws::clients_are_sound;
 pub use enough_laws::rounds_and_passes_end;
 pub use past_laws::{contents_of_runs, writes_of_runs};
-pub use server_laws::laws_of_servers;
+pub use server_laws::{
+    enough_rounds_and_passes, laws_of_servers, outs_of_calls, waiting_of_servers,
+};
 pub use verdict_law::verdict_decides;
 pub use worked_client::{client_never_connected, client_of_one_file};
 pub use worked_runs_of_breaks::runs_of_breaks;

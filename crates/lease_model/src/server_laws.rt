@@ -1,10 +1,63 @@
-ghost use Rattle.std.specs.Prelude.{List, ℕ};
-ghost use Rattle.lease_model.specs.ServerLaws.{IsSound};
-ghost use Rattle.lease_model.specs.ServerState.{Server, new_server};
-ghost use Rattle.lease_model.specs.Calls.{Call, called};
+ghost use Rattle.std.specs.Prelude.{true, ◌≤◌, ◌<◌, length, List, ℕ, ◌≡◌, Some, None};
+ghost use Rattle.lease_model.specs.Answers.{concluded};
+ghost use Rattle.lease_model.specs.Attempt.{Outcome, tried, tried_for};
+ghost use Rattle.lease_model.specs.Calls.{Call, called, receive};
+ghost use Rattle.lease_model.specs.Content.{Patch};
+ghost use Rattle.lease_model.specs.Key.{Key};
+ghost use Rattle.lease_model.specs.Passes.{passes, passes_for};
+ghost use Rattle.lease_model.specs.Progress.{Progress};
+ghost use Rattle.lease_model.specs.Requests.{Request};
+ghost use Rattle.lease_model.specs.ServerLaws.{Among, IsSound, IsBlocked, HasToWait};
+ghost use Rattle.lease_model.specs.ServerOuts.{EachOut, IsFlaggedRightly, ArePaired, IsBreak, IsNoBreak, GoOn, AreBreaksFirst, IsAlone, CachesAlone};
+ghost use Rattle.lease_model.specs.ServerState.{Server, Open, new_server, has_key};
+ghost use Rattle.lease_model.specs.ServerWaiting.{WaitsWell};
+ghost use Rattle.lease_model.specs.Wants.{connected_open};
 
 /// The laws of every server hold of the first one, and every call keeps them.
 pub fn laws_of_servers()
     ensures first { (contents : List (List ℕ)) → IsSound (new_server contents) }
     ensures kept { (server : Server) (call : Call) → IsSound server → IsSound (called server call).server }
+{}
+
+/// The laws of waiting hold of the first server, and every call keeps them: who is connected, on which
+/// file requests are held, and that the first held request of each client there waits for a break of
+/// another key. So a key that holds W on a file has no request of its own waiting there.
+pub fn waiting_of_servers()
+    ensures first { (contents : List (List ℕ)) → WaitsWell (new_server contents) }
+    ensures kept { (server : Server) (call : Call) → IsSound server → WaitsWell server → WaitsWell (called server call).server }
+    ensures writer { (server : Server) (key : Key) (one : Open) → IsSound server → (server.leases key).state.write ≡ true
+        → Among one server.opens → has_key key one ≡ true → IsBlocked server (Some key) one.file → ⊥ }
+{}
+
+/// What a call gives out. Breaks are flagged rightly. A Changed stands directly before its WriteDone.
+/// The Breaks for a request stand before its answer, and so before its Changed: a try gives out Breaks
+/// alone, and the end of a try none; so it is in the whole of a call that tries one request. And once
+/// a write is ready to be done, no other key on its file caches anything.
+pub fn outs_of_calls()
+    ensures flagged { (server : Server) (call : Call) → EachOut IsFlaggedRightly (called server call).outs }
+    ensures paired { (server : Server) (call : Call) → ArePaired None (called server call).outs }
+    ensures tries { (client : ℕ) (request : Request) (progress : Progress)
+        → GoOn IsBreak progress.outs (tried client request progress).progress.outs }
+    ensures answers { (client : ℕ) (request : Request) (progress : Progress) (outcome : Outcome)
+        → GoOn IsNoBreak progress.outs (concluded client request progress outcome).outs }
+    ensures received { (server : Server) (client : ℕ) (request : Request) → IsAlone request
+        → AreBreaksFirst (receive server client request).outs }
+    ensures written { (client : ℕ) (file_id : ℕ) (number : ℕ) (patch : Patch) (progress : Progress) (one : Open)
+        → IsSound progress.server
+        → (tried client (Request.Write file_id number patch) progress).outcome ≡ Outcome.Ready
+        → connected_open (tried client (Request.Write file_id number patch) progress).progress.server client file_id ≡ Some one
+        → CachesAlone (tried client (Request.Write file_id number patch) progress).progress.server one }
+{}
+
+/// The numbers by which tries and passes are bounded are enough: a try of more rounds than three, and
+/// more passes than requests are held, come to the same. And a try waits only where the request has to,
+/// never for want of rounds.
+pub fn enough_rounds_and_passes()
+    ensures rounds { (rounds : ℕ) (client : ℕ) (request : Request) (progress : Progress) → IsSound progress.server → 3 ≤ rounds
+        → tried_for rounds client request progress ≡ tried client request progress }
+    ensures waits { (client : ℕ) (request : Request) (progress : Progress) → IsSound progress.server
+        → (tried client request progress).outcome ≡ Outcome.Waits
+        → HasToWait (tried client request progress).progress.server client request }
+    ensures passes { (count : ℕ) (file : ℕ) (progress : Progress) → length (progress.server.held file) < count
+        → passes_for count file progress ≡ passes file progress }
 {}
