@@ -26,7 +26,7 @@ use Rattle.lease_model.proofs.ClientThin.{IsThinner, thin_same, thin_equal, thin
 -- ---- one step
 
 -- the writes of a client have their own numbers
-abbrev Numbers : Client → Type 0
+abbrev pub Numbers : Client → Type 0
 Numbers client = HaveOwnNumbers client.last_number (λ file. unanswered_in (client.entries file))
 
 -- the writes are numbered so after a step

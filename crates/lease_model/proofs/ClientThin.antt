@@ -90,7 +90,7 @@ one_more low last (x ∷ xs) write le is e =
     at_most a b c e = grind arith
 
 -- no number is past the last
-beyond : (low last number : ℕ) (xs : List Pending) → last < number → are_rising low last xs ≡ true
+pub beyond : (low last number : ℕ) (xs : List Pending) → last < number → are_rising low last xs ≡ true
     → has_number number xs ≡ false
 beyond low last number [] lt e = refl
 beyond low last number (x ∷ xs) lt e =
@@ -170,6 +170,11 @@ thin_skip x new old t = record {
 pub thin_after : (xs new old : List Pending) → IsThinner new old → IsThinner (xs ++ new) (xs ++ old)
 thin_after [] new old t = t
 thin_after (x ∷ xs) new old t = thin_cons x (xs ++ new) (xs ++ old) (thin_after xs new old t)
+
+-- without those that stand behind
+pub thin_front : (xs ys : List Pending) → IsThinner xs (xs ++ ys)
+thin_front [] ys = thin_none ys
+thin_front (x ∷ xs) ys = thin_cons x xs (xs ++ ys) (thin_front xs ys)
 
 -- without those that stand before
 pub thin_behind : (xs ys : List Pending) → IsThinner ys (xs ++ ys)

@@ -22,13 +22,13 @@ use Rattle.lease_model.proofs.ClientWords.{if_either}
 use Rattle.lease_model.proofs.PastContent.{all_first}
 
 -- the starts of files are starts
-all_starts : (file : ℕ) (files : List (List ℕ)) → list_all is_start (starts_from file files) ≡ true
+pub all_starts : (file : ℕ) (files : List (List ℕ)) → list_all is_start (starts_from file files) ≡ true
 unfolding starts_from
 all_starts file [] = refl
 all_starts file (bytes ∷ files) = all_starts (file + 1) files
 
 -- also from behind
-all_reversed : (facts others : List Fact) → list_all is_start facts ≡ true → list_all is_start others ≡ true
+pub all_reversed : (facts others : List Fact) → list_all is_start facts ≡ true → list_all is_start others ≡ true
     → list_all is_start (reverse_aux facts others) ≡ true
 all_reversed [] others all more = more
 all_reversed (Fact.Start file bytes ∷ facts) others all more = all_reversed facts (Fact.Start file bytes ∷ others) all more
@@ -45,6 +45,7 @@ delivered_begun world (Out.Sent client reply) b = record { first = b.first }
 delivered_begun world (Out.Opened file client) b = record { first = b.first }
 delivered_begun world (Out.Changed file client number patch) b = record { first = b.first }
 
+-- all that it gives out
 all_delivered_begun : (world : World) (outs : List Out) → IsBegun world → IsBegun (all_delivered world outs)
 unfolding all_delivered
 all_delivered_begun world [] b = b
@@ -162,5 +163,6 @@ first_begun setup = record {
       (all_reversed (starts_from 1 setup.files) [] (all_starts 1 setup.files) refl);
 }
 
+-- the record of any run
 pub runs_start_first : RunsStartFirst
 runs_start_first setup events = (after_begun (first_world setup) events (first_begun setup)).first

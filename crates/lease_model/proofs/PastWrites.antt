@@ -19,15 +19,18 @@ filter_in test [] x e = rw e refl
 filter_in test (y ∷ xs) x e =
     either (test y) (λ t. rw t (ap (λ l. y ∷ l) (filter_in test xs x e))) (λ t. rw t (filter_in test xs x e))
 
+-- a last element that fails is left out
 filter_out : {X : Type 0} (test : X → Bool) (xs : List X) (x : X) → test x ≡ false
     → filter test (xs ++ x ∷ []) ≡ filter test xs
 filter_out test [] x e = rw e refl
 filter_out test (y ∷ xs) x e =
     either (test y) (λ t. rw t (ap (λ l. y ∷ l) (filter_out test xs x e))) (λ t. rw t (filter_out test xs x e))
 
+-- where the first of two tests fails, not both pass
 first_fails : (a b : Bool) → a ≡ false → (a && b) ≡ false
 first_fails a b e = rw e refl
 
+-- nor where the second does
 second_fails : (a b : Bool) → b ≡ false → (a && b) ≡ false
 second_fails true b e = e
 second_fails false b e = refl
@@ -132,6 +135,7 @@ open_writes-open client file (Fact.Settled other number outcome ∷ past) gives 
     other_test a b t e = rw e refl
 open_writes-open client file (_ ∷ past) gives = open_writes-open client file past gives
 
+-- so the unanswered writes are found fact by fact
 pub writes_now : WritesNow
 writes_now client file past gives = unsettled-open client file past past
     ∙ ap (λ (l : List Pending). patches_of l) (sym (open_writes-open client file past gives))

@@ -107,7 +107,7 @@ concluded-sound client request progress Outcome.Waits s free = s
 concluded-sound client request progress Outcome.Ready s free = answered-sound client request progress s (free refl)
 
 -- no open of a breaking lease is without its connection
-breaking_present : (opens : List Open) (leases : Key → Lease) (expired : Key → Bool) (last_id : ℕ) (key : Key) (one : Open)
+pub breaking_present : (opens : List Open) (leases : Key → Lease) (expired : Key → Bool) (last_id : ℕ) (key : Key) (one : Open)
     → AreSound opens leases expired last_id → is_breaking (leases key) ≡ true → Among one opens → has_key key one ≡ true → one.connected ≡ true
 breaking_present opens leases expired last_id key one s b a k = not_false one.connected (λ d.
     let l = s.disconnected one a d in

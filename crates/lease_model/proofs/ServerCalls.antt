@@ -72,7 +72,7 @@ one_timer server key s none = record {
       (λ same e. ap (λ x. server.leases x) same ∙ none) (λ differs. s.timed_out k);
 }
 
-joined-sound : (client : ℕ) (progress : Progress) → IsSound progress.server → IsSound (joined client progress).server
+pub joined-sound : (client : ℕ) (progress : Progress) → IsSound progress.server → IsSound (joined client progress).server
 unfolding joined
 joined-sound client progress s = fewer_timers progress.server (λ key. if key.client == client then false else progress.server.expired key) s
     (λ key. if_cases (λ b. b ≡ true → progress.server.expired key ≡ true) (key.client == client) false (progress.server.expired key)
@@ -82,7 +82,7 @@ joined-sound client progress s = fewer_timers progress.server (λ key. if key.cl
 sound_cases : (b : Bool) (x y : Progress) → (b ≡ true → IsSound x.server) → (b ≡ false → IsSound y.server) → IsSound (cond b x y).server
 sound_cases b x y at_true at_false = if_cases (λ p. IsSound p.server) b x y at_true at_false
 
-join-sound : (server : Server) (client : ℕ) → IsSound server → IsSound (join server client).server
+pub join-sound : (server : Server) (client : ℕ) → IsSound server → IsSound (join server client).server
 unfolding join
 join-sound server client s = sound_cases (server.connected client) (begun server) (joined client (begun server))
     (λ e. s) (λ e. joined-sound client (begun server) s)
@@ -96,7 +96,7 @@ after_first_try-sound client file request progress (Outcome.Refused status) good
 after_first_try-sound client file request progress Outcome.Ready good = concluded-sound client request progress Outcome.Ready good.sound
     (λ r. ready-free client request progress (good.found_ready r))
 
-arrived_on-sound : (client : ℕ) (request : Request) (progress : Progress) (asked : Result ℕ Status) → IsSound progress.server
+pub arrived_on-sound : (client : ℕ) (request : Request) (progress : Progress) (asked : Result ℕ Status) → IsSound progress.server
     → IsSound (arrived_on client request progress asked).server
 arrived_on-sound client request progress (Err status) s = refused-sound client request status progress s
 arrived_on-sound client request progress (Ok file) s = sound_cases (is_behind client (progress.server.held file))
@@ -119,7 +119,7 @@ arrived-sound client (Request.Read file_id) progress s =
 arrived-sound client (Request.Write file_id number patch) progress s =
     arrived_on-sound client (Request.Write file_id number patch) progress (file_asked progress.server client (Request.Write file_id number patch)) s
 
-receive-sound : (server : Server) (client : ℕ) (request : Request) → IsSound server → IsSound (receive server client request).server
+pub receive-sound : (server : Server) (client : ℕ) (request : Request) → IsSound server → IsSound (receive server client request).server
 unfolding receive
 receive-sound server client request s = sound_cases (server.connected client) (arrived client request (begun server)) (begun server)
     (λ e. arrived-sound client request (begun server) s) (λ e. s)
@@ -131,7 +131,7 @@ handle_key server client None h = absurd (true≢false (sym h))
 handle_key server client (Some bytes) h = (key_of client bytes, is_key-refl client bytes)
 
 -- an open that is kept outlives its connection
-kept_lasting : (server : Server) (one : Open) → is_kept server one ≡ true → IsLasting server.leases one
+pub kept_lasting : (server : Server) (one : Open) → is_kept server one ≡ true → IsLasting server.leases one
 unfolding is_kept
 kept_lasting server one kept =
     let outer = and_parts (one.durable && (lease_of server one).state.handle) (not (is_breaking (lease_of server one))) kept in
@@ -147,7 +147,7 @@ kept_lasting server one kept =
     }
 
 -- an open that outlives its connection does so among fewer opens, if it is there
-lasting_left : (test : Open → Bool) (progress : Progress) (one : Open) → Among one (opens_dropped test progress).server.opens
+pub lasting_left : (test : Open → Bool) (progress : Progress) (one : Open) → Among one (opens_dropped test progress).server.opens
     → IsLasting progress.server.leases one → IsLasting (opens_dropped test progress).server.leases one
 unfolding opens_dropped with_opens
 lasting_left test progress one a l =
@@ -161,7 +161,7 @@ lasting_left test progress one a l =
     }
 
 -- once the lost opens of a client are dropped, each of its others outlives its connection
-left_lasting : (client : ℕ) (server : Server) (one : Open) → IsSound server
+pub left_lasting : (client : ℕ) (server : Server) (one : Open) → IsSound server
     → Among one (opens_dropped (is_lost server client) (begun server)).server.opens → one.client ≡ client → IsLasting server.leases one
 unfolding opens_dropped with_opens
 left_lasting client server one s a c =
@@ -174,7 +174,7 @@ left_lasting client server one s a c =
     (not_parts (is_lost server client one) was.1))))
     (λ down. s.disconnected one was.0 down)
 
-opens_disconnected-sound : (client : ℕ) (progress : Progress) → IsSound progress.server
+pub opens_disconnected-sound : (client : ℕ) (progress : Progress) → IsSound progress.server
     → ((one : Open) → Among one progress.server.opens → one.client ≡ client → IsLasting progress.server.leases one)
     → IsSound (opens_disconnected client progress).server
 unfolding opens_disconnected
@@ -188,7 +188,7 @@ opens_disconnected-sound client progress s lasting =
     (λ e. s.disconnected one a (if_cases (λ b. b ≡ false → one.connected ≡ false) (one.client == client) false one.connected
     (λ t. clash (one.client == client) t e) (λ t same. same) d))))
 
-client_forgotten-sound : (client : ℕ) (progress : Progress) → IsSound progress.server → IsSound (client_forgotten client progress).server
+pub client_forgotten-sound : (client : ℕ) (progress : Progress) → IsSound progress.server → IsSound (client_forgotten client progress).server
 unfolding client_forgotten
 client_forgotten-sound client progress s = s
 
@@ -209,13 +209,13 @@ none_left key opens e =
     clash (has_key key x.0) x.2 (not_parts (has_key key x.0) (among_filter (λ one. not (has_key key one)) x.0 opens x.1).1)
 
 -- a key whose opens are dropped has no lease
-dropped_lease : (key : Key) (progress : Progress) → (opens_dropped (has_key key) progress).server.leases key ≡ no_lease
+pub dropped_lease : (key : Key) (progress : Progress) → (opens_dropped (has_key key) progress).server.leases key ≡ no_lease
 unfolding opens_dropped with_opens
 dropped_lease key progress = if_cases (λ l. l ≡ no_lease) (list_any (has_key key) (without (has_key key) progress.server.opens))
     (progress.server.leases key) no_lease
     (λ e. none_left key progress.server.opens e) (λ e. refl)
 
-key_expired-sound : (key : Key) (progress : Progress) → IsSound progress.server → progress.server.leases key ≡ no_lease
+pub key_expired-sound : (key : Key) (progress : Progress) → IsSound progress.server → progress.server.leases key ≡ no_lease
     → IsSound (key_expired key progress).server
 unfolding key_expired
 key_expired-sound key progress s none = one_timer progress.server key s none

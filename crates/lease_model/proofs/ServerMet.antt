@@ -174,7 +174,7 @@ wants_met-met Holds base (want ∷ wants) progress i fit quiet =
     }
 
 -- opens are only dropped
-lease_broken-opens : (key : Key) (lowered : State) (progress : Progress) → (lease_broken key lowered progress).server.opens ≡ progress.server.opens
+pub lease_broken-opens : (key : Key) (lowered : State) (progress : Progress) → (lease_broken key lowered progress).server.opens ≡ progress.server.opens
 unfolding lease_broken break_begun lease_lowered
 lease_broken-opens key lowered progress =
     if_cases (λ p. p.server.opens ≡ progress.server.opens) (has_lease progress.server key && not (is_breaking (progress.server.leases key)))
@@ -200,7 +200,7 @@ wants_met-were (want ∷ wants) progress one a =
     (among_filter (λ x. not (is_left_open want.key x)) one progress.server.opens
     (subst (λ opens. Among one opens) (want_met-opens want progress) (wants_met-were wants (want_met want progress) one a))).0
 
-find_kept : {X : Type 0} (test keep : X → Bool) (xs : List X) → ((x : X) → test x ≡ true → keep x ≡ true) → find test (filter keep xs) ≡ find test xs
+pub find_kept : {X : Type 0} (test keep : X → Bool) (xs : List X) → ((x : X) → test x ≡ true → keep x ≡ true) → find test (filter keep xs) ≡ find test xs
 find_kept test keep [] safe = refl
 find_kept test keep (x ∷ xs) safe =
     let later = find_kept test keep xs safe in

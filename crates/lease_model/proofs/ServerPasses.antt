@@ -28,7 +28,7 @@ contexts_free client file access share None at left progress free = tt
 contexts_free client file access share (Some ask) at left progress free = create_free client file access share ask.lease ask.reconnect at left progress free
 
 -- what requests are held has nothing to do with what a create needs
-held_left-free : (client : ℕ) (request : Request) (file : ℕ) (left : List Held) (progress : Progress)
+pub held_left-free : (client : ℕ) (request : Request) (file : ℕ) (left : List Held) (progress : Progress)
     → RequestFree progress.server client request → RequestFree (held_left file left progress).server client request
 unfolding held_left
 held_left-free client (Request.Create file access share contexts) at left progress free = contexts_free client file access share contexts at left progress free

@@ -1,7 +1,8 @@
 -- What is true of every client machine, whatever commands and messages come to it, in any order.
-use Rattle.std.specs.Prelude.{◌≡◌, ◌≢◌, ℕ, Bool, true, false, None, List, [], ◌∷◌, ◌++◌, ◌&&◌, nat_lt, nat_le}
+use Rattle.std.specs.Prelude.{◌≡◌, ◌≢◌, ℕ, Bool, true, false, None, List, [], ◌∷◌, ◌++◌, ◌&&◌, nat_lt, nat_le, ◌≤◌, ◌<◌}
 use Rattle.std.specs.List.{list_all, list_any}
 use Rattle.lease_model.specs.ClientCalls.{ClientCall, client_called}
+use Rattle.lease_model.specs.Commands.{Note}
 use Rattle.lease_model.specs.ClientReplies.{is_numbered}
 use Rattle.lease_model.specs.ClientState.{Client, Entry, LiveEntry, Pending, Phase, new_client}
 
@@ -73,3 +74,19 @@ FirstClientIsSound = (guid : List ℕ) (files : ℕ) → IsSoundClient (new_clie
 abbrev pub ClientsStaySound : Type 0
 ClientsStaySound = (client : Client) (call : ClientCall) → IsSoundClient client
     → IsSoundClient (client_called client call).client
+
+-- What notes say of the numbers of writes, from the last number given before them to the last after:
+-- a write that is settled was given before, and one that is given has a new number.
+abbrev pub TellNumbers : ℕ → List Note → ℕ → Type 0
+TellNumbers last [] new = last ≡ new
+TellNumbers last (Note.Settled number outcome ∷ notes) new = (number ≤ last) × TellNumbers last notes new
+TellNumbers last (Note.Wrote file number patch buffered ∷ notes) new =
+    (last < number) × TellNumbers number notes new
+TellNumbers last (Note.Believes file state ∷ notes) new = TellNumbers last notes new
+TellNumbers last (Note.CachedRead file bytes ∷ notes) new = TellNumbers last notes new
+
+-- So it is with the notes of every call.
+abbrev pub NotesTellNumbers : Type 0
+NotesTellNumbers = (client : Client) (call : ClientCall) → IsSoundClient client
+    → TellNumbers client.last_number (client_called client call).notes
+    (client_called client call).client.last_number

@@ -40,6 +40,7 @@ pub mod Schedules
 pub mod ServerLaws
 pub mod ServerOuts
 pub mod ServerState
+pub mod ServerWaiting
 pub mod Sharing
 pub mod Tables
 pub mod Verdict

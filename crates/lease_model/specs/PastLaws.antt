@@ -2,6 +2,7 @@
 -- started before anything else happens.
 use Rattle.std.specs.Prelude.{◌≡◌, ℕ, Bool, true, false, List, [], ◌∷◌, ◌==◌, if◌then◌else◌, ◌++◌, ◌&&◌, not}
 use Rattle.std.specs.List.{list_all}
+use Rattle.lease_model.specs.ClientLaws.{IsSoundClient}
 use Rattle.lease_model.specs.ClientReplies.{is_numbered}
 use Rattle.lease_model.specs.ClientState.{Pending, patches_of}
 use Rattle.lease_model.specs.Lists.{without}
@@ -68,3 +69,13 @@ gives_first client (_ ∷ past) = gives_first client past
 abbrev pub WritesNow : Type 0
 WritesNow = (client file : ℕ) (past : List Fact) → gives_first client past ≡ true
     → unanswered client file past ≡ patches_of (open_writes client file past)
+
+-- In the record of a run no write of a client is settled before it is given.
+abbrev pub RunsGiveFirst : Type 0
+RunsGiveFirst = (setup : Setup) (events : List Event) (client : ℕ)
+    → gives_first client (after (first_world setup) events).past ≡ true
+
+-- And every client is as the laws of clients say.
+abbrev pub ClientsOfRunsAreSound : Type 0
+ClientsOfRunsAreSound = (setup : Setup) (events : List Event) (client : ℕ)
+    → IsSoundClient ((after (first_world setup) events).clients client)

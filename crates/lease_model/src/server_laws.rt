@@ -1,19 +1,31 @@
-ghost use Rattle.std.specs.Prelude.{List, ℕ, ◌≡◌, Some, None};
+ghost use Rattle.std.specs.Prelude.{true, List, ℕ, ◌≡◌, Some, None};
 ghost use Rattle.lease_model.specs.Answers.{concluded};
 ghost use Rattle.lease_model.specs.Attempt.{Outcome, tried};
 ghost use Rattle.lease_model.specs.Calls.{Call, called, receive};
 ghost use Rattle.lease_state.specs.declared.patch.Patch.{Patch};
+ghost use Rattle.lease_model.specs.Key.{Key};
 ghost use Rattle.lease_model.specs.Progress.{Progress};
 ghost use Rattle.lease_model.specs.Requests.{Request};
-ghost use Rattle.lease_model.specs.ServerLaws.{IsSound, HasToWait};
+ghost use Rattle.lease_model.specs.ServerLaws.{Among, IsSound, IsBlocked, HasToWait};
 ghost use Rattle.lease_model.specs.ServerOuts.{EachOut, IsFlaggedRightly, ArePaired, IsBreak, IsNoBreak, GoOn, AreBreaksFirst, IsAlone, CachesAlone};
-ghost use Rattle.lease_model.specs.ServerState.{Server, Open, new_server};
+ghost use Rattle.lease_model.specs.ServerState.{Server, Open, new_server, has_key};
+ghost use Rattle.lease_model.specs.ServerWaiting.{WaitsWell};
 ghost use Rattle.lease_model.specs.Wants.{connected_open};
 
 /// The laws of every server hold of the first one, and every call keeps them.
 pub fn laws_of_servers()
     ensures first { (contents : List (List ℕ)) → IsSound (new_server contents) }
     ensures kept { (server : Server) (call : Call) → IsSound server → IsSound (called server call).server }
+{}
+
+/// The laws of waiting hold of the first server, and every call keeps them: who is connected, on which
+/// file requests are held, and that the first held request of each client there waits for a break of
+/// another key. So a key that holds W on a file has no request of its own waiting there.
+pub fn waiting_of_servers()
+    ensures first { (contents : List (List ℕ)) → WaitsWell (new_server contents) }
+    ensures kept { (server : Server) (call : Call) → IsSound server → WaitsWell server → WaitsWell (called server call).server }
+    ensures writer { (server : Server) (key : Key) (one : Open) → IsSound server → (server.leases key).state.write ≡ true
+        → Among one server.opens → has_key key one ≡ true → IsBlocked server (Some key) one.file → ⊥ }
 {}
 
 /// What a call gives out. Breaks are flagged rightly. A Changed stands directly before its WriteDone.

@@ -1,4 +1,5 @@
 use Rattle.lease_model.proofs.ClientEntries.{first_entries, called_entries}
+use Rattle.lease_model.proofs.ClientNotes.{called_tells}
 use Rattle.lease_model.proofs.ClientNumbers.{first_numbers, called_numbers}
 use Rattle.lease_model.proofs.client_laws.clients_are_sound.Goals as goal
 
@@ -13,3 +14,6 @@ returns-clause-kept c = λ client call sound. record {
   entries = called_entries client call sound.entries;
   numbers = called_numbers client call sound.entries sound.numbers;
 }
+
+pub returns-clause-numbers : goal.returns-clause-numbers
+returns-clause-numbers c = λ client call sound. called_tells client call sound

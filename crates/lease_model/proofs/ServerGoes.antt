@@ -1,0 +1,363 @@
+-- How opens come and go: what the small steps but a cut and a join do to them.
+use Rattle.std.proofs.Common.{◌≡◌, ◌⊎◌, inl, inr, ⊎_elim, refl, sym, ap, ◌∙◌, subst, ℕ, ◌+◌, ◌≤◌, ◌<◌, zero, suc, Bool, true, false, not, cond, List, [], ◌∷◌, ◌++◌, arith, true≢false, ◌==◌}
+use Rattle.std.specs.Prelude.{if◌then◌else◌, ◌&&◌, Option, Some, None}
+use Rattle.std.specs.List.{list_any}
+use Rattle.std.proofs.lemmas.Bool.Decides.{Decides-eqb}
+use Rattle.lease_state.specs.State.{State, needs_acknowledgment}
+use Rattle.lease_state.specs.declared.access.Access.{Access}
+use Rattle.lease_state.specs.declared.access.Share.{Share}
+use Rattle.lease_state.specs.declared.status.Status.{Status}
+use Rattle.lease_model.specs.Acknowledge.{break_ended, judged, acknowledged}
+use Rattle.lease_model.specs.Answers.{changed, read_done, closed, created, on_open, on_contexts, answered, concluded}
+use Rattle.lease_model.specs.Attempt.{Outcome, Tried, is_left_open, lease_broken, want_met, wants_met, ended, must_wait, after_breaks, after_finding, tried_for}
+use Rattle.lease_model.specs.Content.{Patch}
+use Rattle.lease_model.specs.Grant.{granted, granted_with, reconnected, lease_after, connected_again, new_open}
+use Rattle.lease_model.specs.Key.{Key}
+use Rattle.lease_model.specs.LeaseStates.{is_within}
+use Rattle.lease_model.specs.Limits.{last_file_id}
+use Rattle.lease_model.specs.Progress.{Progress, opens_dropped, with_opens, lease_lowered, break_begun, replied, refused}
+use Rattle.lease_model.specs.Ready.{is_ready}
+use Rattle.lease_model.specs.Replies.{Reply}
+use Rattle.lease_model.specs.Requests.{Request, CreateAsk, LeaseOf}
+use Rattle.lease_model.specs.ServerLaws.{Among, AreInOrder, IsSound}
+use Rattle.lease_model.specs.ServerState.{Server, Open, Lease, has_file, has_key, has_lease, is_breaking}
+use Rattle.lease_model.specs.Wants.{Want, Finding, finding, asked_finding, reconnect_finding, own_key, awaits, connected_open, key_of}
+use Rattle.lease_model.proofs.ServerLists.{if_cases, and_parts, among_append, among_filter, among_map, any_has}
+use Rattle.lease_model.proofs.ServerTries.{IsFoundReady}
+
+-- two opens of one FileId are one
+pub one_id : (opens : List Open) (one other : Open) → AreInOrder opens → Among one opens → Among other opens → one.file_id ≡ other.file_id → one ≡ other
+one_id [] one other order a b e = absurd a
+one_id (first ∷ opens) one other order (inl p) (inl q) e = p ∙ sym q
+one_id (first ∷ opens) one other order (inl p) (inr q) e =
+    let less = order.0 other q in let same = ap (λ o. o.file_id) p in absurd (omega (arith, less, same, e))
+one_id (first ∷ opens) one other order (inr p) (inl q) e =
+    let less = order.0 one p in let same = ap (λ o. o.file_id) q in absurd (omega (arith, less, same, e))
+one_id (first ∷ opens) one other order (inr p) (inr q) e = one_id opens one other order.1 p q e
+
+-- An open that was there, and that has its connection since, if it has it, only where its client does.
+pub record IsOld (before : Server) (one : Open) : Type 0 where
+  pub was : Open
+  pub was_there : Among was before.opens
+  pub same_id : one.file_id ≡ was.file_id
+  pub same_file : one.file ≡ was.file
+  pub same_client : one.client ≡ was.client
+  pub up : one.connected ≡ true → (was.connected ≡ true) ⊎ (before.connected one.client ≡ true)
+
+-- a new open, of a connected client, on a file of the server
+pub record IsNew (before : Server) (one : Open) : Type 0 where
+  pub is_new : before.last_id < one.file_id
+  pub up : before.connected one.client ≡ true
+  pub on_file : has_file before one.file ≡ true
+
+pub record GoesOn (before : Server) (after : Server) : Type 0 where
+  pub files : after.files ≡ before.files
+  pub ups : (client : ℕ) → after.connected client ≡ before.connected client
+  pub ids : before.last_id ≤ after.last_id
+  pub from : (one : Open) → Among one after.opens → IsOld before one ⊎ IsNew before one
+
+pub still_there : (before : Server) (one : Open) → Among one before.opens → IsOld before one
+still_there before one a = record { was = one; was_there = a; same_id = refl; same_file = refl; same_client = refl; up = λ e. inl e }
+
+pub goes-same : (server : Server) → GoesOn server server
+goes-same server = record { files = refl; ups = λ c. refl; ids = omega arith; from = λ one a. inl (still_there server one a) }
+
+pub file_frame : (a b : Server) (file : ℕ) → b.files ≡ a.files → has_file b file ≡ has_file a file
+file_frame a b file e = ap (λ n. has_file (record a { files = n }) file) e
+
+old_of_old : (a b : Server) (one : Open) → GoesOn a b → (o : IsOld b one) → IsOld a o.was → IsOld a one
+old_of_old a b one g o p = record {
+  was = p.was;
+  was_there = p.was_there;
+  same_id = o.same_id ∙ p.same_id;
+  same_file = o.same_file ∙ p.same_file;
+  same_client = o.same_client ∙ p.same_client;
+  up = λ e. ⊎_elim
+      (λ u. ⊎_elim (λ v. inl v) (λ v. inr (ap (λ c. a.connected c) o.same_client ∙ v)) (p.up u))
+      (λ u. inr (sym (g.ups one.client) ∙ u)) (o.up e);
+}
+
+new_of_old : (a b : Server) (one : Open) → (o : IsOld b one) → IsNew a o.was → IsNew a one
+new_of_old a b one o p = record {
+  is_new = subst (λ n. a.last_id < n) (sym o.same_id) p.is_new;
+  up = ap (λ c. a.connected c) o.same_client ∙ p.up;
+  on_file = ap (λ f. has_file a f) o.same_file ∙ p.on_file;
+}
+
+new_of_new : (a b : Server) (one : Open) → GoesOn a b → IsNew b one → IsNew a one
+new_of_new a b one g p = record {
+  is_new = let le = g.ids in let lt = p.is_new in omega (arith, le, lt);
+  up = sym (g.ups one.client) ∙ p.up;
+  on_file = sym (file_frame a b one.file g.files) ∙ p.on_file;
+}
+
+pub goes-twice : (a b c : Server) → GoesOn a b → GoesOn b c → GoesOn a c
+goes-twice a b c g h = record {
+  files = h.files ∙ g.files;
+  ups = λ client. h.ups client ∙ g.ups client;
+  ids = let x = g.ids in let y = h.ids in omega (arith, x, y);
+  from = λ one m. ⊎_elim
+      (λ o. ⊎_elim (λ p. inl (old_of_old a b one g o p)) (λ p. inr (new_of_old a b one o p)) (g.from o.was o.was_there))
+      (λ n. inr (new_of_new a b one g n)) (h.from one m);
+}
+
+-- a call under way goes on
+abbrev pub Goes : Progress → Progress → Type 0
+Goes before after = GoesOn before.server after.server
+
+pub dropped-goes : (test : Open → Bool) (progress : Progress) → Goes progress (opens_dropped test progress)
+unfolding opens_dropped with_opens
+dropped-goes test progress = record {
+  files = refl;
+  ups = λ c. refl;
+  ids = omega arith;
+  from = λ one a. inl (still_there progress.server one (among_filter (λ x. not (test x)) one progress.server.opens a).0);
+}
+
+lowered-goes : (key : Key) (lowered : State) (progress : Progress) → Goes progress (lease_lowered key lowered progress)
+unfolding lease_lowered
+lowered-goes key lowered progress = record { files = refl; ups = λ c. refl; ids = omega arith; from = λ one a. inl (still_there progress.server one a) }
+
+begun-goes : (key : Key) (lowered : State) (progress : Progress) → Goes progress (break_begun key lowered progress)
+unfolding break_begun
+begun-goes key lowered progress = record { files = refl; ups = λ c. refl; ids = omega arith; from = λ one a. inl (still_there progress.server one a) }
+
+lease_broken-goes : (key : Key) (lowered : State) (progress : Progress) → Goes progress (lease_broken key lowered progress)
+unfolding lease_broken
+lease_broken-goes key lowered progress =
+    if_cases (Goes progress) (has_lease progress.server key && not (is_breaking (progress.server.leases key)))
+    (if needs_acknowledgment (progress.server.leases key).state then break_begun key lowered progress else lease_lowered key lowered progress) progress
+    (λ t. if_cases (Goes progress) (needs_acknowledgment (progress.server.leases key).state)
+    (break_begun key lowered progress) (lease_lowered key lowered progress)
+    (λ n. begun-goes key lowered progress) (λ n. lowered-goes key lowered progress))
+    (λ t. goes-same progress.server)
+
+want_met-goes : (want : Want) (progress : Progress) → Goes progress (want_met want progress)
+unfolding want_met
+want_met-goes want progress =
+    let dropped = opens_dropped (is_left_open want.key) progress in
+    goes-twice progress.server dropped.server (lease_broken want.key want.lowered dropped).server
+    (dropped-goes (is_left_open want.key) progress) (lease_broken-goes want.key want.lowered dropped)
+
+wants_met-goes : (wants : List Want) (progress : Progress) → Goes progress (wants_met wants progress)
+unfolding wants_met
+wants_met-goes [] progress = goes-same progress.server
+wants_met-goes (want ∷ wants) progress = goes-twice progress.server (want_met want progress).server (wants_met wants (want_met want progress)).server
+    (want_met-goes want progress) (wants_met-goes wants (want_met want progress))
+
+after_finding-goes : (again : Progress → Tried) (request : Request) (progress : Progress) (found : Finding)
+    → ((next : Progress) → Goes next (again next).progress) → Goes progress (after_finding again request progress found).progress
+after_finding-goes again request progress (Finding.Refused status) more = goes-same progress.server
+after_finding-goes again request progress (Finding.Wants wants) more =
+    let met = wants_met wants progress in
+    if_cases (λ t. Goes progress t.progress) (is_ready request progress.server.leases wants)
+    (ended progress Outcome.Ready) (after_breaks again request wants met)
+    (λ r. goes-same progress.server)
+    (λ n. if_cases (λ t. Goes progress t.progress) (must_wait request met wants) (ended met Outcome.Waits) (again met)
+    (λ w. wants_met-goes wants progress)
+    (λ w. goes-twice progress.server met.server (again met).progress.server (wants_met-goes wants progress) (more met)))
+
+-- a try
+pub tried_for-goes : (rounds client : ℕ) (request : Request) (progress : Progress) → Goes progress (tried_for rounds client request progress).progress
+unfolding tried_for
+tried_for-goes zero client request progress = goes-same progress.server
+tried_for-goes (suc rounds) client request progress = after_finding-goes (tried_for rounds client request) request progress
+    (finding progress.server client request) (λ next. tried_for-goes rounds client request next)
+
+-- a create that is ready names a file of the server; and a reconnect, an open of its client
+pub record IsAwaited (server : Server) (client : ℕ) (file_id : ℕ) : Type 0 where
+  pub one : Open
+  pub is_there : Among one server.opens
+  pub has_id : one.file_id ≡ file_id
+  pub is_own : one.client ≡ client
+
+abbrev pub AgainReady : Server → ℕ → Option ℕ → Type 0
+AgainReady server client None = Unit {0}
+AgainReady server client (Some file_id) = IsAwaited server client file_id
+
+abbrev pub ContextsReady : Server → ℕ → ℕ → Option CreateAsk → Type 0
+ContextsReady server client file None = Unit {0}
+ContextsReady server client file (Some ask) = (has_file server file ≡ true) × AgainReady server client ask.reconnect
+
+abbrev pub FileReady : Server → ℕ → Request → Type 0
+FileReady server client (Request.Create file access share contexts) = ContextsReady server client file contexts
+FileReady server client request = Unit {0}
+
+awaits_own : (client file : ℕ) (own : Option Key) (file_id : ℕ) (one : Open) → awaits client file own file_id one ≡ true
+    → (one.file_id ≡ file_id) × (one.client ≡ client)
+unfolding awaits
+awaits_own client file None file_id one e = absurd (true≢false (sym e))
+awaits_own client file (Some key) file_id one e =
+    let p = and_parts (one.file_id == file_id && not one.connected && one.client == client && one.file == file) (has_key key one) e in
+    let q = and_parts (one.file_id == file_id && not one.connected && one.client == client) (one.file == file) p.0 in
+    let r = and_parts (one.file_id == file_id && not one.connected) (one.client == client) q.0 in
+    let t = and_parts (one.file_id == file_id) (not one.connected) r.0 in
+    ((Decides-eqb one.file_id file_id).0 t.0, (Decides-eqb one.client client).0 r.1)
+
+reconnect_awaited : (server : Server) (client file : ℕ) (own : Option Key) (file_id : ℕ) (wants : List Want)
+    → reconnect_finding server client file own file_id ≡ Finding.Wants wants → IsAwaited server client file_id
+unfolding reconnect_finding
+reconnect_awaited server client file own file_id wants =
+    if_cases (λ found. found ≡ Finding.Wants wants → IsAwaited server client file_id) (list_any (awaits client file own file_id) server.opens)
+    (Finding.Wants []) (Finding.Refused Status.ObjectNameNotFound)
+    (λ e same. let x = any_has (awaits client file own file_id) server.opens e in let y = awaits_own client file own file_id x.0 x.2 in
+    record { one = x.0; is_there = x.1; has_id = y.0; is_own = y.1 })
+    (λ e never. absurd (cc))
+
+asked_again : (server : Server) (client file : ℕ) (access : Access) (share : Share) (lease : Option LeaseOf) (again : Option ℕ) (wants : List Want)
+    → asked_finding server client file access share lease again ≡ Finding.Wants wants → AgainReady server client again
+asked_again server client file access share lease None wants e = tt
+asked_again server client file access share lease (Some file_id) wants e = reconnect_awaited server client file (own_key client lease) file_id wants e
+
+contexts_ready : (server : Server) (client file : ℕ) (access : Access) (share : Share) (contexts : Option CreateAsk) (wants : List Want)
+    → finding server client (Request.Create file access share contexts) ≡ Finding.Wants wants → ContextsReady server client file contexts
+unfolding finding
+contexts_ready server client file access share None wants e = tt
+contexts_ready server client file access share (Some ask) wants e =
+    if_cases (λ found. found ≡ Finding.Wants wants → ContextsReady server client file (Some ask)) (has_file server file)
+    (asked_finding server client file access share ask.lease ask.reconnect) (Finding.Refused Status.ObjectNameNotFound)
+    (λ t same. (t, asked_again server client file access share ask.lease ask.reconnect wants same))
+    (λ t never. absurd (cc)) e
+
+pub ready-file : (client : ℕ) (request : Request) (progress : Progress) → IsFoundReady client request progress → FileReady progress.server client request
+ready-file client (Request.Create file access share contexts) progress r = contexts_ready progress.server client file access share contexts r.wants r.found
+ready-file client (Request.Read file_id) progress r = tt
+ready-file client (Request.Write file_id number patch) progress r = tt
+ready-file client (Request.Close file_id) progress r = tt
+ready-file client (Request.Acknowledge given) progress r = tt
+
+added : (new : Open) (progress : Progress) (one : Open) → new.file_id ≡ progress.server.last_id + 1
+    → progress.server.connected new.client ≡ true → has_file progress.server new.file ≡ true
+    → Among one (progress.server.opens ++ new ∷ []) → IsOld progress.server one ⊎ IsNew progress.server one
+added new progress one id up on a = ⊎_elim
+    (λ h. inl (still_there progress.server one h))
+    (λ h. ⊎_elim (λ same. inr (record {
+      is_new = let e : one.file_id ≡ progress.server.last_id + 1 = ap (λ o. o.file_id) same ∙ id in omega (arith, e);
+      up = ap (λ o. progress.server.connected o.client) same ∙ up;
+      on_file = ap (λ o. has_file progress.server o.file) same ∙ on;
+    })) (λ never. absurd never) h)
+    (among_append one progress.server.opens (new ∷ []) a)
+
+granted_with-goes : (client file : ℕ) (access : Access) (share : Share) (asked : Option LeaseOf) (durable : Bool) (lease : Lease) (progress : Progress)
+    → progress.server.connected client ≡ true → has_file progress.server file ≡ true → Goes progress (granted_with client file access share asked durable lease progress)
+unfolding granted_with
+granted_with-goes client file access share None durable lease progress up on = record {
+  files = refl;
+  ups = λ c. refl;
+  ids = omega arith;
+  from = λ one a. added (new_open progress.server client file access share None durable lease) progress one refl up on a;
+}
+granted_with-goes client file access share (Some asked) durable lease progress up on = record {
+  files = refl;
+  ups = λ c. refl;
+  ids = omega arith;
+  from = λ one a. added (new_open progress.server client file access share (Some asked) durable lease) progress one refl up on a;
+}
+
+granted-goes : (client file : ℕ) (access : Access) (share : Share) (asked : Option LeaseOf) (durable : Bool) (progress : Progress)
+    → progress.server.connected client ≡ true → has_file progress.server file ≡ true → Goes progress (granted client file access share asked durable progress)
+unfolding granted
+granted-goes client file access share asked durable progress up on =
+    if_cases (Goes progress) (progress.server.last_id == last_file_id)
+    (replied client (Reply.CreateFailed file Status.InsufficientResources) progress)
+    (granted_with client file access share asked durable (lease_after progress.server client file asked) progress)
+    (λ e. goes-same progress.server)
+    (λ e. granted_with-goes client file access share asked durable (lease_after progress.server client file asked) progress up on)
+
+-- an open that is connected again is one of its client
+again_old : (server : Server) (client file_id : ℕ) (was : Open) (b : Bool) → (was.file_id == file_id) ≡ b
+    → IsSound server → IsAwaited server client file_id → server.connected client ≡ true → Among was server.opens
+    → IsOld server (cond b (record was { connected = true }) was)
+again_old server client file_id was true e s w up a = record {
+  was = was;
+  was_there = a;
+  same_id = refl;
+  same_file = refl;
+  same_client = refl;
+  up = λ u. inr (ap (λ o. server.connected o.client)
+      (one_id server.opens was w.one s.in_order a w.is_there ((Decides-eqb was.file_id file_id).0 e ∙ sym w.has_id))
+      ∙ ap (λ c. server.connected c) w.is_own ∙ up);
+}
+again_old server client file_id was false e s w up a = still_there server was a
+
+reconnected-goes : (client file : ℕ) (asked : Option LeaseOf) (file_id : ℕ) (progress : Progress) → IsSound progress.server
+    → IsAwaited progress.server client file_id → progress.server.connected client ≡ true → Goes progress (reconnected client file asked file_id progress)
+unfolding reconnected
+reconnected-goes client file asked file_id progress s w up = record {
+  files = refl;
+  ups = λ c. refl;
+  ids = omega arith;
+  from = λ one a. let x = among_map (connected_again file_id) one progress.server.opens a in
+      inl (subst (λ o. IsOld progress.server o) (sym x.2)
+      (again_old progress.server client file_id x.0 ((x.0).file_id == file_id) refl s w up x.1));
+}
+
+changed-goes : (client file file_id number : ℕ) (patch : Patch) (progress : Progress) → Goes progress (changed client file file_id number patch progress)
+unfolding changed
+changed-goes client file file_id number patch progress = record { files = refl; ups = λ c. refl; ids = omega arith; from = λ one a. inl (still_there progress.server one a) }
+
+closed-goes : (client file_id : ℕ) (progress : Progress) → Goes progress (closed client file_id progress)
+unfolding closed
+closed-goes client file_id progress = dropped-goes (λ one. one.file_id == file_id) progress
+
+refused-goes : (client : ℕ) (request : Request) (status : Status) (progress : Progress) → Goes progress (refused client request status progress)
+unfolding refused
+refused-goes client request status progress = goes-same progress.server
+
+created-goes : (client file : ℕ) (access : Access) (share : Share) (asked : Option LeaseOf) (durable : Bool) (again : Option ℕ) (progress : Progress)
+    → IsSound progress.server → progress.server.connected client ≡ true → has_file progress.server file ≡ true → AgainReady progress.server client again
+    → Goes progress (created client file access share asked durable again progress)
+created-goes client file access share asked durable None progress s up on again = granted-goes client file access share asked durable progress up on
+created-goes client file access share asked durable (Some file_id) progress s up on again = reconnected-goes client file asked file_id progress s again up
+
+on_contexts-goes : (client file : ℕ) (access : Access) (share : Share) (contexts : Option CreateAsk) (progress : Progress)
+    → IsSound progress.server → progress.server.connected client ≡ true → ContextsReady progress.server client file contexts
+    → Goes progress (on_contexts contexts (λ ask. created client file access share ask.lease ask.durable ask.reconnect) progress)
+on_contexts-goes client file access share None progress s up ready = goes-same progress.server
+on_contexts-goes client file access share (Some ask) progress s up ready =
+    created-goes client file access share ask.lease ask.durable ask.reconnect progress s up ready.0 ready.1
+
+on_open-goes : (one : Option Open) (done : ℕ → Progress → Progress) (progress : Progress)
+    → ((file : ℕ) → Goes progress (done file progress)) → Goes progress (on_open one done progress)
+on_open-goes None done progress each = goes-same progress.server
+on_open-goes (Some one) done progress each = each one.file
+
+answered-goes : (client : ℕ) (request : Request) (progress : Progress) → IsSound progress.server → progress.server.connected client ≡ true
+    → FileReady progress.server client request → Goes progress (answered client request progress)
+unfolding answered
+answered-goes client (Request.Create file access share contexts) progress s up ready = on_contexts-goes client file access share contexts progress s up ready
+answered-goes client (Request.Read file_id) progress s up ready = on_open-goes (connected_open progress.server client file_id)
+    (λ file. read_done client file file_id) progress (λ file. goes-same progress.server)
+answered-goes client (Request.Write file_id number patch) progress s up ready = on_open-goes (connected_open progress.server client file_id)
+    (λ file. changed client file file_id number patch) progress (λ file. changed-goes client file file_id number patch progress)
+answered-goes client (Request.Close file_id) progress s up ready = on_open-goes (connected_open progress.server client file_id)
+    (λ file. closed client file_id) progress (λ file. closed-goes client file_id progress)
+answered-goes client (Request.Acknowledge acknowledged) progress s up ready = goes-same progress.server
+
+-- the end of a try
+pub concluded-goes : (client : ℕ) (request : Request) (progress : Progress) (outcome : Outcome) → IsSound progress.server
+    → progress.server.connected client ≡ true → (outcome ≡ Outcome.Ready → FileReady progress.server client request)
+    → Goes progress (concluded client request progress outcome)
+concluded-goes client request progress (Outcome.Refused status) s up ready = refused-goes client request status progress
+concluded-goes client request progress Outcome.Waits s up ready = goes-same progress.server
+concluded-goes client request progress Outcome.Ready s up ready = answered-goes client request progress s up (ready refl)
+
+ended-goes : (key : Key) (state : State) (progress : Progress) → Goes progress (break_ended key state progress)
+unfolding break_ended
+ended-goes key state progress = record { files = refl; ups = λ c. refl; ids = omega arith; from = λ one a. inl (still_there progress.server one a) }
+
+judged-goes : (key : Key) (state : State) (broken : Option State) (progress : Progress) → Goes progress (judged key state broken progress)
+judged-goes key state None progress = goes-same progress.server
+judged-goes key state (Some lowered) progress = if_cases (Goes progress) (is_within state lowered) (break_ended key state progress)
+    (replied key.client (Reply.AckFailed Status.RequestNotAccepted) progress)
+    (λ e. ended-goes key state progress) (λ e. goes-same progress.server)
+
+-- any acknowledgment
+pub acknowledged-goes : (client : ℕ) (given : Option LeaseOf) (progress : Progress) → Goes progress (acknowledged client given progress)
+unfolding acknowledged
+acknowledged-goes client None progress = goes-same progress.server
+acknowledged-goes client (Some given) progress = if_cases (Goes progress) (has_lease progress.server (key_of client given.key))
+    (judged (key_of client given.key) given.state (progress.server.leases (key_of client given.key)).broken_to progress)
+    (replied client (Reply.AckFailed Status.ObjectNameNotFound) progress)
+    (λ e. judged-goes (key_of client given.key) given.state (progress.server.leases (key_of client given.key)).broken_to progress)
+    (λ e. goes-same progress.server)
