@@ -1,5 +1,6 @@
 pub mod Computing
 pub mod ServerAnswers
+pub mod ServerArrivals
 pub mod ServerBlocked
 pub mod ServerBreaks
 pub mod ServerCalls
