@@ -12,7 +12,7 @@ use Rattle.lease_model.specs.ClientState.{Client, Entry, LiveEntry, Pending, Pha
 use Rattle.lease_model.specs.ClientStep.{Step, Turn, turned, quiet_step, refused_step, believes_noted, settled_as}
 use Rattle.lease_model.specs.Commands.{Command, Answer, Refusal, Note, Settlement}
 use Rattle.lease_model.specs.LeaseStates.{meet, same_state}
-use Rattle.lease_model.specs.Content.{Patch}
+use Rattle.lease_state.specs.declared.patch.Patch.{Patch}
 use Rattle.lease_model.specs.Requests.{Request}
 use Rattle.lease_model.specs.Replies.{Reply, BreakNotice, CreateAnswer}
 use Rattle.lease_state.specs.declared.access.Access.{Access}

@@ -12,6 +12,7 @@ pub mod PastGiven
 pub mod PastRuns
 pub mod PastWrites
 pub mod ServerAnswers
+pub mod ServerArrivals
 pub mod ServerBlocked
 pub mod ServerBreaks
 pub mod ServerCalls

@@ -21,7 +21,7 @@ use Rattle.lease_model.proofs.PastRuns.{all_starts, all_reversed}
 use Rattle.std.proofs.lemmas.Bool.{eq-eqb, eqb-true}
 use Rattle.lease_model.specs.ClientLaws.{IsSoundClient, TellNumbers}
 use Rattle.lease_model.specs.ClientState.{Client}
-use Rattle.lease_model.specs.Content.{Patch}
+use Rattle.lease_state.specs.declared.patch.Patch.{Patch}
 use Rattle.lease_model.specs.Past.{is_settled}
 use Rattle.lease_model.specs.Tables.{put}
 use Rattle.lease_model.proofs.ClientEntries.{first_entries, called_entries}

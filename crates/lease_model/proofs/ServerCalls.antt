@@ -42,7 +42,8 @@ new_server-sound contents = record {
 }
 
 -- fewer keys are marked as timed out
-fewer_timers : (server : Server) (expired : Key → Bool) → IsSound server → ((key : Key) → expired key ≡ true → server.expired key ≡ true)
+fewer_timers : (server : Server) (expired : Key → Bool) → IsSound server
+    → ((key : Key) → expired key ≡ true → server.expired key ≡ true)
     → AreSound server.opens server.leases expired server.last_id
 fewer_timers server expired s fewer = record {
   one_writer = s.one_writer;
@@ -72,60 +73,82 @@ one_timer server key s none = record {
       (λ same e. ap (λ x. server.leases x) same ∙ none) (λ differs. s.timed_out k);
 }
 
-pub joined-sound : (client : ℕ) (progress : Progress) → IsSound progress.server → IsSound (joined client progress).server
+pub joined-sound : (client : ℕ) (progress : Progress) → IsSound progress.server
+    → IsSound (joined client progress).server
 unfolding joined
-joined-sound client progress s = fewer_timers progress.server (λ key. if key.client == client then false else progress.server.expired key) s
-    (λ key. if_cases (λ b. b ≡ true → progress.server.expired key ≡ true) (key.client == client) false (progress.server.expired key)
+joined-sound client progress s = fewer_timers progress.server
+    (λ key. if key.client == client then false else progress.server.expired key) s
+    (λ key. if_cases (λ b. b ≡ true → progress.server.expired key ≡ true) (key.client == client) false
+    (progress.server.expired key)
     (λ e never. absurd (true≢false (sym never))) (λ e same. same))
 
 -- a choice of two calls under way
-sound_cases : (b : Bool) (x y : Progress) → (b ≡ true → IsSound x.server) → (b ≡ false → IsSound y.server) → IsSound (cond b x y).server
+sound_cases : (b : Bool) (x y : Progress) → (b ≡ true → IsSound x.server) → (b ≡ false → IsSound y.server)
+    → IsSound (cond b x y).server
 sound_cases b x y at_true at_false = if_cases (λ p. IsSound p.server) b x y at_true at_false
 
 pub join-sound : (server : Server) (client : ℕ) → IsSound server → IsSound (join server client).server
 unfolding join
-join-sound server client s = sound_cases (server.connected client) (begun server) (joined client (begun server))
+join-sound server client s = sound_cases (server.connected client) (begun server)
+    (joined client (begun server))
     (λ e. s) (λ e. joined-sound client (begun server) s)
 
 after_first_try-sound : (client file : ℕ) (request : Request) (progress : Progress) (outcome : Outcome)
     → IsGoodTry client request (record { progress = progress; outcome = outcome })
     → IsSound (after_first_try client file request progress outcome).server
-after_first_try-sound client file request progress Outcome.Waits good = request_held-sound file (held_of client request) progress good.sound
-after_first_try-sound client file request progress (Outcome.Refused status) good = concluded-sound client request progress (Outcome.Refused status) good.sound
+after_first_try-sound client file request progress Outcome.Waits good = request_held-sound file
+    (held_of client request) progress good.sound
+after_first_try-sound client file request progress (Outcome.Refused status) good = concluded-sound client
+    request progress (Outcome.Refused status) good.sound
     (λ r. absurd (cc))
-after_first_try-sound client file request progress Outcome.Ready good = concluded-sound client request progress Outcome.Ready good.sound
+after_first_try-sound client file request progress Outcome.Ready good = concluded-sound client request
+    progress Outcome.Ready good.sound
     (λ r. ready-free client request progress (good.found_ready r))
 
-pub arrived_on-sound : (client : ℕ) (request : Request) (progress : Progress) (asked : Result ℕ Status) → IsSound progress.server
+pub arrived_on-sound : (client : ℕ) (request : Request) (progress : Progress) (asked : Result ℕ Status)
+    → IsSound progress.server
     → IsSound (arrived_on client request progress asked).server
 arrived_on-sound client request progress (Err status) s = refused-sound client request status progress s
-arrived_on-sound client request progress (Ok file) s = sound_cases (is_behind client (progress.server.held file))
+arrived_on-sound client request progress (Ok file) s = sound_cases
+    (is_behind client (progress.server.held file))
     (request_held file (held_of client request) progress)
-    (after_first_try client file request (tried client request progress).progress (tried client request progress).outcome)
+    (after_first_try client file request (tried client request progress).progress
+    (tried client request progress).outcome)
     (λ e. request_held-sound file (held_of client request) progress s)
-    (λ e. after_first_try-sound client file request (tried client request progress).progress (tried client request progress).outcome
+    (λ e. after_first_try-sound client file request (tried client request progress).progress
+    (tried client request progress).outcome
     (tried_for-good 3 client request progress s))
 
-arrived-sound : (client : ℕ) (request : Request) (progress : Progress) → IsSound progress.server → IsSound (arrived client request progress).server
+arrived-sound : (client : ℕ) (request : Request) (progress : Progress) → IsSound progress.server
+    → IsSound (arrived client request progress).server
 unfolding arrived
-arrived-sound client (Request.Acknowledge given) progress s = all_passes-sound (acknowledged client given progress) (acknowledged-sound client given progress s)
+arrived-sound client (Request.Acknowledge given) progress s = all_passes-sound
+    (acknowledged client given progress) (acknowledged-sound client given progress s)
 arrived-sound client (Request.Close file_id) progress s = all_passes-sound
-    (arrived_on client (Request.Close file_id) progress (file_asked progress.server client (Request.Close file_id)))
-    (arrived_on-sound client (Request.Close file_id) progress (file_asked progress.server client (Request.Close file_id)) s)
+    (arrived_on client (Request.Close file_id) progress
+    (file_asked progress.server client (Request.Close file_id)))
+    (arrived_on-sound client (Request.Close file_id) progress
+    (file_asked progress.server client (Request.Close file_id)) s)
 arrived-sound client (Request.Create file access share contexts) progress s =
-    arrived_on-sound client (Request.Create file access share contexts) progress (file_asked progress.server client (Request.Create file access share contexts)) s
+    arrived_on-sound client (Request.Create file access share contexts) progress
+    (file_asked progress.server client (Request.Create file access share contexts)) s
 arrived-sound client (Request.Read file_id) progress s =
-    arrived_on-sound client (Request.Read file_id) progress (file_asked progress.server client (Request.Read file_id)) s
+    arrived_on-sound client (Request.Read file_id) progress
+    (file_asked progress.server client (Request.Read file_id)) s
 arrived-sound client (Request.Write file_id number patch) progress s =
-    arrived_on-sound client (Request.Write file_id number patch) progress (file_asked progress.server client (Request.Write file_id number patch)) s
+    arrived_on-sound client (Request.Write file_id number patch) progress
+    (file_asked progress.server client (Request.Write file_id number patch)) s
 
-pub receive-sound : (server : Server) (client : ℕ) (request : Request) → IsSound server → IsSound (receive server client request).server
+pub receive-sound : (server : Server) (client : ℕ) (request : Request) → IsSound server
+    → IsSound (receive server client request).server
 unfolding receive
-receive-sound server client request s = sound_cases (server.connected client) (arrived client request (begun server)) (begun server)
+receive-sound server client request s = sound_cases (server.connected client)
+    (arrived client request (begun server)) (begun server)
     (λ e. arrived-sound client request (begun server) s) (λ e. s)
 
 -- the key of an open whose lease holds H
-handle_key : (server : Server) (client : ℕ) (bytes : Option (List ℕ)) → (lease_by server client bytes).state.handle ≡ true
+handle_key : (server : Server) (client : ℕ) (bytes : Option (List ℕ))
+    → (lease_by server client bytes).state.handle ≡ true
     → (key : Key) × (is_key key client bytes ≡ true)
 handle_key server client None h = absurd (true≢false (sym h))
 handle_key server client (Some bytes) h = (key_of client bytes, is_key-refl client bytes)
@@ -134,10 +157,12 @@ handle_key server client (Some bytes) h = (key_of client bytes, is_key-refl clie
 pub kept_lasting : (server : Server) (one : Open) → is_kept server one ≡ true → IsLasting server.leases one
 unfolding is_kept
 kept_lasting server one kept =
-    let outer = and_parts (one.durable && (lease_of server one).state.handle) (not (is_breaking (lease_of server one))) kept in
+    let outer = and_parts (one.durable && (lease_of server one).state.handle)
+    (not (is_breaking (lease_of server one))) kept in
     let inner = and_parts one.durable (lease_of server one).state.handle outer.0 in
     let k = handle_key server one.client one.lease_key inner.1 in
-    let same : lease_of server one ≡ server.leases k.0 = lease_by-key server k.0 one.client one.lease_key k.1 in
+    let same : lease_of server one ≡ server.leases k.0 = lease_by-key server k.0 one.client one.lease_key
+    k.1 in
     record {
       is_durable = inner.0;
       key = k.0;
@@ -147,11 +172,13 @@ kept_lasting server one kept =
     }
 
 -- an open that outlives its connection does so among fewer opens, if it is there
-pub lasting_left : (test : Open → Bool) (progress : Progress) (one : Open) → Among one (opens_dropped test progress).server.opens
+pub lasting_left : (test : Open → Bool) (progress : Progress) (one : Open)
+    → Among one (opens_dropped test progress).server.opens
     → IsLasting progress.server.leases one → IsLasting (opens_dropped test progress).server.leases one
 unfolding opens_dropped with_opens
 lasting_left test progress one a l =
-    let same = left_here progress.server.leases (without test progress.server.opens) l.key one a l.has_the_key in
+    let same = left_here progress.server.leases (without test progress.server.opens) l.key one a
+    l.has_the_key in
     record {
       is_durable = l.is_durable;
       key = l.key;
@@ -162,7 +189,8 @@ lasting_left test progress one a l =
 
 -- once the lost opens of a client are dropped, each of its others outlives its connection
 pub left_lasting : (client : ℕ) (server : Server) (one : Open) → IsSound server
-    → Among one (opens_dropped (is_lost server client) (begun server)).server.opens → one.client ≡ client → IsLasting server.leases one
+    → Among one (opens_dropped (is_lost server client) (begun server)).server.opens → one.client ≡ client
+    → IsLasting server.leases one
 unfolding opens_dropped with_opens
 left_lasting client server one s a c =
     let was = among_filter (λ x. not (is_lost server client x)) one server.opens a in
@@ -175,20 +203,25 @@ left_lasting client server one s a c =
     (λ down. s.disconnected one was.0 down)
 
 pub opens_disconnected-sound : (client : ℕ) (progress : Progress) → IsSound progress.server
-    → ((one : Open) → Among one progress.server.opens → one.client ≡ client → IsLasting progress.server.leases one)
+    → ((one : Open) → Among one progress.server.opens → one.client ≡ client
+    → IsLasting progress.server.leases one)
     → IsSound (opens_disconnected client progress).server
 unfolding opens_disconnected
 opens_disconnected-sound client progress s lasting =
     let up : Open → Bool = λ x. if x.client == client then false else x.connected in
     subst (λ opens. AreSound opens progress.server.leases progress.server.expired progress.server.last_id)
-    (sym (map_same (disconnected client) (with_connection up) progress.server.opens (λ one. choose_connection (one.client == client) false one)))
-    (connection_sound up progress.server.opens progress.server.leases progress.server.expired progress.server.last_id s
+    (sym (map_same (disconnected client) (with_connection up) progress.server.opens
+    (λ one. choose_connection (one.client == client) false one)))
+    (connection_sound up progress.server.opens progress.server.leases progress.server.expired
+    progress.server.last_id s
     (λ one a d. either (one.client == client)
     (λ e. lasting one a ((Decides-eqb one.client client).0 e))
-    (λ e. s.disconnected one a (if_cases (λ b. b ≡ false → one.connected ≡ false) (one.client == client) false one.connected
+    (λ e. s.disconnected one a (if_cases (λ b. b ≡ false → one.connected ≡ false) (one.client == client) false
+    one.connected
     (λ t. clash (one.client == client) t e) (λ t same. same) d))))
 
-pub client_forgotten-sound : (client : ℕ) (progress : Progress) → IsSound progress.server → IsSound (client_forgotten client progress).server
+pub client_forgotten-sound : (client : ℕ) (progress : Progress) → IsSound progress.server
+    → IsSound (client_forgotten client progress).server
 unfolding client_forgotten
 client_forgotten-sound client progress s = s
 
@@ -196,26 +229,33 @@ cut-sound : (server : Server) (client : ℕ) → IsSound server → IsSound (cut
 unfolding cut
 cut-sound server client s =
     let dropped = opens_dropped (is_lost server client) (begun server) in
-    sound_cases (server.connected client) (all_passes (client_forgotten client (opens_disconnected client dropped))) (begun server)
+    sound_cases (server.connected client) (all_passes
+    (client_forgotten client (opens_disconnected client dropped))) (begun server)
     (λ e. all_passes-sound (client_forgotten client (opens_disconnected client dropped))
     (client_forgotten-sound client (opens_disconnected client dropped)
     (opens_disconnected-sound client dropped (opens_dropped-sound (is_lost server client) (begun server) s)
-    (λ one a c. lasting_left (is_lost server client) (begun server) one a (left_lasting client server one s a c)))))
+    (λ one a c. lasting_left (is_lost server client) (begun server) one a
+    (left_lasting client server one s a c)))))
     (λ e. s)
 
-none_left : (key : Key) (opens : List Open) {X : Type 0} → list_any (has_key key) (without (has_key key) opens) ≡ true → X
+none_left : (key : Key) (opens : List Open) {X : Type 0}
+    → list_any (has_key key) (without (has_key key) opens) ≡ true → X
 none_left key opens e =
     let x = any_has (has_key key) (without (has_key key) opens) e in
-    clash (has_key key x.0) x.2 (not_parts (has_key key x.0) (among_filter (λ one. not (has_key key one)) x.0 opens x.1).1)
+    clash (has_key key x.0) x.2 (not_parts (has_key key x.0)
+    (among_filter (λ one. not (has_key key one)) x.0 opens x.1).1)
 
 -- a key whose opens are dropped has no lease
-pub dropped_lease : (key : Key) (progress : Progress) → (opens_dropped (has_key key) progress).server.leases key ≡ no_lease
+pub dropped_lease : (key : Key) (progress : Progress)
+    → (opens_dropped (has_key key) progress).server.leases key ≡ no_lease
 unfolding opens_dropped with_opens
-dropped_lease key progress = if_cases (λ l. l ≡ no_lease) (list_any (has_key key) (without (has_key key) progress.server.opens))
+dropped_lease key progress = if_cases (λ l. l ≡ no_lease)
+    (list_any (has_key key) (without (has_key key) progress.server.opens))
     (progress.server.leases key) no_lease
     (λ e. none_left key progress.server.opens e) (λ e. refl)
 
-pub key_expired-sound : (key : Key) (progress : Progress) → IsSound progress.server → progress.server.leases key ≡ no_lease
+pub key_expired-sound : (key : Key) (progress : Progress) → IsSound progress.server
+    → progress.server.leases key ≡ no_lease
     → IsSound (key_expired key progress).server
 unfolding key_expired
 key_expired-sound key progress s none = one_timer progress.server key s none
@@ -225,7 +265,8 @@ unfolding expire
 expire-sound server key s = sound_cases (is_breaking (server.leases key))
     (all_passes (key_expired key (opens_dropped (has_key key) (begun server)))) (begun server)
     (λ e. all_passes-sound (key_expired key (opens_dropped (has_key key) (begun server)))
-    (key_expired-sound key (opens_dropped (has_key key) (begun server)) (opens_dropped-sound (has_key key) (begun server) s)
+    (key_expired-sound key (opens_dropped (has_key key) (begun server))
+    (opens_dropped-sound (has_key key) (begun server) s)
     (dropped_lease key (begun server))))
     (λ e. s)
 
@@ -233,7 +274,8 @@ scavenge-sound : (server : Server) (file_id : ℕ) → IsSound server → IsSoun
 unfolding scavenge
 scavenge-sound server file_id s = sound_cases (list_any (is_kept_open file_id) server.opens)
     (all_passes (opens_dropped (is_kept_open file_id) (begun server))) (begun server)
-    (λ e. all_passes-sound (opens_dropped (is_kept_open file_id) (begun server)) (opens_dropped-sound (is_kept_open file_id) (begun server) s))
+    (λ e. all_passes-sound (opens_dropped (is_kept_open file_id) (begun server))
+    (opens_dropped-sound (is_kept_open file_id) (begun server) s))
     (λ e. s)
 
 -- every call keeps the laws

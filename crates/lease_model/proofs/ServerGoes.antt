@@ -10,7 +10,7 @@ use Rattle.lease_state.specs.declared.status.Status.{Status}
 use Rattle.lease_model.specs.Acknowledge.{break_ended, judged, acknowledged}
 use Rattle.lease_model.specs.Answers.{changed, read_done, closed, created, on_open, on_contexts, answered, concluded}
 use Rattle.lease_model.specs.Attempt.{Outcome, Tried, is_left_open, lease_broken, want_met, wants_met, ended, must_wait, after_breaks, after_finding, tried_for}
-use Rattle.lease_model.specs.Content.{Patch}
+use Rattle.lease_state.specs.declared.patch.Patch.{Patch}
 use Rattle.lease_model.specs.Grant.{granted, granted_with, reconnected, lease_after, connected_again, new_open}
 use Rattle.lease_model.specs.Key.{Key}
 use Rattle.lease_model.specs.LeaseStates.{is_within}
@@ -26,7 +26,8 @@ use Rattle.lease_model.proofs.ServerLists.{if_cases, and_parts, among_append, am
 use Rattle.lease_model.proofs.ServerTries.{IsFoundReady}
 
 -- two opens of one FileId are one
-pub one_id : (opens : List Open) (one other : Open) → AreInOrder opens → Among one opens → Among other opens → one.file_id ≡ other.file_id → one ≡ other
+pub one_id : (opens : List Open) (one other : Open) → AreInOrder opens → Among one opens → Among other opens
+    → one.file_id ≡ other.file_id → one ≡ other
 one_id [] one other order a b e = absurd a
 one_id (first ∷ opens) one other order (inl p) (inl q) e = p ∙ sym q
 one_id (first ∷ opens) one other order (inl p) (inr q) e =
@@ -57,10 +58,24 @@ pub record GoesOn (before : Server) (after : Server) : Type 0 where
   pub from : (one : Open) → Among one after.opens → IsOld before one ⊎ IsNew before one
 
 pub still_there : (before : Server) (one : Open) → Among one before.opens → IsOld before one
-still_there before one a = record { was = one; was_there = a; same_id = refl; same_file = refl; same_client = refl; up = λ e. inl e }
+still_there before one a = record {
+  was = one;
+  was_there = a;
+  same_id = refl;
+  same_file = refl;
+  same_client =
+      refl;
+  up = λ e. inl e;
+}
 
 pub goes-same : (server : Server) → GoesOn server server
-goes-same server = record { files = refl; ups = λ c. refl; ids = omega arith; from = λ one a. inl (still_there server one a) }
+goes-same server = record {
+  files = refl;
+  ups = λ c. refl;
+  ids = omega arith;
+  from = λ one a. inl
+      (still_there server one a);
+}
 
 pub file_frame : (a b : Server) (file : ℕ) → b.files ≡ a.files → has_file b file ≡ has_file a file
 file_frame a b file e = ap (λ n. has_file (record a { files = n }) file) e
@@ -97,7 +112,8 @@ goes-twice a b c g h = record {
   ups = λ client. h.ups client ∙ g.ups client;
   ids = let x = g.ids in let y = h.ids in omega (arith, x, y);
   from = λ one m. ⊎_elim
-      (λ o. ⊎_elim (λ p. inl (old_of_old a b one g o p)) (λ p. inr (new_of_old a b one o p)) (g.from o.was o.was_there))
+      (λ o. ⊎_elim (λ p. inl (old_of_old a b one g o p)) (λ p. inr (new_of_old a b one o p))
+      (g.from o.was o.was_there))
       (λ n. inr (new_of_new a b one g n)) (h.from one m);
 }
 
@@ -111,22 +127,39 @@ dropped-goes test progress = record {
   files = refl;
   ups = λ c. refl;
   ids = omega arith;
-  from = λ one a. inl (still_there progress.server one (among_filter (λ x. not (test x)) one progress.server.opens a).0);
+  from = λ one a. inl (still_there progress.server one
+      (among_filter (λ x. not (test x)) one progress.server.opens a).0);
 }
 
-lowered-goes : (key : Key) (lowered : State) (progress : Progress) → Goes progress (lease_lowered key lowered progress)
+lowered-goes : (key : Key) (lowered : State) (progress : Progress)
+    → Goes progress (lease_lowered key lowered progress)
 unfolding lease_lowered
-lowered-goes key lowered progress = record { files = refl; ups = λ c. refl; ids = omega arith; from = λ one a. inl (still_there progress.server one a) }
+lowered-goes key lowered progress = record {
+  files = refl;
+  ups = λ c. refl;
+  ids = omega arith;
+  from = λ one a.
+      inl (still_there progress.server one a);
+}
 
-begun-goes : (key : Key) (lowered : State) (progress : Progress) → Goes progress (break_begun key lowered progress)
+begun-goes : (key : Key) (lowered : State) (progress : Progress)
+    → Goes progress (break_begun key lowered progress)
 unfolding break_begun
-begun-goes key lowered progress = record { files = refl; ups = λ c. refl; ids = omega arith; from = λ one a. inl (still_there progress.server one a) }
+begun-goes key lowered progress = record {
+  files = refl;
+  ups = λ c. refl;
+  ids = omega arith;
+  from = λ one a.
+      inl (still_there progress.server one a);
+}
 
-lease_broken-goes : (key : Key) (lowered : State) (progress : Progress) → Goes progress (lease_broken key lowered progress)
+lease_broken-goes : (key : Key) (lowered : State) (progress : Progress)
+    → Goes progress (lease_broken key lowered progress)
 unfolding lease_broken
 lease_broken-goes key lowered progress =
     if_cases (Goes progress) (has_lease progress.server key && not (is_breaking (progress.server.leases key)))
-    (if needs_acknowledgment (progress.server.leases key).state then break_begun key lowered progress else lease_lowered key lowered progress) progress
+    (if needs_acknowledgment (progress.server.leases key).state then break_begun key lowered progress else
+    lease_lowered key lowered progress) progress
     (λ t. if_cases (Goes progress) (needs_acknowledgment (progress.server.leases key).state)
     (break_begun key lowered progress) (lease_lowered key lowered progress)
     (λ n. begun-goes key lowered progress) (λ n. lowered-goes key lowered progress))
@@ -142,26 +175,32 @@ want_met-goes want progress =
 wants_met-goes : (wants : List Want) (progress : Progress) → Goes progress (wants_met wants progress)
 unfolding wants_met
 wants_met-goes [] progress = goes-same progress.server
-wants_met-goes (want ∷ wants) progress = goes-twice progress.server (want_met want progress).server (wants_met wants (want_met want progress)).server
+wants_met-goes (want ∷ wants) progress = goes-twice progress.server (want_met want progress).server
+    (wants_met wants (want_met want progress)).server
     (want_met-goes want progress) (wants_met-goes wants (want_met want progress))
 
 after_finding-goes : (again : Progress → Tried) (request : Request) (progress : Progress) (found : Finding)
-    → ((next : Progress) → Goes next (again next).progress) → Goes progress (after_finding again request progress found).progress
+    → ((next : Progress) → Goes next (again next).progress)
+    → Goes progress (after_finding again request progress found).progress
 after_finding-goes again request progress (Finding.Refused status) more = goes-same progress.server
 after_finding-goes again request progress (Finding.Wants wants) more =
     let met = wants_met wants progress in
     if_cases (λ t. Goes progress t.progress) (is_ready request progress.server.leases wants)
     (ended progress Outcome.Ready) (after_breaks again request wants met)
     (λ r. goes-same progress.server)
-    (λ n. if_cases (λ t. Goes progress t.progress) (must_wait request met wants) (ended met Outcome.Waits) (again met)
+    (λ n. if_cases (λ t. Goes progress t.progress) (must_wait request met wants) (ended met Outcome.Waits)
+    (again met)
     (λ w. wants_met-goes wants progress)
-    (λ w. goes-twice progress.server met.server (again met).progress.server (wants_met-goes wants progress) (more met)))
+    (λ w. goes-twice progress.server met.server (again met).progress.server (wants_met-goes wants progress)
+    (more met)))
 
 -- a try
-pub tried_for-goes : (rounds client : ℕ) (request : Request) (progress : Progress) → Goes progress (tried_for rounds client request progress).progress
+pub tried_for-goes : (rounds client : ℕ) (request : Request) (progress : Progress)
+    → Goes progress (tried_for rounds client request progress).progress
 unfolding tried_for
 tried_for-goes zero client request progress = goes-same progress.server
-tried_for-goes (suc rounds) client request progress = after_finding-goes (tried_for rounds client request) request progress
+tried_for-goes (suc rounds) client request progress = after_finding-goes (tried_for rounds client request)
+    request progress
     (finding progress.server client request) (λ next. tried_for-goes rounds client request next)
 
 -- a create that is ready names a file of the server; and a reconnect, an open of its client
@@ -177,19 +216,24 @@ AgainReady server client (Some file_id) = IsAwaited server client file_id
 
 abbrev pub ContextsReady : Server → ℕ → ℕ → Option CreateAsk → Type 0
 ContextsReady server client file None = Unit {0}
-ContextsReady server client file (Some ask) = (has_file server file ≡ true) × AgainReady server client ask.reconnect
+ContextsReady server client file (Some ask) = (has_file server file ≡ true) × AgainReady server client
+    ask.reconnect
 
 abbrev pub FileReady : Server → ℕ → Request → Type 0
-FileReady server client (Request.Create file access share contexts) = ContextsReady server client file contexts
+FileReady server client (Request.Create file access share contexts) = ContextsReady server client file
+    contexts
 FileReady server client request = Unit {0}
 
-awaits_own : (client file : ℕ) (own : Option Key) (file_id : ℕ) (one : Open) → awaits client file own file_id one ≡ true
+awaits_own : (client file : ℕ) (own : Option Key) (file_id : ℕ) (one : Open)
+    → awaits client file own file_id one ≡ true
     → (one.file_id ≡ file_id) × (one.client ≡ client)
 unfolding awaits
 awaits_own client file None file_id one e = absurd (true≢false (sym e))
 awaits_own client file (Some key) file_id one e =
-    let p = and_parts (one.file_id == file_id && not one.connected && one.client == client && one.file == file) (has_key key one) e in
-    let q = and_parts (one.file_id == file_id && not one.connected && one.client == client) (one.file == file) p.0 in
+    let p = and_parts (one.file_id == file_id && not one.connected && one.client == client && one.file ==
+    file) (has_key key one) e in
+    let q = and_parts (one.file_id == file_id && not one.connected && one.client == client) (one.file == file)
+    p.0 in
     let r = and_parts (one.file_id == file_id && not one.connected) (one.client == client) q.0 in
     let t = and_parts (one.file_id == file_id) (not one.connected) r.0 in
     ((Decides-eqb one.file_id file_id).0 t.0, (Decides-eqb one.client client).0 r.1)
@@ -198,29 +242,40 @@ reconnect_awaited : (server : Server) (client file : ℕ) (own : Option Key) (fi
     → reconnect_finding server client file own file_id ≡ Finding.Wants wants → IsAwaited server client file_id
 unfolding reconnect_finding
 reconnect_awaited server client file own file_id wants =
-    if_cases (λ found. found ≡ Finding.Wants wants → IsAwaited server client file_id) (list_any (awaits client file own file_id) server.opens)
+    if_cases (λ found. found ≡ Finding.Wants wants → IsAwaited server client file_id)
+    (list_any (awaits client file own file_id) server.opens)
     (Finding.Wants []) (Finding.Refused Status.ObjectNameNotFound)
-    (λ e same. let x = any_has (awaits client file own file_id) server.opens e in let y = awaits_own client file own file_id x.0 x.2 in
+    (λ e same. let x = any_has (awaits client file own file_id) server.opens e in let y = awaits_own client
+    file own file_id x.0 x.2 in
     record { one = x.0; is_there = x.1; has_id = y.0; is_own = y.1 })
     (λ e never. absurd (cc))
 
-asked_again : (server : Server) (client file : ℕ) (access : Access) (share : Share) (lease : Option LeaseOf) (again : Option ℕ) (wants : List Want)
-    → asked_finding server client file access share lease again ≡ Finding.Wants wants → AgainReady server client again
+asked_again : (server : Server) (client file : ℕ) (access : Access) (share : Share) (lease : Option LeaseOf)
+    (again : Option ℕ) (wants : List Want)
+    → asked_finding server client file access share lease again ≡ Finding.Wants wants
+    → AgainReady server client again
 asked_again server client file access share lease None wants e = tt
-asked_again server client file access share lease (Some file_id) wants e = reconnect_awaited server client file (own_key client lease) file_id wants e
+asked_again server client file access share lease (Some file_id) wants e = reconnect_awaited server client
+    file (own_key client lease) file_id wants e
 
-contexts_ready : (server : Server) (client file : ℕ) (access : Access) (share : Share) (contexts : Option CreateAsk) (wants : List Want)
-    → finding server client (Request.Create file access share contexts) ≡ Finding.Wants wants → ContextsReady server client file contexts
+contexts_ready : (server : Server) (client file : ℕ) (access : Access) (share : Share)
+    (contexts : Option CreateAsk) (wants : List Want)
+    → finding server client (Request.Create file access share contexts) ≡ Finding.Wants wants
+    → ContextsReady server client file contexts
 unfolding finding
 contexts_ready server client file access share None wants e = tt
 contexts_ready server client file access share (Some ask) wants e =
-    if_cases (λ found. found ≡ Finding.Wants wants → ContextsReady server client file (Some ask)) (has_file server file)
-    (asked_finding server client file access share ask.lease ask.reconnect) (Finding.Refused Status.ObjectNameNotFound)
+    if_cases (λ found. found ≡ Finding.Wants wants → ContextsReady server client file (Some ask))
+    (has_file server file)
+    (asked_finding server client file access share ask.lease ask.reconnect)
+    (Finding.Refused Status.ObjectNameNotFound)
     (λ t same. (t, asked_again server client file access share ask.lease ask.reconnect wants same))
     (λ t never. absurd (cc)) e
 
-pub ready-file : (client : ℕ) (request : Request) (progress : Progress) → IsFoundReady client request progress → FileReady progress.server client request
-ready-file client (Request.Create file access share contexts) progress r = contexts_ready progress.server client file access share contexts r.wants r.found
+pub ready-file : (client : ℕ) (request : Request) (progress : Progress) → IsFoundReady client request progress
+    → FileReady progress.server client request
+ready-file client (Request.Create file access share contexts) progress r = contexts_ready progress.server
+    client file access share contexts r.wants r.found
 ready-file client (Request.Read file_id) progress r = tt
 ready-file client (Request.Write file_id number patch) progress r = tt
 ready-file client (Request.Close file_id) progress r = tt
@@ -232,41 +287,51 @@ added : (new : Open) (progress : Progress) (one : Open) → new.file_id ≡ prog
 added new progress one id up on a = ⊎_elim
     (λ h. inl (still_there progress.server one h))
     (λ h. ⊎_elim (λ same. inr (record {
-      is_new = let e : one.file_id ≡ progress.server.last_id + 1 = ap (λ o. o.file_id) same ∙ id in omega (arith, e);
+      is_new = let e : one.file_id ≡ progress.server.last_id + 1 = ap (λ o. o.file_id) same
+          ∙ id in omega (arith, e);
       up = ap (λ o. progress.server.connected o.client) same ∙ up;
       on_file = ap (λ o. has_file progress.server o.file) same ∙ on;
     })) (λ never. absurd never) h)
     (among_append one progress.server.opens (new ∷ []) a)
 
-granted_with-goes : (client file : ℕ) (access : Access) (share : Share) (asked : Option LeaseOf) (durable : Bool) (lease : Lease) (progress : Progress)
-    → progress.server.connected client ≡ true → has_file progress.server file ≡ true → Goes progress (granted_with client file access share asked durable lease progress)
+granted_with-goes : (client file : ℕ) (access : Access) (share : Share) (asked : Option LeaseOf)
+    (durable : Bool) (lease : Lease) (progress : Progress)
+    → progress.server.connected client ≡ true → has_file progress.server file ≡ true
+    → Goes progress (granted_with client file access share asked durable lease progress)
 unfolding granted_with
 granted_with-goes client file access share None durable lease progress up on = record {
   files = refl;
   ups = λ c. refl;
   ids = omega arith;
-  from = λ one a. added (new_open progress.server client file access share None durable lease) progress one refl up on a;
+  from = λ one a. added (new_open progress.server client file access share None durable lease) progress one
+      refl up on a;
 }
 granted_with-goes client file access share (Some asked) durable lease progress up on = record {
   files = refl;
   ups = λ c. refl;
   ids = omega arith;
-  from = λ one a. added (new_open progress.server client file access share (Some asked) durable lease) progress one refl up on a;
+  from = λ one a. added (new_open progress.server client file access share (Some asked) durable lease)
+      progress one refl up on a;
 }
 
-granted-goes : (client file : ℕ) (access : Access) (share : Share) (asked : Option LeaseOf) (durable : Bool) (progress : Progress)
-    → progress.server.connected client ≡ true → has_file progress.server file ≡ true → Goes progress (granted client file access share asked durable progress)
+granted-goes : (client file : ℕ) (access : Access) (share : Share) (asked : Option LeaseOf) (durable : Bool)
+    (progress : Progress)
+    → progress.server.connected client ≡ true → has_file progress.server file ≡ true
+    → Goes progress (granted client file access share asked durable progress)
 unfolding granted
 granted-goes client file access share asked durable progress up on =
     if_cases (Goes progress) (progress.server.last_id == last_file_id)
     (replied client (Reply.CreateFailed file Status.InsufficientResources) progress)
-    (granted_with client file access share asked durable (lease_after progress.server client file asked) progress)
+    (granted_with client file access share asked durable (lease_after progress.server client file asked)
+    progress)
     (λ e. goes-same progress.server)
-    (λ e. granted_with-goes client file access share asked durable (lease_after progress.server client file asked) progress up on)
+    (λ e. granted_with-goes client file access share asked durable
+    (lease_after progress.server client file asked) progress up on)
 
 -- an open that is connected again is one of its client
 again_old : (server : Server) (client file_id : ℕ) (was : Open) (b : Bool) → (was.file_id == file_id) ≡ b
-    → IsSound server → IsAwaited server client file_id → server.connected client ≡ true → Among was server.opens
+    → IsSound server → IsAwaited server client file_id → server.connected client ≡ true
+    → Among was server.opens
     → IsOld server (cond b (record was { connected = true }) was)
 again_old server client file_id was true e s w up a = record {
   was = was;
@@ -275,13 +340,16 @@ again_old server client file_id was true e s w up a = record {
   same_file = refl;
   same_client = refl;
   up = λ u. inr (ap (λ o. server.connected o.client)
-      (one_id server.opens was w.one s.in_order a w.is_there ((Decides-eqb was.file_id file_id).0 e ∙ sym w.has_id))
+      (one_id server.opens was w.one s.in_order a w.is_there
+      ((Decides-eqb was.file_id file_id).0 e ∙ sym w.has_id))
       ∙ ap (λ c. server.connected c) w.is_own ∙ up);
 }
 again_old server client file_id was false e s w up a = still_there server was a
 
-reconnected-goes : (client file : ℕ) (asked : Option LeaseOf) (file_id : ℕ) (progress : Progress) → IsSound progress.server
-    → IsAwaited progress.server client file_id → progress.server.connected client ≡ true → Goes progress (reconnected client file asked file_id progress)
+reconnected-goes : (client file : ℕ) (asked : Option LeaseOf) (file_id : ℕ) (progress : Progress)
+    → IsSound progress.server
+    → IsAwaited progress.server client file_id → progress.server.connected client ≡ true
+    → Goes progress (reconnected client file asked file_id progress)
 unfolding reconnected
 reconnected-goes client file asked file_id progress s w up = record {
   files = refl;
@@ -292,27 +360,43 @@ reconnected-goes client file asked file_id progress s w up = record {
       (again_old progress.server client file_id x.0 ((x.0).file_id == file_id) refl s w up x.1));
 }
 
-changed-goes : (client file file_id number : ℕ) (patch : Patch) (progress : Progress) → Goes progress (changed client file file_id number patch progress)
+changed-goes : (client file file_id number : ℕ) (patch : Patch) (progress : Progress)
+    → Goes progress (changed client file file_id number patch progress)
 unfolding changed
-changed-goes client file file_id number patch progress = record { files = refl; ups = λ c. refl; ids = omega arith; from = λ one a. inl (still_there progress.server one a) }
+changed-goes client file file_id number patch progress =
+    record {
+      files = refl;
+      ups = λ c. refl;
+      ids = omega arith;
+      from = λ one a. inl
+          (still_there progress.server one a);
+    }
 
 closed-goes : (client file_id : ℕ) (progress : Progress) → Goes progress (closed client file_id progress)
 unfolding closed
 closed-goes client file_id progress = dropped-goes (λ one. one.file_id == file_id) progress
 
-refused-goes : (client : ℕ) (request : Request) (status : Status) (progress : Progress) → Goes progress (refused client request status progress)
+pub refused-goes : (client : ℕ) (request : Request) (status : Status) (progress : Progress)
+    → Goes progress (refused client request status progress)
 unfolding refused
 refused-goes client request status progress = goes-same progress.server
 
-created-goes : (client file : ℕ) (access : Access) (share : Share) (asked : Option LeaseOf) (durable : Bool) (again : Option ℕ) (progress : Progress)
-    → IsSound progress.server → progress.server.connected client ≡ true → has_file progress.server file ≡ true → AgainReady progress.server client again
+created-goes : (client file : ℕ) (access : Access) (share : Share) (asked : Option LeaseOf) (durable : Bool)
+    (again : Option ℕ) (progress : Progress)
+    → IsSound progress.server → progress.server.connected client ≡ true → has_file progress.server file ≡ true
+    → AgainReady progress.server client again
     → Goes progress (created client file access share asked durable again progress)
-created-goes client file access share asked durable None progress s up on again = granted-goes client file access share asked durable progress up on
-created-goes client file access share asked durable (Some file_id) progress s up on again = reconnected-goes client file asked file_id progress s again up
+created-goes client file access share asked durable None progress s up on again = granted-goes client file
+    access share asked durable progress up on
+created-goes client file access share asked durable (Some file_id) progress s up on again = reconnected-goes
+    client file asked file_id progress s again up
 
-on_contexts-goes : (client file : ℕ) (access : Access) (share : Share) (contexts : Option CreateAsk) (progress : Progress)
-    → IsSound progress.server → progress.server.connected client ≡ true → ContextsReady progress.server client file contexts
-    → Goes progress (on_contexts contexts (λ ask. created client file access share ask.lease ask.durable ask.reconnect) progress)
+on_contexts-goes : (client file : ℕ) (access : Access) (share : Share) (contexts : Option CreateAsk)
+    (progress : Progress)
+    → IsSound progress.server → progress.server.connected client ≡ true
+    → ContextsReady progress.server client file contexts
+    → Goes progress (on_contexts contexts (λ ask. created client file access share ask.lease ask.durable
+    ask.reconnect) progress)
 on_contexts-goes client file access share None progress s up ready = goes-same progress.server
 on_contexts-goes client file access share (Some ask) progress s up ready =
     created-goes client file access share ask.lease ask.durable ask.reconnect progress s up ready.0 ready.1
@@ -322,42 +406,65 @@ on_open-goes : (one : Option Open) (done : ℕ → Progress → Progress) (progr
 on_open-goes None done progress each = goes-same progress.server
 on_open-goes (Some one) done progress each = each one.file
 
-answered-goes : (client : ℕ) (request : Request) (progress : Progress) → IsSound progress.server → progress.server.connected client ≡ true
+answered-goes : (client : ℕ) (request : Request) (progress : Progress) → IsSound progress.server
+    → progress.server.connected client ≡ true
     → FileReady progress.server client request → Goes progress (answered client request progress)
 unfolding answered
-answered-goes client (Request.Create file access share contexts) progress s up ready = on_contexts-goes client file access share contexts progress s up ready
-answered-goes client (Request.Read file_id) progress s up ready = on_open-goes (connected_open progress.server client file_id)
+answered-goes client (Request.Create file access share contexts) progress s up ready = on_contexts-goes client
+    file access share contexts progress s up ready
+answered-goes client (Request.Read file_id) progress s up ready = on_open-goes
+    (connected_open progress.server client file_id)
     (λ file. read_done client file file_id) progress (λ file. goes-same progress.server)
-answered-goes client (Request.Write file_id number patch) progress s up ready = on_open-goes (connected_open progress.server client file_id)
-    (λ file. changed client file file_id number patch) progress (λ file. changed-goes client file file_id number patch progress)
-answered-goes client (Request.Close file_id) progress s up ready = on_open-goes (connected_open progress.server client file_id)
+answered-goes client (Request.Write file_id number patch) progress s up ready = on_open-goes
+    (connected_open progress.server client file_id)
+    (λ file. changed client file file_id number patch) progress
+    (λ file. changed-goes client file file_id number patch progress)
+answered-goes client (Request.Close file_id) progress s up ready = on_open-goes
+    (connected_open progress.server client file_id)
     (λ file. closed client file_id) progress (λ file. closed-goes client file_id progress)
 answered-goes client (Request.Acknowledge acknowledged) progress s up ready = goes-same progress.server
 
 -- the end of a try
-pub concluded-goes : (client : ℕ) (request : Request) (progress : Progress) (outcome : Outcome) → IsSound progress.server
-    → progress.server.connected client ≡ true → (outcome ≡ Outcome.Ready → FileReady progress.server client request)
+pub concluded-goes : (client : ℕ) (request : Request) (progress : Progress) (outcome : Outcome)
+    → IsSound progress.server
+    → progress.server.connected client ≡ true
+    → (outcome ≡ Outcome.Ready → FileReady progress.server client request)
     → Goes progress (concluded client request progress outcome)
-concluded-goes client request progress (Outcome.Refused status) s up ready = refused-goes client request status progress
+concluded-goes client request progress (Outcome.Refused status) s up ready = refused-goes client request
+    status progress
 concluded-goes client request progress Outcome.Waits s up ready = goes-same progress.server
-concluded-goes client request progress Outcome.Ready s up ready = answered-goes client request progress s up (ready refl)
+concluded-goes client request progress Outcome.Ready s up ready = answered-goes client request progress s up
+    (ready refl)
 
-ended-goes : (key : Key) (state : State) (progress : Progress) → Goes progress (break_ended key state progress)
+ended-goes : (key : Key) (state : State) (progress : Progress)
+    → Goes progress (break_ended key state progress)
 unfolding break_ended
-ended-goes key state progress = record { files = refl; ups = λ c. refl; ids = omega arith; from = λ one a. inl (still_there progress.server one a) }
+ended-goes key state progress = record {
+  files = refl;
+  ups = λ c. refl;
+  ids = omega arith;
+  from = λ one a. inl
+      (still_there progress.server one a);
+}
 
-judged-goes : (key : Key) (state : State) (broken : Option State) (progress : Progress) → Goes progress (judged key state broken progress)
+judged-goes : (key : Key) (state : State) (broken : Option State) (progress : Progress)
+    → Goes progress (judged key state broken progress)
 judged-goes key state None progress = goes-same progress.server
-judged-goes key state (Some lowered) progress = if_cases (Goes progress) (is_within state lowered) (break_ended key state progress)
+judged-goes key state (Some lowered) progress = if_cases (Goes progress) (is_within state lowered)
+    (break_ended key state progress)
     (replied key.client (Reply.AckFailed Status.RequestNotAccepted) progress)
     (λ e. ended-goes key state progress) (λ e. goes-same progress.server)
 
 -- any acknowledgment
-pub acknowledged-goes : (client : ℕ) (given : Option LeaseOf) (progress : Progress) → Goes progress (acknowledged client given progress)
+pub acknowledged-goes : (client : ℕ) (given : Option LeaseOf) (progress : Progress)
+    → Goes progress (acknowledged client given progress)
 unfolding acknowledged
 acknowledged-goes client None progress = goes-same progress.server
-acknowledged-goes client (Some given) progress = if_cases (Goes progress) (has_lease progress.server (key_of client given.key))
-    (judged (key_of client given.key) given.state (progress.server.leases (key_of client given.key)).broken_to progress)
+acknowledged-goes client (Some given) progress = if_cases (Goes progress)
+    (has_lease progress.server (key_of client given.key))
+    (judged (key_of client given.key) given.state (progress.server.leases (key_of client given.key)).broken_to
+    progress)
     (replied client (Reply.AckFailed Status.ObjectNameNotFound) progress)
-    (λ e. judged-goes (key_of client given.key) given.state (progress.server.leases (key_of client given.key)).broken_to progress)
+    (λ e. judged-goes (key_of client given.key) given.state
+    (progress.server.leases (key_of client given.key)).broken_to progress)
     (λ e. goes-same progress.server)

@@ -27,7 +27,8 @@ key_eq-refl key = and_both (key.client == key.client) (bytes_eq key.bytes key.by
     ((Decides-eqb key.client key.client).1 refl) ((bytes_eq-Decides key.bytes key.bytes).1 refl)
 
 -- what an open's key says: its client and its bytes
-is_key-bytes : (key : Key) (client : ℕ) (bytes : List ℕ) → is_key key client (Some bytes) ≡ true → key ≡ key_of client bytes
+is_key-bytes : (key : Key) (client : ℕ) (bytes : List ℕ) → is_key key client (Some bytes) ≡ true
+    → key ≡ key_of client bytes
 is_key-bytes key client bytes h =
     let parts = and_parts (key.client == client) (bytes_eq key.bytes bytes) h in
     key_of_parts key (key_of client bytes) ((Decides-eqb key.client client).0 parts.0)
@@ -38,17 +39,20 @@ is_key-refl client bytes = and_both (client == client) (bytes_eq bytes bytes)
     ((Decides-eqb client client).1 refl) ((bytes_eq-Decides bytes bytes).1 refl)
 
 -- an open has one key at most
-pub is_key-one : (one other : Key) (client : ℕ) (bytes : Option (List ℕ)) → is_key one client bytes ≡ true → is_key other client bytes ≡ true → one ≡ other
+pub is_key-one : (one other : Key) (client : ℕ) (bytes : Option (List ℕ)) → is_key one client bytes ≡ true
+    → is_key other client bytes ≡ true → one ≡ other
 is_key-one one other client None h k = absurd (true≢false (sym h))
 is_key-one one other client (Some bytes) h k =
     is_key-bytes one client bytes h ∙ sym (is_key-bytes other client bytes k)
 
 -- the lease of an open is that of its key
-pub lease_by-key : (server : Server) (key : Key) (client : ℕ) (bytes : Option (List ℕ)) → is_key key client bytes ≡ true → lease_by server client bytes ≡ server.leases key
+pub lease_by-key : (server : Server) (key : Key) (client : ℕ) (bytes : Option (List ℕ))
+    → is_key key client bytes ≡ true → lease_by server client bytes ≡ server.leases key
 lease_by-key server key client None h = absurd (true≢false (sym h))
-lease_by-key server key client (Some bytes) h = ap (λ k. server.leases k) (sym (is_key-bytes key client bytes h))
+lease_by-key server key client (Some bytes) h = ap (λ k. server.leases k)
+    (sym (is_key-bytes key client bytes h))
 
--- the key's place in the table, and every other place
+-- the key's place in the table, and any place
 pub put_key-here : {X : Type 0} (table : Key → X) (key : Key) (new : X) → put_key table key new key ≡ new
 unfolding put_key
 put_key-here table key new = rw (key_eq-refl key) refl

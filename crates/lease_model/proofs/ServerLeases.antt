@@ -21,8 +21,10 @@ pub record MayBecome (opens : List Open) (key : Key) (new : Lease) : Type 0 wher
       → (new.state.handle ≡ true) × (is_breaking new ≡ false)
 
 -- the lease of a key that has an open, and whose timer didn't run out, becomes another
-pub put_sound : (opens : List Open) (leases : Key → Lease) (expired : Key → Bool) (last_id : ℕ) (key : Key) (new : Lease)
-    → AreSound opens leases expired last_id → list_any (has_key key) opens ≡ true → (expired key ≡ true → new ≡ no_lease)
+pub put_sound : (opens : List Open) (leases : Key → Lease) (expired : Key → Bool) (last_id : ℕ) (key : Key)
+    (new : Lease)
+    → AreSound opens leases expired last_id → list_any (has_key key) opens ≡ true
+    → (expired key ≡ true → new ≡ no_lease)
     → MayBecome opens key new → AreSound opens (put_key leases key new) expired last_id
 put_sound opens leases expired last_id key new s there fresh may = record {
   one_writer = λ k one other. put_key-cases
@@ -33,7 +35,8 @@ put_sound opens leases expired last_id key new s there fresh may = record {
       (λ e. s.one_writer k one other);
   no_conflict = s.no_conflict;
   disconnected = λ one a d. let l = s.disconnected one a d in
-      let both : ((put_key leases key new l.key).state.handle ≡ true) × (is_breaking (put_key leases key new l.key) ≡ false) =
+      let both : ((put_key leases key new l.key).state.handle ≡ true) ×
+      (is_breaking (put_key leases key new l.key) ≡ false) =
       put_key-cases (λ x. (x.state.handle ≡ true) × (is_breaking x ≡ false)) leases key new l.key
       (λ same. may.lasts one a (ap (λ x. has_key x one) (sym same) ∙ l.has_the_key) d)
       (λ e. (l.holds_handle, l.is_settled)) in record {
@@ -46,7 +49,8 @@ put_sound opens leases expired last_id key new s there fresh may = record {
   lawful = λ k. put_key-cases IsLawful leases key new k (λ same. may.is_lawful) (λ e. s.lawful k);
   one_file = s.one_file;
   no_open = λ k none. put_key-cases (λ l. l ≡ no_lease) leases key new k
-      (λ same. clash (list_any (has_key key) opens) there (ap (λ x. list_any (has_key x) opens) (sym same) ∙ none))
+      (λ same. clash (list_any (has_key key) opens) there
+      (ap (λ x. list_any (has_key x) opens) (sym same) ∙ none))
       (λ e. s.no_open k none);
   numbered = s.numbered;
   in_order = s.in_order;
@@ -62,7 +66,8 @@ and_back false true = refl
 and_back false false = refl
 
 -- conflicts go both ways
-pub conflict_back : (one other : Open) → conflicts one.access one.share other ≡ conflicts other.access other.share one
+pub conflict_back : (one other : Open) → conflicts one.access one.share other ≡ conflicts other.access
+    other.share one
 unfolding conflicts
 conflict_back one other = ap not (and_back (permits one.share other.access) (permits other.share one.access))
 
@@ -71,7 +76,8 @@ in_order-append : (opens : List Open) (new : Open) → AreInOrder opens
 in_order-append [] new own last = ((λ other a. absurd a), tt)
 in_order-append (one ∷ opens) new own last = (
   (λ other a. ⊎_elim (λ h. own.0 other h)
-      (λ h. ⊎_elim (λ same. subst (λ o. one.file_id < o.file_id) (sym same) (last one (inl refl))) (λ never. absurd never) h)
+      (λ h. ⊎_elim (λ same. subst (λ o. one.file_id < o.file_id) (sym same) (last one (inl refl)))
+      (λ never. absurd never) h)
       (among_append other opens (new ∷ []) a)),
   in_order-append opens new own.1 (λ x a. last x (inr a)),
 )
@@ -80,14 +86,18 @@ in_order-append (one ∷ opens) new own last = (
 -- other key there holds W.
 pub record MayOpen (opens : List Open) (leases : Key → Lease) (new : Open) : Type 0 where
   pub is_connected : new.connected ≡ true
-  pub is_peaceful : (other : Open) → Among other opens → other.file ≡ new.file → conflicts new.access new.share other ≡ false
-  pub is_at_home : (key : Key) (other : Open) → Among other opens → has_key key new ≡ true → has_key key other ≡ true → other.file ≡ new.file
-  pub is_welcome : (key : Key) (other : Open) → (leases key).state.write ≡ true → Among other opens → has_key key other ≡ true
+  pub is_peaceful : (other : Open) → Among other opens → other.file ≡ new.file
+      → conflicts new.access new.share other ≡ false
+  pub is_at_home : (key : Key) (other : Open) → Among other opens → has_key key new ≡ true
+      → has_key key other ≡ true → other.file ≡ new.file
+  pub is_welcome : (key : Key) (other : Open) → (leases key).state.write ≡ true → Among other opens
+      → has_key key other ≡ true
       → other.file ≡ new.file → has_key key new ≡ true
 
 -- a key that holds W has an open
 pub writer_open : (opens : List Open) (leases : Key → Lease) (expired : Key → Bool) (last_id : ℕ) (key : Key)
-    → AreSound opens leases expired last_id → (leases key).state.write ≡ true → list_any (has_key key) opens ≡ true
+    → AreSound opens leases expired last_id → (leases key).state.write ≡ true
+    → list_any (has_key key) opens ≡ true
 writer_open opens leases expired last_id key s w = not_false (list_any (has_key key) opens)
     (λ none. clash (leases key).state.write w (ap (λ l. l.state.write) (s.no_open key none)))
 
@@ -97,7 +107,8 @@ pub open_sound : (opens : List Open) (leases : Key → Lease) (expired : Key →
     → AreSound (opens ++ new ∷ []) leases expired (last_id + 1)
 open_sound opens leases expired last_id new s id may =
     let split : (one : Open) → Among one (opens ++ new ∷ []) → Among one opens ⊎ (one ≡ new) =
-    λ one a. ⊎_elim (λ h. inl h) (λ h. inr (⊎_elim (λ e. e) (λ never. absurd never) h)) (among_append one opens (new ∷ []) a) in
+    λ one a. ⊎_elim (λ h. inl h) (λ h. inr (⊎_elim (λ e. e) (λ never. absurd never) h))
+    (among_append one opens (new ∷ []) a) in
     let last : (one : Open) → Among one opens → one.file_id < new.file_id =
     λ one a. let n = s.numbered one a in omega (arith, n.1, id) in
     record {
@@ -110,7 +121,8 @@ open_sound opens leases expired last_id new s id may =
           (λ p. ⊎_elim
           (λ q. let own = any_has (has_key key) opens (writer_open opens leases expired last_id key s w) in
           s.one_writer key own.0 other w own.1 own.2 q
-          (f ∙ ap (λ o. o.file) p ∙ sym (may.is_at_home key own.0 own.1 (ap (λ o. has_key key o) (sym p) ∙ k) own.2)))
+          (f ∙ ap (λ o. o.file) p ∙ sym (may.is_at_home key own.0 own.1 (ap (λ o. has_key key o) (sym p) ∙ k)
+          own.2)))
           (λ q. ap (λ o. has_key key o) (q ∙ sym p) ∙ k)
           (split other b))
           (split one a);
@@ -122,7 +134,8 @@ open_sound opens leases expired last_id new s id may =
           ∙ may.is_peaceful one p (sym f ∙ ap (λ o. o.file) q))
           (split other b))
           (λ p. ⊎_elim
-          (λ q. ap (λ o. conflicts o.access o.share other) p ∙ may.is_peaceful other q (f ∙ ap (λ o. o.file) p))
+          (λ q. ap (λ o. conflicts o.access o.share other) p
+          ∙ may.is_peaceful other q (f ∙ ap (λ o. o.file) p))
           (λ q. absurd (n (ap (λ o. o.file_id) (q ∙ sym p))))
           (split other b))
           (split one a);
@@ -141,10 +154,12 @@ open_sound opens leases expired last_id new s id may =
           (split other b))
           (split one a);
       no_open = λ key none. s.no_open key (has_none (has_key key) opens
-          (λ one a. none_has (has_key key) one (opens ++ new ∷ []) none (among_before one opens (new ∷ []) a)));
+          (λ one a. none_has (has_key key) one (opens ++ new ∷ []) none
+          (among_before one opens (new ∷ []) a)));
       numbered = λ one a. ⊎_elim
           (λ p. let n = s.numbered one p in (n.0, omega (arith, n.1)))
-          (λ p. let e : one.file_id ≡ last_id + 1 = ap (λ o. o.file_id) p ∙ id in (omega (arith, e), omega (arith, e))) (split one a);
+          (λ p. let e : one.file_id ≡ last_id + 1 = ap (λ o. o.file_id) p
+          ∙ id in (omega (arith, e), omega (arith, e))) (split one a);
       in_order = in_order-append opens new s.in_order last;
       timed_out = s.timed_out;
     }

@@ -23,10 +23,17 @@ pub record IsHeldWell (server : Server) (file : ℕ) (one : Held) : Type 0 where
   pub on_file : has_file server file ≡ true
   pub about : IsAbout server file one.request
 
-pub held_well : (server : Server) (file : ℕ) (one : Held) → IsOrderly server → Among one (server.held file) → IsHeldWell server file one
-held_well server file one o a = record { up = o.held_up file one a; on_file = o.held_files file one a; about = o.held_about file one a }
+pub held_well : (server : Server) (file : ℕ) (one : Held) → IsOrderly server → Among one (server.held file)
+    → IsHeldWell server file one
+held_well server file one o a = record {
+  up = o.held_up file one a;
+  on_file = o.held_files file one a;
+  about =
+      o.held_about file one a;
+}
 
-open_goes : (before after : Server) (file file_id : ℕ) → GoesOn before after → IsOpenOn before file file_id → IsOpenOn after file file_id
+open_goes : (before after : Server) (file file_id : ℕ) → GoesOn before after → IsOpenOn before file file_id
+    → IsOpenOn after file file_id
 open_goes before after file file_id g o = record {
   was_given = let x = g.ids in let y = o.was_given in omega (arith, x, y);
   is_on_file = λ one a e. ⊎_elim
@@ -36,10 +43,12 @@ open_goes before after file file_id g o = record {
 }
 
 -- what a request is about stays
-pub about_goes : (before after : Server) (file : ℕ) (request : Request) → GoesOn before after → IsAbout before file request → IsAbout after file request
+pub about_goes : (before after : Server) (file : ℕ) (request : Request) → GoesOn before after
+    → IsAbout before file request → IsAbout after file request
 about_goes before after file (Request.Create at access share contexts) g about = about
 about_goes before after file (Request.Read file_id) g about = open_goes before after file file_id g about
-about_goes before after file (Request.Write file_id number patch) g about = open_goes before after file file_id g about
+about_goes before after file (Request.Write file_id number patch) g about = open_goes before after file
+    file_id g about
 about_goes before after file (Request.Close file_id) g about = open_goes before after file file_id g about
 about_goes before after file (Request.Acknowledge given) g about = about
 
@@ -49,7 +58,8 @@ pub orderly_goes : (before after : Server) → IsOrderly before → GoesOn befor
 orderly_goes before after o g well = record {
   opens_up = λ one a up. ⊎_elim
       (λ old. ⊎_elim
-      (λ u. g.ups one.client ∙ ap (λ c. before.connected c) old.same_client ∙ o.opens_up old.was old.was_there u)
+      (λ u. g.ups one.client ∙ ap (λ c. before.connected c) old.same_client
+      ∙ o.opens_up old.was old.was_there u)
       (λ u. g.ups one.client ∙ u) (old.up up))
       (λ new. g.ups one.client ∙ new.up) (g.from one a);
   open_files = λ one a. file_frame before after one.file g.files ∙ ⊎_elim
@@ -67,7 +77,8 @@ pub record IsFine (server : Server) : Type 0 where
 
 same_well : (before after : Progress) → IsOrderly before.server → SameHeld before after
     → (file : ℕ) (one : Held) → Among one (after.server.held file) → IsHeldWell before.server file one
-same_well before after o same file one a = held_well before.server file one o (subst (λ held. Among one (held file)) same a)
+same_well before after o same file one a = held_well before.server file one o
+    (subst (λ held. Among one (held file)) same a)
 
 -- all that is known of a try
 pub record IsTry (client : ℕ) (request : Request) (before : Progress) (done : Tried) : Type 0 where
@@ -77,7 +88,8 @@ pub record IsTry (client : ℕ) (request : Request) (before : Progress) (done : 
   pub goes : Goes before done.progress
   pub keeps : Kept Anywhere before done.progress
 
-pub any_try : (client : ℕ) (request : Request) (before : Progress) → IsSound before.server → IsTry client request before (tried client request before)
+pub any_try : (client : ℕ) (request : Request) (before : Progress) → IsSound before.server
+    → IsTry client request before (tried client request before)
 any_try client request before s = record {
   good = tried_for-good 3 client request before s;
   waits = tried-waits client request before s;
@@ -86,14 +98,17 @@ any_try client request before s = record {
   keeps = tried_for-kept 3 client request before;
 }
 
-pub fine_try : (client : ℕ) (request : Request) (before : Progress) (done : Tried) → IsFine before.server → IsTry client request before done → IsFine done.progress.server
+pub fine_try : (client : ℕ) (request : Request) (before : Progress) (done : Tried) → IsFine before.server
+    → IsTry client request before done → IsFine done.progress.server
 fine_try client request before done f t = record {
   sound = t.good.sound;
-  orderly = orderly_goes before.server done.progress.server f.orderly t.goes (same_well before done.progress f.orderly t.held);
+  orderly = orderly_goes before.server done.progress.server f.orderly t.goes
+      (same_well before done.progress f.orderly t.held);
 }
 
 -- the end of a try of a connected client
-pub fine_concluded : (client : ℕ) (request : Request) (progress : Progress) (outcome : Outcome) → IsFine progress.server
+pub fine_concluded : (client : ℕ) (request : Request) (progress : Progress) (outcome : Outcome)
+    → IsFine progress.server
     → progress.server.connected client ≡ true
     → (outcome ≡ Outcome.Ready → RequestFree progress.server client request)
     → (outcome ≡ Outcome.Ready → FileReady progress.server client request)
@@ -102,33 +117,42 @@ fine_concluded client request progress outcome f up free ready = record {
   sound = concluded-sound client request progress outcome f.sound free;
   orderly = orderly_goes progress.server (concluded client request progress outcome).server f.orderly
       (concluded-goes client request progress outcome f.sound up ready)
-      (same_well progress (concluded client request progress outcome) f.orderly (concluded-held client request progress outcome));
+      (same_well progress (concluded client request progress outcome) f.orderly
+      (concluded-held client request progress outcome));
 }
 
 -- what has to wait on a file
-pub all_wait-keep : (Guard : ℕ → Type 0) (before after : Server) (file : ℕ) → Keeps Guard before after → IsFine before → Guard file
+pub all_wait-keep : (Guard : ℕ → Type 0) (before after : Server) (file : ℕ) → Keeps Guard before after
+    → IsFine before → Guard file
     → after.held file ≡ before.held file → AllWait before file → AllWait after file
 all_wait-keep Guard before after file k f g same all client one first =
     let was = subst (λ held. find (λ other. other.client == client) held ≡ Some one) same first in
     let there = find_has (λ other. other.client == client) one (before.held file) was in
-    waits_keep Guard before after client file one.request k f.sound (f.orderly.held_about file one there.0) g (all client one was)
+    waits_keep Guard before after client file one.request k f.sound (f.orderly.held_about file one there.0) g
+    (all client one was)
 
 again_frame : (client : ℕ) (again : Option ℕ) (file : ℕ) (left : List Held) (progress : Progress)
     → AgainReady progress.server client again → AgainReady (held_left file left progress).server client again
 unfolding held_left
 again_frame client None file left progress ready = ready
-again_frame client (Some file_id) file left progress ready = record { one = ready.one; is_there = ready.is_there; has_id = ready.has_id; is_own = ready.is_own }
+again_frame client (Some file_id) file left progress ready =
+    record { one = ready.one; is_there = ready.is_there; has_id = ready.has_id; is_own = ready.is_own }
 
-contexts_frame : (client at : ℕ) (contexts : Option CreateAsk) (file : ℕ) (left : List Held) (progress : Progress)
-    → ContextsReady progress.server client at contexts → ContextsReady (held_left file left progress).server client at contexts
+contexts_frame : (client at : ℕ) (contexts : Option CreateAsk) (file : ℕ) (left : List Held)
+    (progress : Progress)
+    → ContextsReady progress.server client at contexts
+    → ContextsReady (held_left file left progress).server client at contexts
 unfolding held_left
 contexts_frame client at None file left progress ready = ready
-contexts_frame client at (Some ask) file left progress ready = (ready.0, again_frame client ask.reconnect file left progress ready.1)
+contexts_frame client at (Some ask) file left progress ready =
+    (ready.0, again_frame client ask.reconnect file left progress ready.1)
 
 -- what is held has nothing to do with what is ready
 pub held_left-ready : (client : ℕ) (request : Request) (file : ℕ) (left : List Held) (progress : Progress)
-    → FileReady progress.server client request → FileReady (held_left file left progress).server client request
-held_left-ready client (Request.Create at access share contexts) file left progress ready = contexts_frame client at contexts file left progress ready
+    → FileReady progress.server client request
+    → FileReady (held_left file left progress).server client request
+held_left-ready client (Request.Create at access share contexts) file left progress ready = contexts_frame
+    client at contexts file left progress ready
 held_left-ready client (Request.Read file_id) file left progress ready = tt
 held_left-ready client (Request.Write file_id number patch) file left progress ready = tt
 held_left-ready client (Request.Close file_id) file left progress ready = tt

@@ -26,19 +26,23 @@ Fair progress = AreFair progress.outs
 silent_fair : (before after : List Out) → after ≡ before → AreFair before → AreFair after
 silent_fair before after same fair = subst AreFair (sym same) fair
 
-held_left-outs : (file : ℕ) (left : List Held) (progress : Progress) → (held_left file left progress).outs ≡ progress.outs
+held_left-outs : (file : ℕ) (left : List Held) (progress : Progress)
+    → (held_left file left progress).outs ≡ progress.outs
 unfolding held_left
 held_left-outs file left progress = append-nil progress.outs
 
-pub request_held-outs : (file : ℕ) (one : Held) (progress : Progress) → (request_held file one progress).outs ≡ progress.outs
+pub request_held-outs : (file : ℕ) (one : Held) (progress : Progress)
+    → (request_held file one progress).outs ≡ progress.outs
 unfolding request_held
 request_held-outs file one progress = append-nil progress.outs
 
-opens_disconnected-outs : (client : ℕ) (progress : Progress) → (opens_disconnected client progress).outs ≡ progress.outs
+opens_disconnected-outs : (client : ℕ) (progress : Progress)
+    → (opens_disconnected client progress).outs ≡ progress.outs
 unfolding opens_disconnected
 opens_disconnected-outs client progress = append-nil progress.outs
 
-client_forgotten-outs : (client : ℕ) (progress : Progress) → (client_forgotten client progress).outs ≡ progress.outs
+client_forgotten-outs : (client : ℕ) (progress : Progress)
+    → (client_forgotten client progress).outs ≡ progress.outs
 unfolding client_forgotten
 client_forgotten-outs client progress = append-nil progress.outs
 
@@ -51,47 +55,64 @@ unfolding joined
 joined-outs client progress = append-nil progress.outs
 
 -- a try
-tried-fair : (client : ℕ) (request : Request) (progress : Progress) → Fair progress → Fair (tried client request progress).progress
-tried-fair client request progress fair = breaks_fair progress.outs (tried client request progress).progress.outs fair
+tried-fair : (client : ℕ) (request : Request) (progress : Progress) → Fair progress
+    → Fair (tried client request progress).progress
+tried-fair client request progress fair = breaks_fair progress.outs
+    (tried client request progress).progress.outs fair
     (tried_for-broken 3 client request progress)
 
-concluded-fair : (client : ℕ) (request : Request) (progress : Progress) (outcome : Outcome) → Fair progress → Fair (concluded client request progress outcome)
-concluded-fair client request progress outcome fair = answers_fair progress.outs (concluded client request progress outcome).outs fair
+concluded-fair : (client : ℕ) (request : Request) (progress : Progress) (outcome : Outcome) → Fair progress
+    → Fair (concluded client request progress outcome)
+concluded-fair client request progress outcome fair = answers_fair progress.outs
+    (concluded client request progress outcome).outs fair
     (concluded-answered client request progress outcome)
 
-pass_answered-fair : (file : ℕ) (one : Held) (waiting : List Held) (pass : Pass) (done : Tried) → Fair done.progress
+pass_answered-fair : (file : ℕ) (one : Held) (waiting : List Held) (pass : Pass) (done : Tried)
+    → Fair done.progress
     → Fair (pass_answered file one waiting pass done).progress
-pass_answered-fair file one waiting pass done fair = concluded-fair one.client one.request (held_left file (pass.kept ++ waiting) done.progress) done.outcome
-    (silent_fair done.progress.outs (held_left file (pass.kept ++ waiting) done.progress).outs (held_left-outs file (pass.kept ++ waiting) done.progress) fair)
+pass_answered-fair file one waiting pass done fair = concluded-fair one.client one.request
+    (held_left file (pass.kept ++ waiting) done.progress) done.outcome
+    (silent_fair done.progress.outs (held_left file (pass.kept ++ waiting) done.progress).outs
+    (held_left-outs file (pass.kept ++ waiting) done.progress) fair)
 
-after_try-fair : (file : ℕ) (one : Held) (waiting : List Held) (pass : Pass) (progress : Progress) (outcome : Outcome) → Fair progress
+after_try-fair : (file : ℕ) (one : Held) (waiting : List Held) (pass : Pass) (progress : Progress)
+    (outcome : Outcome) → Fair progress
     → Fair (after_try file one waiting pass progress outcome).progress
 after_try-fair file one waiting pass progress Outcome.Waits fair = fair
-after_try-fair file one waiting pass progress (Outcome.Refused status) fair = pass_answered-fair file one waiting pass
+after_try-fair file one waiting pass progress (Outcome.Refused status) fair = pass_answered-fair file one
+    waiting pass
     (record { progress = progress; outcome = Outcome.Refused status }) fair
 after_try-fair file one waiting pass progress Outcome.Ready fair = pass_answered-fair file one waiting pass
     (record { progress = progress; outcome = Outcome.Ready }) fair
 
-tried_again-fair : (file : ℕ) (one : Held) (waiting : List Held) (pass : Pass) → Fair pass.progress → Fair (tried_again file one waiting pass).progress
+tried_again-fair : (file : ℕ) (one : Held) (waiting : List Held) (pass : Pass) → Fair pass.progress
+    → Fair (tried_again file one waiting pass).progress
 unfolding tried_again
 tried_again-fair file one waiting pass fair =
     if_cases (λ p. Fair p.progress) (is_behind one.client pass.kept) (pass_kept one pass pass.progress)
-    (after_try file one waiting pass (tried one.client one.request pass.progress).progress (tried one.client one.request pass.progress).outcome)
+    (after_try file one waiting pass (tried one.client one.request pass.progress).progress
+    (tried one.client one.request pass.progress).outcome)
     (λ e. fair)
-    (λ e. after_try-fair file one waiting pass (tried one.client one.request pass.progress).progress (tried one.client one.request pass.progress).outcome
+    (λ e. after_try-fair file one waiting pass (tried one.client one.request pass.progress).progress
+    (tried one.client one.request pass.progress).outcome
     (tried-fair one.client one.request pass.progress fair))
 
-pass_over-fair : (file : ℕ) (waiting : List Held) (pass : Pass) → Fair pass.progress → Fair (pass_over file waiting pass).progress
+pass_over-fair : (file : ℕ) (waiting : List Held) (pass : Pass) → Fair pass.progress
+    → Fair (pass_over file waiting pass).progress
 unfolding pass_over
 pass_over-fair file [] pass fair = fair
-pass_over-fair file (one ∷ waiting) pass fair = pass_over-fair file waiting (tried_again file one waiting pass) (tried_again-fair file one waiting pass fair)
+pass_over-fair file (one ∷ waiting) pass fair = pass_over-fair file waiting
+    (tried_again file one waiting pass) (tried_again-fair file one waiting pass fair)
 
-passes_for-fair : (count file : ℕ) (progress : Progress) → Fair progress → Fair (passes_for count file progress)
+passes_for-fair : (count file : ℕ) (progress : Progress) → Fair progress
+    → Fair (passes_for count file progress)
 unfolding passes_for
 passes_for-fair zero file progress fair = fair
 passes_for-fair (suc count) file progress fair =
-    let next = pass_over-fair file (progress.server.held file) (record { kept = []; progress = progress; has_answered = false }) fair in
-    if_cases Fair (one_pass file progress).has_answered (passes_for count file (one_pass file progress).progress) (one_pass file progress).progress
+    let next = pass_over-fair file (progress.server.held file)
+    (record { kept = []; progress = progress; has_answered = false }) fair in
+    if_cases Fair (one_pass file progress).has_answered
+    (passes_for count file (one_pass file progress).progress) (one_pass file progress).progress
     (λ e. passes_for-fair count file (one_pass file progress).progress next) (λ e. next)
 
 passes_over-fair : (files : List ℕ) (progress : Progress) → Fair progress → Fair (passes_over files progress)
@@ -104,36 +125,54 @@ all_passes-fair : (progress : Progress) → Fair progress → Fair (all_passes p
 unfolding all_passes
 all_passes-fair progress fair = passes_over-fair (numbers_to progress.server.files) progress fair
 
-after_first_try-fair : (client file : ℕ) (request : Request) (progress : Progress) (outcome : Outcome) → Fair progress
+after_first_try-fair : (client file : ℕ) (request : Request) (progress : Progress) (outcome : Outcome)
+    → Fair progress
     → Fair (after_first_try client file request progress outcome)
 after_first_try-fair client file request progress Outcome.Waits fair =
-    silent_fair progress.outs (request_held file (held_of client request) progress).outs (request_held-outs file (held_of client request) progress) fair
-after_first_try-fair client file request progress (Outcome.Refused status) fair = concluded-fair client request progress (Outcome.Refused status) fair
-after_first_try-fair client file request progress Outcome.Ready fair = concluded-fair client request progress Outcome.Ready fair
+    silent_fair progress.outs (request_held file (held_of client request) progress).outs
+    (request_held-outs file (held_of client request) progress) fair
+after_first_try-fair client file request progress (Outcome.Refused status) fair = concluded-fair client
+    request progress (Outcome.Refused status) fair
+after_first_try-fair client file request progress Outcome.Ready fair = concluded-fair client request progress
+    Outcome.Ready fair
 
-arrived_on-fair : (client : ℕ) (request : Request) (progress : Progress) (asked : Result ℕ Status) → Fair progress → Fair (arrived_on client request progress asked)
-arrived_on-fair client request progress (Err status) fair = answers_fair progress.outs (refused client request status progress).outs fair
+arrived_on-fair : (client : ℕ) (request : Request) (progress : Progress) (asked : Result ℕ Status)
+    → Fair progress → Fair (arrived_on client request progress asked)
+arrived_on-fair client request progress (Err status) fair = answers_fair progress.outs
+    (refused client request status progress).outs fair
     (refused-answered client request status progress)
-arrived_on-fair client request progress (Ok file) fair = if_cases Fair (is_behind client (progress.server.held file))
+arrived_on-fair client request progress (Ok file) fair = if_cases Fair
+    (is_behind client (progress.server.held file))
     (request_held file (held_of client request) progress)
-    (after_first_try client file request (tried client request progress).progress (tried client request progress).outcome)
-    (λ e. silent_fair progress.outs (request_held file (held_of client request) progress).outs (request_held-outs file (held_of client request) progress) fair)
-    (λ e. after_first_try-fair client file request (tried client request progress).progress (tried client request progress).outcome
+    (after_first_try client file request (tried client request progress).progress
+    (tried client request progress).outcome)
+    (λ e. silent_fair progress.outs (request_held file (held_of client request) progress).outs
+    (request_held-outs file (held_of client request) progress) fair)
+    (λ e. after_first_try-fair client file request (tried client request progress).progress
+    (tried client request progress).outcome
     (tried-fair client request progress fair))
 
-arrived-fair : (client : ℕ) (request : Request) (progress : Progress) → Fair progress → Fair (arrived client request progress)
+arrived-fair : (client : ℕ) (request : Request) (progress : Progress) → Fair progress
+    → Fair (arrived client request progress)
 unfolding arrived
-arrived-fair client (Request.Acknowledge given) progress fair = all_passes-fair (acknowledged client given progress)
-    (answers_fair progress.outs (acknowledged client given progress).outs fair (acknowledged-answered client given progress))
+arrived-fair client (Request.Acknowledge given) progress fair = all_passes-fair
+    (acknowledged client given progress)
+    (answers_fair progress.outs (acknowledged client given progress).outs fair
+    (acknowledged-answered client given progress))
 arrived-fair client (Request.Close file_id) progress fair = all_passes-fair
-    (arrived_on client (Request.Close file_id) progress (file_asked progress.server client (Request.Close file_id)))
-    (arrived_on-fair client (Request.Close file_id) progress (file_asked progress.server client (Request.Close file_id)) fair)
+    (arrived_on client (Request.Close file_id) progress
+    (file_asked progress.server client (Request.Close file_id)))
+    (arrived_on-fair client (Request.Close file_id) progress
+    (file_asked progress.server client (Request.Close file_id)) fair)
 arrived-fair client (Request.Create file access share contexts) progress fair =
-    arrived_on-fair client (Request.Create file access share contexts) progress (file_asked progress.server client (Request.Create file access share contexts)) fair
+    arrived_on-fair client (Request.Create file access share contexts) progress
+    (file_asked progress.server client (Request.Create file access share contexts)) fair
 arrived-fair client (Request.Read file_id) progress fair =
-    arrived_on-fair client (Request.Read file_id) progress (file_asked progress.server client (Request.Read file_id)) fair
+    arrived_on-fair client (Request.Read file_id) progress
+    (file_asked progress.server client (Request.Read file_id)) fair
 arrived-fair client (Request.Write file_id number patch) progress fair =
-    arrived_on-fair client (Request.Write file_id number patch) progress (file_asked progress.server client (Request.Write file_id number patch)) fair
+    arrived_on-fair client (Request.Write file_id number patch) progress
+    (file_asked progress.server client (Request.Write file_id number patch)) fair
 
 -- a call that may not apply
 fair_cases : (b : Bool) (x y : Progress) → Fair x → Fair y → Fair (cond b x y)
@@ -141,12 +180,14 @@ fair_cases b x y fx fy = if_cases Fair b x y (λ e. fx) (λ e. fy)
 
 join-fair : (server : Server) (client : ℕ) → Fair (join server client)
 unfolding join
-join-fair server client = fair_cases (server.connected client) (begun server) (joined client (begun server)) none_fair
+join-fair server client = fair_cases (server.connected client) (begun server) (joined client (begun server))
+    none_fair
     (silent_fair [] (joined client (begun server)).outs (joined-outs client (begun server)) none_fair)
 
 receive-fair : (server : Server) (client : ℕ) (request : Request) → Fair (receive server client request)
 unfolding receive
-receive-fair server client request = fair_cases (server.connected client) (arrived client request (begun server)) (begun server)
+receive-fair server client request = fair_cases (server.connected client)
+    (arrived client request (begun server)) (begun server)
     (arrived-fair client request (begun server) none_fair) none_fair
 
 cut-fair : (server : Server) (client : ℕ) → Fair (cut server client)
@@ -176,7 +217,8 @@ unfolding scavenge
 scavenge-fair server file_id =
     let dropped = opens_dropped (is_kept_open file_id) (begun server) in
     fair_cases (list_any (is_kept_open file_id) server.opens) (all_passes dropped) (begun server)
-    (all_passes-fair dropped (silent_fair [] dropped.outs (opens_dropped-outs (is_kept_open file_id) (begun server)) none_fair))
+    (all_passes-fair dropped (silent_fair [] dropped.outs
+    (opens_dropped-outs (is_kept_open file_id) (begun server)) none_fair))
     none_fair
 
 -- the outs of a call are fair
@@ -188,12 +230,14 @@ called-fair server (Call.Expire key) = expire-fair server key
 called-fair server (Call.Scavenge file_id) = scavenge-fair server file_id
 
 -- what a try gives out are breaks
-pub tried-breaks : (client : ℕ) (request : Request) (progress : Progress) → GoOn IsBreak progress.outs (tried client request progress).progress.outs
+pub tried-breaks : (client : ℕ) (request : Request) (progress : Progress)
+    → GoOn IsBreak progress.outs (tried client request progress).progress.outs
 tried-breaks client request progress = go_on-weaker IsGoodBreak IsBreak (λ out good. good.0) progress.outs
     (tried client request progress).progress.outs (tried_for-broken 3 client request progress)
 
 -- what the end of a try gives out is no break
 pub concluded-answers : (client : ℕ) (request : Request) (progress : Progress) (outcome : Outcome)
     → GoOn IsNoBreak progress.outs (concluded client request progress outcome).outs
-concluded-answers client request progress outcome = answers_go_on progress.outs (concluded client request progress outcome).outs
+concluded-answers client request progress outcome = answers_go_on progress.outs
+    (concluded client request progress outcome).outs
     (concluded-answered client request progress outcome)

@@ -5,24 +5,28 @@ use Rattle.lease_model.specs.Replies.{Reply, Out}
 use Rattle.lease_model.specs.ServerOuts.{EachOut, IsFlaggedRightly, Done, ArePaired, IsBreak, IsNoBreak, GoOn}
 
 -- what holds of each out of two lists holds of each of both
-pub each_append : (Holds : Out → Type 0) (xs ys : List Out) → EachOut Holds xs → EachOut Holds ys → EachOut Holds (xs ++ ys)
+pub each_append : (Holds : Out → Type 0) (xs ys : List Out) → EachOut Holds xs → EachOut Holds ys
+    → EachOut Holds (xs ++ ys)
 each_append Holds [] ys h k = k
 each_append Holds (x ∷ xs) ys h k = (h.0, each_append Holds xs ys h.1 k)
 
 -- what follows from what holds of each
-pub each_weaker : (Holds Weaker : Out → Type 0) → ((out : Out) → Holds out → Weaker out) → (xs : List Out) → EachOut Holds xs → EachOut Weaker xs
+pub each_weaker : (Holds Weaker : Out → Type 0) → ((out : Out) → Holds out → Weaker out) → (xs : List Out)
+    → EachOut Holds xs → EachOut Weaker xs
 each_weaker Holds Weaker f [] h = tt
 each_weaker Holds Weaker f (x ∷ xs) h = (f x h.0, each_weaker Holds Weaker f xs h.1)
 
 -- outs that are paired, and others behind them
-pub paired_append : (before : Option Done) (xs ys : List Out) → ArePaired before xs → ArePaired None ys → ArePaired before (xs ++ ys)
+pub paired_append : (before : Option Done) (xs ys : List Out) → ArePaired before xs → ArePaired None ys
+    → ArePaired before (xs ++ ys)
 paired_append None [] ys h k = k
 paired_append (Some done) [] ys h k = absurd h
 paired_append None (Out.Changed file client number patch ∷ xs) ys h k =
     paired_append (Some (record { client = client; number = number })) xs ys h k
 paired_append None (Out.Sent client (Reply.WriteDone file_id number) ∷ xs) ys h k = absurd h
 paired_append None (x ∷ xs) ys h k = paired_append None xs ys h k
-paired_append (Some done) (Out.Sent client (Reply.WriteDone file_id number) ∷ xs) ys h k = (h.0, h.1, paired_append None xs ys h.2 k)
+paired_append (Some done) (Out.Sent client (Reply.WriteDone file_id number) ∷ xs) ys h k =
+    (h.0, h.1, paired_append None xs ys h.2 k)
 paired_append (Some done) (x ∷ xs) ys h k = absurd h
 
 -- breaks alone are paired
@@ -54,8 +58,14 @@ go_on-twice Holds a b c h k = record {
   each = each_append Holds h.more k.more h.each k.each;
 }
 
-pub go_on-weaker : (Holds Weaker : Out → Type 0) → ((out : Out) → Holds out → Weaker out) → (a b : List Out) → GoOn Holds a b → GoOn Weaker a b
-go_on-weaker Holds Weaker f a b h = record { more = h.more; are_more = h.are_more; each = each_weaker Holds Weaker f h.more h.each }
+pub go_on-weaker : (Holds Weaker : Out → Type 0) → ((out : Out) → Holds out → Weaker out) → (a b : List Out)
+    → GoOn Holds a b → GoOn Weaker a b
+go_on-weaker Holds Weaker f a b h = record {
+  more = h.more;
+  are_more = h.are_more;
+  each = each_weaker Holds
+      Weaker f h.more h.each;
+}
 
 -- a break that is flagged rightly
 abbrev pub IsGoodBreak : Out → Type 0
@@ -75,11 +85,18 @@ pub record AreAnswered (before : List Out) (after : List Out) : Type 0 where
   pub each : EachOut IsNoBreak more
   pub fair : AreFair more
 
-pub answered_by : (before more : List Out) → EachOut IsNoBreak more → AreFair more → AreAnswered before (before ++ more)
+pub answered_by : (before more : List Out) → EachOut IsNoBreak more → AreFair more
+    → AreAnswered before (before ++ more)
 answered_by before more e f = record { more = more; are_more = refl; each = e; fair = f }
 
 pub answered_nothing : (outs : List Out) → AreAnswered outs outs
-answered_nothing outs = record { more = []; are_more = sym (append-nil outs); each = tt; fair = record { flagged = tt; paired = tt } }
+answered_nothing outs = record {
+  more = [];
+  are_more = sym (append-nil outs);
+  each = tt;
+  fair =
+      record { flagged = tt; paired = tt };
+}
 
 pub answers_fair : (a b : List Out) → AreFair a → AreAnswered a b → AreFair b
 answers_fair a b fair h = subst AreFair (sym h.are_more) (fair_append a h.more fair h.fair)

@@ -28,15 +28,18 @@ abbrev pub Broken : Progress → Progress → Type 0
 Broken before after = GoOn IsGoodBreak before.outs after.outs
 
 -- opens are dropped silently
-pub opens_dropped-outs : (test : Open → Bool) (progress : Progress) → (opens_dropped test progress).outs ≡ progress.outs
+pub opens_dropped-outs : (test : Open → Bool) (progress : Progress)
+    → (opens_dropped test progress).outs ≡ progress.outs
 unfolding opens_dropped
 opens_dropped-outs test progress = append-nil progress.outs
 
 dropped_broken : (test : Open → Bool) (progress : Progress) → Broken progress (opens_dropped test progress)
-dropped_broken test progress = subst (λ outs. GoOn IsGoodBreak progress.outs outs) (sym (opens_dropped-outs test progress))
+dropped_broken test progress = subst (λ outs. GoOn IsGoodBreak progress.outs outs)
+    (sym (opens_dropped-outs test progress))
     (go_on-same IsGoodBreak progress.outs)
 
-lease_lowered-broken : (key : Key) (lowered : State) (progress : Progress) → Broken progress (lease_lowered key lowered progress)
+lease_lowered-broken : (key : Key) (lowered : State) (progress : Progress)
+    → Broken progress (lease_lowered key lowered progress)
 unfolding lease_lowered
 lease_lowered-broken key lowered progress = record {
   more = Out.Sent key.client (break_notice key (progress.server.leases key).state lowered) ∷ [];
@@ -44,7 +47,8 @@ lease_lowered-broken key lowered progress = record {
   each = ((tt, refl), tt);
 }
 
-break_begun-broken : (key : Key) (lowered : State) (progress : Progress) → Broken progress (break_begun key lowered progress)
+break_begun-broken : (key : Key) (lowered : State) (progress : Progress)
+    → Broken progress (break_begun key lowered progress)
 unfolding break_begun
 break_begun-broken key lowered progress = record {
   more = Out.Sent key.client (break_notice key (progress.server.leases key).state lowered) ∷ [];
@@ -52,11 +56,14 @@ break_begun-broken key lowered progress = record {
   each = ((tt, refl), tt);
 }
 
-lease_broken-broken : (key : Key) (lowered : State) (progress : Progress) → Broken progress (lease_broken key lowered progress)
+lease_broken-broken : (key : Key) (lowered : State) (progress : Progress)
+    → Broken progress (lease_broken key lowered progress)
 unfolding lease_broken
 lease_broken-broken key lowered progress =
-    if_cases (Broken progress) (has_lease progress.server key && not (is_breaking (progress.server.leases key)))
-    (if needs_acknowledgment (progress.server.leases key).state then break_begun key lowered progress else lease_lowered key lowered progress) progress
+    if_cases (Broken progress) (has_lease progress.server key && not
+    (is_breaking (progress.server.leases key)))
+    (if needs_acknowledgment (progress.server.leases key).state then break_begun key lowered progress else
+    lease_lowered key lowered progress) progress
     (λ t. if_cases (Broken progress) (needs_acknowledgment (progress.server.leases key).state)
     (break_begun key lowered progress) (lease_lowered key lowered progress)
     (λ n. break_begun-broken key lowered progress) (λ n. lease_lowered-broken key lowered progress))
@@ -72,26 +79,33 @@ want_met-broken want progress =
 pub wants_met-broken : (wants : List Want) (progress : Progress) → Broken progress (wants_met wants progress)
 unfolding wants_met
 wants_met-broken [] progress = go_on-same IsGoodBreak progress.outs
-wants_met-broken (want ∷ wants) progress = go_on-twice IsGoodBreak progress.outs (want_met want progress).outs (wants_met wants (want_met want progress)).outs
+wants_met-broken (want ∷ wants) progress = go_on-twice IsGoodBreak progress.outs (want_met want progress).outs
+    (wants_met wants (want_met want progress)).outs
     (want_met-broken want progress) (wants_met-broken wants (want_met want progress))
 
 after_finding-broken : (again : Progress → Tried) (request : Request) (progress : Progress) (found : Finding)
-    → ((next : Progress) → Broken next (again next).progress) → Broken progress (after_finding again request progress found).progress
-after_finding-broken again request progress (Finding.Refused status) more = go_on-same IsGoodBreak progress.outs
+    → ((next : Progress) → Broken next (again next).progress)
+    → Broken progress (after_finding again request progress found).progress
+after_finding-broken again request progress (Finding.Refused status) more = go_on-same IsGoodBreak
+    progress.outs
 after_finding-broken again request progress (Finding.Wants wants) more =
     let met = wants_met wants progress in
     if_cases (λ t. Broken progress t.progress) (is_ready request progress.server.leases wants)
     (ended progress Outcome.Ready) (after_breaks again request wants met)
     (λ r. go_on-same IsGoodBreak progress.outs)
-    (λ n. if_cases (λ t. Broken progress t.progress) (must_wait request met wants) (ended met Outcome.Waits) (again met)
+    (λ n. if_cases (λ t. Broken progress t.progress) (must_wait request met wants) (ended met Outcome.Waits)
+    (again met)
     (λ w. wants_met-broken wants progress)
-    (λ w. go_on-twice IsGoodBreak progress.outs met.outs (again met).progress.outs (wants_met-broken wants progress) (more met)))
+    (λ w. go_on-twice IsGoodBreak progress.outs met.outs (again met).progress.outs
+    (wants_met-broken wants progress) (more met)))
 
 -- a try
-pub tried_for-broken : (rounds client : ℕ) (request : Request) (progress : Progress) → Broken progress (tried_for rounds client request progress).progress
+pub tried_for-broken : (rounds client : ℕ) (request : Request) (progress : Progress)
+    → Broken progress (tried_for rounds client request progress).progress
 unfolding tried_for
 tried_for-broken zero client request progress = go_on-same IsGoodBreak progress.outs
-tried_for-broken (suc rounds) client request progress = after_finding-broken (tried_for rounds client request) request progress
+tried_for-broken (suc rounds) client request progress = after_finding-broken (tried_for rounds client request)
+    request progress
     (finding progress.server client request) (λ next. tried_for-broken rounds client request next)
 
 -- the outs of a call under way have gone on by an answer
@@ -113,7 +127,8 @@ plain_no_break : (client : ℕ) (reply : Reply) → IsPlain reply → EachOut Is
 plain_no_break client (Reply.Break notice) p = absurd p
 plain_no_break client reply p = (tt, tt)
 
-pub replied-answered : (client : ℕ) (reply : Reply) (progress : Progress) → IsPlain reply → Answered progress (replied client reply progress)
+pub replied-answered : (client : ℕ) (reply : Reply) (progress : Progress) → IsPlain reply
+    → Answered progress (replied client reply progress)
 replied-answered client reply progress p = answered_by progress.outs (Out.Sent client reply ∷ [])
     (plain_no_break client reply p) (plain_fair client reply p)
 
@@ -124,23 +139,30 @@ refusal_of-plain (Request.Write file_id number patch) status = tt
 refusal_of-plain (Request.Close file_id) status = tt
 refusal_of-plain (Request.Acknowledge acknowledged) status = tt
 
-pub refused-answered : (client : ℕ) (request : Request) (status : Status) (progress : Progress) → Answered progress (refused client request status progress)
+pub refused-answered : (client : ℕ) (request : Request) (status : Status) (progress : Progress)
+    → Answered progress (refused client request status progress)
 unfolding refused
-refused-answered client request status progress = replied-answered client (refusal_of request status) progress (refusal_of-plain request status)
+refused-answered client request status progress = replied-answered client (refusal_of request status) progress
+    (refusal_of-plain request status)
 
-changed-answered : (client file file_id number : ℕ) (patch : Patch) (progress : Progress) → Answered progress (changed client file file_id number patch progress)
+changed-answered : (client file file_id number : ℕ) (patch : Patch) (progress : Progress)
+    → Answered progress (changed client file file_id number patch progress)
 unfolding changed
 changed-answered client file file_id number patch progress = answered_by progress.outs
     (Out.Changed file client number patch ∷ Out.Sent client (Reply.WriteDone file_id number) ∷ [])
     (tt, (tt, tt)) (record { flagged = (tt, (tt, tt)); paired = (refl, refl, tt) })
 
-closed-answered : (client file_id : ℕ) (progress : Progress) → Answered progress (closed client file_id progress)
+closed-answered : (client file_id : ℕ) (progress : Progress)
+    → Answered progress (closed client file_id progress)
 unfolding closed
-closed-answered client file_id progress = subst (λ outs. AreAnswered outs (closed client file_id progress).outs)
+closed-answered client file_id progress = subst
+    (λ outs. AreAnswered outs (closed client file_id progress).outs)
     (opens_dropped-outs (λ one. one.file_id == file_id) progress)
-    (replied-answered client (Reply.Closed file_id) (opens_dropped (λ one. one.file_id == file_id) progress) tt)
+    (replied-answered client (Reply.Closed file_id) (opens_dropped (λ one. one.file_id == file_id) progress)
+    tt)
 
-granted_with-answered : (client file : ℕ) (access : Access) (share : Share) (asked : Option LeaseOf) (durable : Bool) (lease : Lease) (progress : Progress)
+granted_with-answered : (client file : ℕ) (access : Access) (share : Share) (asked : Option LeaseOf)
+    (durable : Bool) (lease : Lease) (progress : Progress)
     → Answered progress (granted_with client file access share asked durable lease progress)
 unfolding granted_with
 granted_with-answered client file access share asked durable lease progress = record {
@@ -150,17 +172,21 @@ granted_with-answered client file access share asked durable lease progress = re
   fair = record { flagged = (tt, (tt, tt)); paired = tt };
 }
 
-granted-answered : (client file : ℕ) (access : Access) (share : Share) (asked : Option LeaseOf) (durable : Bool) (progress : Progress)
+granted-answered : (client file : ℕ) (access : Access) (share : Share) (asked : Option LeaseOf)
+    (durable : Bool) (progress : Progress)
     → Answered progress (granted client file access share asked durable progress)
 unfolding granted
 granted-answered client file access share asked durable progress =
     if_cases (Answered progress) (progress.server.last_id == last_file_id)
     (replied client (Reply.CreateFailed file Status.InsufficientResources) progress)
-    (granted_with client file access share asked durable (lease_after progress.server client file asked) progress)
+    (granted_with client file access share asked durable (lease_after progress.server client file asked)
+    progress)
     (λ e. replied-answered client (Reply.CreateFailed file Status.InsufficientResources) progress tt)
-    (λ e. granted_with-answered client file access share asked durable (lease_after progress.server client file asked) progress)
+    (λ e. granted_with-answered client file access share asked durable
+    (lease_after progress.server client file asked) progress)
 
-reconnected-answered : (client file : ℕ) (asked : Option LeaseOf) (file_id : ℕ) (progress : Progress) → Answered progress (reconnected client file asked file_id progress)
+reconnected-answered : (client file : ℕ) (asked : Option LeaseOf) (file_id : ℕ) (progress : Progress)
+    → Answered progress (reconnected client file asked file_id progress)
 unfolding reconnected
 reconnected-answered client file asked file_id progress = record {
   more = _;
@@ -169,13 +195,18 @@ reconnected-answered client file asked file_id progress = record {
   fair = record { flagged = (tt, tt); paired = tt };
 }
 
-created-answered : (client file : ℕ) (access : Access) (share : Share) (asked : Option LeaseOf) (durable : Bool) (again : Option ℕ) (progress : Progress)
+created-answered : (client file : ℕ) (access : Access) (share : Share) (asked : Option LeaseOf)
+    (durable : Bool) (again : Option ℕ) (progress : Progress)
     → Answered progress (created client file access share asked durable again progress)
-created-answered client file access share asked durable None progress = granted-answered client file access share asked durable progress
-created-answered client file access share asked durable (Some file_id) progress = reconnected-answered client file asked file_id progress
+created-answered client file access share asked durable None progress = granted-answered client file access
+    share asked durable progress
+created-answered client file access share asked durable (Some file_id) progress = reconnected-answered client
+    file asked file_id progress
 
-on_contexts-answered : (contexts : Option CreateAsk) (done : CreateAsk → Progress → Progress) (progress : Progress)
-    → ((ask : CreateAsk) → Answered progress (done ask progress)) → Answered progress (on_contexts contexts done progress)
+on_contexts-answered : (contexts : Option CreateAsk) (done : CreateAsk → Progress → Progress)
+    (progress : Progress)
+    → ((ask : CreateAsk) → Answered progress (done ask progress))
+    → Answered progress (on_contexts contexts done progress)
 on_contexts-answered None done progress each = answered_nothing progress.outs
 on_contexts-answered (Some ask) done progress each = each ask
 
@@ -184,27 +215,35 @@ on_open-answered : (one : Option Open) (done : ℕ → Progress → Progress) (p
 on_open-answered None done progress each = answered_nothing progress.outs
 on_open-answered (Some one) done progress each = each one.file
 
-answered-answered : (client : ℕ) (request : Request) (progress : Progress) → Answered progress (answered client request progress)
+answered-answered : (client : ℕ) (request : Request) (progress : Progress)
+    → Answered progress (answered client request progress)
 unfolding answered
 answered-answered client (Request.Create file access share contexts) progress = on_contexts-answered contexts
     (λ ask. created client file access share ask.lease ask.durable ask.reconnect) progress
     (λ ask. created-answered client file access share ask.lease ask.durable ask.reconnect progress)
-answered-answered client (Request.Read file_id) progress = on_open-answered (connected_open progress.server client file_id)
+answered-answered client (Request.Read file_id) progress = on_open-answered
+    (connected_open progress.server client file_id)
     (λ file. read_done client file file_id) progress
     (λ file. replied-answered client (Reply.ReadDone file_id (progress.server.contents file)) progress tt)
-answered-answered client (Request.Write file_id number patch) progress = on_open-answered (connected_open progress.server client file_id)
-    (λ file. changed client file file_id number patch) progress (λ file. changed-answered client file file_id number patch progress)
-answered-answered client (Request.Close file_id) progress = on_open-answered (connected_open progress.server client file_id)
+answered-answered client (Request.Write file_id number patch) progress = on_open-answered
+    (connected_open progress.server client file_id)
+    (λ file. changed client file file_id number patch) progress
+    (λ file. changed-answered client file file_id number patch progress)
+answered-answered client (Request.Close file_id) progress = on_open-answered
+    (connected_open progress.server client file_id)
     (λ file. closed client file_id) progress (λ file. closed-answered client file_id progress)
 answered-answered client (Request.Acknowledge acknowledged) progress = answered_nothing progress.outs
 
 -- the end of a try
-pub concluded-answered : (client : ℕ) (request : Request) (progress : Progress) (outcome : Outcome) → Answered progress (concluded client request progress outcome)
-concluded-answered client request progress (Outcome.Refused status) = refused-answered client request status progress
+pub concluded-answered : (client : ℕ) (request : Request) (progress : Progress) (outcome : Outcome)
+    → Answered progress (concluded client request progress outcome)
+concluded-answered client request progress (Outcome.Refused status) = refused-answered client request status
+    progress
 concluded-answered client request progress Outcome.Waits = answered_nothing progress.outs
 concluded-answered client request progress Outcome.Ready = answered-answered client request progress
 
-break_ended-answered : (key : Key) (state : State) (progress : Progress) → Answered progress (break_ended key state progress)
+break_ended-answered : (key : Key) (state : State) (progress : Progress)
+    → Answered progress (break_ended key state progress)
 unfolding break_ended
 break_ended-answered key state progress = record {
   more = _;
@@ -213,19 +252,27 @@ break_ended-answered key state progress = record {
   fair = record { flagged = (tt, tt); paired = tt };
 }
 
-judged-answered : (key : Key) (state : State) (broken : Option State) (progress : Progress) → Answered progress (judged key state broken progress)
-judged-answered key state None progress = replied-answered key.client (Reply.AckFailed Status.Unsuccessful) progress tt
-judged-answered key state (Some lowered) progress = if_cases (Answered progress) (is_within state lowered) (break_ended key state progress)
+judged-answered : (key : Key) (state : State) (broken : Option State) (progress : Progress)
+    → Answered progress (judged key state broken progress)
+judged-answered key state None progress = replied-answered key.client (Reply.AckFailed Status.Unsuccessful)
+    progress tt
+judged-answered key state (Some lowered) progress = if_cases (Answered progress) (is_within state lowered)
+    (break_ended key state progress)
     (replied key.client (Reply.AckFailed Status.RequestNotAccepted) progress)
     (λ e. break_ended-answered key state progress)
     (λ e. replied-answered key.client (Reply.AckFailed Status.RequestNotAccepted) progress tt)
 
 -- any acknowledgment
-pub acknowledged-answered : (client : ℕ) (given : Option LeaseOf) (progress : Progress) → Answered progress (acknowledged client given progress)
+pub acknowledged-answered : (client : ℕ) (given : Option LeaseOf) (progress : Progress)
+    → Answered progress (acknowledged client given progress)
 unfolding acknowledged
-acknowledged-answered client None progress = replied-answered client (Reply.AckFailed Status.InvalidParameter) progress tt
-acknowledged-answered client (Some given) progress = if_cases (Answered progress) (has_lease progress.server (key_of client given.key))
-    (judged (key_of client given.key) given.state (progress.server.leases (key_of client given.key)).broken_to progress)
+acknowledged-answered client None progress = replied-answered client (Reply.AckFailed Status.InvalidParameter)
+    progress tt
+acknowledged-answered client (Some given) progress = if_cases (Answered progress)
+    (has_lease progress.server (key_of client given.key))
+    (judged (key_of client given.key) given.state (progress.server.leases (key_of client given.key)).broken_to
+    progress)
     (replied client (Reply.AckFailed Status.ObjectNameNotFound) progress)
-    (λ e. judged-answered (key_of client given.key) given.state (progress.server.leases (key_of client given.key)).broken_to progress)
+    (λ e. judged-answered (key_of client given.key) given.state
+    (progress.server.leases (key_of client given.key)).broken_to progress)
     (λ e. replied-answered client (Reply.AckFailed Status.ObjectNameNotFound) progress tt)

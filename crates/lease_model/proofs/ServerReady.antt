@@ -22,7 +22,8 @@ use Rattle.lease_model.proofs.ServerLists.{if_cases, clash, and_both, not_true, 
 use Rattle.lease_model.proofs.ServerTries.{IsFoundReady}
 use Rattle.lease_model.proofs.ServerWants.{wants_where-none}
 
-pub record IsFree (opens : List Open) (leases : Key → Lease) (own : Option Key) (file : ℕ) (access : Access) (share : Share) : Type 0 where
+pub record IsFree (opens : List Open) (leases : Key → Lease) (own : Option Key) (file : ℕ) (access : Access)
+    (share : Share) : Type 0 where
   pub at_home : (one : Open) → Among one opens → has_own_key own one ≡ true → one.file ≡ file
   pub peaceful : (one : Open) → Among one opens → one.file ≡ file → conflicts access share one ≡ false
   pub unwritten : (key : Key) (one : Open) → Among one opens → one.file ≡ file → has_own_key own one ≡ false
@@ -36,14 +37,17 @@ home_at : (server : Server) (own : Option Key) (file : ℕ) → is_leased_elsewh
 unfolding is_leased_elsewhere
 home_at server None file e one a k = absurd (true≢false (sym k))
 home_at server (Some key) file e one a k = (Decides-eqb one.file file).0 (not_false (one.file == file) (λ d.
-    clash (has_key key one && not (one.file == file)) (and_both (has_key key one) (not (one.file == file)) k (ap not d))
+    clash (has_key key one && not (one.file == file))
+    (and_both (has_key key one) (not (one.file == file)) k (ap not d))
     (none_has (λ x. has_key key x && not (x.file == file)) one server.opens e a)))
 
-peaceful_at : (server : Server) (file : ℕ) (access : Access) (share : Share) → list_any (conflicts_on file access share) server.opens ≡ false
+peaceful_at : (server : Server) (file : ℕ) (access : Access) (share : Share)
+    → list_any (conflicts_on file access share) server.opens ≡ false
     → (one : Open) → Among one server.opens → one.file ≡ file → conflicts access share one ≡ false
 unfolding conflicts_on
 peaceful_at server file access share e one a f = not_true (conflicts access share one) (λ c.
-    clash (one.file == file && conflicts access share one) (and_both (one.file == file) (conflicts access share one) (same_file one file f) c)
+    clash (one.file == file && conflicts access share one)
+    (and_both (one.file == file) (conflicts access share one) (same_file one file f) c)
     (none_has (conflicts_on file access share) one server.opens e a))
 
 unwritten_at : (server : Server) (own : Option Key) (file : ℕ) → is_empty (write_wants server own file) ≡ true
@@ -55,7 +59,8 @@ unwritten_at server own file none key one a f other k = not_true (server.leases 
     (and_both (is_other_on own file one) (lease_of server one).state.write
     (and_both (one.file == file) (not (has_own_key own one)) (same_file one file f) (ap not other))
     (ap (λ l. l.state.write) (lease_by-key server key one.client one.lease_key k) ∙ w))
-    (wants_where-none server (λ x. is_other_on own file x && (lease_of server x).state.write) without_write none key one a k))
+    (wants_where-none server (λ x. is_other_on own file x && (lease_of server x).state.write) without_write
+    none key one a k))
 
 -- a finding that leaves nothing wanted
 abbrev pub FreeWhenEmpty : Server → Option Key → ℕ → Access → Share → Finding → Type 0
@@ -69,8 +74,10 @@ unfolding create_finding
 create_finding-free server own file access share =
     if_cases (FreeWhenEmpty server own file access share) (is_leased_elsewhere server own file) _ _
     (λ e. tt)
-    (λ home. if_cases (FreeWhenEmpty server own file access share) (list_any (conflicts_on file access share) server.opens) _ _
-    (λ c. if_cases (FreeWhenEmpty server own file access share) (is_empty (handle_wants server own file access share)) _ _
+    (λ home. if_cases (FreeWhenEmpty server own file access share)
+    (list_any (conflicts_on file access share) server.opens) _ _
+    (λ c. if_cases (FreeWhenEmpty server own file access share)
+    (is_empty (handle_wants server own file access share)) _ _
     (λ n. tt) (λ n none. clash (is_empty (handle_wants server own file access share)) none n))
     (λ peace none. record {
       at_home = home_at server own file home;
@@ -80,52 +87,62 @@ create_finding-free server own file access share =
 
 -- what is known of a create with these contexts once it is ready
 abbrev pub CreateFree : Server → ℕ → ℕ → Access → Share → Option LeaseOf → Option ℕ → Type 0
-CreateFree server client file access share lease None = IsFree server.opens server.leases (own_key client lease) file access share
+CreateFree server client file access share lease None = IsFree server.opens server.leases
+    (own_key client lease) file access share
 CreateFree server client file access share lease (Some file_id) = Unit {0}
 
 abbrev pub ContextsFree : Server → ℕ → ℕ → Access → Share → Option CreateAsk → Type 0
 ContextsFree server client file access share None = Unit {0}
-ContextsFree server client file access share (Some ask) = CreateFree server client file access share ask.lease ask.reconnect
+ContextsFree server client file access share (Some ask) = CreateFree server client file access share ask.lease
+    ask.reconnect
 
 abbrev pub RequestFree : Server → ℕ → Request → Type 0
-RequestFree server client (Request.Create file access share contexts) = ContextsFree server client file access share contexts
+RequestFree server client (Request.Create file access share contexts) = ContextsFree server client file access
+    share contexts
 RequestFree server client (Request.Read file_id) = Unit {0}
 RequestFree server client (Request.Write file_id number patch) = Unit {0}
 RequestFree server client (Request.Close file_id) = Unit {0}
 RequestFree server client (Request.Acknowledge acknowledged) = Unit {0}
 
-wants_same : (one other : List Want) → Finding.Wants one ≡ Finding.Wants other → one ≡ other
+pub wants_same : (one other : List Want) → Finding.Wants one ≡ Finding.Wants other → one ≡ other
 wants_same one other e = cc
 
-found_free : (server : Server) (own : Option Key) (file : ℕ) (access : Access) (share : Share) (found : Finding) (wants : List Want)
+found_free : (server : Server) (own : Option Key) (file : ℕ) (access : Access) (share : Share)
+    (found : Finding) (wants : List Want)
     → FreeWhenEmpty server own file access share found → found ≡ Finding.Wants wants → is_empty wants ≡ true
     → IsFree server.opens server.leases own file access share
 found_free server own file access share (Finding.Refused status) wants free e none = absurd (cc)
 found_free server own file access share (Finding.Wants others) wants free e none =
     free (ap is_empty (wants_same others wants e) ∙ none)
 
-asked_free : (server : Server) (client file : ℕ) (access : Access) (share : Share) (lease : Option LeaseOf) (again : Option ℕ) (wants : List Want)
+asked_free : (server : Server) (client file : ℕ) (access : Access) (share : Share) (lease : Option LeaseOf)
+    (again : Option ℕ) (wants : List Want)
     → asked_finding server client file access share lease again ≡ Finding.Wants wants → is_empty wants ≡ true
     → CreateFree server client file access share lease again
 asked_free server client file access share lease None wants e none =
-    found_free server (own_key client lease) file access share (create_finding server (own_key client lease) file access share) wants
+    found_free server (own_key client lease) file access share
+    (create_finding server (own_key client lease) file access share) wants
     (create_finding-free server (own_key client lease) file access share) e none
 asked_free server client file access share lease (Some file_id) wants e none = tt
 
-contexts_free : (server : Server) (client file : ℕ) (access : Access) (share : Share) (contexts : Option CreateAsk) (wants : List Want)
-    → finding server client (Request.Create file access share contexts) ≡ Finding.Wants wants → is_empty wants ≡ true
+contexts_free : (server : Server) (client file : ℕ) (access : Access) (share : Share)
+    (contexts : Option CreateAsk) (wants : List Want)
+    → finding server client (Request.Create file access share contexts) ≡ Finding.Wants wants
+    → is_empty wants ≡ true
     → ContextsFree server client file access share contexts
 unfolding finding
 contexts_free server client file access share None wants e none = tt
 contexts_free server client file access share (Some ask) wants e none =
-    if_cases (λ found. found ≡ Finding.Wants wants → CreateFree server client file access share ask.lease ask.reconnect)
+    if_cases (λ found. found ≡ Finding.Wants wants
+    → CreateFree server client file access share ask.lease ask.reconnect)
     (has_file server file) (asked_finding server client file access share ask.lease ask.reconnect)
     (Finding.Refused Status.ObjectNameNotFound)
     (λ t same. asked_free server client file access share ask.lease ask.reconnect wants same none)
     (λ t same. absurd (cc)) e
 
 -- a create is ready only where it wants nothing
-create_ready-empty : (file : ℕ) (access : Access) (share : Share) (contexts : Option CreateAsk) (leases : Key → Lease) (wants : List Want)
+create_ready-empty : (file : ℕ) (access : Access) (share : Share) (contexts : Option CreateAsk)
+    (leases : Key → Lease) (wants : List Want)
     → is_ready (Request.Create file access share contexts) leases wants ≡ true → is_empty wants ≡ true
 unfolding is_ready
 create_ready-empty file access share contexts leases wants e = e
@@ -133,7 +150,8 @@ create_ready-empty file access share contexts leases wants e = e
 -- what is known of a request once it is ready
 pub ready-free : (client : ℕ) (request : Request) (progress : Progress) → IsFoundReady client request progress
     → RequestFree progress.server client request
-ready-free client (Request.Create file access share contexts) progress r = contexts_free progress.server client file access share contexts
+ready-free client (Request.Create file access share contexts) progress r = contexts_free progress.server
+    client file access share contexts
     r.wants r.found (create_ready-empty file access share contexts progress.server.leases r.wants r.ready)
 ready-free client (Request.Read file_id) progress r = tt
 ready-free client (Request.Write file_id number patch) progress r = tt

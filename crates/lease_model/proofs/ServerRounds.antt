@@ -20,16 +20,18 @@ use Rattle.lease_model.specs.ServerLaws.{IsSound, HasToWait}
 use Rattle.lease_model.specs.ServerState.{Server, Open, Lease, has_file}
 use Rattle.lease_model.specs.Sharing.{may_read, may_write}
 use Rattle.lease_model.specs.Wants.{Want, Finding, finding, wants_where, handle_wants, write_wants, all_wants, create_finding, reconnect_finding, write_finding, asked_finding, read_finding, by_open, own_key, key_of_open, connected_open, is_leased_elsewhere, awaits}
-use Rattle.lease_model.proofs.ServerBreaks.{wants_met-sound}
+use Rattle.lease_model.proofs.ServerBreaks.{wants_met-sound, light_writeless}
 use Rattle.lease_model.proofs.ServerBlocked.{round_waits}
 use Rattle.lease_model.proofs.ServerLists.{if_cases, clash, not_true, has_any, any_has, among_map}
 use Rattle.lease_model.proofs.ServerMet.{AllQuiet, holder, wanted_no_more, wants_where-empty, wants_met-were, wants_met-found}
+use Rattle.lease_model.proofs.ServerReady.{wants_same}
 use Rattle.lease_model.proofs.ServerStates.{light_state}
 use Rattle.lease_model.proofs.ServerWants.{FindingFits, finding-fits, handle_wants-fit, write_wants-fit, all_wants-fit}
 
 -- where it waits, the request has to wait
 abbrev pub IsExcused : ℕ → Request → Tried → Type 0
-IsExcused client request tried = tried.outcome ≡ Outcome.Waits → HasToWait tried.progress.server client request
+IsExcused client request tried = tried.outcome ≡ Outcome.Waits
+    → HasToWait tried.progress.server client request
 
 -- what two tries come to, and a reason where they wait
 pub record AreAlike (client : ℕ) (request : Request) (one : Tried) (other : Tried) : Type 0 where
@@ -39,22 +41,31 @@ pub record AreAlike (client : ℕ) (request : Request) (one : Tried) (other : Tr
 -- any two numbers of rounds from this one on come to one, and wait only for a reason
 abbrev pub Ends : ℕ → Request → ℕ → Progress → Type 0
 Ends client request rounds progress = (one other : ℕ) → rounds ≤ one → rounds ≤ other
-    → AreAlike client request (tried_for one client request progress) (tried_for other client request progress)
+    → AreAlike client request (tried_for one client request progress)
+    (tried_for other client request progress)
 
-alike_cases : (client : ℕ) (request : Request) (b : Bool) (x y z : Tried) → (b ≡ true → IsExcused client request x)
+alike_cases : (client : ℕ) (request : Request) (b : Bool) (x y z : Tried)
+    → (b ≡ true → IsExcused client request x)
     → (b ≡ false → AreAlike client request y z) → AreAlike client request (cond b x y) (cond b x z)
 alike_cases client request true x y z e a = record { is_same = refl; is_excused = e refl }
 alike_cases client request false x y z e a = a refl
 
-after_finding-same : (f g : Progress → Tried) (client : ℕ) (request : Request) (progress : Progress) (found : Finding)
-    → IsSound progress.server → FindingFits progress.server found → finding progress.server client request ≡ found
-    → ((wants : List Want) → found ≡ Finding.Wants wants → is_ready request progress.server.leases wants ≡ false
-    → must_wait request (wants_met wants progress) wants ≡ false → AreAlike client request (f (wants_met wants progress)) (g (wants_met wants progress)))
-    → AreAlike client request (after_finding f request progress found) (after_finding g request progress found)
-after_finding-same f g client request progress (Finding.Refused status) s fits e more = record { is_same = refl; is_excused = λ never. absurd (cc) }
+after_finding-same : (f g : Progress → Tried) (client : ℕ) (request : Request) (progress : Progress)
+    (found : Finding)
+    → IsSound progress.server → FindingFits progress.server found
+    → finding progress.server client request ≡ found
+    → ((wants : List Want) → found ≡ Finding.Wants wants
+    → is_ready request progress.server.leases wants ≡ false
+    → must_wait request (wants_met wants progress) wants ≡ false
+    → AreAlike client request (f (wants_met wants progress)) (g (wants_met wants progress)))
+    → AreAlike client request (after_finding f request progress found)
+    (after_finding g request progress found)
+after_finding-same f g client request progress (Finding.Refused status) s fits e more =
+    record { is_same = refl; is_excused = λ never. absurd (cc) }
 after_finding-same f g client request progress (Finding.Wants wants) s fits e more =
     let met = wants_met wants progress in
-    alike_cases client request (is_ready request progress.server.leases wants) (ended progress Outcome.Ready) (after_breaks f request wants met) (after_breaks g request wants met)
+    alike_cases client request (is_ready request progress.server.leases wants) (ended progress Outcome.Ready)
+    (after_breaks f request wants met) (after_breaks g request wants met)
     (λ r never. absurd (cc))
     (λ r. alike_cases client request (must_wait request met wants) (ended met Outcome.Waits) (f met) (g met)
     (λ w waits. round_waits client request progress wants s (wants_met-sound wants progress s fits) e w)
@@ -62,8 +73,10 @@ after_finding-same f g client request progress (Finding.Wants wants) s fits e mo
 
 -- a try ends by one more round than those that go on from it
 ends_step : (client : ℕ) (request : Request) (rounds : ℕ) (progress : Progress) → IsSound progress.server
-    → ((wants : List Want) → finding progress.server client request ≡ Finding.Wants wants → is_ready request progress.server.leases wants ≡ false
-    → must_wait request (wants_met wants progress) wants ≡ false → Ends client request rounds (wants_met wants progress))
+    → ((wants : List Want) → finding progress.server client request ≡ Finding.Wants wants
+    → is_ready request progress.server.leases wants ≡ false
+    → must_wait request (wants_met wants progress) wants ≡ false
+    → Ends client request rounds (wants_met wants progress))
     → Ends client request (suc rounds) progress
 unfolding tried_for
 ends_step client request rounds progress s more zero other a b = absurd (omega (arith, a))
@@ -73,32 +86,37 @@ ends_step client request rounds progress s more (suc one) (suc other) a b =
     (finding progress.server client request) s (finding-fits progress.server client request s) refl
     (λ wants e r w. more wants e r w one other (omega (arith, a)) (omega (arith, b)))
 
-ends_later : (client : ℕ) (request : Request) (few many : ℕ) (progress : Progress) → few ≤ many → Ends client request few progress → Ends client request many progress
-ends_later client request few many progress le ends one other a b = ends one other (omega (arith, le, a)) (omega (arith, le, b))
+ends_later : (client : ℕ) (request : Request) (few many : ℕ) (progress : Progress) → few ≤ many
+    → Ends client request few progress → Ends client request many progress
+ends_later client request few many progress le ends one other a b = ends one other (omega (arith, le, a))
+    (omega (arith, le, b))
 
 -- what is empty is ready
-empty_ready : (request : Request) (leases : Key → Lease) (wants : List Want) → is_empty wants ≡ true → is_ready request leases wants ≡ true
+empty_ready : (request : Request) (leases : Key → Lease) (wants : List Want) → is_empty wants ≡ true
+    → is_ready request leases wants ≡ true
 unfolding is_ready
 empty_ready request leases wants e = e
 
-wants_same : (one other : List Want) → Finding.Wants one ≡ Finding.Wants other → one ≡ other
-wants_same one other e = cc
-
 -- a finding that wants nothing is ready, and a refusal wants nothing
-not_empty : (request : Request) (leases : Key → Lease) (wants : List Want) → is_empty wants ≡ true → is_ready request leases wants ≡ false → ⊥
-not_empty request leases wants e r = clash (is_ready request leases wants) (empty_ready request leases wants e) r
+not_empty : (request : Request) (leases : Key → Lease) (wants : List Want) → is_empty wants ≡ true
+    → is_ready request leases wants ≡ false → ⊥
+not_empty request leases wants e r = clash (is_ready request leases wants)
+    (empty_ready request leases wants e) r
 
 -- what a create wants: handles where opens conflict, and else writes
-pub record WantsHandles (server : Server) (own : Option Key) (file : ℕ) (access : Access) (share : Share) (wants : List Want) : Type 0 where
+pub record WantsHandles (server : Server) (own : Option Key) (file : ℕ) (access : Access) (share : Share)
+    (wants : List Want) : Type 0 where
   pub conflict : list_any (conflicts_on file access share) server.opens ≡ true
   pub are_handles : wants ≡ handle_wants server own file access share
   pub are_some : is_empty (handle_wants server own file access share) ≡ false
 
-pub record WantsWrites (server : Server) (own : Option Key) (file : ℕ) (access : Access) (share : Share) (wants : List Want) : Type 0 where
+pub record WantsWrites (server : Server) (own : Option Key) (file : ℕ) (access : Access) (share : Share)
+    (wants : List Want) : Type 0 where
   pub no_conflict : list_any (conflicts_on file access share) server.opens ≡ false
   pub are_writes : wants ≡ write_wants server own file
 
-create_wants : (server : Server) (own : Option Key) (file : ℕ) (access : Access) (share : Share) (wants : List Want)
+create_wants : (server : Server) (own : Option Key) (file : ℕ) (access : Access) (share : Share)
+    (wants : List Want)
     → create_finding server own file access share ≡ Finding.Wants wants
     → WantsHandles server own file access share wants ⊎ WantsWrites server own file access share wants
 unfolding create_finding
@@ -110,49 +128,71 @@ create_wants server own file access share wants =
     (λ e. if_cases Goal (list_any (conflicts_on file access share) server.opens) _ _
     (λ c. if_cases Goal (is_empty (handle_wants server own file access share)) _ _
     (λ n never. absurd (cc))
-    (λ n same. inl (record { conflict = c; are_handles = wants_same wants (handle_wants server own file access share) (sym same); are_some = n })))
-    (λ c same. inr (record { no_conflict = c; are_writes = wants_same wants (write_wants server own file) (sym same) })))
+    (λ n same. inl (record {
+      conflict = c;
+      are_handles = wants_same wants
+          (handle_wants server own file access share) (sym same);
+      are_some = n;
+    })))
+    (λ c same. inr (record {
+      no_conflict = c;
+      are_writes = wants_same wants (write_wants server own file)
+          (sym same);
+    })))
 
 -- opens that are only fewer don't conflict more
 fewer_conflicts : (file : ℕ) (access : Access) (share : Share) (wants : List Want) (progress : Progress)
     → list_any (conflicts_on file access share) progress.server.opens ≡ false
     → list_any (conflicts_on file access share) (wants_met wants progress).server.opens ≡ false
-fewer_conflicts file access share wants progress e = not_true (list_any (conflicts_on file access share) (wants_met wants progress).server.opens) (λ t.
+fewer_conflicts file access share wants progress e = not_true
+    (list_any (conflicts_on file access share) (wants_met wants progress).server.opens) (λ t.
     let x = any_has (conflicts_on file access share) (wants_met wants progress).server.opens t in
     clash (list_any (conflicts_on file access share) progress.server.opens)
-    (has_any (conflicts_on file access share) x.0 progress.server.opens (wants_met-were wants progress x.0 x.1) x.2) e)
+    (has_any (conflicts_on file access share) x.0 progress.server.opens
+    (wants_met-were wants progress x.0 x.1) x.2) e)
 
 -- what needs no acknowledgment holds neither W nor H
 light_handle : (state : State) → needs_acknowledgment state ≡ false → state.handle ≡ false
 light_handle state light = (light_state state light).1
 
-light_write : (state : State) → needs_acknowledgment state ≡ false → state.write ≡ false
-light_write state light = (light_state state light).0
-
 -- once handles are broken, no handle is wanted
-handles_gone : (request : Request) (own : Option Key) (file : ℕ) (access : Access) (share : Share) (progress : Progress) → IsSound progress.server
-    → must_wait request (wants_met (handle_wants progress.server own file access share) progress) (handle_wants progress.server own file access share) ≡ false
-    → is_empty (handle_wants (wants_met (handle_wants progress.server own file access share) progress).server own file access share) ≡ true
+handles_gone : (request : Request) (own : Option Key) (file : ℕ) (access : Access) (share : Share)
+    (progress : Progress) → IsSound progress.server
+    → must_wait request (wants_met (handle_wants progress.server own file access share) progress)
+    (handle_wants progress.server own file access share) ≡ false
+    → is_empty (handle_wants (wants_met (handle_wants progress.server own file access share) progress).server
+    own file access share) ≡ true
 unfolding handle_wants
 handles_gone request own file access share progress s wait =
     let met = wants_met (wants_where progress.server
-    (holder (λ state. state.handle) (λ one. conflicts_on file access share one && is_other_on own file one) progress.server) without_handle) progress in
-    wants_where-empty met.server (holder (λ state. state.handle) (λ one. conflicts_on file access share one && is_other_on own file one) met.server) without_handle
-    (wanted_no_more (λ state. state.handle) (λ one. conflicts_on file access share one && is_other_on own file one) without_handle request progress s refl
-    (handle_wants-fit progress.server own file access share s) (λ want a light. light_handle want.lowered light) wait)
+    (holder (λ state. state.handle) (λ one. conflicts_on file access share one && is_other_on own file one)
+    progress.server) without_handle) progress in
+    wants_where-empty met.server (holder (λ state. state.handle)
+    (λ one. conflicts_on file access share one && is_other_on own file one) met.server) without_handle
+    (wanted_no_more (λ state. state.handle)
+    (λ one. conflicts_on file access share one && is_other_on own file one) without_handle request
+    progress s refl
+    (handle_wants-fit progress.server own file access share s)
+    (λ want a light. light_handle want.lowered light) wait)
 
 -- once writes are broken, none is wanted
-writes_gone : (request : Request) (own : Option Key) (file : ℕ) (progress : Progress) → IsSound progress.server
-    → must_wait request (wants_met (write_wants progress.server own file) progress) (write_wants progress.server own file) ≡ false
-    → is_empty (write_wants (wants_met (write_wants progress.server own file) progress).server own file) ≡ true
+writes_gone : (request : Request) (own : Option Key) (file : ℕ) (progress : Progress)
+    → IsSound progress.server
+    → must_wait request (wants_met (write_wants progress.server own file) progress)
+    (write_wants progress.server own file) ≡ false
+    → is_empty (write_wants (wants_met (write_wants progress.server own file) progress).server own file) ≡
+    true
 unfolding write_wants
 writes_gone request own file progress s wait =
-    let met = wants_met (wants_where progress.server (holder (λ state. state.write) (is_other_on own file) progress.server) without_write) progress in
-    wants_where-empty met.server (holder (λ state. state.write) (is_other_on own file) met.server) without_write
+    let met = wants_met (wants_where progress.server
+    (holder (λ state. state.write) (is_other_on own file) progress.server) without_write) progress in
+    wants_where-empty met.server (holder (λ state. state.write) (is_other_on own file) met.server)
+    without_write
     (wanted_no_more (λ state. state.write) (is_other_on own file) without_write request progress s refl
-    (write_wants-fit progress.server own file s) (λ want a light. light_write want.lowered light) wait)
+    (write_wants-fit progress.server own file s) (λ want a light. light_writeless want.lowered light) wait)
 
-all_wants-quiet : (server : Server) (own : Option Key) (file : ℕ) → AllQuiet holds_any (all_wants server own file)
+all_wants-quiet : (server : Server) (own : Option Key) (file : ℕ)
+    → AllQuiet holds_any (all_wants server own file)
 unfolding all_wants wants_where
 all_wants-quiet server own file want a light =
     let x = among_map (λ key. record { key = key; lowered = nothing_cached }) want _ a in
@@ -160,48 +200,61 @@ all_wants-quiet server own file want a light =
 
 -- once all is broken, nothing is wanted
 all_gone : (request : Request) (own : Option Key) (file : ℕ) (progress : Progress) → IsSound progress.server
-    → must_wait request (wants_met (all_wants progress.server own file) progress) (all_wants progress.server own file) ≡ false
+    → must_wait request (wants_met (all_wants progress.server own file) progress)
+    (all_wants progress.server own file) ≡ false
     → is_empty (all_wants (wants_met (all_wants progress.server own file) progress).server own file) ≡ true
 unfolding all_wants
 all_gone request own file progress s wait =
-    let met = wants_met (wants_where progress.server (holder holds_any (is_other_on own file) progress.server) (λ state. nothing_cached)) progress in
-    wants_where-empty met.server (holder holds_any (is_other_on own file) met.server) (λ state. nothing_cached)
+    let met = wants_met (wants_where progress.server (holder holds_any (is_other_on own file) progress.server)
+    (λ state. nothing_cached)) progress in
+    wants_where-empty met.server (holder holds_any (is_other_on own file) met.server)
+    (λ state. nothing_cached)
     (wanted_no_more holds_any (is_other_on own file) (λ state. nothing_cached) request progress s refl
     (all_wants-fit progress.server own file s) (all_wants-quiet progress.server own file) wait)
 
 -- the request is a create: all that it finds is what a create finds
 abbrev pub IsCreate : ℕ → Request → Option Key → ℕ → Access → Share → Type 0
 IsCreate client request own file access share = (server : Server) (wants : List Want)
-    → finding server client request ≡ Finding.Wants wants → create_finding server own file access share ≡ Finding.Wants wants
+    → finding server client request ≡ Finding.Wants wants
+    → create_finding server own file access share ≡ Finding.Wants wants
 
-writes_end : (client : ℕ) (request : Request) (own : Option Key) (file : ℕ) (access : Access) (share : Share) (progress : Progress)
+writes_end : (client : ℕ) (request : Request) (own : Option Key) (file : ℕ) (access : Access) (share : Share)
+    (progress : Progress)
     → IsCreate client request own file access share → IsSound progress.server
     → list_any (conflicts_on file access share) progress.server.opens ≡ false
-    → must_wait request (wants_met (write_wants progress.server own file) progress) (write_wants progress.server own file) ≡ false
+    → must_wait request (wants_met (write_wants progress.server own file) progress)
+    (write_wants progress.server own file) ≡ false
     → Ends client request 1 (wants_met (write_wants progress.server own file) progress)
 writes_end client request own file access share progress create s peace wait =
     let met = wants_met (write_wants progress.server own file) progress in
     let still = fewer_conflicts file access share (write_wants progress.server own file) progress peace in
-    ends_step client request 0 met (wants_met-sound (write_wants progress.server own file) progress s (write_wants-fit progress.server own file s)) (λ wants found unready w. ⊎_elim
+    ends_step client request 0 met (wants_met-sound (write_wants progress.server own file) progress s
+    (write_wants-fit progress.server own file s)) (λ wants found unready w. ⊎_elim
     (λ h. clash (list_any (conflicts_on file access share) met.server.opens) h.conflict still)
-    (λ h. absurd (not_empty request met.server.leases wants (ap is_empty h.are_writes ∙ writes_gone request own file progress s wait) unready))
+    (λ h. absurd (not_empty request met.server.leases wants
+    (ap is_empty h.are_writes ∙ writes_gone request own file progress s wait) unready))
     (create_wants met.server own file access share wants (create met.server wants found)))
 
-handles_end : (client : ℕ) (request : Request) (own : Option Key) (file : ℕ) (access : Access) (share : Share) (progress : Progress)
+handles_end : (client : ℕ) (request : Request) (own : Option Key) (file : ℕ) (access : Access) (share : Share)
+    (progress : Progress)
     → IsCreate client request own file access share → IsSound progress.server
-    → must_wait request (wants_met (handle_wants progress.server own file access share) progress) (handle_wants progress.server own file access share) ≡ false
+    → must_wait request (wants_met (handle_wants progress.server own file access share) progress)
+    (handle_wants progress.server own file access share) ≡ false
     → Ends client request 2 (wants_met (handle_wants progress.server own file access share) progress)
 handles_end client request own file access share progress create s wait =
     let met = wants_met (handle_wants progress.server own file access share) progress in
-    let sound = wants_met-sound (handle_wants progress.server own file access share) progress s (handle_wants-fit progress.server own file access share s) in
+    let sound = wants_met-sound (handle_wants progress.server own file access share) progress s
+    (handle_wants-fit progress.server own file access share s) in
     ends_step client request 1 met sound (λ wants found unready w. ⊎_elim
-    (λ h. clash (is_empty (handle_wants met.server own file access share)) (handles_gone request own file access share progress s wait) h.are_some)
+    (λ h. clash (is_empty (handle_wants met.server own file access share))
+    (handles_gone request own file access share progress s wait) h.are_some)
     (λ h. subst (λ x. Ends client request 1 (wants_met x met)) (sym h.are_writes)
     (writes_end client request own file access share met create sound h.no_conflict
     (subst (λ x. must_wait request (wants_met x met) x ≡ false) h.are_writes w)))
     (create_wants met.server own file access share wants (create met.server wants found)))
 
-create_ends : (client : ℕ) (request : Request) (own : Option Key) (file : ℕ) (access : Access) (share : Share) (progress : Progress)
+create_ends : (client : ℕ) (request : Request) (own : Option Key) (file : ℕ) (access : Access) (share : Share)
+    (progress : Progress)
     → IsCreate client request own file access share → IsSound progress.server → Ends client request 3 progress
 create_ends client request own file access share progress create s =
     ends_step client request 2 progress s (λ wants found unready w. ⊎_elim
@@ -216,66 +269,83 @@ create_ends client request own file access share progress create s =
 
 -- a request that wants nothing, whatever it finds
 abbrev pub WantsNothing : ℕ → Request → Type 0
-WantsNothing client request = (server : Server) (wants : List Want) → finding server client request ≡ Finding.Wants wants → is_empty wants ≡ true
+WantsNothing client request = (server : Server) (wants : List Want)
+    → finding server client request ≡ Finding.Wants wants → is_empty wants ≡ true
 
-nothing_ends : (client : ℕ) (request : Request) (progress : Progress) → IsSound progress.server → WantsNothing client request → Ends client request 1 progress
+nothing_ends : (client : ℕ) (request : Request) (progress : Progress) → IsSound progress.server
+    → WantsNothing client request → Ends client request 1 progress
 nothing_ends client request progress s nothing = ends_step client request 0 progress s
-    (λ wants found unready w. absurd (not_empty request progress.server.leases wants (nothing progress.server wants found) unready))
+    (λ wants found unready w. absurd (not_empty request progress.server.leases wants
+    (nothing progress.server wants found) unready))
 
 reconnect_nothing : (server : Server) (client file : ℕ) (own : Option Key) (file_id : ℕ) (wants : List Want)
     → reconnect_finding server client file own file_id ≡ Finding.Wants wants → is_empty wants ≡ true
 unfolding reconnect_finding
 reconnect_nothing server client file own file_id wants =
-    if_cases (λ found. found ≡ Finding.Wants wants → is_empty wants ≡ true) (list_any (awaits client file own file_id) server.opens)
+    if_cases (λ found. found ≡ Finding.Wants wants → is_empty wants ≡ true)
+    (list_any (awaits client file own file_id) server.opens)
     (Finding.Wants []) (Finding.Refused Status.ObjectNameNotFound)
     (λ e same. ap is_empty (wants_same wants [] (sym same))) (λ e never. absurd (cc))
 
-create_found : (server : Server) (client file : ℕ) (access : Access) (share : Share) (ask : CreateAsk) (wants : List Want)
+create_found : (server : Server) (client file : ℕ) (access : Access) (share : Share) (ask : CreateAsk)
+    (wants : List Want)
     → finding server client (Request.Create file access share (Some ask)) ≡ Finding.Wants wants
     → asked_finding server client file access share ask.lease ask.reconnect ≡ Finding.Wants wants
 unfolding finding
 create_found server client file access share ask wants =
-    if_cases (λ found. found ≡ Finding.Wants wants → asked_finding server client file access share ask.lease ask.reconnect ≡ Finding.Wants wants)
-    (has_file server file) (asked_finding server client file access share ask.lease ask.reconnect) (Finding.Refused Status.ObjectNameNotFound)
+    if_cases (λ found. found ≡ Finding.Wants wants
+    → asked_finding server client file access share ask.lease ask.reconnect ≡ Finding.Wants wants)
+    (has_file server file) (asked_finding server client file access share ask.lease ask.reconnect)
+    (Finding.Refused Status.ObjectNameNotFound)
     (λ e same. same) (λ e never. absurd (cc))
 
-asked_ends : (client file : ℕ) (access : Access) (share : Share) (lease : Option LeaseOf) (again : Option ℕ) (request : Request) (progress : Progress)
+asked_ends : (client file : ℕ) (access : Access) (share : Share) (lease : Option LeaseOf) (again : Option ℕ)
+    (request : Request) (progress : Progress)
     → ((server : Server) (wants : List Want) → finding server client request ≡ Finding.Wants wants
     → asked_finding server client file access share lease again ≡ Finding.Wants wants)
     → IsSound progress.server → Ends client request 3 progress
 asked_ends client file access share lease None request progress found s =
     create_ends client request (own_key client lease) file access share progress found s
 asked_ends client file access share lease (Some file_id) request progress found s =
-    ends_later client request 1 3 progress (omega arith) (nothing_ends client request progress s (λ server wants e.
+    ends_later client request 1 3 progress (omega arith)
+    (nothing_ends client request progress s (λ server wants e.
     reconnect_nothing server client file (own_key client lease) file_id wants (found server wants e)))
 
-faulty_nothing : (client file : ℕ) (access : Access) (share : Share) → WantsNothing client (Request.Create file access share None)
+faulty_nothing : (client file : ℕ) (access : Access) (share : Share)
+    → WantsNothing client (Request.Create file access share None)
 unfolding finding
 faulty_nothing client file access share server wants never = absurd (cc)
 
-contexts_end : (client file : ℕ) (access : Access) (share : Share) (contexts : Option CreateAsk) (progress : Progress) → IsSound progress.server
+contexts_end : (client file : ℕ) (access : Access) (share : Share) (contexts : Option CreateAsk)
+    (progress : Progress) → IsSound progress.server
     → Ends client (Request.Create file access share contexts) 3 progress
 contexts_end client file access share None progress s =
     ends_later client (Request.Create file access share None) 1 3 progress (omega arith)
-    (nothing_ends client (Request.Create file access share None) progress s (faulty_nothing client file access share))
+    (nothing_ends client (Request.Create file access share None) progress s
+    (faulty_nothing client file access share))
 contexts_end client file access share (Some ask) progress s =
-    asked_ends client file access share ask.lease ask.reconnect (Request.Create file access share (Some ask)) progress
+    asked_ends client file access share ask.lease ask.reconnect (Request.Create file access share (Some ask))
+    progress
     (λ server wants e. create_found server client file access share ask wants e) s
 
 by_open_nothing : (one : Option Open) (found : Open → Finding) (wants : List Want)
-    → ((x : Open) → found x ≡ Finding.Wants wants → is_empty wants ≡ true) → by_open one found ≡ Finding.Wants wants → is_empty wants ≡ true
+    → ((x : Open) → found x ≡ Finding.Wants wants → is_empty wants ≡ true)
+    → by_open one found ≡ Finding.Wants wants → is_empty wants ≡ true
 by_open_nothing None found wants each never = absurd (cc)
 by_open_nothing (Some one) found wants each same = each one same
 
 read_nothing : (client file_id : ℕ) → WantsNothing client (Request.Read file_id)
 unfolding finding
-read_nothing client file_id server wants = by_open_nothing (connected_open server client file_id) read_finding wants
-    (λ one. if_cases (λ found. found ≡ Finding.Wants wants → is_empty wants ≡ true) (may_read one.access) (Finding.Wants []) (Finding.Refused Status.AccessDenied)
+read_nothing client file_id server wants = by_open_nothing (connected_open server client file_id) read_finding
+    wants
+    (λ one. if_cases (λ found. found ≡ Finding.Wants wants → is_empty wants ≡ true) (may_read one.access)
+    (Finding.Wants []) (Finding.Refused Status.AccessDenied)
     (λ e same. ap is_empty (wants_same wants [] (sym same))) (λ e never. absurd (cc)))
 
 close_nothing : (client file_id : ℕ) → WantsNothing client (Request.Close file_id)
 unfolding finding
-close_nothing client file_id server wants = by_open_nothing (connected_open server client file_id) (λ one. Finding.Wants []) wants
+close_nothing client file_id server wants = by_open_nothing (connected_open server client file_id)
+    (λ one. Finding.Wants []) wants
     (λ one same. ap is_empty (wants_same wants [] (sym same)))
 
 acknowledge_nothing : (client : ℕ) (given : Option LeaseOf) → WantsNothing client (Request.Acknowledge given)
@@ -288,25 +358,33 @@ pub record WantsAll (server : Server) (client file_id : ℕ) (wants : List Want)
   pub found : connected_open server client file_id ≡ Some one
   pub are_all : wants ≡ all_wants server (key_of_open one) one.file
 
-write_finding-all : (server : Server) (one : Open) (patch : Patch) (wants : List Want) → write_finding server one patch ≡ Finding.Wants wants
+write_finding-all : (server : Server) (one : Open) (patch : Patch) (wants : List Want)
+    → write_finding server one patch ≡ Finding.Wants wants
     → wants ≡ all_wants server (key_of_open one) one.file
 unfolding write_finding
 write_finding-all server one patch wants =
-    let Goal : Finding → Type 0 = λ found. found ≡ Finding.Wants wants → wants ≡ all_wants server (key_of_open one) one.file in
+    let Goal : Finding → Type 0 = λ found. found ≡ Finding.Wants wants
+    → wants ≡ all_wants server (key_of_open one) one.file in
     if_cases Goal (may_write one.access) _ _
     (λ e. if_cases Goal (is_within_limit patch) _ _
-    (λ i same. wants_same wants (all_wants server (key_of_open one) one.file) (sym same)) (λ i never. absurd (cc)))
+    (λ i same. wants_same wants (all_wants server (key_of_open one) one.file) (sym same))
+    (λ i never. absurd (cc)))
     (λ e never. absurd (cc))
 
-by_open_all : (server : Server) (client file_id : ℕ) (patch : Patch) (wants : List Want) (one : Option Open) → connected_open server client file_id ≡ one
-    → by_open one (λ x. write_finding server x patch) ≡ Finding.Wants wants → WantsAll server client file_id wants
+by_open_all : (server : Server) (client file_id : ℕ) (patch : Patch) (wants : List Want) (one : Option Open)
+    → connected_open server client file_id ≡ one
+    → by_open one (λ x. write_finding server x patch) ≡ Finding.Wants wants
+    → WantsAll server client file_id wants
 by_open_all server client file_id patch wants None e never = absurd (cc)
-by_open_all server client file_id patch wants (Some one) e same = record { one = one; found = e; are_all = write_finding-all server one patch wants same }
+by_open_all server client file_id patch wants (Some one) e same =
+    record { one = one; found = e; are_all = write_finding-all server one patch wants same }
 
 write_all : (server : Server) (client file_id number : ℕ) (patch : Patch) (wants : List Want)
-    → finding server client (Request.Write file_id number patch) ≡ Finding.Wants wants → WantsAll server client file_id wants
+    → finding server client (Request.Write file_id number patch) ≡ Finding.Wants wants
+    → WantsAll server client file_id wants
 unfolding finding
-write_all server client file_id number patch wants same = by_open_all server client file_id patch wants (connected_open server client file_id) refl same
+write_all server client file_id number patch wants same = by_open_all server client file_id patch wants
+    (connected_open server client file_id) refl same
 
 some_same : (one other : Open) → Some one ≡ Some other → one ≡ other
 some_same one other e = cc
@@ -320,29 +398,41 @@ write_ends client file_id number patch progress s =
     let own = key_of_open all.one in
     let met = wants_met wants progress in
     let next = subst (λ x. IsSound (wants_met x progress).server) (sym all.are_all)
-    (wants_met-sound (all_wants progress.server own (all.one).file) progress s (all_wants-fit progress.server own (all.one).file s)) in
+    (wants_met-sound (all_wants progress.server own (all.one).file) progress s
+    (all_wants-fit progress.server own (all.one).file s)) in
     ends_step client request 0 met next (λ others again still w.
     let more = write_all met.server client file_id number patch others again in
-    let same : more.one ≡ all.one = some_same more.one all.one (sym more.found ∙ wants_met-found wants progress client file_id ∙ all.found) in
+    let same : more.one ≡ all.one = some_same more.one all.one
+    (sym more.found ∙ wants_met-found wants progress client file_id ∙ all.found) in
     let gone : is_empty (all_wants met.server own (all.one).file) ≡ true =
-    subst (λ x. is_empty (all_wants (wants_met x progress).server own (all.one).file) ≡ true) (sym all.are_all)
-    (all_gone request own (all.one).file progress s (subst (λ x. must_wait request (wants_met x progress) x ≡ false) all.are_all wait)) in
+    subst (λ x. is_empty (all_wants (wants_met x progress).server own (all.one).file) ≡ true)
+    (sym all.are_all)
+    (all_gone request own (all.one).file progress s
+    (subst (λ x. must_wait request (wants_met x progress) x ≡ false) all.are_all wait)) in
     absurd (not_empty request met.server.leases others
     (ap is_empty (more.are_all ∙ ap (λ x. all_wants met.server (key_of_open x) x.file) same) ∙ gone) still)))
 
 -- every try ends by its third round
-pub tried_for-ends : (client : ℕ) (request : Request) (progress : Progress) → IsSound progress.server → Ends client request 3 progress
-tried_for-ends client (Request.Create file access share contexts) progress s = contexts_end client file access share contexts progress s
-tried_for-ends client (Request.Read file_id) progress s = ends_later client (Request.Read file_id) 1 3 progress (omega arith)
+pub tried_for-ends : (client : ℕ) (request : Request) (progress : Progress) → IsSound progress.server
+    → Ends client request 3 progress
+tried_for-ends client (Request.Create file access share contexts) progress s = contexts_end client file access
+    share contexts progress s
+tried_for-ends client (Request.Read file_id) progress s = ends_later client (Request.Read file_id) 1 3
+    progress (omega arith)
     (nothing_ends client (Request.Read file_id) progress s (read_nothing client file_id))
-tried_for-ends client (Request.Write file_id number patch) progress s = ends_later client (Request.Write file_id number patch) 2 3 progress (omega arith)
+tried_for-ends client (Request.Write file_id number patch) progress s = ends_later client
+    (Request.Write file_id number patch) 2 3 progress (omega arith)
     (write_ends client file_id number patch progress s)
-tried_for-ends client (Request.Close file_id) progress s = ends_later client (Request.Close file_id) 1 3 progress (omega arith)
+tried_for-ends client (Request.Close file_id) progress s = ends_later client (Request.Close file_id) 1 3
+    progress (omega arith)
     (nothing_ends client (Request.Close file_id) progress s (close_nothing client file_id))
-tried_for-ends client (Request.Acknowledge given) progress s = ends_later client (Request.Acknowledge given) 1 3 progress (omega arith)
+tried_for-ends client (Request.Acknowledge given) progress s = ends_later client (Request.Acknowledge given) 1
+    3 progress (omega arith)
     (nothing_ends client (Request.Acknowledge given) progress s (acknowledge_nothing client given))
 
 -- a try waits only where the request has to
 pub tried-waits : (client : ℕ) (request : Request) (progress : Progress) → IsSound progress.server
-    → (tried client request progress).outcome ≡ Outcome.Waits → HasToWait (tried client request progress).progress.server client request
-tried-waits client request progress s = (tried_for-ends client request progress s 3 3 (omega arith) (omega arith)).is_excused
+    → (tried client request progress).outcome ≡ Outcome.Waits
+    → HasToWait (tried client request progress).progress.server client request
+tried-waits client request progress s =
+    (tried_for-ends client request progress s 3 3 (omega arith) (omega arith)).is_excused

@@ -20,21 +20,26 @@ rights r w h = record { read = r; write = w; handle = h }
 
 -- the granted form of a granted form is itself
 pub granted_form_of-again : (state : State) → granted_form_of (granted_form_of state) ≡ granted_form_of state
-granted_form_of-again state = if_cases (λ g. granted_form_of g ≡ g) state.read state nothing_cached (λ e. rw e refl) (λ e. refl)
+granted_form_of-again state = if_cases (λ g. granted_form_of g ≡ g) state.read state nothing_cached
+    (λ e. rw e refl) (λ e. refl)
 
-form_without_write : (r w h : Bool) → granted_form_of (rights r w h) ≡ rights r w h → granted_form_of (rights r false h) ≡ rights r false h
+form_without_write : (r w h : Bool) → granted_form_of (rights r w h) ≡ rights r w h
+    → granted_form_of (rights r false h) ≡ rights r false h
 form_without_write true w h e = refl
 form_without_write false w h e = ap (λ x. rights false false x) (ap (λ s. s.handle) e)
 
-form_without_handle : (r w h : Bool) → granted_form_of (rights r w h) ≡ rights r w h → granted_form_of (rights r w false) ≡ rights r w false
+form_without_handle : (r w h : Bool) → granted_form_of (rights r w h) ≡ rights r w h
+    → granted_form_of (rights r w false) ≡ rights r w false
 form_without_handle true w h e = refl
 form_without_handle false w h e = ap (λ x. rights false x false) (ap (λ s. s.write) e)
 
 -- a granted form without one right is one
-pub without_write-form : (state : State) → granted_form_of state ≡ state → granted_form_of (without_write state) ≡ without_write state
+pub without_write-form : (state : State) → granted_form_of state ≡ state
+    → granted_form_of (without_write state) ≡ without_write state
 without_write-form state e = form_without_write state.read state.write state.handle e
 
-pub without_handle-form : (state : State) → granted_form_of state ≡ state → granted_form_of (without_handle state) ≡ without_handle state
+pub without_handle-form : (state : State) → granted_form_of state ≡ state
+    → granted_form_of (without_handle state) ≡ without_handle state
 without_handle-form state e = form_without_handle state.read state.write state.handle e
 
 part_without_write : (r w h : Bool) → is_within (rights r false h) (rights r w h) ≡ true
@@ -68,14 +73,16 @@ less_nothing false false true e = refl
 less_nothing false false false e = absurd (true≢false (sym e))
 
 -- what the three kinds of request want a lease lowered to
-pub without_write-lowered : (state : State) → granted_form_of state ≡ state → state.write ≡ true → IsLowered state (without_write state)
+pub without_write-lowered : (state : State) → granted_form_of state ≡ state → state.write ≡ true
+    → IsLowered state (without_write state)
 without_write-lowered state form holds = record {
   is_part = part_without_write state.read state.write state.handle;
   is_granted_form = without_write-form state form;
   is_less = λ e. less_without_write state.read state.write state.handle holds;
 }
 
-pub without_handle-lowered : (state : State) → granted_form_of state ≡ state → state.handle ≡ true → IsLowered state (without_handle state)
+pub without_handle-lowered : (state : State) → granted_form_of state ≡ state → state.handle ≡ true
+    → IsLowered state (without_handle state)
 without_handle-lowered state form holds = record {
   is_part = part_without_handle state.read state.write state.handle;
   is_granted_form = without_handle-form state form;
@@ -89,26 +96,28 @@ nothing-lowered state = record {
   is_less = λ e. less_nothing state.read state.write state.handle e;
 }
 
-within_write : (r w h : Bool) (s t u : Bool) → is_within (rights r w h) (rights s t u) ≡ true → w ≡ true → t ≡ true
+within_write : (r w h : Bool) (s t u : Bool) → is_within (rights r w h) (rights s t u) ≡ true → w ≡ true
+    → t ≡ true
 within_write r w h s true u e f = refl
 within_write true w h true false u e f = grind arith
 within_write true w h false false u e f = grind arith
 within_write false w h s false u e f = grind arith
 
 -- a part that holds a right is a part of what holds it
-pub write_of_part : (part state : State) → is_within part state ≡ true → part.write ≡ true → state.write ≡ true
-write_of_part part state e f = within_write part.read part.write part.handle state.read state.write state.handle e f
+pub write_of_part : (part state : State) → is_within part state ≡ true → part.write ≡ true
+    → state.write ≡ true
+write_of_part part state e f = within_write part.read part.write part.handle state.read state.write
+    state.handle e f
 
-within_handle : (r w h : Bool) (s t u : Bool) → is_within (rights r w h) (rights s t u) ≡ true → h ≡ true → u ≡ true
+within_handle : (r w h : Bool) (s t u : Bool) → is_within (rights r w h) (rights s t u) ≡ true → h ≡ true
+    → u ≡ true
 within_handle r w h s t true e f = refl
 within_handle r w h s t false e f = grind arith
 
-pub handle_of_part : (part state : State) → is_within part state ≡ true → part.handle ≡ true → state.handle ≡ true
-handle_of_part part state e f = within_handle part.read part.write part.handle state.read state.write state.handle e f
-
--- what writes needs an acknowledgment
-pub write_acknowledged : (state : State) → state.write ≡ true → needs_acknowledgment state ≡ true
-write_acknowledged state e = rw e refl
+pub handle_of_part : (part state : State) → is_within part state ≡ true → part.handle ≡ true
+    → state.handle ≡ true
+handle_of_part part state e f = within_handle part.read part.write part.handle state.read state.write
+    state.handle e f
 
 some_same : (one other : State) → Some one ≡ Some other → one ≡ other
 some_same one other e = cc
@@ -121,14 +130,16 @@ no_lease-lawful = record {
 }
 
 -- a lease that isn't breaking is lawful where its state is a granted form
-pub settled-lawful : (state : State) → granted_form_of state ≡ state → IsLawful (record { state = state; broken_to = None })
+pub settled-lawful : (state : State) → granted_form_of state ≡ state
+    → IsLawful (record { state = state; broken_to = None })
 settled-lawful state form = record {
   is_granted_form = form;
   is_broken_so = λ lowered e. absurd (cc);
 }
 
 -- a lease that begins to break to a lowered state is lawful
-pub breaking-lawful : (state lowered : State) → granted_form_of state ≡ state → needs_acknowledgment state ≡ true
+pub breaking-lawful : (state lowered : State) → granted_form_of state ≡ state
+    → needs_acknowledgment state ≡ true
     → IsLowered state lowered → IsLawful (record { state = state; broken_to = Some lowered })
 breaking-lawful state lowered form needs low = record {
   is_granted_form = form;
@@ -145,5 +156,6 @@ or_false true b e = absurd (true≢false e)
 or_false false b e = (refl, e)
 
 -- what needs no acknowledgment holds neither W nor H
-pub light_state : (state : State) → needs_acknowledgment state ≡ false → (state.write ≡ false) × (state.handle ≡ false)
+pub light_state : (state : State) → needs_acknowledgment state ≡ false
+    → (state.write ≡ false) × (state.handle ≡ false)
 light_state state light = or_false state.write state.handle light

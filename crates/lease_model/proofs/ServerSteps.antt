@@ -28,7 +28,8 @@ in_order-filter test (one ∷ opens) own =
     (λ e. later)
 
 -- opens are dropped, and the leases that have none
-pub drop_sound : (test : Open → Bool) (opens : List Open) (leases : Key → Lease) (expired : Key → Bool) (last_id : ℕ)
+pub drop_sound : (test : Open → Bool) (opens : List Open) (leases : Key → Lease) (expired : Key → Bool)
+    (last_id : ℕ)
     → AreSound opens leases expired last_id
     → AreSound (filter test opens) (left_leases leases (filter test opens)) expired last_id
 drop_sound test opens leases expired last_id s =
@@ -54,7 +55,8 @@ drop_sound test opens leases expired last_id s =
       no_open = λ key e. rw e refl;
       numbered = λ one a. s.numbered one (was one a);
       in_order = in_order-filter test opens s.in_order;
-      timed_out = λ key e. if_cases (λ l. l ≡ no_lease) (list_any (has_key key) (filter test opens)) (leases key) no_lease
+      timed_out = λ key e. if_cases (λ l. l ≡ no_lease) (list_any (has_key key) (filter test opens))
+          (leases key) no_lease
           (λ t. s.timed_out key e) (λ t. refl);
     }
 
@@ -62,7 +64,8 @@ drop_sound test opens leases expired last_id s =
 abbrev pub with_connection : (Open → Bool) → Open → Open
 with_connection up one = record one { connected = up one }
 
-in_order-connection : (up : Open → Bool) (opens : List Open) → AreInOrder opens → AreInOrder (map (with_connection up) opens)
+in_order-connection : (up : Open → Bool) (opens : List Open) → AreInOrder opens
+    → AreInOrder (map (with_connection up) opens)
 in_order-connection up [] own = tt
 in_order-connection up (one ∷ opens) own = (
   (λ other a. let x = among_map (with_connection up) other opens a in
@@ -82,14 +85,17 @@ unfolding conflicts
 conflict_frame up one other e = e
 
 -- opens are connected, or lose their connection where they outlive it
-pub connection_sound : (up : Open → Bool) (opens : List Open) (leases : Key → Lease) (expired : Key → Bool) (last_id : ℕ)
+pub connection_sound : (up : Open → Bool) (opens : List Open) (leases : Key → Lease) (expired : Key → Bool)
+    (last_id : ℕ)
     → AreSound opens leases expired last_id
     → ((one : Open) → Among one opens → up one ≡ false → IsLasting leases one)
     → AreSound (map (with_connection up) opens) leases expired last_id
 connection_sound up opens leases expired last_id s lasting =
-    let was : (one : Open) → Among one (map (with_connection up) opens) → (x : Open) × (Among x opens) × (one ≡ with_connection up x) =
+    let was : (one : Open) → Among one (map (with_connection up) opens)
+    → (x : Open) × (Among x opens) × (one ≡ with_connection up x) =
     λ one a. among_map (with_connection up) one opens a in
-    let key_was : (key : Key) (one : Open) (x : Open) → one ≡ with_connection up x → has_key key one ≡ has_key key x =
+    let key_was : (key : Key) (one : Open) (x : Open) → one ≡ with_connection up x
+    → has_key key one ≡ has_key key x =
     λ key one x e. ap (λ o. has_key key o) e in
     record {
       one_writer = λ key one other w a k b f. let x = was one a in let y = was other b in

@@ -20,8 +20,10 @@ pub record IsGoodTry (client : ℕ) (request : Request) (tried : Tried) : Type 0
   pub sound : IsSound tried.progress.server
   pub found_ready : tried.outcome ≡ Outcome.Ready → IsFoundReady client request tried.progress
 
-after_finding-good : (again : Progress → Tried) (client : ℕ) (request : Request) (progress : Progress) (found : Finding)
-    → finding progress.server client request ≡ found → FindingFits progress.server found → IsSound progress.server
+after_finding-good : (again : Progress → Tried) (client : ℕ) (request : Request) (progress : Progress)
+    (found : Finding)
+    → finding progress.server client request ≡ found → FindingFits progress.server found
+    → IsSound progress.server
     → ((next : Progress) → IsSound next.server → IsGoodTry client request (again next))
     → IsGoodTry client request (after_finding again request progress found)
 after_finding-good again client request progress (Finding.Refused status) e fits s good =
@@ -41,6 +43,7 @@ pub tried_for-good : (rounds client : ℕ) (request : Request) (progress : Progr
     → IsGoodTry client request (tried_for rounds client request progress)
 unfolding tried_for
 tried_for-good zero client request progress s = record { sound = s; found_ready = λ same. absurd (cc) }
-tried_for-good (suc rounds) client request progress s = after_finding-good (tried_for rounds client request) client request progress
+tried_for-good (suc rounds) client request progress s = after_finding-good (tried_for rounds client request)
+    client request progress
     (finding progress.server client request) refl (finding-fits progress.server client request s) s
     (λ next n. tried_for-good rounds client request next n)

@@ -22,7 +22,8 @@ use Rattle.lease_model.proofs.ServerLists.{if_cases, clash, and_parts, not_true,
 use Rattle.lease_model.proofs.ServerStates.{IsLowered, without_write-lowered, without_handle-lowered, nothing-lowered}
 
 -- a key among the keys with one more is that one, or was among them
-key_added-has : (key new : Key) (keys : List Key) → Among key (key_added new keys) → (key ≡ new) ⊎ Among key keys
+key_added-has : (key new : Key) (keys : List Key) → Among key (key_added new keys) → (key ≡ new)
+    ⊎ Among key keys
 unfolding key_added
 key_added-has key new [] (inl e) = inl e
 key_added-has key new [] (inr never) = absurd never
@@ -60,7 +61,8 @@ key_added-some new (other ∷ keys) =
     if_cases (λ l. is_empty l ≡ false) (key_eq new other) (other ∷ keys)
     (if key_before new other then new ∷ other ∷ keys else other ∷ key_added new keys)
     (λ e. refl)
-    (λ e. if_cases (λ l. is_empty l ≡ false) (key_before new other) (new ∷ other ∷ keys) (other ∷ key_added new keys)
+    (λ e. if_cases (λ l. is_empty l ≡ false) (key_before new other) (new ∷ other ∷ keys)
+    (other ∷ key_added new keys)
     (λ b. refl) (λ b. refl))
 
 open_key_added-keyed : (key : Key) (client : ℕ) (bytes : Option (List ℕ)) (keys : List Key)
@@ -74,11 +76,13 @@ open_key_added-more client None keys e = e
 open_key_added-more client (Some bytes) keys e = key_added-some (key_of client bytes) keys
 
 -- opens one of which has a key have some keys
-pub keys_of-some : (key : Key) (one : Open) (opens : List Open) → Among one opens → has_key key one ≡ true → is_empty (keys_of opens) ≡ false
+pub keys_of-some : (key : Key) (one : Open) (opens : List Open) → Among one opens → has_key key one ≡ true
+    → is_empty (keys_of opens) ≡ false
 unfolding keys_of
 keys_of-some key one [] a k = absurd a
 keys_of-some key one (other ∷ opens) (inl same) k =
-    open_key_added-keyed key other.client other.lease_key (keys_of opens) (ap (λ o. has_key key o) (sym same) ∙ k)
+    open_key_added-keyed key other.client other.lease_key (keys_of opens)
+    (ap (λ o. has_key key o) (sym same) ∙ k)
 keys_of-some key one (other ∷ opens) (inr a) k =
     open_key_added-more other.client other.lease_key (keys_of opens) (keys_of-some key one opens a k)
 
@@ -93,7 +97,8 @@ pub wants_where-none : (server : Server) (test : Open → Bool) (lowering : Stat
 unfolding wants_where
 wants_where-none server test lowering none key one a k = not_true (test one) (λ t.
     clash (is_empty (keys_of (filter test server.opens)))
-    (sym (map_empty (λ x. record { key = x; lowered = lowering (server.leases x).state }) (keys_of (filter test server.opens))) ∙ none)
+    (sym (map_empty (λ x. record { key = x; lowered = lowering (server.leases x).state })
+    (keys_of (filter test server.opens))) ∙ none)
     (keys_of-some key one (filter test server.opens) (among_filtered test one server.opens a t) k))
 
 -- a want fits a server where the key's state can be so lowered, and its timer didn't run out
@@ -115,16 +120,21 @@ fits-at server lowering key s held low = record {
 
 -- wants fit where each open that passes the test has a lease that can be so lowered
 pub wants_where-fit : (server : Server) (test : Open → Bool) (lowering : State → State) → IsSound server
-    → ((one : Open) → test one ≡ true → granted_form_of (lease_of server one).state ≡ (lease_of server one).state
-    → ((lease_of server one) ≡ no_lease → ⊥) × IsLowered (lease_of server one).state (lowering (lease_of server one).state))
+    → ((one : Open) → test one ≡ true → granted_form_of (lease_of server one).state ≡
+    (lease_of server one).state
+    → ((lease_of server one) ≡ no_lease → ⊥) × IsLowered (lease_of server one).state
+    (lowering (lease_of server one).state))
     → AllFit server (wants_where server test lowering)
 unfolding wants_where
 wants_where-fit server test lowering s good want a =
-    let x = among_map (λ key. record { key = key; lowered = lowering (server.leases key).state }) want (keys_of (filter test server.opens)) a in
+    let x = among_map (λ key. record { key = key; lowered = lowering (server.leases key).state }) want
+    (keys_of (filter test server.opens)) a in
     let y = keys_of-has x.0 (filter test server.opens) x.1 in
     let z = among_filter test y.0 server.opens y.1 in
-    let same : lease_of server y.0 ≡ server.leases x.0 = lease_by-key server x.0 (y.0).client (y.0).lease_key y.2 in
-    let both = good y.0 z.1 (ap (λ l. granted_form_of l.state) same ∙ (s.lawful x.0).is_granted_form ∙ ap (λ l. l.state) (sym same)) in
+    let same : lease_of server y.0 ≡ server.leases x.0 = lease_by-key server x.0 (y.0).client (y.0).lease_key
+    y.2 in
+    let both = good y.0 z.1 (ap (λ l. granted_form_of l.state) same ∙ (s.lawful x.0).is_granted_form
+    ∙ ap (λ l. l.state) (sym same)) in
     subst (λ w. Fits server w) (sym x.2) (fits-at server lowering x.0 s
     (λ e. both.0 (same ∙ e))
     (subst (λ l. IsLowered l.state (lowering l.state)) same both.1))
@@ -133,14 +143,17 @@ pub handle_wants-fit : (server : Server) (own : Option Key) (file : ℕ) (access
     → IsSound server → AllFit server (handle_wants server own file access share)
 unfolding handle_wants
 handle_wants-fit server own file access share s = wants_where-fit server
-    (λ one. conflicts_on file access share one && is_other_on own file one && (lease_of server one).state.handle)
+    (λ one. conflicts_on file access share one && is_other_on own file one &&
+    (lease_of server one).state.handle)
     without_handle s
-    (λ one t form. let holds = (and_parts (conflicts_on file access share one && is_other_on own file one) (lease_of server one).state.handle t).1 in (
+    (λ one t form. let holds = (and_parts (conflicts_on file access share one && is_other_on own file one)
+    (lease_of server one).state.handle t).1 in (
       (λ e. clash (lease_of server one).state.handle holds (ap (λ l. l.state.handle) e)),
       without_handle-lowered (lease_of server one).state form holds,
     ))
 
-pub write_wants-fit : (server : Server) (own : Option Key) (file : ℕ) → IsSound server → AllFit server (write_wants server own file)
+pub write_wants-fit : (server : Server) (own : Option Key) (file : ℕ) → IsSound server
+    → AllFit server (write_wants server own file)
 unfolding write_wants
 write_wants-fit server own file s = wants_where-fit server
     (λ one. is_other_on own file one && (lease_of server one).state.write) without_write s
@@ -149,11 +162,13 @@ write_wants-fit server own file s = wants_where-fit server
       without_write-lowered (lease_of server one).state form holds,
     ))
 
-pub all_wants-fit : (server : Server) (own : Option Key) (file : ℕ) → IsSound server → AllFit server (all_wants server own file)
+pub all_wants-fit : (server : Server) (own : Option Key) (file : ℕ) → IsSound server
+    → AllFit server (all_wants server own file)
 unfolding all_wants
 all_wants-fit server own file s = wants_where-fit server
     (λ one. is_other_on own file one && holds_any (lease_of server one).state) (λ state. nothing_cached) s
-    (λ one t form. let holds = (and_parts (is_other_on own file one) (holds_any (lease_of server one).state) t).1 in (
+    (λ one t form. let holds = (and_parts (is_other_on own file one) (holds_any (lease_of server one).state)
+    t).1 in (
       (λ e. clash (holds_any (lease_of server one).state) holds (ap (λ l. holds_any l.state) e)),
       nothing-lowered (lease_of server one).state,
     ))
@@ -178,10 +193,12 @@ pub reconnect_finding-fits : (server : Server) (client file : ℕ) (own : Option
     → FindingFits server (reconnect_finding server client file own file_id)
 unfolding reconnect_finding
 reconnect_finding-fits server client file own file_id =
-    if_cases (FindingFits server) (list_any (awaits client file own file_id) server.opens) (Finding.Wants []) (Finding.Refused Status.ObjectNameNotFound)
+    if_cases (FindingFits server) (list_any (awaits client file own file_id) server.opens) (Finding.Wants [])
+    (Finding.Refused Status.ObjectNameNotFound)
     (λ e want a. absurd a) (λ e. tt)
 
-pub write_finding-fits : (server : Server) (one : Open) (patch : Patch) → IsSound server → FindingFits server (write_finding server one patch)
+pub write_finding-fits : (server : Server) (one : Open) (patch : Patch) → IsSound server
+    → FindingFits server (write_finding server one patch)
 unfolding write_finding
 write_finding-fits server one patch s =
     if_cases (FindingFits server) (may_write one.access) _ _
@@ -189,33 +206,43 @@ write_finding-fits server one patch s =
     (λ i. all_wants-fit server (key_of_open one) one.file s) (λ i. tt))
     (λ e. tt)
 
-asked_finding-fits : (server : Server) (client file : ℕ) (access : Access) (share : Share) (lease : Option LeaseOf) (again : Option ℕ)
+asked_finding-fits : (server : Server) (client file : ℕ) (access : Access) (share : Share)
+    (lease : Option LeaseOf) (again : Option ℕ)
     → IsSound server → FindingFits server (asked_finding server client file access share lease again)
-asked_finding-fits server client file access share lease None s = create_finding-fits server (own_key client lease) file access share s
-asked_finding-fits server client file access share lease (Some file_id) s = reconnect_finding-fits server client file (own_key client lease) file_id
+asked_finding-fits server client file access share lease None s = create_finding-fits server
+    (own_key client lease) file access share s
+asked_finding-fits server client file access share lease (Some file_id) s = reconnect_finding-fits server
+    client file (own_key client lease) file_id
 
-by_open-fits : (server : Server) (one : Option Open) (found : Open → Finding) → ((x : Open) → FindingFits server (found x))
+by_open-fits : (server : Server) (one : Option Open) (found : Open → Finding)
+    → ((x : Open) → FindingFits server (found x))
     → FindingFits server (by_open one found)
 by_open-fits server None found fits = tt
 by_open-fits server (Some one) found fits = fits one
 
-by_contexts-fits : (server : Server) (ask : Option CreateAsk) (found : CreateAsk → Finding) → ((x : CreateAsk) → FindingFits server (found x))
+by_contexts-fits : (server : Server) (ask : Option CreateAsk) (found : CreateAsk → Finding)
+    → ((x : CreateAsk) → FindingFits server (found x))
     → FindingFits server (by_contexts ask found)
 by_contexts-fits server None found fits = tt
 by_contexts-fits server (Some ask) found fits = fits ask
 
 read_finding-fits : (server : Server) (one : Open) → FindingFits server (read_finding one)
-read_finding-fits server one = if_cases (FindingFits server) (may_read one.access) (Finding.Wants []) (Finding.Refused Status.AccessDenied)
+read_finding-fits server one = if_cases (FindingFits server) (may_read one.access) (Finding.Wants [])
+    (Finding.Refused Status.AccessDenied)
     (λ e want a. absurd a) (λ e. tt)
 
 -- all that a look at a request wants fits
-pub finding-fits : (server : Server) (client : ℕ) (request : Request) → IsSound server → FindingFits server (finding server client request)
+pub finding-fits : (server : Server) (client : ℕ) (request : Request) → IsSound server
+    → FindingFits server (finding server client request)
 unfolding finding
 finding-fits server client (Request.Create file access share contexts) s = by_contexts-fits server contexts _
     (λ ask. if_cases (FindingFits server) (has_file server file) _ _
     (λ e. asked_finding-fits server client file access share ask.lease ask.reconnect s) (λ e. tt))
-finding-fits server client (Request.Read file_id) s = by_open-fits server (connected_open server client file_id) _ (read_finding-fits server)
-finding-fits server client (Request.Write file_id number patch) s = by_open-fits server (connected_open server client file_id) _
+finding-fits server client (Request.Read file_id) s = by_open-fits server
+    (connected_open server client file_id) _ (read_finding-fits server)
+finding-fits server client (Request.Write file_id number patch) s = by_open-fits server
+    (connected_open server client file_id) _
     (λ one. write_finding-fits server one patch s)
-finding-fits server client (Request.Close file_id) s = by_open-fits server (connected_open server client file_id) _ (λ one want a. absurd a)
+finding-fits server client (Request.Close file_id) s = by_open-fits server
+    (connected_open server client file_id) _ (λ one want a. absurd a)
 finding-fits server client (Request.Acknowledge acknowledged) s = λ want a. absurd a

@@ -53,20 +53,21 @@ pub record IsLasting (leases : Key → Lease) (one : Open) : Type 0 where
 --   numbered: FileIds are from 1 to the last one given
 --   in_order: opens stand in the order of their FileIds, each of which one open has
 --   timed_out: a key whose timer ran out holds nothing and isn't breaking
-pub record AreSound (opens : List Open) (leases : Key → Lease) (expired : Key → Bool) (last_id : ℕ) : Type 0 where
-  pub one_writer : (key : Key) (one other : Open) → (leases key).state.write ≡ true
-      → Among one opens → has_key key one ≡ true
-      → Among other opens → other.file ≡ one.file → has_key key other ≡ true
-  pub no_conflict : (one other : Open) → Among one opens → Among other opens
-      → other.file ≡ one.file → other.file_id ≢ one.file_id → conflicts one.access one.share other ≡ false
-  pub disconnected : (one : Open) → Among one opens → one.connected ≡ false → IsLasting leases one
-  pub lawful : (key : Key) → IsLawful (leases key)
-  pub one_file : (key : Key) (one other : Open) → Among one opens → has_key key one ≡ true
-      → Among other opens → has_key key other ≡ true → other.file ≡ one.file
-  pub no_open : (key : Key) → list_any (has_key key) opens ≡ false → leases key ≡ no_lease
-  pub numbered : (one : Open) → Among one opens → (1 ≤ one.file_id) × (one.file_id ≤ last_id)
-  pub in_order : AreInOrder opens
-  pub timed_out : (key : Key) → expired key ≡ true → leases key ≡ no_lease
+pub record AreSound (opens : List Open) (leases : Key → Lease) (expired : Key → Bool) (last_id : ℕ) : Type 0
+  where
+    pub one_writer : (key : Key) (one other : Open) → (leases key).state.write ≡ true
+        → Among one opens → has_key key one ≡ true
+        → Among other opens → other.file ≡ one.file → has_key key other ≡ true
+    pub no_conflict : (one other : Open) → Among one opens → Among other opens
+        → other.file ≡ one.file → other.file_id ≢ one.file_id → conflicts one.access one.share other ≡ false
+    pub disconnected : (one : Open) → Among one opens → one.connected ≡ false → IsLasting leases one
+    pub lawful : (key : Key) → IsLawful (leases key)
+    pub one_file : (key : Key) (one other : Open) → Among one opens → has_key key one ≡ true
+        → Among other opens → has_key key other ≡ true → other.file ≡ one.file
+    pub no_open : (key : Key) → list_any (has_key key) opens ≡ false → leases key ≡ no_lease
+    pub numbered : (one : Open) → Among one opens → (1 ≤ one.file_id) × (one.file_id ≤ last_id)
+    pub in_order : AreInOrder opens
+    pub timed_out : (key : Key) → expired key ≡ true → leases key ≡ no_lease
 
 abbrev pub IsSound : Server → Type 0
 IsSound server = AreSound server.opens server.leases server.expired server.last_id
@@ -90,6 +91,7 @@ pub record IsOpenBlocked (server : Server) (client : ℕ) (file_id : ℕ) : Type
 -- A request that has to wait is blocked: on its file another key is breaking. (It may be one that the
 -- request no longer needs broken, once disconnected opens of the key were closed.)
 abbrev pub HasToWait : Server → ℕ → Request → Type 0
-HasToWait server client (Request.Create file access share (Some ask)) = IsBlocked server (own_key client ask.lease) file
+HasToWait server client (Request.Create file access share (Some ask)) = IsBlocked server
+    (own_key client ask.lease) file
 HasToWait server client (Request.Write file_id number patch) = IsOpenBlocked server client file_id
 HasToWait server client request = ⊥

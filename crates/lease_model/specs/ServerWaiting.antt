@@ -24,7 +24,8 @@ IsAbout server file (Request.Acknowledge acknowledged) = ⊥
 --   held_files: requests are held on files of the server
 --   held_about: a request is held on the file that it is about
 pub record IsOrderly (server : Server) : Type 0 where
-  pub opens_up : (one : Open) → Among one server.opens → one.connected ≡ true → server.connected one.client ≡ true
+  pub opens_up : (one : Open) → Among one server.opens → one.connected ≡ true
+      → server.connected one.client ≡ true
   pub open_files : (one : Open) → Among one server.opens → has_file server one.file ≡ true
   pub held_up : (file : ℕ) (one : Held) → Among one (server.held file) → server.connected one.client ≡ true
   pub held_files : (file : ℕ) (one : Held) → Among one (server.held file) → has_file server file ≡ true
@@ -33,7 +34,8 @@ pub record IsOrderly (server : Server) : Type 0 where
 -- On the file, the first held request of each client has to wait.
 abbrev pub AllWait : Server → ℕ → Type 0
 AllWait server file = (client : ℕ) (one : Held)
-    → find (λ other. other.client == client) (server.held file) ≡ Some one → HasToWait server client one.request
+    → find (λ other. other.client == client) (server.held file) ≡ Some one
+    → HasToWait server client one.request
 
 -- The laws of waiting. (With them a key that holds W has no request of its own among the first held on
 -- its file.)
