@@ -16,6 +16,7 @@ pub mod ServerArrivals
 pub mod ServerBlocked
 pub mod ServerBreaks
 pub mod ServerCalls
+pub mod ServerFileReady
 pub mod ServerGoes
 pub mod ServerGrants
 pub mod ServerHeld

@@ -38,11 +38,13 @@ pub choose_connection : (b : Bool) (up : Bool) (one : Open)
 choose_connection true up one = refl
 choose_connection false up one = refl
 
+-- an open connected again, as an open with another connection
 again_connection : (file_id : ℕ) (one : Open)
     → connected_again file_id one ≡ with_connection (λ x. if x.file_id == file_id then true else x.connected)
     one
 again_connection file_id one = choose_connection (one.file_id == file_id) true one
 
+-- a reconnect keeps the laws
 reconnected-sound : (client file : ℕ) (asked : Option LeaseOf) (file_id : ℕ) (progress : Progress)
     → IsSound progress.server
     → IsSound (reconnected client file asked file_id progress).server
@@ -58,17 +60,20 @@ reconnected-sound client file asked file_id progress s =
     (if_cases (λ b. b ≡ false → one.connected ≡ false) (one.file_id == file_id) true one.connected
     (λ e never. absurd (true≢false never)) (λ e same. same) d)))
 
+-- a write that is done keeps the laws
 changed-sound : (client file file_id number : ℕ) (patch : Patch) (progress : Progress)
     → IsSound progress.server
     → IsSound (changed client file file_id number patch progress).server
 unfolding changed
 changed-sound client file file_id number patch progress s = s
 
+-- a close keeps the laws
 closed-sound : (client file_id : ℕ) (progress : Progress) → IsSound progress.server
     → IsSound (closed client file_id progress).server
 unfolding closed
 closed-sound client file_id progress s = opens_dropped-sound (λ one. one.file_id == file_id) progress s
 
+-- a create that is ready keeps the laws
 created-sound : (client file : ℕ) (access : Access) (share : Share) (asked : Option LeaseOf) (durable : Bool)
     (again : Option ℕ) (progress : Progress)
     → IsSound progress.server → CreateFree progress.server client file access share asked again
@@ -78,6 +83,7 @@ created-sound client file access share asked durable None progress s free = gran
 created-sound client file access share asked durable (Some file_id) progress s free = reconnected-sound client
     file asked file_id progress s
 
+-- a create that is ready, by its contexts, keeps the laws
 on_contexts-sound : (client file : ℕ) (access : Access) (share : Share) (contexts : Option CreateAsk)
     (progress : Progress)
     → IsSound progress.server → ContextsFree progress.server client file access share contexts
@@ -87,6 +93,7 @@ on_contexts-sound client file access share None progress s free = s
 on_contexts-sound client file access share (Some ask) progress s free =
     created-sound client file access share ask.lease ask.durable ask.reconnect progress s free
 
+-- an answer by the open that is named keeps the laws
 on_open-sound : (one : Option Open) (done : ℕ → Progress → Progress) (progress : Progress)
     → IsSound progress.server
     → ((file : ℕ) → IsSound (done file progress).server) → IsSound (on_open one done progress).server
@@ -111,6 +118,7 @@ answered-sound client (Request.Close file_id) progress s free = on_open-sound
     (λ file. closed client file_id) progress s (λ file. closed-sound client file_id progress s)
 answered-sound client (Request.Acknowledge acknowledged) progress s free = s
 
+-- a refusal keeps the laws
 pub refused-sound : (client : ℕ) (request : Request) (status : Status) (progress : Progress)
     → IsSound progress.server
     → IsSound (refused client request status progress).server
@@ -138,6 +146,7 @@ breaking_present opens leases expired last_id key one s b a k = not_false one.co
     clash (is_breaking (leases key)) b (ap (λ x. is_breaking (leases x))
     (is_key-one key l.key one.client one.lease_key k l.has_the_key) ∙ l.is_settled))
 
+-- the granted form of a part writes only where the whole does
 part_form_write : (state lowered : State) → is_within state lowered ≡ true
     → (granted_form_of state).write ≡ true → lowered.write ≡ true
 part_form_write state lowered part w = write_of_part state lowered part
@@ -166,6 +175,7 @@ break_ended-sound key state lowered progress s there broken part =
           progress.server.last_id key one s breaking a k) d;
     })
 
+-- to judge an acknowledgment keeps the laws
 judged-sound : (key : Key) (state : State) (broken : Option State) (progress : Progress)
     → IsSound progress.server
     → has_lease progress.server key ≡ true → (progress.server.leases key).broken_to ≡ broken

@@ -23,7 +23,8 @@ use Rattle.lease_model.specs.Tables.{put}
 use Rattle.lease_model.specs.Wants.{connected_open, key_of}
 use Rattle.lease_model.proofs.ServerAnswers.{acknowledged-sound}
 use Rattle.lease_model.proofs.ServerCalls.{new_server-sound}
-use Rattle.lease_model.proofs.ServerGoes.{file_frame, GoesOn, Goes, still_there, acknowledged-goes, ready-file, one_id}
+use Rattle.lease_model.proofs.ServerFileReady.{ready-file}
+use Rattle.lease_model.proofs.ServerGoes.{file_frame, GoesOn, Goes, still_there, acknowledged-goes, one_id}
 use Rattle.lease_model.proofs.ServerHeld.{SameHeld, concluded-held}
 use Rattle.lease_model.proofs.ServerKeeps.{Kept, Anywhere, connected_has, waits_keep, concluded-open}
 use Rattle.lease_model.proofs.ServerLists.{if_cases, clash, among_append, find_has}
@@ -49,9 +50,11 @@ new_server-waits contents = record {
   wait = λ file client one never. absurd (cc);
 }
 
+-- a file that was found
 abbrev file_of_open_ok : ℕ → Result ℕ Status
 file_of_open_ok n = Ok n
 
+-- one file found is one file
 ok_same : (a b : ℕ) → file_of_open_ok a ≡ file_of_open_ok b → a ≡ b
 ok_same a b e = cc
 
@@ -72,6 +75,7 @@ open_file server client file_id file (Some one) s o e same =
       },
     )
 
+-- the file of a create is one of the server
 create_file : (server : Server) (at file : ℕ) (contexts : Option CreateAsk)
     → file_of_create server at contexts ≡ Ok file
     → (has_file server file ≡ true) × (at ≡ file)
@@ -82,6 +86,7 @@ create_file server at file (Some ask) e = if_cases
     (λ t same. let here = ok_same at file same in (ap (λ f. has_file server f) (sym here) ∙ t, here))
     (λ t never. absurd (cc)) e
 
+-- the file of a request is one of the server, and the request is about it
 asked_file : (server : Server) (client file : ℕ) (request : Request) → IsSound server → IsOrderly server
     → file_asked server client request ≡ Ok file
     → (has_file server file ≡ true) × IsAbout server file request
@@ -96,6 +101,7 @@ asked_file server client file (Request.Close file_id) s o e = open_file server c
     (connected_open server client file_id) s o refl e
 asked_file server client file (Request.Acknowledge given) s o never = absurd (cc)
 
+-- to hold a request lets opens go on
 request_held-goes : (file : ℕ) (one : Held) (progress : Progress)
     → Goes progress (request_held file one progress)
 unfolding request_held
@@ -107,11 +113,13 @@ request_held-goes file one progress = record {
       inl (still_there progress.server x a);
 }
 
+-- to hold a request lets wait what has to wait
 request_held-kept : (file : ℕ) (one : Held) (progress : Progress)
     → Kept Anywhere progress (request_held file one progress)
 unfolding request_held
 request_held-kept file one progress = record { stands = λ key x a k up b g. (a, b); finds = λ c id x e g. e }
 
+-- what holds of the requests of each file, once one more is held
 request_held-cases : (P : List Held → Type 0) (file : ℕ) (one : Held) (progress : Progress) (other : ℕ)
     → (other ≡ file → P (progress.server.held file ++ one ∷ [])) → P (progress.server.held other)
     → P ((request_held file one progress).server.held other)
@@ -172,6 +180,7 @@ request_held-waits file one progress e well new =
           (e.wait other client x first));
     }
 
+-- a refusal leaves each first held request waiting
 refused_waits : (client : ℕ) (request : Request) (status : Status) (progress : Progress)
     → EveryoneWaits progress.server → EveryoneWaits (refused client request status progress).server
 unfolding refused
@@ -196,12 +205,14 @@ concluded_fine client request before done f up t =
     (λ ready. ready-free client request done.progress (t.good.found_ready ready))
     (λ ready. ready-file client request done.progress (t.good.found_ready ready))
 
+-- a try leaves each first held request waiting
 try_waits : (client : ℕ) (request : Request) (before : Progress) (done : Tried) → EveryoneWaits before.server
     → IsTry client request before done
     → EveryoneWaits done.progress.server
 try_waits client request before done e t = everyone_keeps before done.progress e
     (fine_try client request before done e.fine t) t.keeps t.held
 
+-- so does its end, where it closes nothing
 concluded_waits : (client : ℕ) (request : Request) (before : Progress) (done : Tried)
     → EveryoneWaits before.server → before.server.connected client ≡ true
     → IsAlone request → IsTry client request before done
@@ -213,6 +224,7 @@ concluded_waits client request before done e up alone t =
     (concluded-open client request done.progress done.outcome after.fine.sound alone)
     (concluded-held client request done.progress done.outcome)
 
+-- a request that was held well still is
 well_goes : (before after : Server) (file : ℕ) (one : Held) → GoesOn before after → IsHeldWell before file one
     → IsHeldWell after file one
 well_goes before after file one g well = record {
@@ -221,6 +233,7 @@ well_goes before after file one g well = record {
   about = about_goes before after file one.request g well.about;
 }
 
+-- what follows a first try keeps the laws and the order
 first_try-fine : (client file : ℕ) (request : Request) (before : Progress) (progress : Progress)
     (outcome : Outcome) → IsFine before.server
     → IsHeldWell before.server file (held_of client request)
@@ -236,6 +249,7 @@ first_try-fine client file request before progress (Outcome.Refused status) f we
 first_try-fine client file request before progress Outcome.Ready f well t =
     concluded_fine client request before (record { progress = progress; outcome = Outcome.Ready }) f well.up t
 
+-- what follows a first try leaves each first held request waiting
 first_try-waits : (client file : ℕ) (request : Request) (before : Progress) (progress : Progress)
     (outcome : Outcome) → EveryoneWaits before.server
     → IsHeldWell before.server file (held_of client request) → IsAlone request
@@ -253,11 +267,13 @@ first_try-waits client file request before progress Outcome.Ready e well alone t
     concluded_waits client request before (record { progress = progress; outcome = Outcome.Ready }) e well.up
     alone t
 
+-- a refusal keeps the laws and the order
 refused-fine : (client : ℕ) (request : Request) (status : Status) (progress : Progress)
     → IsFine progress.server → IsFine (refused client request status progress).server
 unfolding refused
 refused-fine client request status progress f = f
 
+-- a request on a file keeps the laws and the order
 arrived_on-fine : (client : ℕ) (request : Request) (progress : Progress) (asked : Result ℕ Status)
     → IsFine progress.server
     → ((file : ℕ) → asked ≡ Ok file → IsHeldWell progress.server file (held_of client request))
@@ -273,6 +289,7 @@ arrived_on-fine client request progress (Ok file) f well =
     (tried client request progress).outcome f (well file refl)
     (any_try client request progress f.sound))
 
+-- a request on a file leaves each first held request waiting
 arrived_on-waits : (client : ℕ) (request : Request) (progress : Progress) (asked : Result ℕ Status)
     → EveryoneWaits progress.server → IsAlone request
     → ((file : ℕ) → asked ≡ Ok file → IsHeldWell progress.server file (held_of client request))
@@ -290,6 +307,7 @@ arrived_on-waits client request progress (Ok file) e alone well =
     (tried client request progress).outcome e (well file refl) alone
     (any_try client request progress e.fine.sound))
 
+-- a request that comes may be held on its file
 asked_well : (client : ℕ) (request : Request) (progress : Progress) → IsFine progress.server
     → progress.server.connected client ≡ true
     → (file : ℕ) → file_asked progress.server client request ≡ Ok file
@@ -298,11 +316,13 @@ asked_well client request progress f up file e =
     let x = asked_file progress.server client file request f.sound f.orderly e in
     record { up = up; on_file = x.0; about = x.1 }
 
+-- to end a break leaves the held requests as they are
 ended-held : (key : Key) (state : State) (progress : Progress)
     → SameHeld progress (break_ended key state progress)
 unfolding break_ended
 ended-held key state progress = refl
 
+-- to judge an acknowledgment leaves the held requests as they are
 judged-held : (key : Key) (state : State) (broken : Option State) (progress : Progress)
     → SameHeld progress (judged key state broken progress)
 judged-held key state None progress = refl
@@ -311,6 +331,7 @@ judged-held key state (Some lowered) progress = if_cases (SameHeld progress) (is
     (replied key.client (Reply.AckFailed Status.RequestNotAccepted) progress)
     (λ e. ended-held key state progress) (λ e. refl)
 
+-- an acknowledgment leaves the held requests as they are
 acknowledged-held : (client : ℕ) (given : Option LeaseOf) (progress : Progress)
     → SameHeld progress (acknowledged client given progress)
 unfolding acknowledged
@@ -324,6 +345,7 @@ acknowledged-held client (Some given) progress = if_cases (SameHeld progress)
     (progress.server.leases (key_of client given.key)).broken_to progress)
     (λ e. refl)
 
+-- opens that go on keep the laws and the order
 pub fine_goes : (before after : Progress) → IsFine before.server → IsSound after.server → Goes before after
     → SameHeld before after → IsFine after.server
 fine_goes before after f s g same = record {
@@ -333,6 +355,7 @@ fine_goes before after f s g same = record {
       (subst (λ held. Among one (held file)) same a));
 }
 
+-- a request that comes leaves each first held request waiting
 arrived-waits : (client : ℕ) (request : Request) (progress : Progress) → EveryoneWaits progress.server
     → progress.server.connected client ≡ true
     → EveryoneWaits (arrived client request progress).server
@@ -366,6 +389,7 @@ pub everyone_cases : (b : Bool) (x y : Progress) → (b ≡ true → EveryoneWai
     → (b ≡ false → EveryoneWaits y.server) → EveryoneWaits (cond b x y).server
 everyone_cases b x y at_true at_false = if_cases (λ p. EveryoneWaits p.server) b x y at_true at_false
 
+-- a request received leaves each first held request waiting
 pub receive-waits : (server : Server) (client : ℕ) (request : Request) → EveryoneWaits server
     → EveryoneWaits (receive server client request).server
 unfolding receive

@@ -34,9 +34,11 @@ pub record IsOtherKey (server : Server) (own : Option Key) (file : ℕ) (key : K
   pub has_the_key : has_key key one ≡ true
   pub is_other : has_own_key own one ≡ false
 
+-- each want is of another key
 abbrev pub AreOtherKeys : Server → Option Key → ℕ → List Want → Type 0
 AreOtherKeys server own file wants = (want : Want) → Among want wants → IsOtherKey server own file want.key
 
+-- wants by a test that looks for other keys are of other keys
 where_other : (server : Server) (own : Option Key) (file : ℕ) (test : Open → Bool) (lowering : State → State)
     → ((one : Open) → test one ≡ true → is_other_on own file one ≡ true)
     → AreOtherKeys server own file (wants_where server test lowering)
@@ -55,6 +57,7 @@ where_other server own file test lowering other want a =
       is_other = not_parts (has_own_key own y.0) parts.1;
     }
 
+-- a conflicting create wants other keys
 handles_other : (server : Server) (own : Option Key) (file : ℕ) (access : Access) (share : Share)
     → AreOtherKeys server own file (handle_wants server own file access share)
 unfolding handle_wants
@@ -65,6 +68,7 @@ handles_other server own file access share = where_other server own file
     (and_parts (conflicts_on file access share one && is_other_on own file one)
     (lease_of server one).state.handle t).0).1)
 
+-- a create wants other keys
 writes_other : (server : Server) (own : Option Key) (file : ℕ)
     → AreOtherKeys server own file (write_wants server own file)
 unfolding write_wants
@@ -72,6 +76,7 @@ writes_other server own file = where_other server own file
     (λ one. is_other_on own file one && (lease_of server one).state.write) without_write
     (λ one t. (and_parts (is_other_on own file one) (lease_of server one).state.write t).0)
 
+-- a write wants other keys
 all_other : (server : Server) (own : Option Key) (file : ℕ)
     → AreOtherKeys server own file (all_wants server own file)
 unfolding all_wants
@@ -122,6 +127,7 @@ abbrev WantsOther : Server → Option Key → ℕ → Finding → Type 0
 WantsOther server own file (Finding.Refused status) = Unit {0}
 WantsOther server own file (Finding.Wants wants) = AreOtherKeys server own file wants
 
+-- what a create finds
 create_other : (server : Server) (own : Option Key) (file : ℕ) (access : Access) (share : Share)
     → WantsOther server own file (create_finding server own file access share)
 unfolding create_finding
@@ -133,6 +139,7 @@ create_other server own file access share =
     (λ n. tt) (λ n. handles_other server own file access share))
     (λ c. writes_other server own file))
 
+-- what a reconnect finds
 reconnect_other : (server : Server) (client file : ℕ) (own : Option Key) (file_id : ℕ)
     → WantsOther server own file (reconnect_finding server client file own file_id)
 unfolding reconnect_finding
@@ -141,6 +148,7 @@ reconnect_other server client file own file_id =
     (Finding.Wants []) (Finding.Refused Status.ObjectNameNotFound)
     (λ e want a. absurd a) (λ e. tt)
 
+-- what a create finds, with a reconnect or without
 asked_other : (server : Server) (client file : ℕ) (access : Access) (share : Share) (lease : Option LeaseOf)
     (again : Option ℕ)
     → WantsOther server (own_key client lease) file
@@ -150,6 +158,7 @@ asked_other server client file access share lease None = create_other server (ow
 asked_other server client file access share lease (Some file_id) = reconnect_other server client file
     (own_key client lease) file_id
 
+-- what a write finds
 write_other : (server : Server) (one : Open) (patch : Patch)
     → WantsOther server (key_of_open one) one.file (write_finding server one patch)
 unfolding write_finding
@@ -159,16 +168,19 @@ write_other server one patch =
     (λ i. all_other server (key_of_open one) one.file) (λ i. tt))
     (λ e. tt)
 
+-- what is found wants other keys
 found_other : (server : Server) (own : Option Key) (file : ℕ) (found : Finding) (wants : List Want)
     → WantsOther server own file found
     → found ≡ Finding.Wants wants → AreOtherKeys server own file wants
 found_other server own file found wants other e = subst (WantsOther server own file) e other
 
+-- nothing wanted is nothing to wait for
 nobody_waits : {X : Type 0} (request : Request) (wants : List Want) (progress : Progress) → [] ≡ wants
     → must_wait request (wants_met wants progress) wants ≡ true → X
 nobody_waits request wants progress e wait = absurd
     (true≢false (sym (subst (λ x. must_wait request (wants_met x progress) x ≡ true) (sym e) wait)))
 
+-- a create that has to wait is blocked
 create_waits : (client file : ℕ) (access : Access) (share : Share) (contexts : Option CreateAsk)
     (progress : Progress) (wants : List Want)
     → IsSound progress.server → IsSound (wants_met wants progress).server
@@ -190,6 +202,7 @@ create_waits client file access share (Some ask) progress wants s next found wai
     (λ e. asked_other progress.server client file access share ask.lease ask.reconnect) (λ e. tt))
     found) wait
 
+-- a write by this open that has to wait is blocked
 write_waits_at : (client file_id number : ℕ) (patch : Patch) (progress : Progress) (wants : List Want)
     (one : Option Open)
     → IsSound progress.server → IsSound (wants_met wants progress).server
@@ -207,6 +220,7 @@ write_waits_at client file_id number patch progress wants (Some one) s next is_o
       (write_other progress.server one patch) found) wait;
 }
 
+-- a write that has to wait is blocked
 write_waits : (client file_id number : ℕ) (patch : Patch) (progress : Progress) (wants : List Want)
     → IsSound progress.server → IsSound (wants_met wants progress).server
     → finding progress.server client (Request.Write file_id number patch) ≡ Finding.Wants wants
@@ -222,21 +236,25 @@ abbrev Idle : Finding → Type 0
 Idle (Finding.Refused status) = Unit {0}
 Idle (Finding.Wants wants) = [] ≡ wants
 
+-- what is idle by every open
 by_open-idle : (one : Option Open) (found : Open → Finding) → ((x : Open) → Idle (found x))
     → Idle (by_open one found)
 by_open-idle None found each = tt
 by_open-idle (Some one) found each = each one
 
+-- a read wants nothing
 read-idle : (one : Open) → Idle (read_finding one)
 read-idle one = if_cases Idle (may_read one.access) (Finding.Wants []) (Finding.Refused Status.AccessDenied)
     (λ e. refl) (λ e. tt)
 
+-- what is idle never waits
 idle_waits : {X : Type 0} (request : Request) (progress : Progress) (wants : List Want) (found : Finding)
     → Idle found
     → found ≡ Finding.Wants wants → must_wait request (wants_met wants progress) wants ≡ true → X
 idle_waits request progress wants found idle e wait = nobody_waits request wants progress (subst Idle e idle)
     wait
 
+-- a read never waits
 read_waits : {X : Type 0} (client file_id : ℕ) (progress : Progress) (wants : List Want)
     → finding progress.server client (Request.Read file_id) ≡ Finding.Wants wants
     → must_wait (Request.Read file_id) (wants_met wants progress) wants ≡ true → X
@@ -245,6 +263,7 @@ read_waits client file_id progress wants found wait = idle_waits (Request.Read f
     (by_open (connected_open progress.server client file_id) read_finding)
     (by_open-idle (connected_open progress.server client file_id) read_finding read-idle) found wait
 
+-- a close never waits
 close_waits : {X : Type 0} (client file_id : ℕ) (progress : Progress) (wants : List Want)
     → finding progress.server client (Request.Close file_id) ≡ Finding.Wants wants
     → must_wait (Request.Close file_id) (wants_met wants progress) wants ≡ true → X
@@ -254,6 +273,7 @@ close_waits client file_id progress wants found wait = idle_waits (Request.Close
     (by_open-idle (connected_open progress.server client file_id) (λ one. Finding.Wants []) (λ one. refl))
     found wait
 
+-- an acknowledgment never waits
 acknowledge_waits : {X : Type 0} (client : ℕ) (given : Option LeaseOf) (progress : Progress)
     (wants : List Want)
     → finding progress.server client (Request.Acknowledge given) ≡ Finding.Wants wants

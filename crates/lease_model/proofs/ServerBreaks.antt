@@ -29,6 +29,7 @@ pub record IsUnder (base : Server) (server : Server) : Type 0 where
   pub tracked : (key : Key) → IsTracked base server.opens key (server.leases key)
   pub timers : (key : Key) → server.expired key ≡ base.expired key
 
+-- a server is on the way from itself
 pub under-itself : (server : Server) → IsUnder server server
 under-itself server = record {
   tracked = λ key. record { is_same = λ a b c. refl; is_light = λ a b c. c };
@@ -61,6 +62,7 @@ opens_dropped-under base test progress u =
       timers = u.timers;
     }
 
+-- to begin a break stays on the way by breaks alone
 break_begun-under : (base : Server) (key : Key) (lowered : State) (progress : Progress)
     → IsUnder base progress.server
     → IsUnder base (break_begun key lowered progress).server
@@ -73,6 +75,7 @@ break_begun-under base key lowered progress u = record {
   timers = u.timers;
 }
 
+-- to lower a lease at once stays on the way by breaks alone
 lease_lowered-under : (base : Server) (key : Key) (lowered : State) (progress : Progress)
     → IsUnder base progress.server
     → needs_acknowledgment lowered ≡ false → needs_acknowledgment (base.leases key).state ≡ false
@@ -156,6 +159,7 @@ left_present key progress one a k = not_false one.connected (λ d.
     (not_parts (is_left_open key one) (among_filter (λ x. not (is_left_open key x)) one progress.server.opens
     a).1))
 
+-- to meet a want keeps the laws, on the way by breaks alone
 pub want_met-along : (base : Server) (want : Want) (progress : Progress) → IsAlong base progress
     → Fits base want → IsAlong base (want_met want progress)
 unfolding want_met
@@ -166,6 +170,7 @@ want_met-along base want progress i fits = lease_broken-along base want
       under = opens_dropped-under base (is_left_open want.key) progress i.under;
     }) fits (left_present want.key progress)
 
+-- to meet wants keeps the laws, on the way by breaks alone
 pub wants_met-along : (base : Server) (wants : List Want) (progress : Progress) → IsAlong base progress
     → AllFit base wants → IsAlong base (wants_met wants progress)
 unfolding wants_met

@@ -73,6 +73,7 @@ one_timer server key s none = record {
       (λ same e. ap (λ x. server.leases x) same ∙ none) (λ differs. s.timed_out k);
 }
 
+-- a join that applies keeps the laws
 pub joined-sound : (client : ℕ) (progress : Progress) → IsSound progress.server
     → IsSound (joined client progress).server
 unfolding joined
@@ -87,12 +88,14 @@ sound_cases : (b : Bool) (x y : Progress) → (b ≡ true → IsSound x.server) 
     → IsSound (cond b x y).server
 sound_cases b x y at_true at_false = if_cases (λ p. IsSound p.server) b x y at_true at_false
 
+-- a join keeps the laws
 pub join-sound : (server : Server) (client : ℕ) → IsSound server → IsSound (join server client).server
 unfolding join
 join-sound server client s = sound_cases (server.connected client) (begun server)
     (joined client (begun server))
     (λ e. s) (λ e. joined-sound client (begun server) s)
 
+-- what follows a first try keeps the laws
 after_first_try-sound : (client file : ℕ) (request : Request) (progress : Progress) (outcome : Outcome)
     → IsGoodTry client request (record { progress = progress; outcome = outcome })
     → IsSound (after_first_try client file request progress outcome).server
@@ -105,6 +108,7 @@ after_first_try-sound client file request progress Outcome.Ready good = conclude
     progress Outcome.Ready good.sound
     (λ r. ready-free client request progress (good.found_ready r))
 
+-- a request on a file keeps the laws
 pub arrived_on-sound : (client : ℕ) (request : Request) (progress : Progress) (asked : Result ℕ Status)
     → IsSound progress.server
     → IsSound (arrived_on client request progress asked).server
@@ -119,6 +123,7 @@ arrived_on-sound client request progress (Ok file) s = sound_cases
     (tried client request progress).outcome
     (tried_for-good 3 client request progress s))
 
+-- a request that comes keeps the laws
 arrived-sound : (client : ℕ) (request : Request) (progress : Progress) → IsSound progress.server
     → IsSound (arrived client request progress).server
 unfolding arrived
@@ -139,6 +144,7 @@ arrived-sound client (Request.Write file_id number patch) progress s =
     arrived_on-sound client (Request.Write file_id number patch) progress
     (file_asked progress.server client (Request.Write file_id number patch)) s
 
+-- a request received keeps the laws
 pub receive-sound : (server : Server) (client : ℕ) (request : Request) → IsSound server
     → IsSound (receive server client request).server
 unfolding receive
@@ -202,6 +208,7 @@ left_lasting client server one s a c =
     (not_parts (is_lost server client one) was.1))))
     (λ down. s.disconnected one was.0 down)
 
+-- to disconnect opens keeps the laws
 pub opens_disconnected-sound : (client : ℕ) (progress : Progress) → IsSound progress.server
     → ((one : Open) → Among one progress.server.opens → one.client ≡ client
     → IsLasting progress.server.leases one)
@@ -220,11 +227,13 @@ opens_disconnected-sound client progress s lasting =
     one.connected
     (λ t. clash (one.client == client) t e) (λ t same. same) d))))
 
+-- to forget a client keeps the laws
 pub client_forgotten-sound : (client : ℕ) (progress : Progress) → IsSound progress.server
     → IsSound (client_forgotten client progress).server
 unfolding client_forgotten
 client_forgotten-sound client progress s = s
 
+-- a cut keeps the laws
 cut-sound : (server : Server) (client : ℕ) → IsSound server → IsSound (cut server client).server
 unfolding cut
 cut-sound server client s =
@@ -238,6 +247,7 @@ cut-sound server client s =
     (left_lasting client server one s a c)))))
     (λ e. s)
 
+-- none of the opens that are left has the key that was dropped
 none_left : (key : Key) (opens : List Open) {X : Type 0}
     → list_any (has_key key) (without (has_key key) opens) ≡ true → X
 none_left key opens e =
@@ -254,12 +264,14 @@ dropped_lease key progress = if_cases (λ l. l ≡ no_lease)
     (progress.server.leases key) no_lease
     (λ e. none_left key progress.server.opens e) (λ e. refl)
 
+-- to mark a key keeps the laws
 pub key_expired-sound : (key : Key) (progress : Progress) → IsSound progress.server
     → progress.server.leases key ≡ no_lease
     → IsSound (key_expired key progress).server
 unfolding key_expired
 key_expired-sound key progress s none = one_timer progress.server key s none
 
+-- a timer that runs out keeps the laws
 expire-sound : (server : Server) (key : Key) → IsSound server → IsSound (expire server key).server
 unfolding expire
 expire-sound server key s = sound_cases (is_breaking (server.leases key))
@@ -270,6 +282,7 @@ expire-sound server key s = sound_cases (is_breaking (server.leases key))
     (dropped_lease key (begun server))))
     (λ e. s)
 
+-- a scavenge keeps the laws
 scavenge-sound : (server : Server) (file_id : ℕ) → IsSound server → IsSound (scavenge server file_id).server
 unfolding scavenge
 scavenge-sound server file_id s = sound_cases (list_any (is_kept_open file_id) server.opens)

@@ -1,7 +1,6 @@
 -- How opens come and go: what the small steps but a cut and a join do to them.
-use Rattle.std.proofs.Common.{◌≡◌, ◌⊎◌, inl, inr, ⊎_elim, refl, sym, ap, ◌∙◌, subst, ℕ, ◌+◌, ◌≤◌, ◌<◌, zero, suc, Bool, true, false, not, cond, List, [], ◌∷◌, ◌++◌, arith, true≢false, ◌==◌}
+use Rattle.std.proofs.Common.{◌≡◌, ◌⊎◌, inl, inr, ⊎_elim, refl, sym, ap, ◌∙◌, subst, ℕ, ◌+◌, ◌≤◌, ◌<◌, zero, suc, Bool, true, false, not, cond, List, [], ◌∷◌, ◌++◌, arith, ◌==◌}
 use Rattle.std.specs.Prelude.{if◌then◌else◌, ◌&&◌, Option, Some, None}
-use Rattle.std.specs.List.{list_any}
 use Rattle.std.proofs.lemmas.Bool.Decides.{Decides-eqb}
 use Rattle.lease_state.specs.State.{State, needs_acknowledgment}
 use Rattle.lease_state.specs.declared.access.Access.{Access}
@@ -20,10 +19,10 @@ use Rattle.lease_model.specs.Ready.{is_ready}
 use Rattle.lease_model.specs.Replies.{Reply}
 use Rattle.lease_model.specs.Requests.{Request, CreateAsk, LeaseOf}
 use Rattle.lease_model.specs.ServerLaws.{Among, AreInOrder, IsSound}
-use Rattle.lease_model.specs.ServerState.{Server, Open, Lease, has_file, has_key, has_lease, is_breaking}
-use Rattle.lease_model.specs.Wants.{Want, Finding, finding, asked_finding, reconnect_finding, own_key, awaits, connected_open, key_of}
-use Rattle.lease_model.proofs.ServerLists.{if_cases, and_parts, among_append, among_filter, among_map, any_has}
-use Rattle.lease_model.proofs.ServerTries.{IsFoundReady}
+use Rattle.lease_model.specs.ServerState.{Server, Open, Lease, has_file, has_lease, is_breaking}
+use Rattle.lease_model.specs.Wants.{Want, Finding, finding, connected_open, key_of}
+use Rattle.lease_model.proofs.ServerFileReady.{IsAwaited, AgainReady, ContextsReady, FileReady}
+use Rattle.lease_model.proofs.ServerLists.{if_cases, among_append, among_filter, among_map}
 
 -- two opens of one FileId are one
 pub one_id : (opens : List Open) (one other : Open) → AreInOrder opens → Among one opens → Among other opens
@@ -51,12 +50,14 @@ pub record IsNew (before : Server) (one : Open) : Type 0 where
   pub up : before.connected one.client ≡ true
   pub on_file : has_file before one.file ≡ true
 
+-- The files and the connections stay, FileIds rise, and each open was there or is new.
 pub record GoesOn (before : Server) (after : Server) : Type 0 where
   pub files : after.files ≡ before.files
   pub ups : (client : ℕ) → after.connected client ≡ before.connected client
   pub ids : before.last_id ≤ after.last_id
   pub from : (one : Open) → Among one after.opens → IsOld before one ⊎ IsNew before one
 
+-- an open that was there
 pub still_there : (before : Server) (one : Open) → Among one before.opens → IsOld before one
 still_there before one a = record {
   was = one;
@@ -68,6 +69,7 @@ still_there before one a = record {
   up = λ e. inl e;
 }
 
+-- nothing happens
 pub goes-same : (server : Server) → GoesOn server server
 goes-same server = record {
   files = refl;
@@ -77,9 +79,11 @@ goes-same server = record {
       (still_there server one a);
 }
 
+-- the files of a server are known by their number
 pub file_frame : (a b : Server) (file : ℕ) → b.files ≡ a.files → has_file b file ≡ has_file a file
 file_frame a b file e = ap (λ n. has_file (record a { files = n }) file) e
 
+-- an open that was there twice
 old_of_old : (a b : Server) (one : Open) → GoesOn a b → (o : IsOld b one) → IsOld a o.was → IsOld a one
 old_of_old a b one g o p = record {
   was = p.was;
@@ -92,6 +96,7 @@ old_of_old a b one g o p = record {
       (λ u. inr (sym (g.ups one.client) ∙ u)) (o.up e);
 }
 
+-- a new open that is still there
 new_of_old : (a b : Server) (one : Open) → (o : IsOld b one) → IsNew a o.was → IsNew a one
 new_of_old a b one o p = record {
   is_new = subst (λ n. a.last_id < n) (sym o.same_id) p.is_new;
@@ -99,6 +104,7 @@ new_of_old a b one o p = record {
   on_file = ap (λ f. has_file a f) o.same_file ∙ p.on_file;
 }
 
+-- an open that is new at the second step
 new_of_new : (a b : Server) (one : Open) → GoesOn a b → IsNew b one → IsNew a one
 new_of_new a b one g p = record {
   is_new = let le = g.ids in let lt = p.is_new in omega (arith, le, lt);
@@ -106,6 +112,7 @@ new_of_new a b one g p = record {
   on_file = sym (file_frame a b one.file g.files) ∙ p.on_file;
 }
 
+-- two steps
 pub goes-twice : (a b c : Server) → GoesOn a b → GoesOn b c → GoesOn a c
 goes-twice a b c g h = record {
   files = h.files ∙ g.files;
@@ -121,6 +128,7 @@ goes-twice a b c g h = record {
 abbrev pub Goes : Progress → Progress → Type 0
 Goes before after = GoesOn before.server after.server
 
+-- to drop opens lets opens go on
 pub dropped-goes : (test : Open → Bool) (progress : Progress) → Goes progress (opens_dropped test progress)
 unfolding opens_dropped with_opens
 dropped-goes test progress = record {
@@ -131,6 +139,7 @@ dropped-goes test progress = record {
       (among_filter (λ x. not (test x)) one progress.server.opens a).0);
 }
 
+-- to lower a lease at once lets opens go on
 lowered-goes : (key : Key) (lowered : State) (progress : Progress)
     → Goes progress (lease_lowered key lowered progress)
 unfolding lease_lowered
@@ -142,6 +151,7 @@ lowered-goes key lowered progress = record {
       inl (still_there progress.server one a);
 }
 
+-- to begin a break lets opens go on
 begun-goes : (key : Key) (lowered : State) (progress : Progress)
     → Goes progress (break_begun key lowered progress)
 unfolding break_begun
@@ -153,6 +163,7 @@ begun-goes key lowered progress = record {
       inl (still_there progress.server one a);
 }
 
+-- to break a lease lets opens go on
 lease_broken-goes : (key : Key) (lowered : State) (progress : Progress)
     → Goes progress (lease_broken key lowered progress)
 unfolding lease_broken
@@ -165,6 +176,7 @@ lease_broken-goes key lowered progress =
     (λ n. begun-goes key lowered progress) (λ n. lowered-goes key lowered progress))
     (λ t. goes-same progress.server)
 
+-- to meet a want lets opens go on
 want_met-goes : (want : Want) (progress : Progress) → Goes progress (want_met want progress)
 unfolding want_met
 want_met-goes want progress =
@@ -172,6 +184,7 @@ want_met-goes want progress =
     goes-twice progress.server dropped.server (lease_broken want.key want.lowered dropped).server
     (dropped-goes (is_left_open want.key) progress) (lease_broken-goes want.key want.lowered dropped)
 
+-- to meet wants lets opens go on
 wants_met-goes : (wants : List Want) (progress : Progress) → Goes progress (wants_met wants progress)
 unfolding wants_met
 wants_met-goes [] progress = goes-same progress.server
@@ -179,6 +192,7 @@ wants_met-goes (want ∷ wants) progress = goes-twice progress.server (want_met 
     (wants_met wants (want_met want progress)).server
     (want_met-goes want progress) (wants_met-goes wants (want_met want progress))
 
+-- a round lets opens go on
 after_finding-goes : (again : Progress → Tried) (request : Request) (progress : Progress) (found : Finding)
     → ((next : Progress) → Goes next (again next).progress)
     → Goes progress (after_finding again request progress found).progress
@@ -203,84 +217,7 @@ tried_for-goes (suc rounds) client request progress = after_finding-goes (tried_
     request progress
     (finding progress.server client request) (λ next. tried_for-goes rounds client request next)
 
--- a create that is ready names a file of the server; and a reconnect, an open of its client
-pub record IsAwaited (server : Server) (client : ℕ) (file_id : ℕ) : Type 0 where
-  pub one : Open
-  pub is_there : Among one server.opens
-  pub has_id : one.file_id ≡ file_id
-  pub is_own : one.client ≡ client
-
-abbrev pub AgainReady : Server → ℕ → Option ℕ → Type 0
-AgainReady server client None = Unit {0}
-AgainReady server client (Some file_id) = IsAwaited server client file_id
-
-abbrev pub ContextsReady : Server → ℕ → ℕ → Option CreateAsk → Type 0
-ContextsReady server client file None = Unit {0}
-ContextsReady server client file (Some ask) = (has_file server file ≡ true) × AgainReady server client
-    ask.reconnect
-
-abbrev pub FileReady : Server → ℕ → Request → Type 0
-FileReady server client (Request.Create file access share contexts) = ContextsReady server client file
-    contexts
-FileReady server client request = Unit {0}
-
-awaits_own : (client file : ℕ) (own : Option Key) (file_id : ℕ) (one : Open)
-    → awaits client file own file_id one ≡ true
-    → (one.file_id ≡ file_id) × (one.client ≡ client)
-unfolding awaits
-awaits_own client file None file_id one e = absurd (true≢false (sym e))
-awaits_own client file (Some key) file_id one e =
-    let p = and_parts (one.file_id == file_id && not one.connected && one.client == client && one.file ==
-    file) (has_key key one) e in
-    let q = and_parts (one.file_id == file_id && not one.connected && one.client == client) (one.file == file)
-    p.0 in
-    let r = and_parts (one.file_id == file_id && not one.connected) (one.client == client) q.0 in
-    let t = and_parts (one.file_id == file_id) (not one.connected) r.0 in
-    ((Decides-eqb one.file_id file_id).0 t.0, (Decides-eqb one.client client).0 r.1)
-
-reconnect_awaited : (server : Server) (client file : ℕ) (own : Option Key) (file_id : ℕ) (wants : List Want)
-    → reconnect_finding server client file own file_id ≡ Finding.Wants wants → IsAwaited server client file_id
-unfolding reconnect_finding
-reconnect_awaited server client file own file_id wants =
-    if_cases (λ found. found ≡ Finding.Wants wants → IsAwaited server client file_id)
-    (list_any (awaits client file own file_id) server.opens)
-    (Finding.Wants []) (Finding.Refused Status.ObjectNameNotFound)
-    (λ e same. let x = any_has (awaits client file own file_id) server.opens e in let y = awaits_own client
-    file own file_id x.0 x.2 in
-    record { one = x.0; is_there = x.1; has_id = y.0; is_own = y.1 })
-    (λ e never. absurd (cc))
-
-asked_again : (server : Server) (client file : ℕ) (access : Access) (share : Share) (lease : Option LeaseOf)
-    (again : Option ℕ) (wants : List Want)
-    → asked_finding server client file access share lease again ≡ Finding.Wants wants
-    → AgainReady server client again
-asked_again server client file access share lease None wants e = tt
-asked_again server client file access share lease (Some file_id) wants e = reconnect_awaited server client
-    file (own_key client lease) file_id wants e
-
-contexts_ready : (server : Server) (client file : ℕ) (access : Access) (share : Share)
-    (contexts : Option CreateAsk) (wants : List Want)
-    → finding server client (Request.Create file access share contexts) ≡ Finding.Wants wants
-    → ContextsReady server client file contexts
-unfolding finding
-contexts_ready server client file access share None wants e = tt
-contexts_ready server client file access share (Some ask) wants e =
-    if_cases (λ found. found ≡ Finding.Wants wants → ContextsReady server client file (Some ask))
-    (has_file server file)
-    (asked_finding server client file access share ask.lease ask.reconnect)
-    (Finding.Refused Status.ObjectNameNotFound)
-    (λ t same. (t, asked_again server client file access share ask.lease ask.reconnect wants same))
-    (λ t never. absurd (cc)) e
-
-pub ready-file : (client : ℕ) (request : Request) (progress : Progress) → IsFoundReady client request progress
-    → FileReady progress.server client request
-ready-file client (Request.Create file access share contexts) progress r = contexts_ready progress.server
-    client file access share contexts r.wants r.found
-ready-file client (Request.Read file_id) progress r = tt
-ready-file client (Request.Write file_id number patch) progress r = tt
-ready-file client (Request.Close file_id) progress r = tt
-ready-file client (Request.Acknowledge given) progress r = tt
-
+-- an open of a list with one more is old or new
 added : (new : Open) (progress : Progress) (one : Open) → new.file_id ≡ progress.server.last_id + 1
     → progress.server.connected new.client ≡ true → has_file progress.server new.file ≡ true
     → Among one (progress.server.opens ++ new ∷ []) → IsOld progress.server one ⊎ IsNew progress.server one
@@ -294,6 +231,7 @@ added new progress one id up on a = ⊎_elim
     })) (λ never. absurd never) h)
     (among_append one progress.server.opens (new ∷ []) a)
 
+-- a grant lets opens go on
 granted_with-goes : (client file : ℕ) (access : Access) (share : Share) (asked : Option LeaseOf)
     (durable : Bool) (lease : Lease) (progress : Progress)
     → progress.server.connected client ≡ true → has_file progress.server file ≡ true
@@ -314,6 +252,7 @@ granted_with-goes client file access share (Some asked) durable lease progress u
       progress one refl up on a;
 }
 
+-- a grant, if FileIds are left, lets opens go on
 granted-goes : (client file : ℕ) (access : Access) (share : Share) (asked : Option LeaseOf) (durable : Bool)
     (progress : Progress)
     → progress.server.connected client ≡ true → has_file progress.server file ≡ true
@@ -346,6 +285,7 @@ again_old server client file_id was true e s w up a = record {
 }
 again_old server client file_id was false e s w up a = still_there server was a
 
+-- a reconnect lets opens go on
 reconnected-goes : (client file : ℕ) (asked : Option LeaseOf) (file_id : ℕ) (progress : Progress)
     → IsSound progress.server
     → IsAwaited progress.server client file_id → progress.server.connected client ≡ true
@@ -360,6 +300,7 @@ reconnected-goes client file asked file_id progress s w up = record {
       (again_old progress.server client file_id x.0 ((x.0).file_id == file_id) refl s w up x.1));
 }
 
+-- a write that is done lets opens go on
 changed-goes : (client file file_id number : ℕ) (patch : Patch) (progress : Progress)
     → Goes progress (changed client file file_id number patch progress)
 unfolding changed
@@ -372,15 +313,18 @@ changed-goes client file file_id number patch progress =
           (still_there progress.server one a);
     }
 
+-- a close lets opens go on
 closed-goes : (client file_id : ℕ) (progress : Progress) → Goes progress (closed client file_id progress)
 unfolding closed
 closed-goes client file_id progress = dropped-goes (λ one. one.file_id == file_id) progress
 
+-- a refusal lets opens go on
 pub refused-goes : (client : ℕ) (request : Request) (status : Status) (progress : Progress)
     → Goes progress (refused client request status progress)
 unfolding refused
 refused-goes client request status progress = goes-same progress.server
 
+-- a create that is ready lets opens go on
 created-goes : (client file : ℕ) (access : Access) (share : Share) (asked : Option LeaseOf) (durable : Bool)
     (again : Option ℕ) (progress : Progress)
     → IsSound progress.server → progress.server.connected client ≡ true → has_file progress.server file ≡ true
@@ -391,6 +335,7 @@ created-goes client file access share asked durable None progress s up on again 
 created-goes client file access share asked durable (Some file_id) progress s up on again = reconnected-goes
     client file asked file_id progress s again up
 
+-- a create that is ready, by its contexts, lets opens go on
 on_contexts-goes : (client file : ℕ) (access : Access) (share : Share) (contexts : Option CreateAsk)
     (progress : Progress)
     → IsSound progress.server → progress.server.connected client ≡ true
@@ -401,11 +346,13 @@ on_contexts-goes client file access share None progress s up ready = goes-same p
 on_contexts-goes client file access share (Some ask) progress s up ready =
     created-goes client file access share ask.lease ask.durable ask.reconnect progress s up ready.0 ready.1
 
+-- an answer by the open that is named lets opens go on
 on_open-goes : (one : Option Open) (done : ℕ → Progress → Progress) (progress : Progress)
     → ((file : ℕ) → Goes progress (done file progress)) → Goes progress (on_open one done progress)
 on_open-goes None done progress each = goes-same progress.server
 on_open-goes (Some one) done progress each = each one.file
 
+-- the answer to a request that is ready lets opens go on
 answered-goes : (client : ℕ) (request : Request) (progress : Progress) → IsSound progress.server
     → progress.server.connected client ≡ true
     → FileReady progress.server client request → Goes progress (answered client request progress)
@@ -436,6 +383,7 @@ concluded-goes client request progress Outcome.Waits s up ready = goes-same prog
 concluded-goes client request progress Outcome.Ready s up ready = answered-goes client request progress s up
     (ready refl)
 
+-- to end a break lets opens go on
 ended-goes : (key : Key) (state : State) (progress : Progress)
     → Goes progress (break_ended key state progress)
 unfolding break_ended
@@ -447,6 +395,7 @@ ended-goes key state progress = record {
       (still_there progress.server one a);
 }
 
+-- to judge an acknowledgment lets opens go on
 judged-goes : (key : Key) (state : State) (broken : Option State) (progress : Progress)
     → Goes progress (judged key state broken progress)
 judged-goes key state None progress = goes-same progress.server

@@ -34,6 +34,7 @@ allowed-form server own file want = if_cases (λ s. granted_form_of s ≡ s)
     (λ e. without_write-form (granted_form_of want) (granted_form_of-again want))
     (λ e. granted_form_of-again want)
 
+-- what is offered is a granted form
 offered-form : (server : Server) (key : Key) (file : ℕ) (want : State)
     → granted_form_of (offered server key file want) ≡ offered server key file want
 unfolding offered
@@ -48,6 +49,7 @@ allowed-handle server own file want h = if_cases (λ s. s.handle ≡ true)
     (list_any (is_other_on own file) server.opens)
     (without_write (granted_form_of want)) (granted_form_of want) (λ e. h) (λ e. h)
 
+-- what is offered holds H where the want does
 offered-handle : (server : Server) (key : Key) (file : ℕ) (want : State) → server.expired key ≡ false
     → (granted_form_of want).handle ≡ true → (offered server key file want).handle ≡ true
 unfolding offered
@@ -71,6 +73,7 @@ allowed-alone server own file want w one a f =
     (none_has (is_other_on own file) one server.opens e a))) in
     go w
 
+-- W is offered only where no open on the file has another key
 offered-alone : (server : Server) (key : Key) (file : ℕ) (want : State)
     → (offered server key file want).write ≡ true
     → (one : Open) → Among one server.opens → one.file ≡ file → has_key key one ≡ true
@@ -212,6 +215,7 @@ granted_late server key file want s out =
     (λ t. refl) (λ t. clash (server.expired key) out t))
     (λ p. none))
 
+-- a grant keeps the laws
 granted_with-sound : (client file : ℕ) (access : Access) (share : Share) (asked : Option LeaseOf)
     (durable : Bool) (progress : Progress)
     → IsSound progress.server → IsFree progress.server.opens progress.server.leases (own_key client asked)

@@ -26,21 +26,25 @@ use Rattle.lease_model.proofs.ServerLists.{if_cases}
 abbrev pub SameHeld : Progress → Progress → Type 0
 SameHeld before after = after.server.held ≡ before.server.held
 
+-- to drop opens leaves the held requests as they are
 pub dropped_held : (test : Open → Bool) (progress : Progress)
     → SameHeld progress (opens_dropped test progress)
 unfolding opens_dropped with_opens
 dropped_held test progress = refl
 
+-- to lower a lease leaves them
 lowered_held : (key : Key) (lowered : State) (progress : Progress)
     → SameHeld progress (lease_lowered key lowered progress)
 unfolding lease_lowered
 lowered_held key lowered progress = refl
 
+-- to begin a break leaves them
 begun_held : (key : Key) (lowered : State) (progress : Progress)
     → SameHeld progress (break_begun key lowered progress)
 unfolding break_begun
 begun_held key lowered progress = refl
 
+-- to break a lease leaves the held requests as they are
 lease_broken-held : (key : Key) (lowered : State) (progress : Progress)
     → SameHeld progress (lease_broken key lowered progress)
 unfolding lease_broken
@@ -54,18 +58,21 @@ lease_broken-held key lowered progress =
     (λ n. begun_held key lowered progress) (λ n. lowered_held key lowered progress))
     (λ t. refl)
 
+-- to meet a want leaves the held requests as they are
 want_met-held : (want : Want) (progress : Progress) → SameHeld progress (want_met want progress)
 unfolding want_met
 want_met-held want progress = lease_broken-held want.key want.lowered
     (opens_dropped (is_left_open want.key) progress)
     ∙ dropped_held (is_left_open want.key) progress
 
+-- to meet wants leaves the held requests as they are
 wants_met-held : (wants : List Want) (progress : Progress) → SameHeld progress (wants_met wants progress)
 unfolding wants_met
 wants_met-held [] progress = refl
 wants_met-held (want ∷ wants) progress = wants_met-held wants (want_met want progress)
     ∙ want_met-held want progress
 
+-- a round leaves the held requests as they are
 after_finding-held : (again : Progress → Tried) (request : Request) (progress : Progress) (found : Finding)
     → ((next : Progress) → SameHeld next (again next).progress)
     → SameHeld progress (after_finding again request progress found).progress
@@ -89,20 +96,24 @@ tried_for-held (suc rounds) client request progress = after_finding-held (tried_
     request progress
     (finding progress.server client request) (λ next. tried_for-held rounds client request next)
 
+-- a refusal leaves the held requests as they are
 refused-held : (client : ℕ) (request : Request) (status : Status) (progress : Progress)
     → SameHeld progress (refused client request status progress)
 unfolding refused
 refused-held client request status progress = refl
 
+-- a write that is done leaves the held requests as they are
 changed-held : (client file file_id number : ℕ) (patch : Patch) (progress : Progress)
     → SameHeld progress (changed client file file_id number patch progress)
 unfolding changed
 changed-held client file file_id number patch progress = refl
 
+-- a close leaves the held requests as they are
 closed-held : (client file_id : ℕ) (progress : Progress) → SameHeld progress (closed client file_id progress)
 unfolding closed opens_dropped with_opens
 closed-held client file_id progress = refl
 
+-- a grant leaves the held requests as they are
 granted_with-held : (client file : ℕ) (access : Access) (share : Share) (asked : Option LeaseOf)
     (durable : Bool) (lease : Lease) (progress : Progress)
     → SameHeld progress (granted_with client file access share asked durable lease progress)
@@ -110,6 +121,7 @@ unfolding granted_with
 granted_with-held client file access share None durable lease progress = refl
 granted_with-held client file access share (Some asked) durable lease progress = refl
 
+-- a grant, if FileIds are left, leaves the held requests as they are
 granted-held : (client file : ℕ) (access : Access) (share : Share) (asked : Option LeaseOf) (durable : Bool)
     (progress : Progress)
     → SameHeld progress (granted client file access share asked durable progress)
@@ -123,11 +135,13 @@ granted-held client file access share asked durable progress =
     (λ e. granted_with-held client file access share asked durable
     (lease_after progress.server client file asked) progress)
 
+-- a reconnect leaves the held requests as they are
 reconnected-held : (client file : ℕ) (asked : Option LeaseOf) (file_id : ℕ) (progress : Progress)
     → SameHeld progress (reconnected client file asked file_id progress)
 unfolding reconnected
 reconnected-held client file asked file_id progress = refl
 
+-- a create that is ready leaves the held requests as they are
 created-held : (client file : ℕ) (access : Access) (share : Share) (asked : Option LeaseOf) (durable : Bool)
     (again : Option ℕ) (progress : Progress)
     → SameHeld progress (created client file access share asked durable again progress)
@@ -136,6 +150,7 @@ created-held client file access share asked durable None progress = granted-held
 created-held client file access share asked durable (Some file_id) progress = reconnected-held client file
     asked file_id progress
 
+-- a create that is ready, by its contexts, leaves the held requests as they are
 on_contexts-held : (contexts : Option CreateAsk) (done : CreateAsk → Progress → Progress)
     (progress : Progress)
     → ((ask : CreateAsk) → SameHeld progress (done ask progress))
@@ -143,11 +158,13 @@ on_contexts-held : (contexts : Option CreateAsk) (done : CreateAsk → Progress 
 on_contexts-held None done progress each = refl
 on_contexts-held (Some ask) done progress each = each ask
 
+-- an answer by the open that is named leaves the held requests as they are
 on_open-held : (one : Option Open) (done : ℕ → Progress → Progress) (progress : Progress)
     → ((file : ℕ) → SameHeld progress (done file progress)) → SameHeld progress (on_open one done progress)
 on_open-held None done progress each = refl
 on_open-held (Some one) done progress each = each one.file
 
+-- the answer to a request that is ready leaves the held requests as they are
 answered-held : (client : ℕ) (request : Request) (progress : Progress)
     → SameHeld progress (answered client request progress)
 unfolding answered
@@ -173,6 +190,7 @@ concluded-held client request progress (Outcome.Refused status) = refused-held c
 concluded-held client request progress Outcome.Waits = refl
 concluded-held client request progress Outcome.Ready = answered-held client request progress
 
+-- the file has the requests that are left
 pub held_left-here : (file : ℕ) (left : List Held) (progress : Progress)
     → (held_left file left progress).server.held file ≡ left
 unfolding held_left put
@@ -185,19 +203,24 @@ pub record InPass (file : ℕ) (count : ℕ) (waiting : List Held) (pass : Pass)
   pub is_counted : length pass.kept + length waiting ≤ count
   pub is_fewer : pass.has_answered ≡ true → length pass.kept + length waiting < count
 
+-- one more
 length_cons : (one : Held) (waiting : List Held) → length (one ∷ waiting) ≡ length waiting + 1
 length_cons one waiting = omega arith
 
+-- one moved from the second list to the first
 length_moved : (kept : List Held) (one : Held) (waiting : List Held)
     → length (kept ++ one ∷ []) + length waiting ≡ length kept + length (one ∷ waiting)
 length_moved kept one waiting = rw (length-append kept (one ∷ [])) (omega arith)
 
+-- at first all are counted
 pub all_counted : (held : List Held) → length {A = Held} [] + length held ≤ length held
 all_counted held = omega arith
 
+-- at last none waits
 nothing_more : (kept count left : ℕ) → kept + length {A = Held} [] < count → left ≡ kept → left < count
 nothing_more kept count left less same = omega (arith, less, same)
 
+-- to pass over a held request keeps count of the pass
 pub pass_kept-in : (file count : ℕ) (one : Held) (waiting : List Held) (pass : Pass) (progress : Progress)
     → InPass file count (one ∷ waiting) pass → SameHeld pass.progress progress
     → InPass file count waiting (pass_kept one pass progress)
@@ -210,6 +233,7 @@ pass_kept-in file count one waiting pass progress i same =
       is_fewer = λ e. let less = i.is_fewer e in omega (arith, longer, less);
     }
 
+-- to answer a held request keeps count of the pass
 pub pass_answered-in : (file count : ℕ) (one : Held) (waiting : List Held) (pass : Pass) (done : Tried)
     → InPass file count (one ∷ waiting) pass
     → InPass file count waiting (pass_answered file one waiting pass done)
@@ -223,6 +247,7 @@ pass_answered-in file count one waiting pass done i =
       is_fewer = λ e. omega (arith, shorter, i.is_counted);
     }
 
+-- what follows a try in a pass keeps count of the pass
 after_try-in : (file count : ℕ) (one : Held) (waiting : List Held) (pass : Pass) (progress : Progress)
     (outcome : Outcome)
     → InPass file count (one ∷ waiting) pass → SameHeld pass.progress progress
@@ -236,6 +261,7 @@ after_try-in file count one waiting pass progress Outcome.Ready i same = pass_an
     waiting pass
     (record { progress = progress; outcome = Outcome.Ready }) i
 
+-- a held request tried again keeps count of the pass
 tried_again-in : (file count : ℕ) (one : Held) (waiting : List Held) (pass : Pass)
     → InPass file count (one ∷ waiting) pass → InPass file count waiting (tried_again file one waiting pass)
 unfolding tried_again
@@ -248,6 +274,7 @@ tried_again-in file count one waiting pass i =
     (tried one.client one.request pass.progress).outcome i
     (tried_for-held 3 one.client one.request pass.progress))
 
+-- a pass keeps count of the pass
 pass_over-in : (file count : ℕ) (waiting : List Held) (pass : Pass) → InPass file count waiting pass
     → InPass file count [] (pass_over file waiting pass)
 unfolding pass_over
@@ -273,6 +300,7 @@ one_pass-fewer file progress e =
     ap length (i.is_held ∙ append-nil (one_pass file progress).kept) in
     nothing_more (length (one_pass file progress).kept) (length (progress.server.held file)) _ less same
 
+-- a choice between two that are one
 cond_same : {X : Type 0} (b : Bool) (x y z : X) → (b ≡ true → x ≡ y) → cond b x z ≡ cond b y z
 cond_same true x y z e = e refl
 cond_same false x y z e = refl

@@ -41,6 +41,7 @@ pub record Keeps (Guard : ℕ → Type 0) (before : Server) (after : Server) : T
       → Guard one.file
       → connected_open after client file_id ≡ Some one
 
+-- nothing happens
 pub keeps-same : (Guard : ℕ → Type 0) (server : Server) → Keeps Guard server server
 keeps-same Guard server = record {
   stands = λ key one a k up b g. (a, b);
@@ -48,6 +49,7 @@ keeps-same Guard server = record {
       e;
 }
 
+-- two steps
 pub keeps-twice : (Guard : ℕ → Type 0) (a b c : Server) → Keeps Guard a b → Keeps Guard b c → Keeps Guard a c
 keeps-twice Guard a b c h j = record {
   stands = λ key one m k up w g. let x = h.stands key one m k up w g in j.stands key one x.0 k up x.1 g;
@@ -58,6 +60,7 @@ keeps-twice Guard a b c h j = record {
 abbrev pub Anywhere : ℕ → Type 0
 Anywhere file = Unit {0}
 
+-- what is kept everywhere is kept there
 pub keeps-weaker : (Guard : ℕ → Type 0) (before after : Server) → Keeps Anywhere before after
     → Keeps Guard before after
 keeps-weaker Guard before after h = record {
@@ -65,6 +68,7 @@ keeps-weaker Guard before after h = record {
   finds = λ client file_id one e g. h.finds client file_id one e tt;
 }
 
+-- what is blocked stays so
 blocked_keeps : (Guard : ℕ → Type 0) (before after : Server) (own : Option Key) (file : ℕ)
     → Keeps Guard before after → IsSound before
     → Guard file → IsBlocked before own file → IsBlocked after own file
@@ -94,6 +98,7 @@ connected_has server client file_id one e =
           (and_parts (one.file_id == file_id && one.client == client) one.connected x.1).0).0,
     )
 
+-- a create goes on having to wait
 contexts_keep : (Guard : ℕ → Type 0) (before after : Server) (client at file : ℕ) (access : Access)
     (share : Share) (contexts : Option CreateAsk)
     → Keeps Guard before after → IsSound before → at ≡ file → Guard file
@@ -122,6 +127,7 @@ waits_keep Guard before after client file (Request.Write file_id number patch) h
 waits_keep Guard before after client file (Request.Close file_id) h s about g w = absurd w
 waits_keep Guard before after client file (Request.Acknowledge given) h s about g w = absurd w
 
+-- for calls under way
 abbrev pub Kept : (ℕ → Type 0) → Progress → Progress → Type 0
 Kept Guard before after = Keeps Guard before.server after.server
 
@@ -170,6 +176,7 @@ lease_broken-stays key other lowered progress b =
     (ap (λ x. is_breaking (progress.server.leases x)) (sym same) ∙ b) settled) (λ e. b)))
     (λ t. b)
 
+-- to break a lease lets wait what has to wait
 lease_broken-kept : (key : Key) (lowered : State) (progress : Progress)
     → Kept Anywhere progress (lease_broken key lowered progress)
 lease_broken-kept key lowered progress = record {
@@ -183,6 +190,7 @@ lease_broken-kept key lowered progress = record {
       (lease_broken-opens key lowered progress) ∙ e;
 }
 
+-- to meet a want lets wait what has to wait
 want_met-kept : (want : Want) (progress : Progress) → Kept Anywhere progress (want_met want progress)
 unfolding want_met
 want_met-kept want progress =
@@ -190,6 +198,7 @@ want_met-kept want progress =
     keeps-twice Anywhere progress.server dropped.server (lease_broken want.key want.lowered dropped).server
     (left_dropped-kept want.key progress) (lease_broken-kept want.key want.lowered dropped)
 
+-- to meet wants lets wait what has to wait
 wants_met-kept : (wants : List Want) (progress : Progress) → Kept Anywhere progress (wants_met wants progress)
 unfolding wants_met
 wants_met-kept [] progress = keeps-same Anywhere progress.server
@@ -197,6 +206,7 @@ wants_met-kept (want ∷ wants) progress = keeps-twice Anywhere progress.server 
     (wants_met wants (want_met want progress)).server
     (want_met-kept want progress) (wants_met-kept wants (want_met want progress))
 
+-- a round lets wait what has to wait
 after_finding-kept : (again : Progress → Tried) (request : Request) (progress : Progress) (found : Finding)
     → ((next : Progress) → Kept Anywhere next (again next).progress)
     → Kept Anywhere progress (after_finding again request progress found).progress
@@ -221,6 +231,7 @@ tried_for-kept (suc rounds) client request progress = after_finding-kept (tried_
     request progress
     (finding progress.server client request) (λ next. tried_for-kept rounds client request next)
 
+-- what is found is still found with more behind it
 find_append : {X : Type 0} (test : X → Bool) (xs ys : List X) (x : X) → find test xs ≡ Some x
     → find test (xs ++ ys) ≡ Some x
 find_append test [] ys x e = absurd (cc)
@@ -239,6 +250,7 @@ granted-stays server key file want b = if_cases (λ l. is_breaking l ≡ true) (
     (server.leases key) _
     (λ e. b) (λ e. clash (is_breaking (server.leases key)) b e)
 
+-- a grant lets wait what has to wait
 granted_with-kept : (client file : ℕ) (access : Access) (share : Share) (asked : Option LeaseOf)
     (durable : Bool) (progress : Progress)
     → Kept Anywhere progress (granted_with client file access share asked durable
@@ -260,6 +272,7 @@ granted_with-kept client file access share (Some asked) durable progress = recor
       progress.server.opens _ one e;
 }
 
+-- a grant, if FileIds are left, lets wait what has to wait
 granted-kept : (client file : ℕ) (access : Access) (share : Share) (asked : Option LeaseOf) (durable : Bool)
     (progress : Progress)
     → Kept Anywhere progress (granted client file access share asked durable progress)
@@ -272,14 +285,17 @@ granted-kept client file access share asked durable progress =
     (λ e. keeps-same Anywhere progress.server)
     (λ e. granted_with-kept client file access share asked durable progress)
 
+-- an open with this connection
 abbrev with_up : Open → Bool → Open
 with_up one up = record one { connected = up }
 
+-- a connected open that is connected again is the same
 again_same : (file_id : ℕ) (one : Open) → one.connected ≡ true → connected_again file_id one ≡ one
 again_same file_id one up = if_cases (λ o. o ≡ one) (one.file_id == file_id) (record one { connected = true })
     one
     (λ e. ap (λ b. with_up one b) (sym up)) (λ e. refl)
 
+-- so it stays on the list
 among_again : (file_id : ℕ) (one : Open) (opens : List Open) → one.connected ≡ true → Among one opens
     → Among one (map (connected_again file_id) opens)
 among_again file_id one [] up a = absurd a
@@ -287,10 +303,12 @@ among_again file_id one (other ∷ opens) up (inl same) =
     inl (same ∙ sym (again_same file_id other (ap (λ o. o.connected) (sym same) ∙ up)))
 among_again file_id one (other ∷ opens) up (inr a) = inr (among_again file_id one opens up a)
 
+-- its FileId is the same
 again_id : (file_id : ℕ) (one : Open) → (connected_again file_id one).file_id ≡ one.file_id
 again_id file_id one = if_cases (λ o. o.file_id ≡ one.file_id) (one.file_id == file_id)
     (record one { connected = true }) one (λ e. refl) (λ e. refl)
 
+-- and what is found of connected opens is still found
 find_again : (file_id client id : ℕ) (one : Open) (opens : List Open) → AreInOrder opens
     → find (λ x. x.file_id == id && x.client == client && x.connected) opens ≡ Some one
     → find (λ x. x.file_id == id && x.client == client && x.connected) (map (connected_again file_id) opens) ≡
@@ -323,6 +341,7 @@ find_again file_id client id one (first ∷ opens) order e =
     no_match
     ∙ find_again file_id client id one opens order.1 later) e
 
+-- a reconnect lets wait what has to wait
 reconnected-kept : (client file : ℕ) (asked : Option LeaseOf) (file_id : ℕ) (progress : Progress)
     → IsSound progress.server
     → Kept Anywhere progress (reconnected client file asked file_id progress)
@@ -332,12 +351,14 @@ reconnected-kept client file asked file_id progress s = record {
   finds = λ c id one e g. find_again file_id c id one progress.server.opens s.in_order e;
 }
 
+-- a write that is done lets wait what has to wait
 changed-kept : (client file file_id number : ℕ) (patch : Patch) (progress : Progress)
     → Kept Anywhere progress (changed client file file_id number patch progress)
 unfolding changed
 changed-kept client file file_id number patch progress =
     record { stands = λ key one a k up b g. (a, b); finds = λ c id one e g. e }
 
+-- a refusal lets wait what has to wait
 refused-kept : (client : ℕ) (request : Request) (status : Status) (progress : Progress)
     → Kept Anywhere progress (refused client request status progress)
 unfolding refused
@@ -376,6 +397,7 @@ closed-kept client file_id gone progress s e =
           safe z.file_id (λ q. other one y.0 away (y.1 ∙ sym same ∙ q))) ∙ found;
     }
 
+-- a create that is ready lets wait what has to wait
 created-kept : (client file : ℕ) (access : Access) (share : Share) (asked : Option LeaseOf) (durable : Bool)
     (again : Option ℕ) (progress : Progress)
     → IsSound progress.server → Kept Anywhere progress
@@ -385,6 +407,7 @@ created-kept client file access share asked durable None progress s = granted-ke
 created-kept client file access share asked durable (Some file_id) progress s = reconnected-kept client file
     asked file_id progress s
 
+-- a create that is ready, by its contexts, lets wait what has to wait
 on_contexts-kept : (client file : ℕ) (access : Access) (share : Share) (contexts : Option CreateAsk)
     (progress : Progress) → IsSound progress.server
     → Kept Anywhere progress (on_contexts contexts
@@ -393,6 +416,7 @@ on_contexts-kept client file access share None progress s = keeps-same Anywhere 
 on_contexts-kept client file access share (Some ask) progress s = created-kept client file access share
     ask.lease ask.durable ask.reconnect progress s
 
+-- an answer by the open that is named lets wait what has to wait
 on_open-kept : (Guard : ℕ → Type 0) (one : Option Open) (done : ℕ → Progress → Progress) (progress : Progress)
     → ((x : Open) → one ≡ Some x → Kept Guard progress (done x.file progress))
     → Kept Guard progress (on_open one done progress)
@@ -438,6 +462,7 @@ concluded-kept client file request progress Outcome.Waits s about = keeps-same (
 concluded-kept client file request progress Outcome.Ready s about = answered-kept client file request progress
     s about
 
+-- an answer that closes nothing lets wait what has to wait
 answered-open : (client : ℕ) (request : Request) (progress : Progress) → IsSound progress.server
     → IsAlone request
     → Kept Anywhere progress (answered client request progress)

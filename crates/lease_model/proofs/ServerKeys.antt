@@ -9,6 +9,7 @@ use Rattle.lease_model.specs.ServerState.{is_key, Server}
 use Rattle.lease_model.specs.Tables.{put_key}
 use Rattle.lease_model.specs.Wants.{key_of, lease_by}
 
+-- keys of one client and the same bytes are one
 key_of_parts : (one other : Key) → one.client ≡ other.client → one.bytes ≡ other.bytes → one ≡ other
 key_of_parts one other e f = ap₂ (λ client bytes. key_of client bytes) e f
 
@@ -34,6 +35,7 @@ is_key-bytes key client bytes h =
     key_of_parts key (key_of client bytes) ((Decides-eqb key.client client).0 parts.0)
     ((bytes_eq-Decides key.bytes bytes).0 parts.1)
 
+-- a key is itself
 pub is_key-refl : (client : ℕ) (bytes : List ℕ) → is_key (key_of client bytes) client (Some bytes) ≡ true
 is_key-refl client bytes = and_both (client == client) (bytes_eq bytes bytes)
     ((Decides-eqb client client).1 refl) ((bytes_eq-Decides bytes bytes).1 refl)
@@ -52,11 +54,12 @@ lease_by-key server key client None h = absurd (true≢false (sym h))
 lease_by-key server key client (Some bytes) h = ap (λ k. server.leases k)
     (sym (is_key-bytes key client bytes h))
 
--- the key's place in the table, and any place
+-- a table at the place that was changed
 pub put_key-here : {X : Type 0} (table : Key → X) (key : Key) (new : X) → put_key table key new key ≡ new
 unfolding put_key
 put_key-here table key new = rw (key_eq-refl key) refl
 
+-- what holds of each place of a table, once one is changed
 pub put_key-cases : {X : Type 0} (P : X → Type 0) (table : Key → X) (place : Key) (new : X) (key : Key)
     → (key ≡ place → P new) → (key_eq key place ≡ false → P (table key)) → P (put_key table place new key)
 unfolding put_key

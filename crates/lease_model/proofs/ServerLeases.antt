@@ -59,6 +59,7 @@ put_sound opens leases expired last_id key new s there fresh may = record {
       (λ e. s.timed_out k out);
 }
 
+-- and goes both ways
 and_back : (a b : Bool) → (a && b) ≡ (b && a)
 and_back true true = refl
 and_back true false = refl
@@ -71,6 +72,7 @@ pub conflict_back : (one other : Open) → conflicts one.access one.share other 
 unfolding conflicts
 conflict_back one other = ap not (and_back (permits one.share other.access) (permits other.share one.access))
 
+-- one more behind all keeps the order
 in_order-append : (opens : List Open) (new : Open) → AreInOrder opens
     → ((one : Open) → Among one opens → one.file_id < new.file_id) → AreInOrder (opens ++ new ∷ [])
 in_order-append [] new own last = ((λ other a. absurd a), tt)

@@ -19,6 +19,7 @@ either false at_true at_false = at_false refl
 pub not_false : (b : Bool) → (b ≡ false → ⊥) → b ≡ true
 not_false b never = either b (λ e. e) (λ e. absurd (never e))
 
+-- a Bool that isn't true is false
 pub not_true : (b : Bool) → (b ≡ true → ⊥) → b ≡ false
 not_true b never = either b (λ e. absurd (never e)) (λ e. e)
 
@@ -26,24 +27,30 @@ not_true b never = either b (λ e. absurd (never e)) (λ e. e)
 pub clash : {P : Type 0} (b : Bool) → b ≡ true → b ≡ false → P
 clash b e f = absurd (true≢false (sym e ∙ f))
 
+-- one of two is true
 pub or_true : (a b : Bool) → (a || b) ≡ true → (a ≡ true) ⊎ (b ≡ true)
 or_true true b e = inl refl
 or_true false b e = inr e
 
+-- the first is true
 pub true_or : (a b : Bool) → a ≡ true → (a || b) ≡ true
 true_or a b e = rw e refl
 
+-- the second is true
 pub or_of_true : (a b : Bool) → b ≡ true → (a || b) ≡ true
 or_of_true true b e = refl
 or_of_true false b e = e
 
+-- both are true
 pub and_parts : (a b : Bool) → (a && b) ≡ true → (a ≡ true) × (b ≡ true)
 and_parts true b e = (refl, e)
 and_parts false b e = absurd (true≢false (sym e))
 
+-- both are true, so they are together
 pub and_both : (a b : Bool) → a ≡ true → b ≡ true → (a && b) ≡ true
 and_both a b e f = rw (e, f) refl
 
+-- what is not true is false
 pub not_parts : (a : Bool) → not a ≡ true → a ≡ false
 not_parts true e = absurd (true≢false (sym e))
 not_parts false e = refl

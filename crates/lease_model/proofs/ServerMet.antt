@@ -41,6 +41,7 @@ pub record IsMet (Holds : State → Bool) (base : Server) (key : Key) (before : 
   pub settles : (other : Key) → IsSettled Holds other before → IsSettled Holds other after
   pub is_settled : IsSettled Holds key after
 
+-- a key that still has an open had one
 has_lease-before : (test : Open → Bool) (progress : Progress) (key : Key)
     → has_lease (opens_dropped test progress).server key ≡ true → has_lease progress.server key ≡ true
 unfolding opens_dropped with_opens
@@ -49,6 +50,7 @@ has_lease-before test progress key e =
     has_any (has_key key) x.0 progress.server.opens
     (among_filter (λ one. not (test one)) x.0 progress.server.opens x.1).0 x.2
 
+-- dropped opens: leases that hold the right are as they were
 dropped-keeps : (Holds : State → Bool) (base : Server) (test : Open → Bool) (progress : Progress)
     → StatesKept Holds base progress → StatesKept Holds base (opens_dropped test progress)
 unfolding opens_dropped with_opens
@@ -60,6 +62,7 @@ dropped-keeps Holds base test progress kept key =
     (λ t h e. kept key (has_lease-before test progress key h) e)
     (λ t h e. clash (list_any (has_key key) opens) h t)
 
+-- dropped opens: a settled lease stays settled
 dropped-settles : (Holds : State → Bool) (test : Open → Bool) (progress : Progress) (key : Key)
     → IsSettled Holds key progress → IsSettled Holds key (opens_dropped test progress)
 unfolding opens_dropped with_opens
@@ -70,6 +73,7 @@ dropped-settles Holds test progress key settled =
     (λ t h b. settled (has_lease-before test progress key h) b)
     (λ t h b. clash (list_any (has_key key) opens) h t)
 
+-- to begin a break settles its lease
 begun-met : (Holds : State → Bool) (base : Server) (key : Key) (lowered : State) (progress : Progress)
     → IsMet Holds base key progress (break_begun key lowered progress)
 unfolding break_begun
@@ -93,6 +97,7 @@ begun-met Holds base key lowered progress =
           (λ same h b. absurd (true≢false b)) (λ e. clash (key_eq key key) (key_eq-refl key) e);
     }
 
+-- to lower a lease at once settles its lease
 lowered-met : (Holds : State → Bool) (base : Server) (key : Key) (lowered : State) (progress : Progress)
     → Holds lowered ≡ false → IsMet Holds base key progress (lease_lowered key lowered progress)
 unfolding lease_lowered
@@ -114,6 +119,7 @@ lowered-met Holds base key lowered progress quiet =
           (λ same h b. quiet) (λ e. clash (key_eq key key) (key_eq-refl key) e);
     }
 
+-- to break a lease settles its lease
 lease_broken-met : (Holds : State → Bool) (base : Server) (want : Want) (progress : Progress)
     → IsAlong base progress → Fits base want → Quiets Holds want
     → IsMet Holds base want.key progress (lease_broken want.key want.lowered progress)
@@ -145,6 +151,7 @@ lease_broken-met Holds base want progress i fits quiet =
           h (ap not b)) f;
     })
 
+-- to meet a want settles its lease
 want_met-met : (Holds : State → Bool) (base : Server) (want : Want) (progress : Progress)
     → IsAlong base progress → Fits base want → Quiets Holds want
     → IsMet Holds base want.key progress (want_met want progress)
@@ -162,6 +169,7 @@ want_met-met Holds base want progress i fits quiet =
       is_settled = step.is_settled;
     }
 
+-- each want does so
 abbrev pub AllQuiet : (State → Bool) → List Want → Type 0
 AllQuiet Holds wants = (want : Want) → Among want wants → Quiets Holds want
 
@@ -172,6 +180,7 @@ pub record AreMet (Holds : State → Bool) (base : Server) (wants : List Want) (
   pub settles : (other : Key) → IsSettled Holds other before → IsSettled Holds other after
   pub are_settled : (want : Want) → Among want wants → IsSettled Holds want.key after
 
+-- to meet wants settles its lease
 wants_met-met : (Holds : State → Bool) (base : Server) (wants : List Want) (progress : Progress)
     → IsAlong base progress → AllFit base wants → AllQuiet Holds wants
     → AreMet Holds base wants progress (wants_met wants progress)
@@ -209,11 +218,13 @@ lease_broken-opens key lowered progress =
     (break_begun key lowered progress) (lease_lowered key lowered progress) (λ n. refl) (λ n. refl))
     (λ t. refl)
 
+-- the opens that are left
 dropped-opens : (test : Open → Bool) (progress : Progress)
     → (opens_dropped test progress).server.opens ≡ filter (λ one. not (test one)) progress.server.opens
 unfolding opens_dropped with_opens
 dropped-opens test progress = refl
 
+-- the opens that are left once a want is met
 want_met-opens : (want : Want) (progress : Progress)
     → (want_met want progress).server.opens ≡ filter (λ one. not (is_left_open want.key one))
     progress.server.opens
@@ -232,6 +243,7 @@ wants_met-were (want ∷ wants) progress one a =
     (subst (λ opens. Among one opens) (want_met-opens want progress)
     (wants_met-were wants (want_met want progress) one a))).0
 
+-- what is found is still found where all that pass are kept
 pub find_kept : {X : Type 0} (test keep : X → Bool) (xs : List X) → ((x : X) → test x ≡ true → keep x ≡ true)
     → find test (filter keep xs) ≡ find test xs
 find_kept test keep [] safe = refl
@@ -242,6 +254,7 @@ find_kept test keep (x ∷ xs) safe =
     (λ e. later ∙ if_cases (λ o. find test xs ≡ o) (test x) (Some x) (find test xs)
     (λ t. clash (keep x) (safe x t) e) (λ t. refl))
 
+-- a connected open stays while a want is met
 want_met-found : (want : Want) (progress : Progress) (client file_id : ℕ)
     → connected_open (want_met want progress).server client file_id ≡ connected_open progress.server client
     file_id
@@ -265,6 +278,7 @@ wants_met-found (want ∷ wants) progress client file_id =
     wants_met-found wants (want_met want progress) client file_id
     ∙ want_met-found want progress client file_id
 
+-- a key among the keys stays there
 key_added-old : (key new : Key) (keys : List Key) → Among key keys → Among key (key_added new keys)
 unfolding key_added
 key_added-old key new [] a = absurd a
@@ -275,6 +289,7 @@ key_added-old key new (other ∷ keys) a =
     (λ e. if_cases (λ l. Among key l) (key_before new other) (new ∷ other ∷ keys) (other ∷ key_added new keys)
     (λ b. inr a) (λ b. ⊎_elim (λ same. inl same) (λ later. inr (key_added-old key new keys later)) a))
 
+-- the added key is there
 key_added-new : (new : Key) (keys : List Key) → Among new (key_added new keys)
 unfolding key_added
 key_added-new new [] = inl refl
@@ -285,11 +300,13 @@ key_added-new new (other ∷ keys) =
     (λ e. if_cases (λ l. Among new l) (key_before new other) (new ∷ other ∷ keys) (other ∷ key_added new keys)
     (λ b. inl refl) (λ b. inr (key_added-new new keys)))
 
+-- a key among the keys stays there, whatever the open's key
 open_key_added-old : (key : Key) (client : ℕ) (bytes : Option (List ℕ)) (keys : List Key) → Among key keys
     → Among key (open_key_added client bytes keys)
 open_key_added-old key client None keys a = a
 open_key_added-old key client (Some bytes) keys a = key_added-old key (key_of client bytes) keys a
 
+-- the open's key is there
 open_key_added-new : (key : Key) (client : ℕ) (bytes : Option (List ℕ)) (keys : List Key)
     → is_key key client bytes ≡ true → Among key (open_key_added client bytes keys)
 open_key_added-new key client None keys k = absurd (true≢false (sym k))
@@ -309,11 +326,13 @@ keys_of-all key one (other ∷ opens) (inl same) k = open_key_added-new key othe
 keys_of-all key one (other ∷ opens) (inr a) k = open_key_added-old key other.client other.lease_key
     (keys_of opens) (keys_of-all key one opens a k)
 
+-- what is on a list is mapped with it
 among_mapped : {X Y : Type 0} (f : X → Y) (x : X) (xs : List X) → Among x xs → Among (f x) (map f xs)
 among_mapped f x [] a = absurd a
 among_mapped f x (y ∷ xs) (inl same) = inl (ap f same)
 among_mapped f x (y ∷ xs) (inr a) = inr (among_mapped f x xs a)
 
+-- where none passes nothing is left
 filter_none : {X : Type 0} (test : X → Bool) (xs : List X) → ((x : X) → Among x xs → test x ≡ false)
     → filter test xs ≡ []
 filter_none test [] none = refl

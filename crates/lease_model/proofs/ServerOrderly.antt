@@ -9,7 +9,8 @@ use Rattle.lease_model.specs.ServerLaws.{Among, IsSound, HasToWait}
 use Rattle.lease_model.specs.ServerState.{Server, Held, has_file}
 use Rattle.lease_model.specs.ServerWaiting.{IsAbout, IsOpenOn, IsOrderly, AllWait}
 use Rattle.lease_model.proofs.ServerAnswers.{concluded-sound}
-use Rattle.lease_model.proofs.ServerGoes.{GoesOn, Goes, FileReady, ContextsReady, AgainReady, file_frame, tried_for-goes, concluded-goes}
+use Rattle.lease_model.proofs.ServerFileReady.{AgainReady, ContextsReady, FileReady}
+use Rattle.lease_model.proofs.ServerGoes.{GoesOn, Goes, file_frame, tried_for-goes, concluded-goes}
 use Rattle.lease_model.proofs.ServerHeld.{SameHeld, tried_for-held, concluded-held}
 use Rattle.lease_model.proofs.ServerKeeps.{Keeps, Kept, Anywhere, waits_keep, tried_for-kept}
 use Rattle.lease_model.proofs.ServerLists.{find_has}
@@ -23,6 +24,7 @@ pub record IsHeldWell (server : Server) (file : ℕ) (one : Held) : Type 0 where
   pub on_file : has_file server file ≡ true
   pub about : IsAbout server file one.request
 
+-- a held request is held well
 pub held_well : (server : Server) (file : ℕ) (one : Held) → IsOrderly server → Among one (server.held file)
     → IsHeldWell server file one
 held_well server file one o a = record {
@@ -32,6 +34,7 @@ held_well server file one o a = record {
       o.held_about file one a;
 }
 
+-- what a FileId is about stays
 open_goes : (before after : Server) (file file_id : ℕ) → GoesOn before after → IsOpenOn before file file_id
     → IsOpenOn after file file_id
 open_goes before after file file_id g o = record {
@@ -75,6 +78,7 @@ pub record IsFine (server : Server) : Type 0 where
   pub sound : IsSound server
   pub orderly : IsOrderly server
 
+-- held requests that are the same are held well
 same_well : (before after : Progress) → IsOrderly before.server → SameHeld before after
     → (file : ℕ) (one : Held) → Among one (after.server.held file) → IsHeldWell before.server file one
 same_well before after o same file one a = held_well before.server file one o
@@ -88,6 +92,7 @@ pub record IsTry (client : ℕ) (request : Request) (before : Progress) (done : 
   pub goes : Goes before done.progress
   pub keeps : Kept Anywhere before done.progress
 
+-- any try
 pub any_try : (client : ℕ) (request : Request) (before : Progress) → IsSound before.server
     → IsTry client request before (tried client request before)
 any_try client request before s = record {
@@ -98,6 +103,7 @@ any_try client request before s = record {
   keeps = tried_for-kept 3 client request before;
 }
 
+-- a try keeps the laws and the order
 pub fine_try : (client : ℕ) (request : Request) (before : Progress) (done : Tried) → IsFine before.server
     → IsTry client request before done → IsFine done.progress.server
 fine_try client request before done f t = record {
@@ -131,6 +137,7 @@ all_wait-keep Guard before after file k f g same all client one first =
     waits_keep Guard before after client file one.request k f.sound (f.orderly.held_about file one there.0) g
     (all client one was)
 
+-- a reconnect is ready whatever is held
 again_frame : (client : ℕ) (again : Option ℕ) (file : ℕ) (left : List Held) (progress : Progress)
     → AgainReady progress.server client again → AgainReady (held_left file left progress).server client again
 unfolding held_left
@@ -138,6 +145,7 @@ again_frame client None file left progress ready = ready
 again_frame client (Some file_id) file left progress ready =
     record { one = ready.one; is_there = ready.is_there; has_id = ready.has_id; is_own = ready.is_own }
 
+-- a create is ready whatever is held
 contexts_frame : (client at : ℕ) (contexts : Option CreateAsk) (file : ℕ) (left : List Held)
     (progress : Progress)
     → ContextsReady progress.server client at contexts

@@ -43,6 +43,7 @@ breaks_then middle after b a = record {
   is_answer = a.each;
 }
 
+-- breaks, and no answer
 breaks_only : (middle after : List Out) → GoOn IsBreak [] middle → after ≡ middle → AreBreaksFirst after
 breaks_only middle after b same = record {
   breaks = b.more;
@@ -52,9 +53,11 @@ breaks_only middle after b same = record {
   is_answer = tt;
 }
 
+-- no breaks
 no_breaks : GoOn IsBreak [] []
 no_breaks = record { more = []; are_more = refl; each = tt }
 
+-- what follows a first try gives out breaks first
 first_try-breaks : (client file : ℕ) (request : Request) (progress : Progress) (outcome : Outcome)
     → GoOn IsBreak [] progress.outs
     → AreBreaksFirst (after_first_try client file request progress outcome).outs
@@ -66,6 +69,7 @@ first_try-breaks client file request progress (Outcome.Refused status) b =
 first_try-breaks client file request progress Outcome.Ready b =
     breaks_then progress.outs _ b (concluded-answers client request progress Outcome.Ready)
 
+-- a request on a file gives out breaks first
 arrived_on-breaks : (client : ℕ) (request : Request) (server : Server) (asked : Result ℕ Status)
     → AreBreaksFirst (arrived_on client request (begun server) asked).outs
 arrived_on-breaks client request server (Err status) = breaks_then []
@@ -83,6 +87,7 @@ arrived_on-breaks client request server (Ok file) =
     (tried client request (begun server)).outcome
     (tried-breaks client request (begun server)))
 
+-- a request that comes gives out breaks first
 arrived-breaks : (client : ℕ) (request : Request) (server : Server) → IsAlone request
     → AreBreaksFirst (arrived client request (begun server)).outs
 unfolding arrived
@@ -106,6 +111,7 @@ receive-breaks server client request alone =
     (begun server)
     (λ e. arrived-breaks client request server alone) (λ e. breaks_only [] [] no_breaks refl)
 
+-- a state that holds nothing
 holds_none : (r w h : Bool) → (r || w || h) ≡ false → rights r w h ≡ nothing_cached
 holds_none true true true e = absurd (cc)
 holds_none true true false e = absurd (cc)
@@ -136,6 +142,7 @@ abbrev AloneWhenEmpty : Server → Open → Finding → Type 0
 AloneWhenEmpty server one (Finding.Refused status) = Unit {0}
 AloneWhenEmpty server one (Finding.Wants wants) = is_empty wants ≡ true → CachesAlone server one
 
+-- a write that wants nothing is alone
 write_finding-alone : (server : Server) (one : Open) (patch : Patch)
     → AloneWhenEmpty server one (write_finding server one patch)
 unfolding write_finding
@@ -145,16 +152,19 @@ write_finding-alone server one patch =
     (λ i. all_wants-none server one) (λ i. tt))
     (λ e. tt)
 
+-- so it is by what is found
 found_alone : (server : Server) (one : Open) (found : Finding) (wants : List Want)
     → AloneWhenEmpty server one found
     → found ≡ Finding.Wants wants → is_empty wants ≡ true → CachesAlone server one
 found_alone server one found wants alone e none = (subst (AloneWhenEmpty server one) e alone) none
 
+-- a write is ready only where it wants nothing
 write_ready-empty : (file_id number : ℕ) (patch : Patch) (leases : Key → Lease) (wants : List Want)
     → is_ready (Request.Write file_id number patch) leases wants ≡ true → is_empty wants ≡ true
 unfolding is_ready
 write_ready-empty file_id number patch leases wants e = e
 
+-- what a write finds, by its open
 write_found : (server : Server) (client file_id number : ℕ) (patch : Patch) (one : Open)
     → connected_open server client file_id ≡ Some one
     → finding server client (Request.Write file_id number patch) ≡ write_finding server one patch

@@ -19,6 +19,7 @@ use Rattle.lease_model.proofs.ServerLists.{if_cases}
 use Rattle.lease_model.proofs.ServerOutLists.{AreFair, IsGoodBreak, breaks_fair, answers_fair, answers_go_on, none_fair, go_on-weaker}
 use Rattle.lease_model.proofs.ServerOutSteps.{opens_dropped-outs, tried_for-broken, concluded-answered, acknowledged-answered, refused-answered}
 
+-- for calls under way
 abbrev pub Fair : Progress → Type 0
 Fair progress = AreFair progress.outs
 
@@ -26,30 +27,36 @@ Fair progress = AreFair progress.outs
 silent_fair : (before after : List Out) → after ≡ before → AreFair before → AreFair after
 silent_fair before after same fair = subst AreFair (sym same) fair
 
+-- to take a request off the held ones gives nothing out
 held_left-outs : (file : ℕ) (left : List Held) (progress : Progress)
     → (held_left file left progress).outs ≡ progress.outs
 unfolding held_left
 held_left-outs file left progress = append-nil progress.outs
 
+-- to hold a request gives nothing out
 pub request_held-outs : (file : ℕ) (one : Held) (progress : Progress)
     → (request_held file one progress).outs ≡ progress.outs
 unfolding request_held
 request_held-outs file one progress = append-nil progress.outs
 
+-- to disconnect opens gives nothing out
 opens_disconnected-outs : (client : ℕ) (progress : Progress)
     → (opens_disconnected client progress).outs ≡ progress.outs
 unfolding opens_disconnected
 opens_disconnected-outs client progress = append-nil progress.outs
 
+-- to forget a client gives nothing out
 client_forgotten-outs : (client : ℕ) (progress : Progress)
     → (client_forgotten client progress).outs ≡ progress.outs
 unfolding client_forgotten
 client_forgotten-outs client progress = append-nil progress.outs
 
+-- to mark a key gives nothing out
 key_expired-outs : (key : Key) (progress : Progress) → (key_expired key progress).outs ≡ progress.outs
 unfolding key_expired
 key_expired-outs key progress = append-nil progress.outs
 
+-- a join that applies gives nothing out
 joined-outs : (client : ℕ) (progress : Progress) → (joined client progress).outs ≡ progress.outs
 unfolding joined
 joined-outs client progress = append-nil progress.outs
@@ -61,12 +68,14 @@ tried-fair client request progress fair = breaks_fair progress.outs
     (tried client request progress).progress.outs fair
     (tried_for-broken 3 client request progress)
 
+-- the end of a try keeps the outs fair
 concluded-fair : (client : ℕ) (request : Request) (progress : Progress) (outcome : Outcome) → Fair progress
     → Fair (concluded client request progress outcome)
 concluded-fair client request progress outcome fair = answers_fair progress.outs
     (concluded client request progress outcome).outs fair
     (concluded-answered client request progress outcome)
 
+-- to answer a held request keeps the outs fair
 pass_answered-fair : (file : ℕ) (one : Held) (waiting : List Held) (pass : Pass) (done : Tried)
     → Fair done.progress
     → Fair (pass_answered file one waiting pass done).progress
@@ -75,6 +84,7 @@ pass_answered-fair file one waiting pass done fair = concluded-fair one.client o
     (silent_fair done.progress.outs (held_left file (pass.kept ++ waiting) done.progress).outs
     (held_left-outs file (pass.kept ++ waiting) done.progress) fair)
 
+-- what follows a try in a pass keeps the outs fair
 after_try-fair : (file : ℕ) (one : Held) (waiting : List Held) (pass : Pass) (progress : Progress)
     (outcome : Outcome) → Fair progress
     → Fair (after_try file one waiting pass progress outcome).progress
@@ -85,6 +95,7 @@ after_try-fair file one waiting pass progress (Outcome.Refused status) fair = pa
 after_try-fair file one waiting pass progress Outcome.Ready fair = pass_answered-fair file one waiting pass
     (record { progress = progress; outcome = Outcome.Ready }) fair
 
+-- a held request tried again keeps the outs fair
 tried_again-fair : (file : ℕ) (one : Held) (waiting : List Held) (pass : Pass) → Fair pass.progress
     → Fair (tried_again file one waiting pass).progress
 unfolding tried_again
@@ -97,6 +108,7 @@ tried_again-fair file one waiting pass fair =
     (tried one.client one.request pass.progress).outcome
     (tried-fair one.client one.request pass.progress fair))
 
+-- a pass keeps the outs fair
 pass_over-fair : (file : ℕ) (waiting : List Held) (pass : Pass) → Fair pass.progress
     → Fair (pass_over file waiting pass).progress
 unfolding pass_over
@@ -104,6 +116,7 @@ pass_over-fair file [] pass fair = fair
 pass_over-fair file (one ∷ waiting) pass fair = pass_over-fair file waiting
     (tried_again file one waiting pass) (tried_again-fair file one waiting pass fair)
 
+-- passes over a file keeps the outs fair
 passes_for-fair : (count file : ℕ) (progress : Progress) → Fair progress
     → Fair (passes_for count file progress)
 unfolding passes_for
@@ -115,16 +128,19 @@ passes_for-fair (suc count) file progress fair =
     (passes_for count file (one_pass file progress).progress) (one_pass file progress).progress
     (λ e. passes_for-fair count file (one_pass file progress).progress next) (λ e. next)
 
+-- passes over files keeps the outs fair
 passes_over-fair : (files : List ℕ) (progress : Progress) → Fair progress → Fair (passes_over files progress)
 unfolding passes_over
 passes_over-fair [] progress fair = fair
 passes_over-fair (file ∷ files) progress fair = passes_over-fair files (passes file progress)
     (passes_for-fair (length (progress.server.held file) + 1) file progress fair)
 
+-- passes over all files keeps the outs fair
 all_passes-fair : (progress : Progress) → Fair progress → Fair (all_passes progress)
 unfolding all_passes
 all_passes-fair progress fair = passes_over-fair (numbers_to progress.server.files) progress fair
 
+-- what follows a first try keeps the outs fair
 after_first_try-fair : (client file : ℕ) (request : Request) (progress : Progress) (outcome : Outcome)
     → Fair progress
     → Fair (after_first_try client file request progress outcome)
@@ -136,6 +152,7 @@ after_first_try-fair client file request progress (Outcome.Refused status) fair 
 after_first_try-fair client file request progress Outcome.Ready fair = concluded-fair client request progress
     Outcome.Ready fair
 
+-- a request on a file keeps the outs fair
 arrived_on-fair : (client : ℕ) (request : Request) (progress : Progress) (asked : Result ℕ Status)
     → Fair progress → Fair (arrived_on client request progress asked)
 arrived_on-fair client request progress (Err status) fair = answers_fair progress.outs
@@ -152,6 +169,7 @@ arrived_on-fair client request progress (Ok file) fair = if_cases Fair
     (tried client request progress).outcome
     (tried-fair client request progress fair))
 
+-- a request that comes keeps the outs fair
 arrived-fair : (client : ℕ) (request : Request) (progress : Progress) → Fair progress
     → Fair (arrived client request progress)
 unfolding arrived
@@ -178,18 +196,21 @@ arrived-fair client (Request.Write file_id number patch) progress fair =
 fair_cases : (b : Bool) (x y : Progress) → Fair x → Fair y → Fair (cond b x y)
 fair_cases b x y fx fy = if_cases Fair b x y (λ e. fx) (λ e. fy)
 
+-- a join keeps the outs fair
 join-fair : (server : Server) (client : ℕ) → Fair (join server client)
 unfolding join
 join-fair server client = fair_cases (server.connected client) (begun server) (joined client (begun server))
     none_fair
     (silent_fair [] (joined client (begun server)).outs (joined-outs client (begun server)) none_fair)
 
+-- a request received keeps the outs fair
 receive-fair : (server : Server) (client : ℕ) (request : Request) → Fair (receive server client request)
 unfolding receive
 receive-fair server client request = fair_cases (server.connected client)
     (arrived client request (begun server)) (begun server)
     (arrived-fair client request (begun server) none_fair) none_fair
 
+-- a cut keeps the outs fair
 cut-fair : (server : Server) (client : ℕ) → Fair (cut server client)
 unfolding cut
 cut-fair server client =
@@ -202,6 +223,7 @@ cut-fair server client =
     (silent_fair [] dropped.outs (opens_dropped-outs (is_lost server client) (begun server)) none_fair))))
     none_fair
 
+-- a timer that runs out keeps the outs fair
 expire-fair : (server : Server) (key : Key) → Fair (expire server key)
 unfolding expire
 expire-fair server key =
@@ -212,6 +234,7 @@ expire-fair server key =
     (silent_fair [] dropped.outs (opens_dropped-outs (has_key key) (begun server)) none_fair)))
     none_fair
 
+-- a scavenge keeps the outs fair
 scavenge-fair : (server : Server) (file_id : ℕ) → Fair (scavenge server file_id)
 unfolding scavenge
 scavenge-fair server file_id =

@@ -40,6 +40,7 @@ pub record AreFair (outs : List Out) : Type 0 where
   pub flagged : EachOut IsFlaggedRightly outs
   pub paired : ArePaired None outs
 
+-- fair outs with fair outs behind them
 pub fair_append : (xs ys : List Out) → AreFair xs → AreFair ys → AreFair (xs ++ ys)
 fair_append xs ys h k = record {
   flagged = each_append IsFlaggedRightly xs ys h.flagged k.flagged;
@@ -58,6 +59,7 @@ go_on-twice Holds a b c h k = record {
   each = each_append Holds h.more k.more h.each k.each;
 }
 
+-- outs that go on by such go on by weaker ones
 pub go_on-weaker : (Holds Weaker : Out → Type 0) → ((out : Out) → Holds out → Weaker out) → (a b : List Out)
     → GoOn Holds a b → GoOn Weaker a b
 go_on-weaker Holds Weaker f a b h = record {
@@ -85,10 +87,12 @@ pub record AreAnswered (before : List Out) (after : List Out) : Type 0 where
   pub each : EachOut IsNoBreak more
   pub fair : AreFair more
 
+-- an answer
 pub answered_by : (before more : List Out) → EachOut IsNoBreak more → AreFair more
     → AreAnswered before (before ++ more)
 answered_by before more e f = record { more = more; are_more = refl; each = e; fair = f }
 
+-- no answer
 pub answered_nothing : (outs : List Out) → AreAnswered outs outs
 answered_nothing outs = record {
   more = [];
@@ -98,11 +102,14 @@ answered_nothing outs = record {
       record { flagged = tt; paired = tt };
 }
 
+-- fair outs with an answer behind them
 pub answers_fair : (a b : List Out) → AreFair a → AreAnswered a b → AreFair b
 answers_fair a b fair h = subst AreFair (sym h.are_more) (fair_append a h.more fair h.fair)
 
+-- an answer goes on without breaks
 pub answers_go_on : (a b : List Out) → AreAnswered a b → GoOn IsNoBreak a b
 answers_go_on a b h = record { more = h.more; are_more = h.are_more; each = h.each }
 
+-- no outs are fair
 pub none_fair : AreFair []
 none_fair = record { flagged = tt; paired = tt }

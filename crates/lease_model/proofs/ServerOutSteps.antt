@@ -33,11 +33,13 @@ pub opens_dropped-outs : (test : Open → Bool) (progress : Progress)
 unfolding opens_dropped
 opens_dropped-outs test progress = append-nil progress.outs
 
+-- to drop opens gives nothing out
 dropped_broken : (test : Open → Bool) (progress : Progress) → Broken progress (opens_dropped test progress)
 dropped_broken test progress = subst (λ outs. GoOn IsGoodBreak progress.outs outs)
     (sym (opens_dropped-outs test progress))
     (go_on-same IsGoodBreak progress.outs)
 
+-- to lower a lease at once gives out breaks alone
 lease_lowered-broken : (key : Key) (lowered : State) (progress : Progress)
     → Broken progress (lease_lowered key lowered progress)
 unfolding lease_lowered
@@ -47,6 +49,7 @@ lease_lowered-broken key lowered progress = record {
   each = ((tt, refl), tt);
 }
 
+-- to begin a break gives out breaks alone
 break_begun-broken : (key : Key) (lowered : State) (progress : Progress)
     → Broken progress (break_begun key lowered progress)
 unfolding break_begun
@@ -56,6 +59,7 @@ break_begun-broken key lowered progress = record {
   each = ((tt, refl), tt);
 }
 
+-- to break a lease gives out breaks alone
 lease_broken-broken : (key : Key) (lowered : State) (progress : Progress)
     → Broken progress (lease_broken key lowered progress)
 unfolding lease_broken
@@ -69,6 +73,7 @@ lease_broken-broken key lowered progress =
     (λ n. break_begun-broken key lowered progress) (λ n. lease_lowered-broken key lowered progress))
     (λ t. go_on-same IsGoodBreak progress.outs)
 
+-- to meet a want gives out breaks alone
 want_met-broken : (want : Want) (progress : Progress) → Broken progress (want_met want progress)
 unfolding want_met
 want_met-broken want progress =
@@ -76,6 +81,7 @@ want_met-broken want progress =
     go_on-twice IsGoodBreak progress.outs dropped.outs (lease_broken want.key want.lowered dropped).outs
     (dropped_broken (is_left_open want.key) progress) (lease_broken-broken want.key want.lowered dropped)
 
+-- to meet wants gives out breaks alone
 pub wants_met-broken : (wants : List Want) (progress : Progress) → Broken progress (wants_met wants progress)
 unfolding wants_met
 wants_met-broken [] progress = go_on-same IsGoodBreak progress.outs
@@ -83,6 +89,7 @@ wants_met-broken (want ∷ wants) progress = go_on-twice IsGoodBreak progress.ou
     (wants_met wants (want_met want progress)).outs
     (want_met-broken want progress) (wants_met-broken wants (want_met want progress))
 
+-- a round gives out breaks alone
 after_finding-broken : (again : Progress → Tried) (request : Request) (progress : Progress) (found : Finding)
     → ((next : Progress) → Broken next (again next).progress)
     → Broken progress (after_finding again request progress found).progress
@@ -118,20 +125,24 @@ IsPlain (Reply.Break notice) = ⊥
 IsPlain (Reply.WriteDone file_id number) = ⊥
 IsPlain reply = Unit {0}
 
+-- a plain reply is fair
 pub plain_fair : (client : ℕ) (reply : Reply) → IsPlain reply → AreFair (Out.Sent client reply ∷ [])
 plain_fair client (Reply.Break notice) p = absurd p
 plain_fair client (Reply.WriteDone file_id number) p = absurd p
 plain_fair client reply p = record { flagged = (tt, tt); paired = tt }
 
+-- a plain reply is no break
 plain_no_break : (client : ℕ) (reply : Reply) → IsPlain reply → EachOut IsNoBreak (Out.Sent client reply ∷ [])
 plain_no_break client (Reply.Break notice) p = absurd p
 plain_no_break client reply p = (tt, tt)
 
+-- a plain reply gives out an answer without a break
 pub replied-answered : (client : ℕ) (reply : Reply) (progress : Progress) → IsPlain reply
     → Answered progress (replied client reply progress)
 replied-answered client reply progress p = answered_by progress.outs (Out.Sent client reply ∷ [])
     (plain_no_break client reply p) (plain_fair client reply p)
 
+-- a refusal is a plain reply
 refusal_of-plain : (request : Request) (status : Status) → IsPlain (refusal_of request status)
 refusal_of-plain (Request.Create file access share contexts) status = tt
 refusal_of-plain (Request.Read file_id) status = tt
@@ -139,12 +150,14 @@ refusal_of-plain (Request.Write file_id number patch) status = tt
 refusal_of-plain (Request.Close file_id) status = tt
 refusal_of-plain (Request.Acknowledge acknowledged) status = tt
 
+-- a refusal gives out an answer without a break
 pub refused-answered : (client : ℕ) (request : Request) (status : Status) (progress : Progress)
     → Answered progress (refused client request status progress)
 unfolding refused
 refused-answered client request status progress = replied-answered client (refusal_of request status) progress
     (refusal_of-plain request status)
 
+-- a write that is done gives out an answer without a break
 changed-answered : (client file file_id number : ℕ) (patch : Patch) (progress : Progress)
     → Answered progress (changed client file file_id number patch progress)
 unfolding changed
@@ -152,6 +165,7 @@ changed-answered client file file_id number patch progress = answered_by progres
     (Out.Changed file client number patch ∷ Out.Sent client (Reply.WriteDone file_id number) ∷ [])
     (tt, (tt, tt)) (record { flagged = (tt, (tt, tt)); paired = (refl, refl, tt) })
 
+-- a close gives out an answer without a break
 closed-answered : (client file_id : ℕ) (progress : Progress)
     → Answered progress (closed client file_id progress)
 unfolding closed
@@ -161,6 +175,7 @@ closed-answered client file_id progress = subst
     (replied-answered client (Reply.Closed file_id) (opens_dropped (λ one. one.file_id == file_id) progress)
     tt)
 
+-- a grant gives out an answer without a break
 granted_with-answered : (client file : ℕ) (access : Access) (share : Share) (asked : Option LeaseOf)
     (durable : Bool) (lease : Lease) (progress : Progress)
     → Answered progress (granted_with client file access share asked durable lease progress)
@@ -172,6 +187,7 @@ granted_with-answered client file access share asked durable lease progress = re
   fair = record { flagged = (tt, (tt, tt)); paired = tt };
 }
 
+-- a grant, if FileIds are left, gives out an answer without a break
 granted-answered : (client file : ℕ) (access : Access) (share : Share) (asked : Option LeaseOf)
     (durable : Bool) (progress : Progress)
     → Answered progress (granted client file access share asked durable progress)
@@ -185,6 +201,7 @@ granted-answered client file access share asked durable progress =
     (λ e. granted_with-answered client file access share asked durable
     (lease_after progress.server client file asked) progress)
 
+-- a reconnect gives out an answer without a break
 reconnected-answered : (client file : ℕ) (asked : Option LeaseOf) (file_id : ℕ) (progress : Progress)
     → Answered progress (reconnected client file asked file_id progress)
 unfolding reconnected
@@ -195,6 +212,7 @@ reconnected-answered client file asked file_id progress = record {
   fair = record { flagged = (tt, tt); paired = tt };
 }
 
+-- a create that is ready gives out an answer without a break
 created-answered : (client file : ℕ) (access : Access) (share : Share) (asked : Option LeaseOf)
     (durable : Bool) (again : Option ℕ) (progress : Progress)
     → Answered progress (created client file access share asked durable again progress)
@@ -203,6 +221,7 @@ created-answered client file access share asked durable None progress = granted-
 created-answered client file access share asked durable (Some file_id) progress = reconnected-answered client
     file asked file_id progress
 
+-- a create that is ready, by its contexts, gives out an answer without a break
 on_contexts-answered : (contexts : Option CreateAsk) (done : CreateAsk → Progress → Progress)
     (progress : Progress)
     → ((ask : CreateAsk) → Answered progress (done ask progress))
@@ -210,11 +229,13 @@ on_contexts-answered : (contexts : Option CreateAsk) (done : CreateAsk → Progr
 on_contexts-answered None done progress each = answered_nothing progress.outs
 on_contexts-answered (Some ask) done progress each = each ask
 
+-- an answer by the open that is named gives out an answer without a break
 on_open-answered : (one : Option Open) (done : ℕ → Progress → Progress) (progress : Progress)
     → ((file : ℕ) → Answered progress (done file progress)) → Answered progress (on_open one done progress)
 on_open-answered None done progress each = answered_nothing progress.outs
 on_open-answered (Some one) done progress each = each one.file
 
+-- the answer to a request that is ready gives out an answer without a break
 answered-answered : (client : ℕ) (request : Request) (progress : Progress)
     → Answered progress (answered client request progress)
 unfolding answered
@@ -242,6 +263,7 @@ concluded-answered client request progress (Outcome.Refused status) = refused-an
 concluded-answered client request progress Outcome.Waits = answered_nothing progress.outs
 concluded-answered client request progress Outcome.Ready = answered-answered client request progress
 
+-- to end a break gives out an answer without a break
 break_ended-answered : (key : Key) (state : State) (progress : Progress)
     → Answered progress (break_ended key state progress)
 unfolding break_ended
@@ -252,6 +274,7 @@ break_ended-answered key state progress = record {
   fair = record { flagged = (tt, tt); paired = tt };
 }
 
+-- to judge an acknowledgment gives out an answer without a break
 judged-answered : (key : Key) (state : State) (broken : Option State) (progress : Progress)
     → Answered progress (judged key state broken progress)
 judged-answered key state None progress = replied-answered key.client (Reply.AckFailed Status.Unsuccessful)

@@ -12,16 +12,17 @@ use Rattle.lease_model.specs.ServerLaws.{Among, HasToWait}
 use Rattle.lease_model.specs.ServerState.{Server, Held, has_file}
 use Rattle.lease_model.specs.ServerWaiting.{AllWait}
 use Rattle.lease_model.specs.Tables.{put}
+use Rattle.lease_model.proofs.ServerFileReady.{ready-file}
 use Rattle.lease_model.proofs.ServerGoes.{file_frame, Goes, still_there, concluded-goes, goes-same}
 use Rattle.lease_model.proofs.ServerHeld.{one_pass-fewer, SameHeld, InPass, pass_kept-in, pass_answered-in, concluded-held, all_counted}
 use Rattle.lease_model.proofs.ServerKeeps.{Kept, Anywhere, Elsewhere, waits_keep, concluded-kept, keeps-same}
 use Rattle.lease_model.proofs.ServerLists.{if_cases, either, clash, and_parts, among_append, among_before, among_behind, find_has}
 use Rattle.lease_model.proofs.ServerOrderly.{IsHeldWell, held_well, IsFine, IsTry, any_try, fine_try, fine_concluded, orderly_goes, all_wait-keep, held_left-ready, about_goes}
 use Rattle.lease_model.proofs.ServerPasses.{held_left-free}
-use Rattle.lease_model.proofs.ServerGoes.{ready-file}
 use Rattle.lease_model.proofs.ServerProgress.{held_left-sound}
 use Rattle.lease_model.proofs.ServerReady.{ready-free}
 
+-- to take a request off the held ones lets opens go on
 held_left-goes : (file : ℕ) (left : List Held) (progress : Progress)
     → Goes progress (held_left file left progress)
 unfolding held_left
@@ -33,6 +34,7 @@ held_left-goes file left progress = record {
       inl (still_there progress.server one a);
 }
 
+-- to take a request off the held ones lets wait what has to wait
 held_left-kept : (file : ℕ) (left : List Held) (progress : Progress)
     → Kept Anywhere progress (held_left file left progress)
 unfolding held_left
@@ -42,6 +44,7 @@ held_left-kept file left progress = record {
       e;
 }
 
+-- what holds of the requests of each file, once one is taken off
 held_left-cases : (P : List Held → Type 0) (file : ℕ) (left : List Held) (progress : Progress) (other : ℕ)
     → (other ≡ file → P left) → P (progress.server.held other)
     → P ((held_left file left progress).server.held other)
@@ -50,16 +53,19 @@ held_left-cases P file left progress other here there =
     if_cases P (other == file) left (progress.server.held other) (λ e. here ((Decides-eqb other file).0 e))
     (λ e. there)
 
+-- other files have what they had
 held_left-other : (file : ℕ) (left : List Held) (progress : Progress) (other : ℕ) → other ≢ file
     → (held_left file left progress).server.held other ≡ progress.server.held other
 held_left-other file left progress other away = held_left-cases (λ held. held ≡ progress.server.held other)
     file left progress other
     (λ same. absurd (away same)) refl
 
+-- what is on the list without one is on it
 among_more : (x y : Held) (xs ys : List Held) → Among x (xs ++ ys) → Among x (xs ++ y ∷ ys)
 among_more x y xs ys a = ⊎_elim (λ h. among_before x xs (y ∷ ys) h) (λ h. among_behind x xs (y ∷ ys) (inr h))
     (among_append x xs ys a)
 
+-- to take a request off the held ones keeps the laws and the order
 held_left-fine : (file : ℕ) (one : Held) (before behind : List Held) (progress : Progress)
     → IsFine progress.server
     → progress.server.held file ≡ before ++ one ∷ behind
@@ -88,9 +94,11 @@ pub record PassWaits (start : Progress) (file : ℕ) (count : ℕ) (waiting : Li
         → HasToWait pass.progress.server client one.request
     pub others : (other : ℕ) → other ≢ file → AllWait start.server other → AllWait pass.progress.server other
 
+-- one request found is one request
 held_same : (x y : Held) → Some x ≡ Some y → x ≡ y
 held_same x y e = cc
 
+-- neither is true
 or_none : (a b : Bool) → a ≡ false → b ≡ false → (a || b) ≡ false
 or_none a b e f = rw (e, f) refl
 
@@ -181,6 +189,7 @@ answered_waits start file count one waiting pass done p t =
           (ap (λ h. h other) t.held) (p.others other away all)));
     }
 
+-- what follows a try in a pass leaves each first held request waiting
 after_try-waits : (start : Progress) (file count : ℕ) (one : Held) (waiting : List Held) (pass : Pass)
     (progress : Progress) (outcome : Outcome)
     → PassWaits start file count (one ∷ waiting) pass
@@ -197,6 +206,7 @@ after_try-waits start file count one waiting pass progress Outcome.Ready p t = a
     one waiting pass
     (record { progress = progress; outcome = Outcome.Ready }) p t
 
+-- a held request tried again leaves each first held request waiting
 tried_again-waits : (start : Progress) (file count : ℕ) (one : Held) (waiting : List Held) (pass : Pass)
     → PassWaits start file count (one ∷ waiting) pass
     → PassWaits start file count waiting (tried_again file one waiting pass)
@@ -214,6 +224,7 @@ tried_again-waits start file count one waiting pass p =
     (tried one.client one.request pass.progress).outcome p
     (any_try one.client one.request pass.progress p.fine.sound))
 
+-- a pass leaves each first held request waiting
 pass_over-waits : (start : Progress) (file count : ℕ) (waiting : List Held) (pass : Pass)
     → PassWaits start file count waiting pass → PassWaits start file count [] (pass_over file waiting pass)
 unfolding pass_over
@@ -229,9 +240,11 @@ pub record FileWaits (start : Progress) (file : ℕ) (after : Progress) : Type 0
   pub here : AllWait after.server file
   pub others : (other : ℕ) → other ≢ file → AllWait start.server other → AllWait after.server other
 
+-- below the next number
 below_one : (file n : ℕ) → file ≤ suc n → file ≢ suc n → file ≤ n
 below_one file n high away = omega (arith, high, away)
 
+-- a pass over a file leaves each first held request waiting
 one_pass-waits : (file : ℕ) (progress : Progress) → IsFine progress.server
     → PassWaits progress file (length (progress.server.held file)) [] (one_pass file progress)
 one_pass-waits file progress f = pass_over-waits progress file (length (progress.server.held file))
@@ -250,6 +263,7 @@ one_pass-waits file progress f = pass_over-waits progress file (length (progress
       others = λ other away all. all;
     })
 
+-- passes over a file leaves each first held request waiting
 passes_for-waits : (count file : ℕ) (progress : Progress) → length (progress.server.held file) < count
     → IsFine progress.server
     → FileWaits progress file (passes_for count file progress)
@@ -284,6 +298,7 @@ pub record FilesWait (start : Progress) (listed : List ℕ) (after : Progress) :
   pub files : after.server.files ≡ start.server.files
   pub wait : (file : ℕ) → Among file listed ⊎ AllWait start.server file → AllWait after.server file
 
+-- passes over files leaves each first held request waiting
 passes_over-waits : (files : List ℕ) (progress : Progress) → IsFine progress.server
     → FilesWait progress files (passes_over files progress)
 unfolding passes_over
@@ -308,6 +323,7 @@ passes_over-waits (file ∷ files) progress f =
           (λ all. rest.wait other (inr (first.others other away all))) known);
     }
 
+-- a number from 1 to n is among them
 numbered_to : (n file : ℕ) → 1 ≤ file → file ≤ n → Among file (numbers_to n)
 numbered_to zero file low high = absurd (omega (arith, low, high))
 numbered_to (suc n) file low high = either (file == suc n)
@@ -315,6 +331,7 @@ numbered_to (suc n) file low high = either (file == suc n)
     (λ e. among_before file (numbers_to n) (suc n ∷ []) (numbered_to n file low
     (below_one file n high (λ same. clash (file == suc n) ((Decides-eqb file (suc n)).1 same) e))))
 
+-- a file of the server is among the numbers of its files
 file_numbered : (server : Server) (file : ℕ) → has_file server file ≡ true
     → Among file (numbers_to server.files)
 file_numbered server file e =
@@ -327,6 +344,7 @@ pub record EveryoneWaits (server : Server) : Type 0 where
   pub fine : IsFine server
   pub wait : (file : ℕ) → AllWait server file
 
+-- passes over all files leave each first held request waiting
 pub all_passes-wait : (progress : Progress) → IsFine progress.server
     → EveryoneWaits (all_passes progress).server
 unfolding all_passes

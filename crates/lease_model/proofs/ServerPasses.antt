@@ -16,6 +16,7 @@ use Rattle.lease_model.proofs.ServerProgress.{held_left-sound}
 use Rattle.lease_model.proofs.ServerReady.{RequestFree, ContextsFree, CreateFree, ready-free}
 use Rattle.lease_model.proofs.ServerTries.{IsGoodTry, tried_for-good}
 
+-- what a create needs, whatever is held
 create_free : (client file : ℕ) (access : Access) (share : Share) (asked : Option LeaseOf) (again : Option ℕ)
     (at : ℕ) (left : List Held) (progress : Progress)
     → CreateFree progress.server client file access share asked again
@@ -24,6 +25,7 @@ unfolding held_left
 create_free client file access share asked None at left progress free = free
 create_free client file access share asked (Some file_id) at left progress free = tt
 
+-- what a create needs, by its contexts
 contexts_free : (client file : ℕ) (access : Access) (share : Share) (contexts : Option CreateAsk) (at : ℕ)
     (left : List Held) (progress : Progress)
     → ContextsFree progress.server client file access share contexts
@@ -55,6 +57,7 @@ pass_answered-sound file one waiting pass done good = concluded-sound one.client
     (λ ready. held_left-free one.client one.request file (pass.kept ++ waiting) done.progress
     (ready-free one.client one.request done.progress (good.found_ready ready)))
 
+-- what follows a try in a pass keeps the laws
 after_try-sound : (file : ℕ) (one : Held) (waiting : List Held) (pass : Pass) (progress : Progress)
     (outcome : Outcome)
     → IsGoodTry one.client one.request (record { progress = progress; outcome = outcome })
@@ -66,6 +69,7 @@ after_try-sound file one waiting pass progress (Outcome.Refused status) good = p
 after_try-sound file one waiting pass progress Outcome.Ready good = pass_answered-sound file one waiting pass
     (record { progress = progress; outcome = Outcome.Ready }) good
 
+-- a held request tried again keeps the laws
 tried_again-sound : (file : ℕ) (one : Held) (waiting : List Held) (pass : Pass) → IsSound pass.progress.server
     → IsSound (tried_again file one waiting pass).progress.server
 unfolding tried_again
@@ -79,6 +83,7 @@ tried_again-sound file one waiting pass s =
     (tried one.client one.request pass.progress).outcome
     (tried_for-good 3 one.client one.request pass.progress s))
 
+-- a pass keeps the laws
 pass_over-sound : (file : ℕ) (waiting : List Held) (pass : Pass) → IsSound pass.progress.server
     → IsSound (pass_over file waiting pass).progress.server
 unfolding pass_over
@@ -87,6 +92,7 @@ pass_over-sound file (one ∷ waiting) pass s =
     pass_over-sound file waiting (tried_again file one waiting pass)
     (tried_again-sound file one waiting pass s)
 
+-- passes over a file keeps the laws
 passes_for-sound : (count file : ℕ) (progress : Progress) → IsSound progress.server
     → IsSound (passes_for count file progress).server
 unfolding passes_for
@@ -99,6 +105,7 @@ passes_for-sound (suc count) file progress s =
     (λ e. passes_for-sound count file (one_pass file progress).progress next)
     (λ e. next)
 
+-- passes over files keeps the laws
 passes_over-sound : (files : List ℕ) (progress : Progress) → IsSound progress.server
     → IsSound (passes_over files progress).server
 unfolding passes_over

@@ -11,6 +11,7 @@ use Rattle.lease_model.proofs.ServerLists.{clash}
 use Rattle.lease_model.proofs.ServerStates.{IsLowered, settled-lawful, breaking-lawful}
 use Rattle.lease_model.proofs.ServerSteps.{drop_sound}
 
+-- to drop opens keeps the laws
 pub opens_dropped-sound : (test : Open → Bool) (progress : Progress) → IsSound progress.server
     → IsSound (opens_dropped test progress).server
 unfolding opens_dropped with_opens
@@ -18,11 +19,13 @@ opens_dropped-sound test progress s = drop_sound (λ one. not (test one)) progre
     progress.server.leases
     progress.server.expired progress.server.last_id s
 
+-- to hold a request keeps the laws
 pub request_held-sound : (file : ℕ) (one : Held) (progress : Progress) → IsSound progress.server
     → IsSound (request_held file one progress).server
 unfolding request_held
 request_held-sound file one progress s = s
 
+-- to take a request off the held ones keeps the laws
 pub held_left-sound : (file : ℕ) (left : List Held) (progress : Progress) → IsSound progress.server
     → IsSound (held_left file left progress).server
 unfolding held_left
@@ -35,6 +38,7 @@ pub record MayBreak (server : Server) (key : Key) : Type 0 where
   pub is_timely : server.expired key ≡ false
   pub is_present : (one : Open) → Among one server.opens → has_key key one ≡ true → one.connected ≡ true
 
+-- to lower a lease at once keeps the laws
 pub lease_lowered-sound : (key : Key) (lowered : State) (progress : Progress) → IsSound progress.server
     → MayBreak progress.server key → granted_form_of lowered ≡ lowered → lowered.write ≡ false
     → IsSound (lease_lowered key lowered progress).server
@@ -50,6 +54,7 @@ lease_lowered-sound key lowered progress s may form writeless = put_sound progre
       lasts = λ one a k d. clash one.connected (may.is_present one a k) d;
     })
 
+-- to begin a break keeps the laws
 pub break_begun-sound : (key : Key) (lowered : State) (progress : Progress) → IsSound progress.server
     → MayBreak progress.server key → needs_acknowledgment (progress.server.leases key).state ≡ true
     → IsLowered (progress.server.leases key).state lowered

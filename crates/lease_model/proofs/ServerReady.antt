@@ -22,6 +22,7 @@ use Rattle.lease_model.proofs.ServerLists.{if_cases, clash, and_both, not_true, 
 use Rattle.lease_model.proofs.ServerTries.{IsFoundReady}
 use Rattle.lease_model.proofs.ServerWants.{wants_where-none}
 
+-- The key is at home on the file, no open there conflicts, and no other key there holds W.
 pub record IsFree (opens : List Open) (leases : Key → Lease) (own : Option Key) (file : ℕ) (access : Access)
     (share : Share) : Type 0 where
   pub at_home : (one : Open) → Among one opens → has_own_key own one ≡ true → one.file ≡ file
@@ -29,9 +30,11 @@ pub record IsFree (opens : List Open) (leases : Key → Lease) (own : Option Key
   pub unwritten : (key : Key) (one : Open) → Among one opens → one.file ≡ file → has_own_key own one ≡ false
       → has_key key one ≡ true → (leases key).state.write ≡ false
 
+-- files that are one are equal
 same_file : (one : Open) (file : ℕ) → one.file ≡ file → (one.file == file) ≡ true
 same_file one file e = (Decides-eqb one.file file).1 e
 
+-- the key has no open elsewhere
 home_at : (server : Server) (own : Option Key) (file : ℕ) → is_leased_elsewhere server own file ≡ false
     → (one : Open) → Among one server.opens → has_own_key own one ≡ true → one.file ≡ file
 unfolding is_leased_elsewhere
@@ -41,6 +44,7 @@ home_at server (Some key) file e one a k = (Decides-eqb one.file file).0 (not_fa
     (and_both (has_key key one) (not (one.file == file)) k (ap not d))
     (none_has (λ x. has_key key x && not (x.file == file)) one server.opens e a)))
 
+-- no open on the file conflicts
 peaceful_at : (server : Server) (file : ℕ) (access : Access) (share : Share)
     → list_any (conflicts_on file access share) server.opens ≡ false
     → (one : Open) → Among one server.opens → one.file ≡ file → conflicts access share one ≡ false
@@ -50,6 +54,7 @@ peaceful_at server file access share e one a f = not_true (conflicts access shar
     (and_both (one.file == file) (conflicts access share one) (same_file one file f) c)
     (none_has (conflicts_on file access share) one server.opens e a))
 
+-- no other key on the file holds W
 unwritten_at : (server : Server) (own : Option Key) (file : ℕ) → is_empty (write_wants server own file) ≡ true
     → (key : Key) (one : Open) → Among one server.opens → one.file ≡ file → has_own_key own one ≡ false
     → has_key key one ≡ true → (server.leases key).state.write ≡ false
@@ -68,6 +73,7 @@ FreeWhenEmpty server own file access share (Finding.Refused status) = Unit {0}
 FreeWhenEmpty server own file access share (Finding.Wants wants) =
     is_empty wants ≡ true → IsFree server.opens server.leases own file access share
 
+-- a create that wants nothing is free
 create_finding-free : (server : Server) (own : Option Key) (file : ℕ) (access : Access) (share : Share)
     → FreeWhenEmpty server own file access share (create_finding server own file access share)
 unfolding create_finding
@@ -91,11 +97,13 @@ CreateFree server client file access share lease None = IsFree server.opens serv
     (own_key client lease) file access share
 CreateFree server client file access share lease (Some file_id) = Unit {0}
 
+-- by its contexts
 abbrev pub ContextsFree : Server → ℕ → ℕ → Access → Share → Option CreateAsk → Type 0
 ContextsFree server client file access share None = Unit {0}
 ContextsFree server client file access share (Some ask) = CreateFree server client file access share ask.lease
     ask.reconnect
 
+-- by the request
 abbrev pub RequestFree : Server → ℕ → Request → Type 0
 RequestFree server client (Request.Create file access share contexts) = ContextsFree server client file access
     share contexts
@@ -104,9 +112,11 @@ RequestFree server client (Request.Write file_id number patch) = Unit {0}
 RequestFree server client (Request.Close file_id) = Unit {0}
 RequestFree server client (Request.Acknowledge acknowledged) = Unit {0}
 
+-- one list of wants found is one list
 pub wants_same : (one other : List Want) → Finding.Wants one ≡ Finding.Wants other → one ≡ other
 wants_same one other e = cc
 
+-- what is found with nothing wanted is free
 found_free : (server : Server) (own : Option Key) (file : ℕ) (access : Access) (share : Share)
     (found : Finding) (wants : List Want)
     → FreeWhenEmpty server own file access share found → found ≡ Finding.Wants wants → is_empty wants ≡ true
@@ -115,6 +125,7 @@ found_free server own file access share (Finding.Refused status) wants free e no
 found_free server own file access share (Finding.Wants others) wants free e none =
     free (ap is_empty (wants_same others wants e) ∙ none)
 
+-- so is a create, with a reconnect or without
 asked_free : (server : Server) (client file : ℕ) (access : Access) (share : Share) (lease : Option LeaseOf)
     (again : Option ℕ) (wants : List Want)
     → asked_finding server client file access share lease again ≡ Finding.Wants wants → is_empty wants ≡ true
@@ -125,6 +136,7 @@ asked_free server client file access share lease None wants e none =
     (create_finding-free server (own_key client lease) file access share) e none
 asked_free server client file access share lease (Some file_id) wants e none = tt
 
+-- what a create needs, by its contexts
 contexts_free : (server : Server) (client file : ℕ) (access : Access) (share : Share)
     (contexts : Option CreateAsk) (wants : List Want)
     → finding server client (Request.Create file access share contexts) ≡ Finding.Wants wants

@@ -44,12 +44,14 @@ Ends client request rounds progress = (one other : ℕ) → rounds ≤ one → r
     → AreAlike client request (tried_for one client request progress)
     (tried_for other client request progress)
 
+-- a choice of two tries that come to the same
 alike_cases : (client : ℕ) (request : Request) (b : Bool) (x y z : Tried)
     → (b ≡ true → IsExcused client request x)
     → (b ≡ false → AreAlike client request y z) → AreAlike client request (cond b x y) (cond b x z)
 alike_cases client request true x y z e a = record { is_same = refl; is_excused = e refl }
 alike_cases client request false x y z e a = a refl
 
+-- a round comes to the same by tries that do
 after_finding-same : (f g : Progress → Tried) (client : ℕ) (request : Request) (progress : Progress)
     (found : Finding)
     → IsSound progress.server → FindingFits progress.server found
@@ -86,6 +88,7 @@ ends_step client request rounds progress s more (suc one) (suc other) a b =
     (finding progress.server client request) s (finding-fits progress.server client request s) refl
     (λ wants e r w. more wants e r w one other (omega (arith, a)) (omega (arith, b)))
 
+-- and by any later round
 ends_later : (client : ℕ) (request : Request) (few many : ℕ) (progress : Progress) → few ≤ many
     → Ends client request few progress → Ends client request many progress
 ends_later client request few many progress le ends one other a b = ends one other (omega (arith, le, a))
@@ -110,11 +113,13 @@ pub record WantsHandles (server : Server) (own : Option Key) (file : ℕ) (acces
   pub are_handles : wants ≡ handle_wants server own file access share
   pub are_some : is_empty (handle_wants server own file access share) ≡ false
 
+-- no open conflicts, and W is wanted back
 pub record WantsWrites (server : Server) (own : Option Key) (file : ℕ) (access : Access) (share : Share)
     (wants : List Want) : Type 0 where
   pub no_conflict : list_any (conflicts_on file access share) server.opens ≡ false
   pub are_writes : wants ≡ write_wants server own file
 
+-- a create wants handles or writes
 create_wants : (server : Server) (own : Option Key) (file : ℕ) (access : Access) (share : Share)
     (wants : List Want)
     → create_finding server own file access share ≡ Finding.Wants wants
@@ -191,6 +196,7 @@ writes_gone request own file progress s wait =
     (wanted_no_more (λ state. state.write) (is_other_on own file) without_write request progress s refl
     (write_wants-fit progress.server own file s) (λ want a light. light_writeless want.lowered light) wait)
 
+-- what a write wants holds nothing
 all_wants-quiet : (server : Server) (own : Option Key) (file : ℕ)
     → AllQuiet holds_any (all_wants server own file)
 unfolding all_wants wants_where
@@ -218,6 +224,7 @@ IsCreate client request own file access share = (server : Server) (wants : List 
     → finding server client request ≡ Finding.Wants wants
     → create_finding server own file access share ≡ Finding.Wants wants
 
+-- once writes are wanted one more round is enough
 writes_end : (client : ℕ) (request : Request) (own : Option Key) (file : ℕ) (access : Access) (share : Share)
     (progress : Progress)
     → IsCreate client request own file access share → IsSound progress.server
@@ -235,6 +242,7 @@ writes_end client request own file access share progress create s peace wait =
     (ap is_empty h.are_writes ∙ writes_gone request own file progress s wait) unready))
     (create_wants met.server own file access share wants (create met.server wants found)))
 
+-- once handles are wanted two more are enough
 handles_end : (client : ℕ) (request : Request) (own : Option Key) (file : ℕ) (access : Access) (share : Share)
     (progress : Progress)
     → IsCreate client request own file access share → IsSound progress.server
@@ -253,6 +261,7 @@ handles_end client request own file access share progress create s wait =
     (subst (λ x. must_wait request (wants_met x met) x ≡ false) h.are_writes w)))
     (create_wants met.server own file access share wants (create met.server wants found)))
 
+-- a create ends by its third round
 create_ends : (client : ℕ) (request : Request) (own : Option Key) (file : ℕ) (access : Access) (share : Share)
     (progress : Progress)
     → IsCreate client request own file access share → IsSound progress.server → Ends client request 3 progress
@@ -272,12 +281,14 @@ abbrev pub WantsNothing : ℕ → Request → Type 0
 WantsNothing client request = (server : Server) (wants : List Want)
     → finding server client request ≡ Finding.Wants wants → is_empty wants ≡ true
 
+-- a request that wants nothing ends by its first
 nothing_ends : (client : ℕ) (request : Request) (progress : Progress) → IsSound progress.server
     → WantsNothing client request → Ends client request 1 progress
 nothing_ends client request progress s nothing = ends_step client request 0 progress s
     (λ wants found unready w. absurd (not_empty request progress.server.leases wants
     (nothing progress.server wants found) unready))
 
+-- a reconnect wants nothing
 reconnect_nothing : (server : Server) (client file : ℕ) (own : Option Key) (file_id : ℕ) (wants : List Want)
     → reconnect_finding server client file own file_id ≡ Finding.Wants wants → is_empty wants ≡ true
 unfolding reconnect_finding
@@ -287,6 +298,7 @@ reconnect_nothing server client file own file_id wants =
     (Finding.Wants []) (Finding.Refused Status.ObjectNameNotFound)
     (λ e same. ap is_empty (wants_same wants [] (sym same))) (λ e never. absurd (cc))
 
+-- what a create finds, by its contexts
 create_found : (server : Server) (client file : ℕ) (access : Access) (share : Share) (ask : CreateAsk)
     (wants : List Want)
     → finding server client (Request.Create file access share (Some ask)) ≡ Finding.Wants wants
@@ -299,6 +311,7 @@ create_found server client file access share ask wants =
     (Finding.Refused Status.ObjectNameNotFound)
     (λ e same. same) (λ e never. absurd (cc))
 
+-- a create ends, with a reconnect or without
 asked_ends : (client file : ℕ) (access : Access) (share : Share) (lease : Option LeaseOf) (again : Option ℕ)
     (request : Request) (progress : Progress)
     → ((server : Server) (wants : List Want) → finding server client request ≡ Finding.Wants wants
@@ -311,11 +324,13 @@ asked_ends client file access share lease (Some file_id) request progress found 
     (nothing_ends client request progress s (λ server wants e.
     reconnect_nothing server client file (own_key client lease) file_id wants (found server wants e)))
 
+-- a create whose contexts can't be read wants nothing
 faulty_nothing : (client file : ℕ) (access : Access) (share : Share)
     → WantsNothing client (Request.Create file access share None)
 unfolding finding
 faulty_nothing client file access share server wants never = absurd (cc)
 
+-- a create ends, by its contexts
 contexts_end : (client file : ℕ) (access : Access) (share : Share) (contexts : Option CreateAsk)
     (progress : Progress) → IsSound progress.server
     → Ends client (Request.Create file access share contexts) 3 progress
@@ -328,12 +343,14 @@ contexts_end client file access share (Some ask) progress s =
     progress
     (λ server wants e. create_found server client file access share ask wants e) s
 
+-- what wants nothing by every open
 by_open_nothing : (one : Option Open) (found : Open → Finding) (wants : List Want)
     → ((x : Open) → found x ≡ Finding.Wants wants → is_empty wants ≡ true)
     → by_open one found ≡ Finding.Wants wants → is_empty wants ≡ true
 by_open_nothing None found wants each never = absurd (cc)
 by_open_nothing (Some one) found wants each same = each one same
 
+-- a read wants nothing
 read_nothing : (client file_id : ℕ) → WantsNothing client (Request.Read file_id)
 unfolding finding
 read_nothing client file_id server wants = by_open_nothing (connected_open server client file_id) read_finding
@@ -342,12 +359,14 @@ read_nothing client file_id server wants = by_open_nothing (connected_open serve
     (Finding.Wants []) (Finding.Refused Status.AccessDenied)
     (λ e same. ap is_empty (wants_same wants [] (sym same))) (λ e never. absurd (cc)))
 
+-- a close wants nothing
 close_nothing : (client file_id : ℕ) → WantsNothing client (Request.Close file_id)
 unfolding finding
 close_nothing client file_id server wants = by_open_nothing (connected_open server client file_id)
     (λ one. Finding.Wants []) wants
     (λ one same. ap is_empty (wants_same wants [] (sym same)))
 
+-- an acknowledgment is never looked at
 acknowledge_nothing : (client : ℕ) (given : Option LeaseOf) → WantsNothing client (Request.Acknowledge given)
 unfolding finding
 acknowledge_nothing client given server wants same = ap is_empty (wants_same wants [] (sym same))
@@ -358,6 +377,7 @@ pub record WantsAll (server : Server) (client file_id : ℕ) (wants : List Want)
   pub found : connected_open server client file_id ≡ Some one
   pub are_all : wants ≡ all_wants server (key_of_open one) one.file
 
+-- a write wants all other keys
 write_finding-all : (server : Server) (one : Open) (patch : Patch) (wants : List Want)
     → write_finding server one patch ≡ Finding.Wants wants
     → wants ≡ all_wants server (key_of_open one) one.file
@@ -371,6 +391,7 @@ write_finding-all server one patch wants =
     (λ i never. absurd (cc)))
     (λ e never. absurd (cc))
 
+-- by its open
 by_open_all : (server : Server) (client file_id : ℕ) (patch : Patch) (wants : List Want) (one : Option Open)
     → connected_open server client file_id ≡ one
     → by_open one (λ x. write_finding server x patch) ≡ Finding.Wants wants
@@ -379,6 +400,7 @@ by_open_all server client file_id patch wants None e never = absurd (cc)
 by_open_all server client file_id patch wants (Some one) e same =
     record { one = one; found = e; are_all = write_finding-all server one patch wants same }
 
+-- so does a Write
 write_all : (server : Server) (client file_id number : ℕ) (patch : Patch) (wants : List Want)
     → finding server client (Request.Write file_id number patch) ≡ Finding.Wants wants
     → WantsAll server client file_id wants
@@ -386,9 +408,11 @@ unfolding finding
 write_all server client file_id number patch wants same = by_open_all server client file_id patch wants
     (connected_open server client file_id) refl same
 
+-- one value found is one value
 some_same : (one other : Open) → Some one ≡ Some other → one ≡ other
 some_same one other e = cc
 
+-- a write ends by its second round
 write_ends : (client file_id number : ℕ) (patch : Patch) (progress : Progress) → IsSound progress.server
     → Ends client (Request.Write file_id number patch) 2 progress
 write_ends client file_id number patch progress s =

@@ -23,11 +23,13 @@ pub granted_form_of-again : (state : State) → granted_form_of (granted_form_of
 granted_form_of-again state = if_cases (λ g. granted_form_of g ≡ g) state.read state nothing_cached
     (λ e. rw e refl) (λ e. refl)
 
+-- a granted form without W, by its letters
 form_without_write : (r w h : Bool) → granted_form_of (rights r w h) ≡ rights r w h
     → granted_form_of (rights r false h) ≡ rights r false h
 form_without_write true w h e = refl
 form_without_write false w h e = ap (λ x. rights false false x) (ap (λ s. s.handle) e)
 
+-- a granted form without H, by its letters
 form_without_handle : (r w h : Bool) → granted_form_of (rights r w h) ≡ rights r w h
     → granted_form_of (rights r w false) ≡ rights r w false
 form_without_handle true w h e = refl
@@ -38,27 +40,32 @@ pub without_write-form : (state : State) → granted_form_of state ≡ state
     → granted_form_of (without_write state) ≡ without_write state
 without_write-form state e = form_without_write state.read state.write state.handle e
 
+-- a granted form without H is one
 pub without_handle-form : (state : State) → granted_form_of state ≡ state
     → granted_form_of (without_handle state) ≡ without_handle state
 without_handle-form state e = form_without_handle state.read state.write state.handle e
 
+-- a state without W is a part
 part_without_write : (r w h : Bool) → is_within (rights r false h) (rights r w h) ≡ true
 part_without_write true w true = refl
 part_without_write true w false = refl
 part_without_write false w true = refl
 part_without_write false w false = refl
 
+-- a state without H is a part
 part_without_handle : (r w h : Bool) → is_within (rights r w false) (rights r w h) ≡ true
 part_without_handle true true h = refl
 part_without_handle true false h = refl
 part_without_handle false true h = refl
 part_without_handle false false h = refl
 
+-- and less, where it held W
 less_without_write : (r w h : Bool) → w ≡ true → same_state (rights r false h) (rights r w h) ≡ false
 less_without_write true true h e = refl
 less_without_write false true h e = refl
 less_without_write r false h e = absurd (true≢false (sym e))
 
+-- and less, where it held H
 less_without_handle : (r w h : Bool) → h ≡ true → same_state (rights r w false) (rights r w h) ≡ false
 less_without_handle true true true e = refl
 less_without_handle true false true e = refl
@@ -66,6 +73,7 @@ less_without_handle false true true e = refl
 less_without_handle false false true e = refl
 less_without_handle r w false e = absurd (true≢false (sym e))
 
+-- nothing is less than what needs an acknowledgment
 less_nothing : (r w h : Bool) → (w || h) ≡ true → same_state nothing_cached (rights r w h) ≡ false
 less_nothing true w h e = refl
 less_nothing false true h e = refl
@@ -81,6 +89,7 @@ without_write-lowered state form holds = record {
   is_less = λ e. less_without_write state.read state.write state.handle holds;
 }
 
+-- H taken away
 pub without_handle-lowered : (state : State) → granted_form_of state ≡ state → state.handle ≡ true
     → IsLowered state (without_handle state)
 without_handle-lowered state form holds = record {
@@ -89,6 +98,7 @@ without_handle-lowered state form holds = record {
   is_less = λ e. less_without_handle state.read state.write state.handle holds;
 }
 
+-- all taken away
 pub nothing-lowered : (state : State) → IsLowered state nothing_cached
 nothing-lowered state = record {
   is_part = refl;
@@ -96,6 +106,7 @@ nothing-lowered state = record {
   is_less = λ e. less_nothing state.read state.write state.handle e;
 }
 
+-- a part that holds W, by its letters
 within_write : (r w h : Bool) (s t u : Bool) → is_within (rights r w h) (rights s t u) ≡ true → w ≡ true
     → t ≡ true
 within_write r w h s true u e f = refl
@@ -109,16 +120,19 @@ pub write_of_part : (part state : State) → is_within part state ≡ true → p
 write_of_part part state e f = within_write part.read part.write part.handle state.read state.write
     state.handle e f
 
+-- a part that holds H, by its letters
 within_handle : (r w h : Bool) (s t u : Bool) → is_within (rights r w h) (rights s t u) ≡ true → h ≡ true
     → u ≡ true
 within_handle r w h s t true e f = refl
 within_handle r w h s t false e f = grind arith
 
+-- a part that holds H is a part of what holds it
 pub handle_of_part : (part state : State) → is_within part state ≡ true → part.handle ≡ true
     → state.handle ≡ true
 handle_of_part part state e f = within_handle part.read part.write part.handle state.read state.write
     state.handle e f
 
+-- one value found is one value
 some_same : (one other : State) → Some one ≡ Some other → one ≡ other
 some_same one other e = cc
 
@@ -151,6 +165,7 @@ breaking-lawful state lowered form needs low = record {
   });
 }
 
+-- neither is true
 or_false : (a b : Bool) → (a || b) ≡ false → (a ≡ false) × (b ≡ false)
 or_false true b e = absurd (true≢false e)
 or_false false b e = (refl, e)

@@ -19,6 +19,7 @@ pub left_here : (leases : Key → Lease) (opens : List Open) (key : Key) (one : 
     → Among one opens → has_key key one ≡ true → left_leases leases opens key ≡ leases key
 left_here leases opens key one a k = rw (has_any (has_key key) one opens a k) refl
 
+-- fewer opens stay in order
 in_order-filter : (test : Open → Bool) (opens : List Open) → AreInOrder opens → AreInOrder (filter test opens)
 in_order-filter test [] own = tt
 in_order-filter test (one ∷ opens) own =
@@ -64,6 +65,7 @@ drop_sound test opens leases expired last_id s =
 abbrev pub with_connection : (Open → Bool) → Open → Open
 with_connection up one = record one { connected = up one }
 
+-- connections have nothing to do with the order
 in_order-connection : (up : Open → Bool) (opens : List Open) → AreInOrder opens
     → AreInOrder (map (with_connection up) opens)
 in_order-connection up [] own = tt
@@ -73,6 +75,7 @@ in_order-connection up (one ∷ opens) own = (
   in_order-connection up opens own.1,
 )
 
+-- nor with whether a key has an open
 any_key-connection : (up : Open → Bool) (key : Key) (opens : List Open)
     → list_any (has_key key) (map (with_connection up) opens) ≡ list_any (has_key key) opens
 any_key-connection up key [] = refl

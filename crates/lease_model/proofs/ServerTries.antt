@@ -16,10 +16,12 @@ pub record IsFoundReady (client : ℕ) (request : Request) (progress : Progress)
   pub found : finding progress.server client request ≡ Finding.Wants wants
   pub ready : is_ready request progress.server.leases wants ≡ true
 
+-- what is known of a try
 pub record IsGoodTry (client : ℕ) (request : Request) (tried : Tried) : Type 0 where
   pub sound : IsSound tried.progress.server
   pub found_ready : tried.outcome ≡ Outcome.Ready → IsFoundReady client request tried.progress
 
+-- a round of a good try
 after_finding-good : (again : Progress → Tried) (client : ℕ) (request : Request) (progress : Progress)
     (found : Finding)
     → finding progress.server client request ≡ found → FindingFits progress.server found

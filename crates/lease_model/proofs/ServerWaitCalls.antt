@@ -23,15 +23,18 @@ use Rattle.lease_model.proofs.ServerOrderly.{IsFine}
 use Rattle.lease_model.proofs.ServerPassWaits.{EveryoneWaits, all_passes-wait}
 use Rattle.lease_model.proofs.ServerProgress.{opens_dropped-sound}
 
+-- a client that is connected stays so when another joins
 put_true : (up : ℕ → Bool) (client other : ℕ) → up other ≡ true → put up client true other ≡ true
 unfolding put
 put_true up client other e = if_cases (λ b. b ≡ true) (other == client) true (up other) (λ t. refl) (λ t. e)
 
+-- a join: what a FileId is about stays
 joined-open : (client file file_id : ℕ) (progress : Progress) → IsOpenOn progress.server file file_id
     → IsOpenOn (joined client progress).server file file_id
 unfolding joined
 joined-open client file file_id progress o = record { was_given = o.was_given; is_on_file = o.is_on_file }
 
+-- a join: what a request is about stays
 joined-about : (client file : ℕ) (request : Request) (progress : Progress)
     → IsAbout progress.server file request → IsAbout (joined client progress).server file request
 joined-about client file (Request.Create at access share contexts) progress about = about
@@ -43,6 +46,7 @@ joined-about client file (Request.Close file_id) progress about = joined-open cl
     about
 joined-about client file (Request.Acknowledge given) progress about = about
 
+-- a join that applies keeps the order
 joined-orderly : (client : ℕ) (progress : Progress) → IsOrderly progress.server
     → IsOrderly (joined client progress).server
 unfolding joined
@@ -54,14 +58,17 @@ joined-orderly client progress o = record {
   held_about = λ file one a. joined-about client file one.request progress (o.held_about file one a);
 }
 
+-- a join that applies lets wait what has to wait
 joined-kept : (client : ℕ) (progress : Progress) → Kept Anywhere progress (joined client progress)
 unfolding joined
 joined-kept client progress = record { stands = λ key one a k up b g. (a, b); finds = λ c id one e g. e }
 
+-- a join that applies leaves the held requests as they are
 joined-held : (client : ℕ) (progress : Progress) → SameHeld progress (joined client progress)
 unfolding joined
 joined-held client progress = refl
 
+-- a join leaves each first held request waiting
 join-waits : (server : Server) (client : ℕ) → EveryoneWaits server → EveryoneWaits (join server client).server
 unfolding join
 join-waits server client e = everyone_cases (server.connected client) (begun server)
@@ -75,11 +82,13 @@ join-waits server client e = everyone_cases (server.connected client) (begun ser
     })
     (joined-kept client (begun server)) (joined-held client (begun server)))
 
+-- to drop opens keeps the laws and the order
 dropped-fine : (test : Open → Bool) (progress : Progress) → IsFine progress.server
     → IsFine (opens_dropped test progress).server
 dropped-fine test progress f = fine_goes progress (opens_dropped test progress) f
     (opens_dropped-sound test progress f.sound) (dropped-goes test progress) (dropped_held test progress)
 
+-- to mark a key lets opens go on
 expired-goes : (key : Key) (progress : Progress) → Goes progress (key_expired key progress)
 unfolding key_expired
 expired-goes key progress = record {
@@ -90,10 +99,12 @@ expired-goes key progress = record {
       (still_there progress.server one a);
 }
 
+-- to mark a key leaves the held requests as they are
 expired-held : (key : Key) (progress : Progress) → SameHeld progress (key_expired key progress)
 unfolding key_expired
 expired-held key progress = refl
 
+-- a timer that runs out leaves each first held request waiting
 expire-waits : (server : Server) (key : Key) → EveryoneWaits server → EveryoneWaits (expire server key).server
 unfolding expire
 expire-waits server key e =
@@ -106,6 +117,7 @@ expire-waits server key e =
     (expired-goes key dropped) (expired-held key dropped)))
     (λ t. e)
 
+-- a scavenge leaves each first held request waiting
 scavenge-waits : (server : Server) (file_id : ℕ) → EveryoneWaits server
     → EveryoneWaits (scavenge server file_id).server
 unfolding scavenge
@@ -124,6 +136,7 @@ record IsCutFrom (server : Server) (client : ℕ) (one : Open) : Type 0 where
   same_client : one.client ≡ was.client
   up : one.connected ≡ true → (was.connected ≡ true) × (was.client == client ≡ false)
 
+-- an open after a cut
 cut_open : (server : Server) (client : ℕ) (was : Open) (b : Bool) → (was.client == client) ≡ b
     → Among was server.opens
     → IsCutFrom server client (cond b (record was { connected = false }) was)
@@ -144,18 +157,21 @@ cut_open server client was false e a = record {
   up = λ u. (u, e);
 }
 
+-- the opens after a cut
 cut_opens : (server : Server) (client : ℕ) (one : Open) → Among one (map (disconnected client) server.opens)
     → IsCutFrom server client one
 cut_opens server client one a =
     let x = among_map (disconnected client) one server.opens a in
     subst (IsCutFrom server client) (sym x.2) (cut_open server client x.0 ((x.0).client == client) refl x.1)
 
+-- another client stays as it was
 put_other : (up : ℕ → Bool) (client other : ℕ) → other == client ≡ false
     → put up client false other ≡ up other
 unfolding put
 put_other up client other e = if_cases (λ b. b ≡ up other) (other == client) false (up other)
     (λ t. clash (other == client) t e) (λ t. refl)
 
+-- a cut: what a FileId is about stays
 cut_about_open : (client file file_id : ℕ) (progress : Progress) → IsOpenOn progress.server file file_id
     → IsOpenOn (client_forgotten client (opens_disconnected client progress)).server file file_id
 unfolding client_forgotten opens_disconnected
@@ -165,6 +181,7 @@ cut_about_open client file file_id progress o = record {
       x.same_file ∙ o.is_on_file x.was x.was_there (sym x.same_id ∙ e);
 }
 
+-- a cut: what a request is about stays
 cut_about : (client file : ℕ) (request : Request) (progress : Progress) → IsAbout progress.server file request
     → IsAbout (client_forgotten client (opens_disconnected client progress)).server file request
 cut_about client file (Request.Create at access share contexts) progress about = about
@@ -176,6 +193,7 @@ cut_about client file (Request.Close file_id) progress about = cut_about_open cl
     about
 cut_about client file (Request.Acknowledge given) progress about = about
 
+-- a cut keeps the order
 cut_orderly : (client : ℕ) (progress : Progress) → IsOrderly progress.server
     → IsOrderly (client_forgotten client (opens_disconnected client progress)).server
 unfolding client_forgotten opens_disconnected
@@ -199,6 +217,7 @@ cut_orderly client progress o =
           (o.held_about file one (left file one a).0);
     }
 
+-- a cut leaves each first held request waiting
 cut-waits : (server : Server) (client : ℕ) → EveryoneWaits server → EveryoneWaits (cut server client).server
 unfolding cut
 cut-waits server client e =
@@ -224,10 +243,12 @@ called-waits server (Call.Cut client) e = cut-waits server client e
 called-waits server (Call.Expire key) e = expire-waits server key e
 called-waits server (Call.Scavenge file_id) e = scavenge-waits server file_id e
 
+-- the first server waits well
 pub first-waits-well : (contents : List (List ℕ)) → WaitsWell (new_server contents)
 first-waits-well contents = let e = new_server-waits contents in
     record { is_orderly = e.fine.orderly; all_wait = e.wait }
 
+-- every call lets requests wait well
 pub called-waits-well : (server : Server) (call : Call) → IsSound server → WaitsWell server
     → WaitsWell (called server call).server
 called-waits-well server call s w =

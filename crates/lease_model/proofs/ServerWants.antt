@@ -37,6 +37,7 @@ key_added-has key new (other ∷ keys) h =
     (λ b a. ⊎_elim (λ same. inr (inl same))
     (λ later. ⊎_elim (λ same. inl same) (λ found. inr (inr found)) (key_added-has key new keys later)) a)) h
 
+-- a key with one more open is that open's, or was there
 open_key_added-has : (key : Key) (client : ℕ) (bytes : Option (List ℕ)) (keys : List Key)
     → Among key (open_key_added client bytes keys) → (is_key key client bytes ≡ true) ⊎ Among key keys
 open_key_added-has key client None keys a = inr a
@@ -54,6 +55,7 @@ keys_of-has key (one ∷ opens) a = ⊎_elim
     (λ later. let x = keys_of-has key opens later in (x.0, inr x.1, x.2))
     (open_key_added-has key one.client one.lease_key (keys_of opens) a)
 
+-- with one more there are some
 key_added-some : (new : Key) (keys : List Key) → is_empty (key_added new keys) ≡ false
 unfolding key_added
 key_added-some new [] = refl
@@ -65,11 +67,13 @@ key_added-some new (other ∷ keys) =
     (other ∷ key_added new keys)
     (λ b. refl) (λ b. refl))
 
+-- an open with a key adds one
 open_key_added-keyed : (key : Key) (client : ℕ) (bytes : Option (List ℕ)) (keys : List Key)
     → is_key key client bytes ≡ true → is_empty (open_key_added client bytes keys) ≡ false
 open_key_added-keyed key client None keys k = absurd (true≢false (sym k))
 open_key_added-keyed key client (Some bytes) keys k = key_added-some (key_of client bytes) keys
 
+-- another open leaves some
 open_key_added-more : (client : ℕ) (bytes : Option (List ℕ)) (keys : List Key)
     → is_empty keys ≡ false → is_empty (open_key_added client bytes keys) ≡ false
 open_key_added-more client None keys e = e
@@ -86,6 +90,7 @@ keys_of-some key one (other ∷ opens) (inl same) k =
 keys_of-some key one (other ∷ opens) (inr a) k =
     open_key_added-more other.client other.lease_key (keys_of opens) (keys_of-some key one opens a k)
 
+-- a mapped list is empty where the list is
 map_empty : {X Y : Type 0} (f : X → Y) (xs : List X) → is_empty (map f xs) ≡ is_empty xs
 map_empty f [] = refl
 map_empty f (x ∷ xs) = refl
@@ -106,9 +111,11 @@ pub record Fits (server : Server) (want : Want) : Type 0 where
   pub can_lower : IsLowered (server.leases want.key).state want.lowered
   pub is_timely : server.expired want.key ≡ false
 
+-- each want fits
 abbrev pub AllFit : Server → List Want → Type 0
 AllFit server wants = (want : Want) → Among want wants → Fits server want
 
+-- a want fits where its lease isn't none
 fits-at : (server : Server) (lowering : State → State) (key : Key) → IsSound server
     → ((server.leases key) ≡ no_lease → ⊥)
     → IsLowered (server.leases key).state (lowering (server.leases key).state)
@@ -139,6 +146,7 @@ wants_where-fit server test lowering s good want a =
     (λ e. both.0 (same ∙ e))
     (subst (λ l. IsLowered l.state (lowering l.state)) same both.1))
 
+-- a conflicting create's wants fit
 pub handle_wants-fit : (server : Server) (own : Option Key) (file : ℕ) (access : Access) (share : Share)
     → IsSound server → AllFit server (handle_wants server own file access share)
 unfolding handle_wants
@@ -152,6 +160,7 @@ handle_wants-fit server own file access share s = wants_where-fit server
       without_handle-lowered (lease_of server one).state form holds,
     ))
 
+-- a create's wants fit
 pub write_wants-fit : (server : Server) (own : Option Key) (file : ℕ) → IsSound server
     → AllFit server (write_wants server own file)
 unfolding write_wants
@@ -162,6 +171,7 @@ write_wants-fit server own file s = wants_where-fit server
       without_write-lowered (lease_of server one).state form holds,
     ))
 
+-- a write's wants fit
 pub all_wants-fit : (server : Server) (own : Option Key) (file : ℕ) → IsSound server
     → AllFit server (all_wants server own file)
 unfolding all_wants
@@ -178,6 +188,7 @@ abbrev pub FindingFits : Server → Finding → Type 0
 FindingFits server (Finding.Refused status) = Unit {0}
 FindingFits server (Finding.Wants wants) = AllFit server wants
 
+-- what a create finds fits
 pub create_finding-fits : (server : Server) (own : Option Key) (file : ℕ) (access : Access) (share : Share)
     → IsSound server → FindingFits server (create_finding server own file access share)
 unfolding create_finding
@@ -189,6 +200,7 @@ create_finding-fits server own file access share s =
     (λ n. tt) (λ n. handle_wants-fit server own file access share s))
     (λ c. write_wants-fit server own file s))
 
+-- what a reconnect finds fits
 pub reconnect_finding-fits : (server : Server) (client file : ℕ) (own : Option Key) (file_id : ℕ)
     → FindingFits server (reconnect_finding server client file own file_id)
 unfolding reconnect_finding
@@ -197,6 +209,7 @@ reconnect_finding-fits server client file own file_id =
     (Finding.Refused Status.ObjectNameNotFound)
     (λ e want a. absurd a) (λ e. tt)
 
+-- what a write finds fits
 pub write_finding-fits : (server : Server) (one : Open) (patch : Patch) → IsSound server
     → FindingFits server (write_finding server one patch)
 unfolding write_finding
@@ -206,6 +219,7 @@ write_finding-fits server one patch s =
     (λ i. all_wants-fit server (key_of_open one) one.file s) (λ i. tt))
     (λ e. tt)
 
+-- what a create finds fits, with a reconnect or without
 asked_finding-fits : (server : Server) (client file : ℕ) (access : Access) (share : Share)
     (lease : Option LeaseOf) (again : Option ℕ)
     → IsSound server → FindingFits server (asked_finding server client file access share lease again)
@@ -214,18 +228,21 @@ asked_finding-fits server client file access share lease None s = create_finding
 asked_finding-fits server client file access share lease (Some file_id) s = reconnect_finding-fits server
     client file (own_key client lease) file_id
 
+-- what is found by an open fits
 by_open-fits : (server : Server) (one : Option Open) (found : Open → Finding)
     → ((x : Open) → FindingFits server (found x))
     → FindingFits server (by_open one found)
 by_open-fits server None found fits = tt
 by_open-fits server (Some one) found fits = fits one
 
+-- what is found by contexts fits
 by_contexts-fits : (server : Server) (ask : Option CreateAsk) (found : CreateAsk → Finding)
     → ((x : CreateAsk) → FindingFits server (found x))
     → FindingFits server (by_contexts ask found)
 by_contexts-fits server None found fits = tt
 by_contexts-fits server (Some ask) found fits = fits ask
 
+-- what a read finds fits
 read_finding-fits : (server : Server) (one : Open) → FindingFits server (read_finding one)
 read_finding-fits server one = if_cases (FindingFits server) (may_read one.access) (Finding.Wants [])
     (Finding.Refused Status.AccessDenied)
