@@ -30,81 +30,81 @@ use Rattle.lease_model.proofs.ServerWants.{FindingFits, finding-fits, handle_wan
 
 -- where it waits, the request has to wait
 abbrev pub IsExcused : ℕ → Request → Tried → Type 0
-IsExcused client request tried = tried.outcome ≡ Outcome.Waits
-    → HasToWait tried.progress.server client request
+IsExcused client message tried = tried.outcome ≡ Outcome.Waits
+    → HasToWait tried.progress.server client message
 
 -- what two tries come to, and a reason where they wait
-pub record AreAlike (client : ℕ) (request : Request) (one : Tried) (other : Tried) : Type 0 where
+pub record AreAlike (client : ℕ) (message : Request) (one : Tried) (other : Tried) : Type 0 where
   pub is_same : one ≡ other
-  pub is_excused : IsExcused client request one
+  pub is_excused : IsExcused client message one
 
 -- any two numbers of rounds from this one on come to one, and wait only for a reason
 abbrev pub Ends : ℕ → Request → ℕ → Progress → Type 0
-Ends client request rounds progress = (one other : ℕ) → rounds ≤ one → rounds ≤ other
-    → AreAlike client request (tried_for one client request progress)
-    (tried_for other client request progress)
+Ends client message rounds progress = (one other : ℕ) → rounds ≤ one → rounds ≤ other
+    → AreAlike client message (tried_for one client message progress)
+    (tried_for other client message progress)
 
 -- a choice of two tries that come to the same
-alike_cases : (client : ℕ) (request : Request) (b : Bool) (x y z : Tried)
-    → (b ≡ true → IsExcused client request x)
-    → (b ≡ false → AreAlike client request y z) → AreAlike client request (cond b x y) (cond b x z)
-alike_cases client request true x y z e a = record { is_same = refl; is_excused = e refl }
-alike_cases client request false x y z e a = a refl
+alike_cases : (client : ℕ) (message : Request) (b : Bool) (x y z : Tried)
+    → (b ≡ true → IsExcused client message x)
+    → (b ≡ false → AreAlike client message y z) → AreAlike client message (cond b x y) (cond b x z)
+alike_cases client message true x y z e a = record { is_same = refl; is_excused = e refl }
+alike_cases client message false x y z e a = a refl
 
 -- a round comes to the same by tries that do
-after_finding-same : (f g : Progress → Tried) (client : ℕ) (request : Request) (progress : Progress)
+after_finding-same : (f g : Progress → Tried) (client : ℕ) (message : Request) (progress : Progress)
     (found : Finding)
     → IsSound progress.server → FindingFits progress.server found
-    → finding progress.server client request ≡ found
+    → finding progress.server client message ≡ found
     → ((wants : List Want) → found ≡ Finding.Wants wants
-    → is_ready request progress.server.leases wants ≡ false
-    → must_wait request (wants_met wants progress) wants ≡ false
-    → AreAlike client request (f (wants_met wants progress)) (g (wants_met wants progress)))
-    → AreAlike client request (after_finding f request progress found)
-    (after_finding g request progress found)
-after_finding-same f g client request progress (Finding.Refused status) s fits e more =
+    → is_ready message progress.server.leases wants ≡ false
+    → must_wait message (wants_met wants progress) wants ≡ false
+    → AreAlike client message (f (wants_met wants progress)) (g (wants_met wants progress)))
+    → AreAlike client message (after_finding f message progress found)
+    (after_finding g message progress found)
+after_finding-same f g client message progress (Finding.Refused status) s fits e more =
     record { is_same = refl; is_excused = λ never. absurd (cc) }
-after_finding-same f g client request progress (Finding.Wants wants) s fits e more =
+after_finding-same f g client message progress (Finding.Wants wants) s fits e more =
     let met = wants_met wants progress in
-    alike_cases client request (is_ready request progress.server.leases wants) (ended progress Outcome.Ready)
-    (after_breaks f request wants met) (after_breaks g request wants met)
+    alike_cases client message (is_ready message progress.server.leases wants) (ended progress Outcome.Ready)
+    (after_breaks f message wants met) (after_breaks g message wants met)
     (λ r never. absurd (cc))
-    (λ r. alike_cases client request (must_wait request met wants) (ended met Outcome.Waits) (f met) (g met)
-    (λ w waits. round_waits client request progress wants s (wants_met-sound wants progress s fits) e w)
+    (λ r. alike_cases client message (must_wait message met wants) (ended met Outcome.Waits) (f met) (g met)
+    (λ w waits. round_waits client message progress wants s (wants_met-sound wants progress s fits) e w)
     (λ w. more wants refl r w))
 
 -- a try ends by one more round than those that go on from it
-ends_step : (client : ℕ) (request : Request) (rounds : ℕ) (progress : Progress) → IsSound progress.server
-    → ((wants : List Want) → finding progress.server client request ≡ Finding.Wants wants
-    → is_ready request progress.server.leases wants ≡ false
-    → must_wait request (wants_met wants progress) wants ≡ false
-    → Ends client request rounds (wants_met wants progress))
-    → Ends client request (suc rounds) progress
+ends_step : (client : ℕ) (message : Request) (rounds : ℕ) (progress : Progress) → IsSound progress.server
+    → ((wants : List Want) → finding progress.server client message ≡ Finding.Wants wants
+    → is_ready message progress.server.leases wants ≡ false
+    → must_wait message (wants_met wants progress) wants ≡ false
+    → Ends client message rounds (wants_met wants progress))
+    → Ends client message (suc rounds) progress
 unfolding tried_for
-ends_step client request rounds progress s more zero other a b = absurd (omega (arith, a))
-ends_step client request rounds progress s more (suc one) zero a b = absurd (omega (arith, b))
-ends_step client request rounds progress s more (suc one) (suc other) a b =
-    after_finding-same (tried_for one client request) (tried_for other client request) client request progress
-    (finding progress.server client request) s (finding-fits progress.server client request s) refl
+ends_step client message rounds progress s more zero other a b = absurd (omega (arith, a))
+ends_step client message rounds progress s more (suc one) zero a b = absurd (omega (arith, b))
+ends_step client message rounds progress s more (suc one) (suc other) a b =
+    after_finding-same (tried_for one client message) (tried_for other client message) client message progress
+    (finding progress.server client message) s (finding-fits progress.server client message s) refl
     (λ wants e r w. more wants e r w one other (omega (arith, a)) (omega (arith, b)))
 
 -- and by any later round
-ends_later : (client : ℕ) (request : Request) (few many : ℕ) (progress : Progress) → few ≤ many
-    → Ends client request few progress → Ends client request many progress
-ends_later client request few many progress le ends one other a b = ends one other (omega (arith, le, a))
+ends_later : (client : ℕ) (message : Request) (few many : ℕ) (progress : Progress) → few ≤ many
+    → Ends client message few progress → Ends client message many progress
+ends_later client message few many progress le ends one other a b = ends one other (omega (arith, le, a))
     (omega (arith, le, b))
 
 -- what is empty is ready
-empty_ready : (request : Request) (leases : Key → Lease) (wants : List Want) → is_empty wants ≡ true
-    → is_ready request leases wants ≡ true
+empty_ready : (message : Request) (leases : Key → Lease) (wants : List Want) → is_empty wants ≡ true
+    → is_ready message leases wants ≡ true
 unfolding is_ready
-empty_ready request leases wants e = e
+empty_ready message leases wants e = e
 
 -- a finding that wants nothing is ready, and a refusal wants nothing
-not_empty : (request : Request) (leases : Key → Lease) (wants : List Want) → is_empty wants ≡ true
-    → is_ready request leases wants ≡ false → ⊥
-not_empty request leases wants e r = clash (is_ready request leases wants)
-    (empty_ready request leases wants e) r
+not_empty : (message : Request) (leases : Key → Lease) (wants : List Want) → is_empty wants ≡ true
+    → is_ready message leases wants ≡ false → ⊥
+not_empty message leases wants e r = clash (is_ready message leases wants)
+    (empty_ready message leases wants e) r
 
 -- what a create wants: handles where opens conflict, and else writes
 pub record WantsHandles (server : Server) (own : Option Key) (file : ℕ) (access : Access) (share : Share)
@@ -161,39 +161,39 @@ light_handle : (state : State) → needs_acknowledgment state ≡ false → stat
 light_handle state light = (light_state state light).1
 
 -- once handles are broken, no handle is wanted
-handles_gone : (request : Request) (own : Option Key) (file : ℕ) (access : Access) (share : Share)
+handles_gone : (message : Request) (own : Option Key) (file : ℕ) (access : Access) (share : Share)
     (progress : Progress) → IsSound progress.server
-    → must_wait request (wants_met (handle_wants progress.server own file access share) progress)
+    → must_wait message (wants_met (handle_wants progress.server own file access share) progress)
     (handle_wants progress.server own file access share) ≡ false
     → is_empty (handle_wants (wants_met (handle_wants progress.server own file access share) progress).server
     own file access share) ≡ true
 unfolding handle_wants
-handles_gone request own file access share progress s wait =
+handles_gone message own file access share progress s wait =
     let met = wants_met (wants_where progress.server
     (holder (λ state. state.handle) (λ one. conflicts_on file access share one && is_other_on own file one)
     progress.server) without_handle) progress in
     wants_where-empty met.server (holder (λ state. state.handle)
     (λ one. conflicts_on file access share one && is_other_on own file one) met.server) without_handle
     (wanted_no_more (λ state. state.handle)
-    (λ one. conflicts_on file access share one && is_other_on own file one) without_handle request
+    (λ one. conflicts_on file access share one && is_other_on own file one) without_handle message
     progress s refl
     (handle_wants-fit progress.server own file access share s)
     (λ want a light. light_handle want.lowered light) wait)
 
 -- once writes are broken, none is wanted
-writes_gone : (request : Request) (own : Option Key) (file : ℕ) (progress : Progress)
+writes_gone : (message : Request) (own : Option Key) (file : ℕ) (progress : Progress)
     → IsSound progress.server
-    → must_wait request (wants_met (write_wants progress.server own file) progress)
+    → must_wait message (wants_met (write_wants progress.server own file) progress)
     (write_wants progress.server own file) ≡ false
     → is_empty (write_wants (wants_met (write_wants progress.server own file) progress).server own file) ≡
     true
 unfolding write_wants
-writes_gone request own file progress s wait =
+writes_gone message own file progress s wait =
     let met = wants_met (wants_where progress.server
     (holder (λ state. state.write) (is_other_on own file) progress.server) without_write) progress in
     wants_where-empty met.server (holder (λ state. state.write) (is_other_on own file) met.server)
     without_write
-    (wanted_no_more (λ state. state.write) (is_other_on own file) without_write request progress s refl
+    (wanted_no_more (λ state. state.write) (is_other_on own file) without_write message progress s refl
     (write_wants-fit progress.server own file s) (λ want a light. light_writeless want.lowered light) wait)
 
 -- what a write wants holds nothing
@@ -205,87 +205,87 @@ all_wants-quiet server own file want a light =
     ap (λ w. holds_any w.lowered) x.2
 
 -- once all is broken, nothing is wanted
-all_gone : (request : Request) (own : Option Key) (file : ℕ) (progress : Progress) → IsSound progress.server
-    → must_wait request (wants_met (all_wants progress.server own file) progress)
+all_gone : (message : Request) (own : Option Key) (file : ℕ) (progress : Progress) → IsSound progress.server
+    → must_wait message (wants_met (all_wants progress.server own file) progress)
     (all_wants progress.server own file) ≡ false
     → is_empty (all_wants (wants_met (all_wants progress.server own file) progress).server own file) ≡ true
 unfolding all_wants
-all_gone request own file progress s wait =
+all_gone message own file progress s wait =
     let met = wants_met (wants_where progress.server (holder holds_any (is_other_on own file) progress.server)
     (λ state. nothing_cached)) progress in
     wants_where-empty met.server (holder holds_any (is_other_on own file) met.server)
     (λ state. nothing_cached)
-    (wanted_no_more holds_any (is_other_on own file) (λ state. nothing_cached) request progress s refl
+    (wanted_no_more holds_any (is_other_on own file) (λ state. nothing_cached) message progress s refl
     (all_wants-fit progress.server own file s) (all_wants-quiet progress.server own file) wait)
 
 -- the request is a create: all that it finds is what a create finds
 abbrev pub IsCreate : ℕ → Request → Option Key → ℕ → Access → Share → Type 0
-IsCreate client request own file access share = (server : Server) (wants : List Want)
-    → finding server client request ≡ Finding.Wants wants
+IsCreate client message own file access share = (server : Server) (wants : List Want)
+    → finding server client message ≡ Finding.Wants wants
     → create_finding server own file access share ≡ Finding.Wants wants
 
 -- once writes are wanted one more round is enough
-writes_end : (client : ℕ) (request : Request) (own : Option Key) (file : ℕ) (access : Access) (share : Share)
+writes_end : (client : ℕ) (message : Request) (own : Option Key) (file : ℕ) (access : Access) (share : Share)
     (progress : Progress)
-    → IsCreate client request own file access share → IsSound progress.server
+    → IsCreate client message own file access share → IsSound progress.server
     → list_any (conflicts_on file access share) progress.server.opens ≡ false
-    → must_wait request (wants_met (write_wants progress.server own file) progress)
+    → must_wait message (wants_met (write_wants progress.server own file) progress)
     (write_wants progress.server own file) ≡ false
-    → Ends client request 1 (wants_met (write_wants progress.server own file) progress)
-writes_end client request own file access share progress create s peace wait =
+    → Ends client message 1 (wants_met (write_wants progress.server own file) progress)
+writes_end client message own file access share progress create s peace wait =
     let met = wants_met (write_wants progress.server own file) progress in
     let still = fewer_conflicts file access share (write_wants progress.server own file) progress peace in
-    ends_step client request 0 met (wants_met-sound (write_wants progress.server own file) progress s
+    ends_step client message 0 met (wants_met-sound (write_wants progress.server own file) progress s
     (write_wants-fit progress.server own file s)) (λ wants found unready w. ⊎_elim
     (λ h. clash (list_any (conflicts_on file access share) met.server.opens) h.conflict still)
-    (λ h. absurd (not_empty request met.server.leases wants
-    (ap is_empty h.are_writes ∙ writes_gone request own file progress s wait) unready))
+    (λ h. absurd (not_empty message met.server.leases wants
+    (ap is_empty h.are_writes ∙ writes_gone message own file progress s wait) unready))
     (create_wants met.server own file access share wants (create met.server wants found)))
 
 -- once handles are wanted two more are enough
-handles_end : (client : ℕ) (request : Request) (own : Option Key) (file : ℕ) (access : Access) (share : Share)
+handles_end : (client : ℕ) (message : Request) (own : Option Key) (file : ℕ) (access : Access) (share : Share)
     (progress : Progress)
-    → IsCreate client request own file access share → IsSound progress.server
-    → must_wait request (wants_met (handle_wants progress.server own file access share) progress)
+    → IsCreate client message own file access share → IsSound progress.server
+    → must_wait message (wants_met (handle_wants progress.server own file access share) progress)
     (handle_wants progress.server own file access share) ≡ false
-    → Ends client request 2 (wants_met (handle_wants progress.server own file access share) progress)
-handles_end client request own file access share progress create s wait =
+    → Ends client message 2 (wants_met (handle_wants progress.server own file access share) progress)
+handles_end client message own file access share progress create s wait =
     let met = wants_met (handle_wants progress.server own file access share) progress in
     let sound = wants_met-sound (handle_wants progress.server own file access share) progress s
     (handle_wants-fit progress.server own file access share s) in
-    ends_step client request 1 met sound (λ wants found unready w. ⊎_elim
+    ends_step client message 1 met sound (λ wants found unready w. ⊎_elim
     (λ h. clash (is_empty (handle_wants met.server own file access share))
-    (handles_gone request own file access share progress s wait) h.are_some)
-    (λ h. subst (λ x. Ends client request 1 (wants_met x met)) (sym h.are_writes)
-    (writes_end client request own file access share met create sound h.no_conflict
-    (subst (λ x. must_wait request (wants_met x met) x ≡ false) h.are_writes w)))
+    (handles_gone message own file access share progress s wait) h.are_some)
+    (λ h. subst (λ x. Ends client message 1 (wants_met x met)) (sym h.are_writes)
+    (writes_end client message own file access share met create sound h.no_conflict
+    (subst (λ x. must_wait message (wants_met x met) x ≡ false) h.are_writes w)))
     (create_wants met.server own file access share wants (create met.server wants found)))
 
 -- a create ends by its third round
-create_ends : (client : ℕ) (request : Request) (own : Option Key) (file : ℕ) (access : Access) (share : Share)
+create_ends : (client : ℕ) (message : Request) (own : Option Key) (file : ℕ) (access : Access) (share : Share)
     (progress : Progress)
-    → IsCreate client request own file access share → IsSound progress.server → Ends client request 3 progress
-create_ends client request own file access share progress create s =
-    ends_step client request 2 progress s (λ wants found unready w. ⊎_elim
-    (λ h. subst (λ x. Ends client request 2 (wants_met x progress)) (sym h.are_handles)
-    (handles_end client request own file access share progress create s
-    (subst (λ x. must_wait request (wants_met x progress) x ≡ false) h.are_handles w)))
-    (λ h. subst (λ x. Ends client request 2 (wants_met x progress)) (sym h.are_writes)
-    (ends_later client request 1 2 (wants_met (write_wants progress.server own file) progress) (omega arith)
-    (writes_end client request own file access share progress create s h.no_conflict
-    (subst (λ x. must_wait request (wants_met x progress) x ≡ false) h.are_writes w))))
+    → IsCreate client message own file access share → IsSound progress.server → Ends client message 3 progress
+create_ends client message own file access share progress create s =
+    ends_step client message 2 progress s (λ wants found unready w. ⊎_elim
+    (λ h. subst (λ x. Ends client message 2 (wants_met x progress)) (sym h.are_handles)
+    (handles_end client message own file access share progress create s
+    (subst (λ x. must_wait message (wants_met x progress) x ≡ false) h.are_handles w)))
+    (λ h. subst (λ x. Ends client message 2 (wants_met x progress)) (sym h.are_writes)
+    (ends_later client message 1 2 (wants_met (write_wants progress.server own file) progress) (omega arith)
+    (writes_end client message own file access share progress create s h.no_conflict
+    (subst (λ x. must_wait message (wants_met x progress) x ≡ false) h.are_writes w))))
     (create_wants progress.server own file access share wants (create progress.server wants found)))
 
 -- a request that wants nothing, whatever it finds
 abbrev pub WantsNothing : ℕ → Request → Type 0
-WantsNothing client request = (server : Server) (wants : List Want)
-    → finding server client request ≡ Finding.Wants wants → is_empty wants ≡ true
+WantsNothing client message = (server : Server) (wants : List Want)
+    → finding server client message ≡ Finding.Wants wants → is_empty wants ≡ true
 
 -- a request that wants nothing ends by its first
-nothing_ends : (client : ℕ) (request : Request) (progress : Progress) → IsSound progress.server
-    → WantsNothing client request → Ends client request 1 progress
-nothing_ends client request progress s nothing = ends_step client request 0 progress s
-    (λ wants found unready w. absurd (not_empty request progress.server.leases wants
+nothing_ends : (client : ℕ) (message : Request) (progress : Progress) → IsSound progress.server
+    → WantsNothing client message → Ends client message 1 progress
+nothing_ends client message progress s nothing = ends_step client message 0 progress s
+    (λ wants found unready w. absurd (not_empty message progress.server.leases wants
     (nothing progress.server wants found) unready))
 
 -- a reconnect wants nothing
@@ -313,15 +313,15 @@ create_found server client file access share ask wants =
 
 -- a create ends, with a reconnect or without
 asked_ends : (client file : ℕ) (access : Access) (share : Share) (lease : Option LeaseOf) (again : Option ℕ)
-    (request : Request) (progress : Progress)
-    → ((server : Server) (wants : List Want) → finding server client request ≡ Finding.Wants wants
+    (message : Request) (progress : Progress)
+    → ((server : Server) (wants : List Want) → finding server client message ≡ Finding.Wants wants
     → asked_finding server client file access share lease again ≡ Finding.Wants wants)
-    → IsSound progress.server → Ends client request 3 progress
-asked_ends client file access share lease None request progress found s =
-    create_ends client request (own_key client lease) file access share progress found s
-asked_ends client file access share lease (Some file_id) request progress found s =
-    ends_later client request 1 3 progress (omega arith)
-    (nothing_ends client request progress s (λ server wants e.
+    → IsSound progress.server → Ends client message 3 progress
+asked_ends client file access share lease None message progress found s =
+    create_ends client message (own_key client lease) file access share progress found s
+asked_ends client file access share lease (Some file_id) message progress found s =
+    ends_later client message 1 3 progress (omega arith)
+    (nothing_ends client message progress s (λ server wants e.
     reconnect_nothing server client file (own_key client lease) file_id wants (found server wants e)))
 
 -- a create whose contexts can't be read wants nothing
@@ -416,29 +416,29 @@ some_same one other e = cc
 write_ends : (client file_id number : ℕ) (patch : Patch) (progress : Progress) → IsSound progress.server
     → Ends client (Request.Write file_id number patch) 2 progress
 write_ends client file_id number patch progress s =
-    let request = Request.Write file_id number patch in
-    ends_step client request 1 progress s (λ wants found unready wait.
+    let message = Request.Write file_id number patch in
+    ends_step client message 1 progress s (λ wants found unready wait.
     let all = write_all progress.server client file_id number patch wants found in
     let own = key_of_open all.one in
     let met = wants_met wants progress in
     let next = subst (λ x. IsSound (wants_met x progress).server) (sym all.are_all)
     (wants_met-sound (all_wants progress.server own (all.one).file) progress s
     (all_wants-fit progress.server own (all.one).file s)) in
-    ends_step client request 0 met next (λ others again still w.
+    ends_step client message 0 met next (λ others again still w.
     let more = write_all met.server client file_id number patch others again in
     let same : more.one ≡ all.one = some_same more.one all.one
     (sym more.found ∙ wants_met-found wants progress client file_id ∙ all.found) in
     let gone : is_empty (all_wants met.server own (all.one).file) ≡ true =
     subst (λ x. is_empty (all_wants (wants_met x progress).server own (all.one).file) ≡ true)
     (sym all.are_all)
-    (all_gone request own (all.one).file progress s
-    (subst (λ x. must_wait request (wants_met x progress) x ≡ false) all.are_all wait)) in
-    absurd (not_empty request met.server.leases others
+    (all_gone message own (all.one).file progress s
+    (subst (λ x. must_wait message (wants_met x progress) x ≡ false) all.are_all wait)) in
+    absurd (not_empty message met.server.leases others
     (ap is_empty (more.are_all ∙ ap (λ x. all_wants met.server (key_of_open x) x.file) same) ∙ gone) still)))
 
 -- every try ends by its third round
-pub tried_for-ends : (client : ℕ) (request : Request) (progress : Progress) → IsSound progress.server
-    → Ends client request 3 progress
+pub tried_for-ends : (client : ℕ) (message : Request) (progress : Progress) → IsSound progress.server
+    → Ends client message 3 progress
 tried_for-ends client (Request.Create file access share contexts) progress s = contexts_end client file access
     share contexts progress s
 tried_for-ends client (Request.Read file_id) progress s = ends_later client (Request.Read file_id) 1 3
@@ -455,8 +455,8 @@ tried_for-ends client (Request.Acknowledge given) progress s = ends_later client
     (nothing_ends client (Request.Acknowledge given) progress s (acknowledge_nothing client given))
 
 -- a try waits only where the request has to
-pub tried-waits : (client : ℕ) (request : Request) (progress : Progress) → IsSound progress.server
-    → (tried client request progress).outcome ≡ Outcome.Waits
-    → HasToWait (tried client request progress).progress.server client request
-tried-waits client request progress s =
-    (tried_for-ends client request progress s 3 3 (omega arith) (omega arith)).is_excused
+pub tried-waits : (client : ℕ) (message : Request) (progress : Progress) → IsSound progress.server
+    → (tried client message progress).outcome ≡ Outcome.Waits
+    → HasToWait (tried client message progress).progress.server client message
+tried-waits client message progress s =
+    (tried_for-ends client message progress s 3 3 (omega arith) (omega arith)).is_excused
