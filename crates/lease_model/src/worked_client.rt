@@ -1,4 +1,4 @@
-ghost use Rattle.lease_model.specs.WorkedClient.{ClientSteps, NeverConnected};
+ghost use Rattle.lease_model.specs.worked.ClientCalls.{ClientSteps, NeverConnected};
 
 /// A client opens a file, buffers two writes, reads once from the server and once from its cache,
 /// and meets a break to RH: it sends the writes before the acknowledgment.

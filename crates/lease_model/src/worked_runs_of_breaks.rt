@@ -1,4 +1,4 @@
-ghost use Rattle.lease_model.specs.RunsOfBreaks.{WholeBreak, LateBreak, LateBreakAfter, ParkedHandleBreak, UsedHandleBreak, Timer};
+ghost use Rattle.lease_model.specs.worked.RunsOfBreaks.{WholeBreak, LateBreak, LateBreakAfter, ParkedHandleBreak, UsedHandleBreak, Timer};
 
 /// Runs in which leases are broken: the break of cached writes, one that comes late, the two of
 /// cached handles, and one whose timer runs out.

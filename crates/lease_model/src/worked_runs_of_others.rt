@@ -1,4 +1,4 @@
-ghost use Rattle.lease_model.specs.RunsOfOthers.{TwoFilesHeld, StrayedClient};
+ghost use Rattle.lease_model.specs.worked.RunsOfOthers.{TwoFilesHeld, StrayedClient};
 
 /// Runs of requests that are held on two files, and of a client that strays.
 pub fn runs_of_others()

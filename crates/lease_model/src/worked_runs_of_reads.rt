@@ -1,4 +1,4 @@
-ghost use Rattle.lease_model.specs.RunsOfReads.{Staleness, OwnWrites, CrossingWrites, NoEvent};
+ghost use Rattle.lease_model.specs.worked.RunsOfReads.{Staleness, OwnWrites, CrossingWrites, NoEvent};
 
 /// Runs of cached reads and of writes that go through: staleness, own writes, writes that cross, and
 /// a setup with no event.

@@ -1,4 +1,4 @@
-ghost use Rattle.lease_model.specs.WorkedServer.{SharedCalls, SharedAllowed, LaterCalls, LaterAllowed, Acknowledgments, OddStates, TwoPasses};
+ghost use Rattle.lease_model.specs.worked.ServerCalls.{SharedCalls, SharedAllowed, LaterCalls, LaterAllowed, Acknowledgments, OddStates, TwoPasses};
 
 /// Two clients and two files: a lease is broken for another client's create, acknowledged, and the
 /// create answered; then a denied write, two closes and refused creates. What the server would

@@ -1,4 +1,4 @@
-ghost use Rattle.lease_model.specs.WorkedVerdicts.{OneFlaw, StrayedVerdicts, StrangeOrder, LimitVerdicts};
+ghost use Rattle.lease_model.specs.worked.Verdicts.{OneFlaw, StrayedVerdicts, StrangeOrder, LimitVerdicts};
 
 /// Verdicts on short records: one flaw each, strayed clients, facts in an order that no run gives,
 /// and writes at the limit.

@@ -1,0 +1,5 @@
+pub mod Entries
+pub mod Notes
+pub mod Numbers
+pub mod Thin
+pub mod Words

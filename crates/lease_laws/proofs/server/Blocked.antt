@@ -1,0 +1,300 @@
+-- Where a round has to wait, another key on the request's file is breaking.
+use Rattle.std.proofs.Common.{◌≡◌, refl, sym, ap, ◌∙◌, subst, ℕ, Bool, true, false, not, List, [], true≢false, ◌==◌}
+use Rattle.std.specs.Prelude.{if◌then◌else◌, ◌&&◌, filter, Option, Some, None}
+use Rattle.std.specs.List.{list_any}
+use Rattle.std.proofs.lemmas.Bool.Decides.{Decides-eqb}
+use Rattle.lease_state.specs.State.{State, nothing_cached}
+use Rattle.lease_state.specs.declared.access.Access.{Access}
+use Rattle.lease_state.specs.declared.access.Share.{Share}
+use Rattle.lease_state.specs.declared.status.Status.{Status}
+use Rattle.lease_model.specs.server.Allowed.{is_other_on, conflicts_on}
+use Rattle.lease_model.specs.server.Attempt.{must_wait, wants_met}
+use Rattle.lease_state.specs.declared.patch.Patch.{Patch}
+use Rattle.lease_model.specs.values.Patches.{is_within_limit}
+use Rattle.lease_model.specs.values.Keys.{Key}
+use Rattle.lease_model.specs.values.LeaseStates.{holds_any, without_write, without_handle}
+use Rattle.lease_model.specs.values.Lists.{is_empty}
+use Rattle.lease_model.specs.server.Progress.{Progress}
+use Rattle.lease_model.specs.server.Ready.{waits_for}
+use Rattle.lease_model.specs.messages.Requests.{Request, CreateAsk, LeaseOf}
+use Rattle.lease_laws.specs.server.Laws.{Among, IsSound, IsBlocked, IsOpenBlocked, HasToWait}
+use Rattle.lease_model.specs.server.State.{Server, Open, has_key, has_own_key, has_file, has_lease, is_breaking}
+use Rattle.lease_model.specs.values.Sharing.{may_read, may_write}
+use Rattle.lease_model.specs.server.Wants.{Want, Finding, finding, lease_of, wants_where, keys_of, handle_wants, write_wants, all_wants, create_finding, reconnect_finding, write_finding, asked_finding, read_finding, by_open, own_key, key_of_open, connected_open, is_leased_elsewhere, awaits}
+use Rattle.lease_laws.proofs.server.Keys.{is_key-one}
+use Rattle.lease_laws.proofs.server.Lists.{if_cases, clash, and_parts, not_parts, not_true, not_false, any_has, among_map, among_filter}
+use Rattle.lease_laws.proofs.server.Met.{wants_met-were, wants_met-found}
+use Rattle.lease_laws.proofs.server.Wants.{keys_of-has}
+
+-- a key of an open on the file that isn't the one
+pub record IsOtherKey (server : Server) (own : Option Key) (file : ℕ) (key : Key) : Type 0 where
+  pub one : Open
+  pub is_there : Among one server.opens
+  pub is_on_file : one.file ≡ file
+  pub has_the_key : has_key key one ≡ true
+  pub is_other : has_own_key own one ≡ false
+
+-- each want is of another key
+abbrev pub AreOtherKeys : Server → Option Key → ℕ → List Want → Type 0
+AreOtherKeys server own file wants = (want : Want) → Among want wants → IsOtherKey server own file want.key
+
+-- wants by a test that looks for other keys are of other keys
+where_other : (server : Server) (own : Option Key) (file : ℕ) (test : Open → Bool) (lowering : State → State)
+    → ((one : Open) → test one ≡ true → is_other_on own file one ≡ true)
+    → AreOtherKeys server own file (wants_where server test lowering)
+unfolding wants_where is_other_on
+where_other server own file test lowering other want a =
+    let x = among_map (λ key. record { key = key; lowered = lowering (server.leases key).state }) want
+    (keys_of (filter test server.opens)) a in
+    let y = keys_of-has x.0 (filter test server.opens) x.1 in
+    let z = among_filter test y.0 server.opens y.1 in
+    let parts = and_parts ((y.0).file == file) (not (has_own_key own y.0)) (other y.0 z.1) in
+    record {
+      one = y.0;
+      is_there = z.0;
+      is_on_file = (Decides-eqb (y.0).file file).0 parts.0;
+      has_the_key = ap (λ w. has_key w.key y.0) x.2 ∙ y.2;
+      is_other = not_parts (has_own_key own y.0) parts.1;
+    }
+
+-- a conflicting create wants other keys
+handles_other : (server : Server) (own : Option Key) (file : ℕ) (access : Access) (share : Share)
+    → AreOtherKeys server own file (handle_wants server own file access share)
+unfolding handle_wants
+handles_other server own file access share = where_other server own file
+    (λ one. conflicts_on file access share one && is_other_on own file one &&
+    (lease_of server one).state.handle) without_handle
+    (λ one t. (and_parts (conflicts_on file access share one) (is_other_on own file one)
+    (and_parts (conflicts_on file access share one && is_other_on own file one)
+    (lease_of server one).state.handle t).0).1)
+
+-- a create wants other keys
+writes_other : (server : Server) (own : Option Key) (file : ℕ)
+    → AreOtherKeys server own file (write_wants server own file)
+unfolding write_wants
+writes_other server own file = where_other server own file
+    (λ one. is_other_on own file one && (lease_of server one).state.write) without_write
+    (λ one t. (and_parts (is_other_on own file one) (lease_of server one).state.write t).0)
+
+-- a write wants other keys
+all_other : (server : Server) (own : Option Key) (file : ℕ)
+    → AreOtherKeys server own file (all_wants server own file)
+unfolding all_wants
+all_other server own file = where_other server own file
+    (λ one. is_other_on own file one && holds_any (lease_of server one).state) (λ state. nothing_cached)
+    (λ one t. (and_parts (is_other_on own file one) (holds_any (lease_of server one).state) t).0)
+
+-- a key that is breaking has an open
+pub breaking_open : (server : Server) (key : Key) → IsSound server → is_breaking (server.leases key) ≡ true
+    → has_lease server key ≡ true
+breaking_open server key s b = not_false (has_lease server key) (λ none.
+    clash (is_breaking (server.leases key)) b (ap (λ l. is_breaking l) (s.no_open key none)))
+
+-- an open with the key of another that isn't the one's isn't the one's either
+other_alike : (own : Option Key) (key : Key) (one other : Open) → has_key key one ≡ true
+    → has_key key other ≡ true
+    → has_own_key own one ≡ false → has_own_key own other ≡ false
+other_alike None key one other k j e = refl
+other_alike (Some mine) key one other k j e = not_true (has_key mine other) (λ t.
+    clash (has_key mine one) (ap (λ x. has_key x one) (is_key-one mine key other.client other.lease_key t j)
+    ∙ k) e)
+
+-- a round that has to wait leaves the file blocked
+wait_blocked : (request : Request) (own : Option Key) (file : ℕ) (wants : List Want) (progress : Progress)
+    → IsSound progress.server
+    → IsSound (wants_met wants progress).server → AreOtherKeys progress.server own file wants
+    → must_wait request (wants_met wants progress) wants ≡ true
+    → IsBlocked (wants_met wants progress).server own file
+unfolding waits_for
+wait_blocked request own file wants progress s next other wait =
+    let met = wants_met wants progress in
+    let x = any_has (λ want. waits_for request (met.server.leases want.key)) wants wait in
+    let was = other x.0 x.1 in
+    let y = any_has (has_key (x.0).key) met.server.opens (breaking_open met.server (x.0).key next x.2) in
+    record {
+      key = (x.0).key;
+      is_breaking = x.2;
+      one = y.0;
+      is_there = y.1;
+      is_on_file = s.one_file (x.0).key was.one y.0 was.is_there was.has_the_key
+          (wants_met-were wants progress y.0 y.1) y.2 ∙ was.is_on_file;
+      has_the_key = y.2;
+      is_other = other_alike own (x.0).key was.one y.0 was.has_the_key y.2 was.is_other;
+    }
+
+-- what is wanted is of other keys
+abbrev WantsOther : Server → Option Key → ℕ → Finding → Type 0
+WantsOther server own file (Finding.Refused status) = Unit {0}
+WantsOther server own file (Finding.Wants wants) = AreOtherKeys server own file wants
+
+-- what a create finds
+create_other : (server : Server) (own : Option Key) (file : ℕ) (access : Access) (share : Share)
+    → WantsOther server own file (create_finding server own file access share)
+unfolding create_finding
+create_other server own file access share =
+    if_cases (WantsOther server own file) (is_leased_elsewhere server own file) _ _
+    (λ e. tt)
+    (λ e. if_cases (WantsOther server own file) (list_any (conflicts_on file access share) server.opens) _ _
+    (λ c. if_cases (WantsOther server own file) (is_empty (handle_wants server own file access share)) _ _
+    (λ n. tt) (λ n. handles_other server own file access share))
+    (λ c. writes_other server own file))
+
+-- what a reconnect finds
+reconnect_other : (server : Server) (client file : ℕ) (own : Option Key) (file_id : ℕ)
+    → WantsOther server own file (reconnect_finding server client file own file_id)
+unfolding reconnect_finding
+reconnect_other server client file own file_id =
+    if_cases (WantsOther server own file) (list_any (awaits client file own file_id) server.opens)
+    (Finding.Wants []) (Finding.Refused Status.ObjectNameNotFound)
+    (λ e want a. absurd a) (λ e. tt)
+
+-- what a create finds, with a reconnect or without
+asked_other : (server : Server) (client file : ℕ) (access : Access) (share : Share) (lease : Option LeaseOf)
+    (again : Option ℕ)
+    → WantsOther server (own_key client lease) file
+    (asked_finding server client file access share lease again)
+asked_other server client file access share lease None = create_other server (own_key client lease) file
+    access share
+asked_other server client file access share lease (Some file_id) = reconnect_other server client file
+    (own_key client lease) file_id
+
+-- what a write finds
+write_other : (server : Server) (one : Open) (patch : Patch)
+    → WantsOther server (key_of_open one) one.file (write_finding server one patch)
+unfolding write_finding
+write_other server one patch =
+    if_cases (WantsOther server (key_of_open one) one.file) (may_write one.access) _ _
+    (λ e. if_cases (WantsOther server (key_of_open one) one.file) (is_within_limit patch) _ _
+    (λ i. all_other server (key_of_open one) one.file) (λ i. tt))
+    (λ e. tt)
+
+-- what is found wants other keys
+found_other : (server : Server) (own : Option Key) (file : ℕ) (found : Finding) (wants : List Want)
+    → WantsOther server own file found
+    → found ≡ Finding.Wants wants → AreOtherKeys server own file wants
+found_other server own file found wants other e = subst (WantsOther server own file) e other
+
+-- nothing wanted is nothing to wait for
+nobody_waits : {X : Type 0} (request : Request) (wants : List Want) (progress : Progress) → [] ≡ wants
+    → must_wait request (wants_met wants progress) wants ≡ true → X
+nobody_waits request wants progress e wait = absurd
+    (true≢false (sym (subst (λ x. must_wait request (wants_met x progress) x ≡ true) (sym e) wait)))
+
+-- a create that has to wait is blocked
+create_waits : (client file : ℕ) (access : Access) (share : Share) (contexts : Option CreateAsk)
+    (progress : Progress) (wants : List Want)
+    → IsSound progress.server → IsSound (wants_met wants progress).server
+    → finding progress.server client (Request.Create file access share contexts) ≡ Finding.Wants wants
+    → must_wait (Request.Create file access share contexts) (wants_met wants progress) wants ≡ true
+    → HasToWait (wants_met wants progress).server client (Request.Create file access share contexts)
+unfolding finding
+create_waits client file access share None progress wants s next never wait = absurd (cc)
+create_waits client file access share (Some ask) progress wants s next found wait =
+    wait_blocked (Request.Create file access share (Some ask)) (own_key client ask.lease) file wants progress
+    s next
+    (found_other progress.server (own_key client ask.lease) file
+    (if has_file progress.server file then asked_finding progress.server client file access share ask.lease
+    ask.reconnect
+    else Finding.Refused Status.ObjectNameNotFound) wants
+    (if_cases (WantsOther progress.server (own_key client ask.lease) file) (has_file progress.server file)
+    (asked_finding progress.server client file access share ask.lease ask.reconnect)
+    (Finding.Refused Status.ObjectNameNotFound)
+    (λ e. asked_other progress.server client file access share ask.lease ask.reconnect) (λ e. tt))
+    found) wait
+
+-- a write by this open that has to wait is blocked
+write_waits_at : (client file_id number : ℕ) (patch : Patch) (progress : Progress) (wants : List Want)
+    (one : Option Open)
+    → IsSound progress.server → IsSound (wants_met wants progress).server
+    → connected_open progress.server client file_id ≡ one
+    → by_open one (λ x. write_finding progress.server x patch) ≡ Finding.Wants wants
+    → must_wait (Request.Write file_id number patch) (wants_met wants progress) wants ≡ true
+    → IsOpenBlocked (wants_met wants progress).server client file_id
+write_waits_at client file_id number patch progress wants None s next is_open never wait = absurd (cc)
+write_waits_at client file_id number patch progress wants (Some one) s next is_open found wait = record {
+  one = one;
+  is_open = wants_met-found wants progress client file_id ∙ is_open;
+  is_blocked = wait_blocked (Request.Write file_id number patch) (key_of_open one) one.file wants progress s
+      next
+      (found_other progress.server (key_of_open one) one.file (write_finding progress.server one patch) wants
+      (write_other progress.server one patch) found) wait;
+}
+
+-- a write that has to wait is blocked
+write_waits : (client file_id number : ℕ) (patch : Patch) (progress : Progress) (wants : List Want)
+    → IsSound progress.server → IsSound (wants_met wants progress).server
+    → finding progress.server client (Request.Write file_id number patch) ≡ Finding.Wants wants
+    → must_wait (Request.Write file_id number patch) (wants_met wants progress) wants ≡ true
+    → IsOpenBlocked (wants_met wants progress).server client file_id
+unfolding finding
+write_waits client file_id number patch progress wants s next found wait =
+    write_waits_at client file_id number patch progress wants (connected_open progress.server client file_id)
+    s next refl found wait
+
+-- a finding that refuses, or wants nothing
+abbrev Idle : Finding → Type 0
+Idle (Finding.Refused status) = Unit {0}
+Idle (Finding.Wants wants) = [] ≡ wants
+
+-- what is idle by every open
+by_open-idle : (one : Option Open) (found : Open → Finding) → ((x : Open) → Idle (found x))
+    → Idle (by_open one found)
+by_open-idle None found each = tt
+by_open-idle (Some one) found each = each one
+
+-- a read wants nothing
+read-idle : (one : Open) → Idle (read_finding one)
+read-idle one = if_cases Idle (may_read one.access) (Finding.Wants []) (Finding.Refused Status.AccessDenied)
+    (λ e. refl) (λ e. tt)
+
+-- what is idle never waits
+idle_waits : {X : Type 0} (request : Request) (progress : Progress) (wants : List Want) (found : Finding)
+    → Idle found
+    → found ≡ Finding.Wants wants → must_wait request (wants_met wants progress) wants ≡ true → X
+idle_waits request progress wants found idle e wait = nobody_waits request wants progress (subst Idle e idle)
+    wait
+
+-- a read never waits
+read_waits : {X : Type 0} (client file_id : ℕ) (progress : Progress) (wants : List Want)
+    → finding progress.server client (Request.Read file_id) ≡ Finding.Wants wants
+    → must_wait (Request.Read file_id) (wants_met wants progress) wants ≡ true → X
+unfolding finding
+read_waits client file_id progress wants found wait = idle_waits (Request.Read file_id) progress wants
+    (by_open (connected_open progress.server client file_id) read_finding)
+    (by_open-idle (connected_open progress.server client file_id) read_finding read-idle) found wait
+
+-- a close never waits
+close_waits : {X : Type 0} (client file_id : ℕ) (progress : Progress) (wants : List Want)
+    → finding progress.server client (Request.Close file_id) ≡ Finding.Wants wants
+    → must_wait (Request.Close file_id) (wants_met wants progress) wants ≡ true → X
+unfolding finding
+close_waits client file_id progress wants found wait = idle_waits (Request.Close file_id) progress wants
+    (by_open (connected_open progress.server client file_id) (λ one. Finding.Wants []))
+    (by_open-idle (connected_open progress.server client file_id) (λ one. Finding.Wants []) (λ one. refl))
+    found wait
+
+-- an acknowledgment never waits
+acknowledge_waits : {X : Type 0} (client : ℕ) (given : Option LeaseOf) (progress : Progress)
+    (wants : List Want)
+    → finding progress.server client (Request.Acknowledge given) ≡ Finding.Wants wants
+    → must_wait (Request.Acknowledge given) (wants_met wants progress) wants ≡ true → X
+unfolding finding
+acknowledge_waits client given progress wants found wait = idle_waits (Request.Acknowledge given) progress
+    wants (Finding.Wants []) refl found wait
+
+-- where a round of a try has to wait, so has the request
+pub round_waits : (client : ℕ) (request : Request) (progress : Progress) (wants : List Want)
+    → IsSound progress.server → IsSound (wants_met wants progress).server
+    → finding progress.server client request ≡ Finding.Wants wants
+    → must_wait request (wants_met wants progress) wants ≡ true
+    → HasToWait (wants_met wants progress).server client request
+round_waits client (Request.Create file access share contexts) progress wants s next found wait = create_waits
+    client file access share contexts progress wants s next found wait
+round_waits client (Request.Read file_id) progress wants s next found wait = read_waits client file_id
+    progress wants found wait
+round_waits client (Request.Write file_id number patch) progress wants s next found wait = write_waits client
+    file_id number patch progress wants s next found wait
+round_waits client (Request.Close file_id) progress wants s next found wait = close_waits client file_id
+    progress wants found wait
+round_waits client (Request.Acknowledge given) progress wants s next found wait = acknowledge_waits client
+    given progress wants found wait

@@ -1,0 +1,300 @@
+-- The laws hold of the first server, and every call keeps them.
+use Rattle.std.proofs.Common.{◌≡◌, refl, sym, ap, ◌∙◌, subst, ℕ, Bool, true, false, not, cond, List, true≢false, ◌==◌}
+use Rattle.std.specs.Prelude.{if◌then◌else◌, ◌&&◌, Option, Some, None, Result, Ok, Err}
+use Rattle.std.specs.List.{list_any}
+use Rattle.std.proofs.lemmas.Bool.Decides.{Decides-eqb}
+use Rattle.lease_state.specs.declared.status.Status.{Status}
+use Rattle.lease_model.specs.server.Acknowledge.{acknowledged}
+use Rattle.lease_model.specs.server.Attempt.{Outcome, tried}
+use Rattle.lease_model.specs.server.Calls.{Call, called, join, joined, receive, arrived, arrived_on, after_first_try, held_of, file_asked, cut, is_kept, is_lost, disconnected, opens_disconnected, client_forgotten, key_expired, expire, scavenge, is_kept_open}
+use Rattle.lease_model.specs.values.Keys.{Key}
+use Rattle.lease_model.specs.values.Lists.{without}
+use Rattle.lease_model.specs.server.Passes.{all_passes, is_behind}
+use Rattle.lease_model.specs.server.Progress.{Progress, begun, opens_dropped, with_opens, request_held}
+use Rattle.lease_model.specs.messages.Requests.{Request}
+use Rattle.lease_laws.specs.server.Laws.{Among, AreSound, IsSound, IsLasting}
+use Rattle.lease_model.specs.server.State.{Server, Open, no_lease, new_server, has_key, is_key, is_breaking}
+use Rattle.lease_model.specs.values.Tables.{put_key}
+use Rattle.lease_model.specs.server.Wants.{lease_of, lease_by, key_of}
+use Rattle.lease_laws.proofs.server.Answers.{acknowledged-sound, refused-sound, concluded-sound, map_same, choose_connection}
+use Rattle.lease_laws.proofs.server.Keys.{put_key-cases, is_key-refl, lease_by-key}
+use Rattle.lease_laws.proofs.server.Lists.{if_cases, either, clash, and_both, and_parts, not_parts, not_false, among_filter, any_has}
+use Rattle.lease_laws.proofs.server.Passes.{all_passes-sound}
+use Rattle.lease_laws.proofs.server.Progress.{opens_dropped-sound, request_held-sound}
+use Rattle.lease_laws.proofs.server.Ready.{ready-free}
+use Rattle.lease_laws.proofs.server.States.{no_lease-lawful}
+use Rattle.lease_laws.proofs.server.Steps.{connection_sound, with_connection, left_here}
+use Rattle.lease_laws.proofs.server.Tries.{IsGoodTry, tried_for-good}
+
+-- the first server
+pub new_server-sound : (contents : List (List ℕ)) → IsSound (new_server contents)
+unfolding new_server
+new_server-sound contents = record {
+  one_writer = λ key one other w a k b f. absurd a;
+  no_conflict = λ one other a b f n. absurd a;
+  disconnected = λ one a d. absurd a;
+  lawful = λ key. no_lease-lawful;
+  one_file = λ key one other a k b j. absurd a;
+  no_open = λ key e. refl;
+  numbered = λ one a. absurd a;
+  in_order = tt;
+  timed_out = λ key e. refl;
+}
+
+-- fewer keys are marked as timed out
+fewer_timers : (server : Server) (expired : Key → Bool) → IsSound server
+    → ((key : Key) → expired key ≡ true → server.expired key ≡ true)
+    → AreSound server.opens server.leases expired server.last_id
+fewer_timers server expired s fewer = record {
+  one_writer = s.one_writer;
+  no_conflict = s.no_conflict;
+  disconnected = s.disconnected;
+  lawful = s.lawful;
+  one_file = s.one_file;
+  no_open = s.no_open;
+  numbered = s.numbered;
+  in_order = s.in_order;
+  timed_out = λ key e. s.timed_out key (fewer key e);
+}
+
+-- a key that has no lease may be marked
+one_timer : (server : Server) (key : Key) → IsSound server → server.leases key ≡ no_lease
+    → AreSound server.opens server.leases (put_key server.expired key true) server.last_id
+one_timer server key s none = record {
+  one_writer = s.one_writer;
+  no_conflict = s.no_conflict;
+  disconnected = s.disconnected;
+  lawful = s.lawful;
+  one_file = s.one_file;
+  no_open = s.no_open;
+  numbered = s.numbered;
+  in_order = s.in_order;
+  timed_out = λ k. put_key-cases (λ b. b ≡ true → server.leases k ≡ no_lease) server.expired key true k
+      (λ same e. ap (λ x. server.leases x) same ∙ none) (λ differs. s.timed_out k);
+}
+
+-- a join that applies keeps the laws
+pub joined-sound : (client : ℕ) (progress : Progress) → IsSound progress.server
+    → IsSound (joined client progress).server
+unfolding joined
+joined-sound client progress s = fewer_timers progress.server
+    (λ key. if key.client == client then false else progress.server.expired key) s
+    (λ key. if_cases (λ b. b ≡ true → progress.server.expired key ≡ true) (key.client == client) false
+    (progress.server.expired key)
+    (λ e never. absurd (true≢false (sym never))) (λ e same. same))
+
+-- a choice of two calls under way
+sound_cases : (b : Bool) (x y : Progress) → (b ≡ true → IsSound x.server) → (b ≡ false → IsSound y.server)
+    → IsSound (cond b x y).server
+sound_cases b x y at_true at_false = if_cases (λ p. IsSound p.server) b x y at_true at_false
+
+-- a join keeps the laws
+pub join-sound : (server : Server) (client : ℕ) → IsSound server → IsSound (join server client).server
+unfolding join
+join-sound server client s = sound_cases (server.connected client) (begun server)
+    (joined client (begun server))
+    (λ e. s) (λ e. joined-sound client (begun server) s)
+
+-- what follows a first try keeps the laws
+after_first_try-sound : (client file : ℕ) (request : Request) (progress : Progress) (outcome : Outcome)
+    → IsGoodTry client request (record { progress = progress; outcome = outcome })
+    → IsSound (after_first_try client file request progress outcome).server
+after_first_try-sound client file request progress Outcome.Waits good = request_held-sound file
+    (held_of client request) progress good.sound
+after_first_try-sound client file request progress (Outcome.Refused status) good = concluded-sound client
+    request progress (Outcome.Refused status) good.sound
+    (λ r. absurd (cc))
+after_first_try-sound client file request progress Outcome.Ready good = concluded-sound client request
+    progress Outcome.Ready good.sound
+    (λ r. ready-free client request progress (good.found_ready r))
+
+-- a request on a file keeps the laws
+pub arrived_on-sound : (client : ℕ) (request : Request) (progress : Progress) (asked : Result ℕ Status)
+    → IsSound progress.server
+    → IsSound (arrived_on client request progress asked).server
+arrived_on-sound client request progress (Err status) s = refused-sound client request status progress s
+arrived_on-sound client request progress (Ok file) s = sound_cases
+    (is_behind client (progress.server.held file))
+    (request_held file (held_of client request) progress)
+    (after_first_try client file request (tried client request progress).progress
+    (tried client request progress).outcome)
+    (λ e. request_held-sound file (held_of client request) progress s)
+    (λ e. after_first_try-sound client file request (tried client request progress).progress
+    (tried client request progress).outcome
+    (tried_for-good 3 client request progress s))
+
+-- a request that comes keeps the laws
+arrived-sound : (client : ℕ) (request : Request) (progress : Progress) → IsSound progress.server
+    → IsSound (arrived client request progress).server
+unfolding arrived
+arrived-sound client (Request.Acknowledge given) progress s = all_passes-sound
+    (acknowledged client given progress) (acknowledged-sound client given progress s)
+arrived-sound client (Request.Close file_id) progress s = all_passes-sound
+    (arrived_on client (Request.Close file_id) progress
+    (file_asked progress.server client (Request.Close file_id)))
+    (arrived_on-sound client (Request.Close file_id) progress
+    (file_asked progress.server client (Request.Close file_id)) s)
+arrived-sound client (Request.Create file access share contexts) progress s =
+    arrived_on-sound client (Request.Create file access share contexts) progress
+    (file_asked progress.server client (Request.Create file access share contexts)) s
+arrived-sound client (Request.Read file_id) progress s =
+    arrived_on-sound client (Request.Read file_id) progress
+    (file_asked progress.server client (Request.Read file_id)) s
+arrived-sound client (Request.Write file_id number patch) progress s =
+    arrived_on-sound client (Request.Write file_id number patch) progress
+    (file_asked progress.server client (Request.Write file_id number patch)) s
+
+-- a request received keeps the laws
+pub receive-sound : (server : Server) (client : ℕ) (request : Request) → IsSound server
+    → IsSound (receive server client request).server
+unfolding receive
+receive-sound server client request s = sound_cases (server.connected client)
+    (arrived client request (begun server)) (begun server)
+    (λ e. arrived-sound client request (begun server) s) (λ e. s)
+
+-- the key of an open whose lease holds H
+handle_key : (server : Server) (client : ℕ) (bytes : Option (List ℕ))
+    → (lease_by server client bytes).state.handle ≡ true
+    → (key : Key) × (is_key key client bytes ≡ true)
+handle_key server client None h = absurd (true≢false (sym h))
+handle_key server client (Some bytes) h = (key_of client bytes, is_key-refl client bytes)
+
+-- an open that is kept outlives its connection
+pub kept_lasting : (server : Server) (one : Open) → is_kept server one ≡ true → IsLasting server.leases one
+unfolding is_kept
+kept_lasting server one kept =
+    let outer = and_parts (one.durable && (lease_of server one).state.handle)
+    (not (is_breaking (lease_of server one))) kept in
+    let inner = and_parts one.durable (lease_of server one).state.handle outer.0 in
+    let k = handle_key server one.client one.lease_key inner.1 in
+    let same : lease_of server one ≡ server.leases k.0 = lease_by-key server k.0 one.client one.lease_key
+    k.1 in
+    record {
+      is_durable = inner.0;
+      key = k.0;
+      has_the_key = k.1;
+      holds_handle = ap (λ l. l.state.handle) (sym same) ∙ inner.1;
+      is_settled = ap (λ l. is_breaking l) (sym same) ∙ not_parts (is_breaking (lease_of server one)) outer.1;
+    }
+
+-- an open that outlives its connection does so among fewer opens, if it is there
+pub lasting_left : (test : Open → Bool) (progress : Progress) (one : Open)
+    → Among one (opens_dropped test progress).server.opens
+    → IsLasting progress.server.leases one → IsLasting (opens_dropped test progress).server.leases one
+unfolding opens_dropped with_opens
+lasting_left test progress one a l =
+    let same = left_here progress.server.leases (without test progress.server.opens) l.key one a
+    l.has_the_key in
+    record {
+      is_durable = l.is_durable;
+      key = l.key;
+      has_the_key = l.has_the_key;
+      holds_handle = ap (λ x. x.state.handle) same ∙ l.holds_handle;
+      is_settled = ap (λ x. is_breaking x) same ∙ l.is_settled;
+    }
+
+-- once the lost opens of a client are dropped, each of its others outlives its connection
+pub left_lasting : (client : ℕ) (server : Server) (one : Open) → IsSound server
+    → Among one (opens_dropped (is_lost server client) (begun server)).server.opens → one.client ≡ client
+    → IsLasting server.leases one
+unfolding opens_dropped with_opens
+left_lasting client server one s a c =
+    let was = among_filter (λ x. not (is_lost server client x)) one server.opens a in
+    either one.connected
+    (λ up. kept_lasting server one (not_false (is_kept server one) (λ gone.
+    clash (is_lost server client one)
+    (and_both (one.client == client && one.connected) (not (is_kept server one))
+    (and_both (one.client == client) one.connected ((Decides-eqb one.client client).1 c) up) (ap not gone))
+    (not_parts (is_lost server client one) was.1))))
+    (λ down. s.disconnected one was.0 down)
+
+-- to disconnect opens keeps the laws
+pub opens_disconnected-sound : (client : ℕ) (progress : Progress) → IsSound progress.server
+    → ((one : Open) → Among one progress.server.opens → one.client ≡ client
+    → IsLasting progress.server.leases one)
+    → IsSound (opens_disconnected client progress).server
+unfolding opens_disconnected
+opens_disconnected-sound client progress s lasting =
+    let up : Open → Bool = λ x. if x.client == client then false else x.connected in
+    subst (λ opens. AreSound opens progress.server.leases progress.server.expired progress.server.last_id)
+    (sym (map_same (disconnected client) (with_connection up) progress.server.opens
+    (λ one. choose_connection (one.client == client) false one)))
+    (connection_sound up progress.server.opens progress.server.leases progress.server.expired
+    progress.server.last_id s
+    (λ one a d. either (one.client == client)
+    (λ e. lasting one a ((Decides-eqb one.client client).0 e))
+    (λ e. s.disconnected one a (if_cases (λ b. b ≡ false → one.connected ≡ false) (one.client == client) false
+    one.connected
+    (λ t. clash (one.client == client) t e) (λ t same. same) d))))
+
+-- to forget a client keeps the laws
+pub client_forgotten-sound : (client : ℕ) (progress : Progress) → IsSound progress.server
+    → IsSound (client_forgotten client progress).server
+unfolding client_forgotten
+client_forgotten-sound client progress s = s
+
+-- a cut keeps the laws
+cut-sound : (server : Server) (client : ℕ) → IsSound server → IsSound (cut server client).server
+unfolding cut
+cut-sound server client s =
+    let dropped = opens_dropped (is_lost server client) (begun server) in
+    sound_cases (server.connected client) (all_passes
+    (client_forgotten client (opens_disconnected client dropped))) (begun server)
+    (λ e. all_passes-sound (client_forgotten client (opens_disconnected client dropped))
+    (client_forgotten-sound client (opens_disconnected client dropped)
+    (opens_disconnected-sound client dropped (opens_dropped-sound (is_lost server client) (begun server) s)
+    (λ one a c. lasting_left (is_lost server client) (begun server) one a
+    (left_lasting client server one s a c)))))
+    (λ e. s)
+
+-- none of the opens that are left has the key that was dropped
+none_left : (key : Key) (opens : List Open) {X : Type 0}
+    → list_any (has_key key) (without (has_key key) opens) ≡ true → X
+none_left key opens e =
+    let x = any_has (has_key key) (without (has_key key) opens) e in
+    clash (has_key key x.0) x.2 (not_parts (has_key key x.0)
+    (among_filter (λ one. not (has_key key one)) x.0 opens x.1).1)
+
+-- a key whose opens are dropped has no lease
+pub dropped_lease : (key : Key) (progress : Progress)
+    → (opens_dropped (has_key key) progress).server.leases key ≡ no_lease
+unfolding opens_dropped with_opens
+dropped_lease key progress = if_cases (λ l. l ≡ no_lease)
+    (list_any (has_key key) (without (has_key key) progress.server.opens))
+    (progress.server.leases key) no_lease
+    (λ e. none_left key progress.server.opens e) (λ e. refl)
+
+-- to mark a key keeps the laws
+pub key_expired-sound : (key : Key) (progress : Progress) → IsSound progress.server
+    → progress.server.leases key ≡ no_lease
+    → IsSound (key_expired key progress).server
+unfolding key_expired
+key_expired-sound key progress s none = one_timer progress.server key s none
+
+-- a timer that runs out keeps the laws
+expire-sound : (server : Server) (key : Key) → IsSound server → IsSound (expire server key).server
+unfolding expire
+expire-sound server key s = sound_cases (is_breaking (server.leases key))
+    (all_passes (key_expired key (opens_dropped (has_key key) (begun server)))) (begun server)
+    (λ e. all_passes-sound (key_expired key (opens_dropped (has_key key) (begun server)))
+    (key_expired-sound key (opens_dropped (has_key key) (begun server))
+    (opens_dropped-sound (has_key key) (begun server) s)
+    (dropped_lease key (begun server))))
+    (λ e. s)
+
+-- a scavenge keeps the laws
+scavenge-sound : (server : Server) (file_id : ℕ) → IsSound server → IsSound (scavenge server file_id).server
+unfolding scavenge
+scavenge-sound server file_id s = sound_cases (list_any (is_kept_open file_id) server.opens)
+    (all_passes (opens_dropped (is_kept_open file_id) (begun server))) (begun server)
+    (λ e. all_passes-sound (opens_dropped (is_kept_open file_id) (begun server))
+    (opens_dropped-sound (is_kept_open file_id) (begun server) s))
+    (λ e. s)
+
+-- every call keeps the laws
+pub called-sound : (server : Server) (call : Call) → IsSound server → IsSound (called server call).server
+called-sound server (Call.Join client) s = join-sound server client s
+called-sound server (Call.Receive client request) s = receive-sound server client request s
+called-sound server (Call.Cut client) s = cut-sound server client s
+called-sound server (Call.Expire key) s = expire-sound server key s
+called-sound server (Call.Scavenge file_id) s = scavenge-sound server file_id s

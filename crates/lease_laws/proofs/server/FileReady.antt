@@ -1,0 +1,102 @@
+-- What is known of the file of a request that is ready, and of the open that it is to have again.
+use Rattle.std.proofs.Common.{◌≡◌, sym, ℕ, true, not, List, [], true≢false, ◌==◌}
+use Rattle.std.specs.Prelude.{◌&&◌, Option, Some, None}
+use Rattle.std.specs.List.{list_any}
+use Rattle.std.proofs.lemmas.Bool.Decides.{Decides-eqb}
+use Rattle.lease_state.specs.declared.access.Access.{Access}
+use Rattle.lease_state.specs.declared.access.Share.{Share}
+use Rattle.lease_state.specs.declared.status.Status.{Status}
+use Rattle.lease_model.specs.values.Keys.{Key}
+use Rattle.lease_model.specs.server.Progress.{Progress}
+use Rattle.lease_model.specs.messages.Requests.{Request, CreateAsk, LeaseOf}
+use Rattle.lease_laws.specs.server.Laws.{Among}
+use Rattle.lease_model.specs.server.State.{Server, Open, has_file, has_key}
+use Rattle.lease_model.specs.server.Wants.{Want, Finding, finding, asked_finding, reconnect_finding, own_key, awaits}
+use Rattle.lease_laws.proofs.server.Lists.{if_cases, and_parts, any_has}
+use Rattle.lease_laws.proofs.server.Tries.{IsFoundReady}
+
+-- a create that is ready names a file of the server; and a reconnect, an open of its client
+pub record IsAwaited (server : Server) (client : ℕ) (file_id : ℕ) : Type 0 where
+  pub one : Open
+  pub is_there : Among one server.opens
+  pub has_id : one.file_id ≡ file_id
+  pub is_own : one.client ≡ client
+
+-- for a reconnect
+abbrev pub AgainReady : Server → ℕ → Option ℕ → Type 0
+AgainReady server client None = Unit {0}
+AgainReady server client (Some file_id) = IsAwaited server client file_id
+
+-- by its contexts
+abbrev pub ContextsReady : Server → ℕ → ℕ → Option CreateAsk → Type 0
+ContextsReady server client file None = Unit {0}
+ContextsReady server client file (Some ask) = (has_file server file ≡ true) × AgainReady server client
+    ask.reconnect
+
+-- what is known of the file of a request that is ready
+abbrev pub FileReady : Server → ℕ → Request → Type 0
+FileReady server client (Request.Create file access share contexts) = ContextsReady server client file
+    contexts
+FileReady server client request = Unit {0}
+
+-- an open that waits for its client is its own
+awaits_own : (client file : ℕ) (own : Option Key) (file_id : ℕ) (one : Open)
+    → awaits client file own file_id one ≡ true
+    → (one.file_id ≡ file_id) × (one.client ≡ client)
+unfolding awaits
+awaits_own client file None file_id one e = absurd (true≢false (sym e))
+awaits_own client file (Some key) file_id one e =
+    let p = and_parts (one.file_id == file_id && not one.connected && one.client == client && one.file ==
+    file) (has_key key one) e in
+    let q = and_parts (one.file_id == file_id && not one.connected && one.client == client) (one.file == file)
+    p.0 in
+    let r = and_parts (one.file_id == file_id && not one.connected) (one.client == client) q.0 in
+    let t = and_parts (one.file_id == file_id) (not one.connected) r.0 in
+    ((Decides-eqb one.file_id file_id).0 t.0, (Decides-eqb one.client client).0 r.1)
+
+-- a reconnect that is ready finds its open
+reconnect_awaited : (server : Server) (client file : ℕ) (own : Option Key) (file_id : ℕ) (wants : List Want)
+    → reconnect_finding server client file own file_id ≡ Finding.Wants wants → IsAwaited server client file_id
+unfolding reconnect_finding
+reconnect_awaited server client file own file_id wants =
+    if_cases (λ found. found ≡ Finding.Wants wants → IsAwaited server client file_id)
+    (list_any (awaits client file own file_id) server.opens)
+    (Finding.Wants []) (Finding.Refused Status.ObjectNameNotFound)
+    (λ e same. let x = any_has (awaits client file own file_id) server.opens e in let y = awaits_own client
+    file own file_id x.0 x.2 in
+    record { one = x.0; is_there = x.1; has_id = y.0; is_own = y.1 })
+    (λ e never. absurd (cc))
+
+-- so does a create with a reconnect
+asked_again : (server : Server) (client file : ℕ) (access : Access) (share : Share) (lease : Option LeaseOf)
+    (again : Option ℕ) (wants : List Want)
+    → asked_finding server client file access share lease again ≡ Finding.Wants wants
+    → AgainReady server client again
+asked_again server client file access share lease None wants e = tt
+asked_again server client file access share lease (Some file_id) wants e = reconnect_awaited server client
+    file (own_key client lease) file_id wants e
+
+-- a create that is ready
+contexts_ready : (server : Server) (client file : ℕ) (access : Access) (share : Share)
+    (contexts : Option CreateAsk) (wants : List Want)
+    → finding server client (Request.Create file access share contexts) ≡ Finding.Wants wants
+    → ContextsReady server client file contexts
+unfolding finding
+contexts_ready server client file access share None wants e = tt
+contexts_ready server client file access share (Some ask) wants e =
+    if_cases (λ found. found ≡ Finding.Wants wants → ContextsReady server client file (Some ask))
+    (has_file server file)
+    (asked_finding server client file access share ask.lease ask.reconnect)
+    (Finding.Refused Status.ObjectNameNotFound)
+    (λ t same. (t, asked_again server client file access share ask.lease ask.reconnect wants same))
+    (λ t never. absurd (cc)) e
+
+-- any request that is ready
+pub ready-file : (client : ℕ) (request : Request) (progress : Progress) → IsFoundReady client request progress
+    → FileReady progress.server client request
+ready-file client (Request.Create file access share contexts) progress r = contexts_ready progress.server
+    client file access share contexts r.wants r.found
+ready-file client (Request.Read file_id) progress r = tt
+ready-file client (Request.Write file_id number patch) progress r = tt
+ready-file client (Request.Close file_id) progress r = tt
+ready-file client (Request.Acknowledge given) progress r = tt

@@ -1,0 +1,361 @@
+-- After the passes each first held request has to wait.
+use Rattle.std.proofs.Common.{◌≡◌, ◌≢◌, ◌⊎◌, inl, inr, ⊎_elim, refl, sym, ap, ◌∙◌, subst, ℕ, ◌+◌, ◌≤◌, ◌<◌, zero, suc, Bool, true, false, cond, List, [], ◌∷◌, ◌++◌, length, append-nil, arith, true≢false, ◌==◌, leb→le, T}
+use Rattle.std.specs.Prelude.{◌||◌, nat_le, Some, None, find}
+use Rattle.std.specs.List.{list_any}
+use Rattle.std.proofs.lemmas.Bool.Decides.{Decides-eqb}
+use Rattle.lease_model.specs.server.Answers.{concluded}
+use Rattle.lease_model.specs.server.Attempt.{Outcome, Tried, tried}
+use Rattle.lease_model.specs.values.Lists.{numbers_to}
+use Rattle.lease_model.specs.server.Passes.{Pass, is_behind, pass_kept, pass_answered, after_try, tried_again, pass_over, one_pass, passes_for, passes, passes_over, all_passes}
+use Rattle.lease_model.specs.server.Progress.{Progress, held_left}
+use Rattle.lease_laws.specs.server.Laws.{Among, HasToWait}
+use Rattle.lease_model.specs.server.State.{Server, Held, has_file}
+use Rattle.lease_laws.specs.server.Waiting.{AllWait}
+use Rattle.lease_model.specs.values.Tables.{put}
+use Rattle.lease_laws.proofs.server.FileReady.{ready-file}
+use Rattle.lease_laws.proofs.server.Goes.{file_frame, Goes, still_there, concluded-goes, goes-same}
+use Rattle.lease_laws.proofs.server.Held.{one_pass-fewer, SameHeld, InPass, pass_kept-in, pass_answered-in, concluded-held, all_counted}
+use Rattle.lease_laws.proofs.server.Keeps.{Kept, Anywhere, Elsewhere, waits_keep, concluded-kept, keeps-same}
+use Rattle.lease_laws.proofs.server.Lists.{if_cases, either, clash, and_parts, among_append, among_before, among_behind, find_has}
+use Rattle.lease_laws.proofs.server.Orderly.{IsHeldWell, held_well, IsFine, IsTry, any_try, fine_try, fine_concluded, orderly_goes, all_wait-keep, held_left-ready, about_goes}
+use Rattle.lease_laws.proofs.server.Passes.{held_left-free}
+use Rattle.lease_laws.proofs.server.Progress.{held_left-sound}
+use Rattle.lease_laws.proofs.server.Ready.{ready-free}
+
+-- to take a request off the held ones lets opens go on
+held_left-goes : (file : ℕ) (left : List Held) (progress : Progress)
+    → Goes progress (held_left file left progress)
+unfolding held_left
+held_left-goes file left progress = record {
+  files = refl;
+  ups = λ c. refl;
+  ids = omega arith;
+  from = λ one a.
+      inl (still_there progress.server one a);
+}
+
+-- to take a request off the held ones lets wait what has to wait
+held_left-kept : (file : ℕ) (left : List Held) (progress : Progress)
+    → Kept Anywhere progress (held_left file left progress)
+unfolding held_left
+held_left-kept file left progress = record {
+  stands = λ key one a k up b g. (a, b);
+  finds = λ c id one e g.
+      e;
+}
+
+-- what holds of the requests of each file, once one is taken off
+held_left-cases : (P : List Held → Type 0) (file : ℕ) (left : List Held) (progress : Progress) (other : ℕ)
+    → (other ≡ file → P left) → P (progress.server.held other)
+    → P ((held_left file left progress).server.held other)
+unfolding held_left put
+held_left-cases P file left progress other here there =
+    if_cases P (other == file) left (progress.server.held other) (λ e. here ((Decides-eqb other file).0 e))
+    (λ e. there)
+
+-- other files have what they had
+held_left-other : (file : ℕ) (left : List Held) (progress : Progress) (other : ℕ) → other ≢ file
+    → (held_left file left progress).server.held other ≡ progress.server.held other
+held_left-other file left progress other away = held_left-cases (λ held. held ≡ progress.server.held other)
+    file left progress other
+    (λ same. absurd (away same)) refl
+
+-- what is on the list without one is on it
+among_more : (x y : Held) (xs ys : List Held) → Among x (xs ++ ys) → Among x (xs ++ y ∷ ys)
+among_more x y xs ys a = ⊎_elim (λ h. among_before x xs (y ∷ ys) h) (λ h. among_behind x xs (y ∷ ys) (inr h))
+    (among_append x xs ys a)
+
+-- to take a request off the held ones keeps the laws and the order
+held_left-fine : (file : ℕ) (one : Held) (before behind : List Held) (progress : Progress)
+    → IsFine progress.server
+    → progress.server.held file ≡ before ++ one ∷ behind
+    → IsFine (held_left file (before ++ behind) progress).server
+held_left-fine file one before behind progress f held = record {
+  sound = held_left-sound file (before ++ behind) progress f.sound;
+  orderly = orderly_goes progress.server (held_left file (before ++ behind) progress).server f.orderly
+      (held_left-goes file (before ++ behind) progress)
+      (λ other x. held_left-cases (λ list. Among x list → IsHeldWell progress.server other x) file
+      (before ++ behind) progress other
+      (λ same a. subst (λ n. IsHeldWell progress.server n x) (sym same)
+      (held_well progress.server file x f.orderly
+      (subst (λ list. Among x list) (sym held) (among_more x one before behind a))))
+      (λ a. held_well progress.server other x f.orderly a));
+}
+
+-- During a pass over a file: the laws hold; as long as none was answered, those passed over wait; and on
+-- other files those that waited still do.
+pub record PassWaits (start : Progress) (file : ℕ) (count : ℕ) (waiting : List Held) (pass : Pass) : Type 0
+  where
+    pub fine : IsFine pass.progress.server
+    pub files : pass.progress.server.files ≡ start.server.files
+    pub in_pass : InPass file count waiting pass
+    pub kept_wait : pass.has_answered ≡ false → (client : ℕ) (one : Held)
+        → find (λ other. other.client == client) pass.kept ≡ Some one
+        → HasToWait pass.progress.server client one.request
+    pub others : (other : ℕ) → other ≢ file → AllWait start.server other → AllWait pass.progress.server other
+
+-- one request found is one request
+held_same : (x y : Held) → Some x ≡ Some y → x ≡ y
+held_same x y e = cc
+
+-- neither is true
+or_none : (a b : Bool) → a ≡ false → b ≡ false → (a || b) ≡ false
+or_none a b e f = rw (e, f) refl
+
+-- what is found once one more is on the list
+pub find_more : (test : Held → Bool) (xs : List Held) (y x : Held) → find test (xs ++ y ∷ []) ≡ Some x
+    → (find test xs ≡ Some x) ⊎ ((list_any test xs ≡ false) × (test y ≡ true) × (x ≡ y))
+find_more test [] y x e = if_cases (λ o. o ≡ Some x → (find test [] ≡ Some x)
+    ⊎ ((list_any test [] ≡ false) × (test y ≡ true) × (x ≡ y)))
+    (test y) (Some y) None (λ t same. inr (refl, t, held_same x y (sym same))) (λ t never. absurd (cc)) e
+find_more test (first ∷ xs) y x e =
+    either (test first)
+    (λ t. inl (ap (λ b. cond b (Some first) (find test xs)) t
+    ∙ sym (ap (λ b. cond b (Some first) (find test (xs ++ y ∷ []))) t) ∙ e))
+    (λ t. let later = find_more test xs y x
+    (sym (ap (λ b. cond b (Some first) (find test (xs ++ y ∷ []))) t) ∙ e) in
+    ⊎_elim (λ found. inl (ap (λ b. cond b (Some first) (find test xs)) t ∙ found))
+    (λ last. inr (or_none (test first) (list_any test xs) t last.0, last.1, last.2)) later)
+
+-- a request of the pass still waits
+kept_waits : (start : Progress) (file count : ℕ) (one : Held) (waiting : List Held) (pass : Pass)
+    (progress : Progress)
+    → PassWaits start file count (one ∷ waiting) pass → IsFine progress.server
+    → SameHeld pass.progress progress → Goes pass.progress progress
+    → Kept Anywhere pass.progress progress
+    → ((list_any (λ other. other.client == one.client) pass.kept ≡ false)
+    → HasToWait progress.server one.client one.request)
+    → PassWaits start file count waiting (pass_kept one pass progress)
+kept_waits start file count one waiting pass progress p f same goes keeps new = record {
+  fine = f;
+  files = goes.files ∙ p.files;
+  in_pass = pass_kept-in file count one waiting pass progress p.in_pass same;
+  kept_wait = λ none client x first. ⊎_elim
+      (λ old. let there = find_has (λ other. other.client == client) x pass.kept old in
+      let held : Among x (pass.progress.server.held file) = subst (λ list. Among x list)
+      (sym p.in_pass.is_held)
+      (among_before x pass.kept (one ∷ waiting) there.0) in
+      waits_keep Anywhere pass.progress.server progress.server client file x.request keeps p.fine.sound
+      (p.fine.orderly.held_about file x held) tt (p.kept_wait none client x old))
+      (λ last. let same_client : one.client ≡ client = (Decides-eqb one.client client).0 last.1 in
+      subst (λ h. HasToWait progress.server client h.request) (sym last.2)
+      (subst (λ c. HasToWait progress.server c one.request) same_client
+      (new (subst (λ c. list_any (λ other. other.client == c) pass.kept ≡ false) (sym same_client) last.0))))
+      (find_more (λ other. other.client == client) pass.kept one x first);
+  others = λ other away all. all_wait-keep Anywhere pass.progress.server progress.server other keeps p.fine tt
+      (ap (λ held. held other) same) (p.others other away all);
+}
+
+-- a request of the pass is answered
+answered_waits : (start : Progress) (file count : ℕ) (one : Held) (waiting : List Held) (pass : Pass)
+    (done : Tried)
+    → PassWaits start file count (one ∷ waiting) pass → IsTry one.client one.request pass.progress done
+    → PassWaits start file count waiting (pass_answered file one waiting pass done)
+answered_waits start file count one waiting pass done p t =
+    let left = held_left file (pass.kept ++ waiting) done.progress in
+    let after = concluded one.client one.request left done.outcome in
+    let tried_fine = fine_try one.client one.request pass.progress done p.fine t in
+    let held : done.progress.server.held file ≡ pass.kept ++ one ∷ waiting = ap (λ h. h file) t.held
+    ∙ p.in_pass.is_held in
+    let well = held_well pass.progress.server file one p.fine.orderly
+    (subst (λ list. Among one list) (sym p.in_pass.is_held)
+    (among_behind one pass.kept (one ∷ waiting) (inl refl))) in
+    let left_fine = held_left-fine file one pass.kept waiting done.progress tried_fine held in
+    let left_goes = held_left-goes file (pass.kept ++ waiting) done.progress in
+    let up : left.server.connected one.client ≡ true = left_goes.ups one.client ∙ t.goes.ups one.client
+    ∙ well.up in
+    let about = about_goes done.progress.server left.server file one.request left_goes
+    (about_goes pass.progress.server done.progress.server file one.request t.goes well.about) in
+    let free = λ (ready : done.outcome ≡ Outcome.Ready). held_left-free one.client one.request file
+    (pass.kept ++ waiting) done.progress
+    (ready-free one.client one.request done.progress (t.good.found_ready ready)) in
+    let on_file = λ (ready : done.outcome ≡ Outcome.Ready). held_left-ready one.client one.request file
+    (pass.kept ++ waiting) done.progress
+    (ready-file one.client one.request done.progress (t.good.found_ready ready)) in
+    let after_goes = concluded-goes one.client one.request left done.outcome left_fine.sound up on_file in
+    record {
+      fine = fine_concluded one.client one.request left done.outcome left_fine up free on_file;
+      files = after_goes.files ∙ left_goes.files ∙ t.goes.files ∙ p.files;
+      in_pass = pass_answered-in file count one waiting pass done p.in_pass;
+      kept_wait = λ never. absurd (true≢false never);
+      others = λ other away all.
+          all_wait-keep (Elsewhere file) left.server after.server other
+          (concluded-kept one.client file one.request left done.outcome left_fine.sound about)
+          left_fine away (ap (λ h. h other) (concluded-held one.client one.request left done.outcome))
+          (all_wait-keep Anywhere done.progress.server left.server other
+          (held_left-kept file (pass.kept ++ waiting) done.progress) tried_fine tt
+          (held_left-other file (pass.kept ++ waiting) done.progress other away)
+          (all_wait-keep Anywhere pass.progress.server done.progress.server other t.keeps p.fine tt
+          (ap (λ h. h other) t.held) (p.others other away all)));
+    }
+
+-- what follows a try in a pass leaves each first held request waiting
+after_try-waits : (start : Progress) (file count : ℕ) (one : Held) (waiting : List Held) (pass : Pass)
+    (progress : Progress) (outcome : Outcome)
+    → PassWaits start file count (one ∷ waiting) pass
+    → IsTry one.client one.request pass.progress (record { progress = progress; outcome = outcome })
+    → PassWaits start file count waiting (after_try file one waiting pass progress outcome)
+after_try-waits start file count one waiting pass progress Outcome.Waits p t = kept_waits start file count one
+    waiting pass progress p
+    (fine_try one.client one.request pass.progress (record { progress = progress; outcome = Outcome.Waits })
+    p.fine t) t.held t.goes t.keeps (λ e. t.waits refl)
+after_try-waits start file count one waiting pass progress (Outcome.Refused status) p t = answered_waits start
+    file count one waiting pass
+    (record { progress = progress; outcome = Outcome.Refused status }) p t
+after_try-waits start file count one waiting pass progress Outcome.Ready p t = answered_waits start file count
+    one waiting pass
+    (record { progress = progress; outcome = Outcome.Ready }) p t
+
+-- a held request tried again leaves each first held request waiting
+tried_again-waits : (start : Progress) (file count : ℕ) (one : Held) (waiting : List Held) (pass : Pass)
+    → PassWaits start file count (one ∷ waiting) pass
+    → PassWaits start file count waiting (tried_again file one waiting pass)
+unfolding tried_again
+tried_again-waits start file count one waiting pass p =
+    if_cases (PassWaits start file count waiting) (is_behind one.client pass.kept)
+    (pass_kept one pass pass.progress)
+    (after_try file one waiting pass (tried one.client one.request pass.progress).progress
+    (tried one.client one.request pass.progress).outcome)
+    (λ behind. kept_waits start file count one waiting pass pass.progress p p.fine refl
+    (goes-same pass.progress.server) (keeps-same Anywhere pass.progress.server)
+    (λ first. clash (is_behind one.client pass.kept) behind first))
+    (λ e. after_try-waits start file count one waiting pass
+    (tried one.client one.request pass.progress).progress
+    (tried one.client one.request pass.progress).outcome p
+    (any_try one.client one.request pass.progress p.fine.sound))
+
+-- a pass leaves each first held request waiting
+pass_over-waits : (start : Progress) (file count : ℕ) (waiting : List Held) (pass : Pass)
+    → PassWaits start file count waiting pass → PassWaits start file count [] (pass_over file waiting pass)
+unfolding pass_over
+pass_over-waits start file count [] pass p = p
+pass_over-waits start file count (one ∷ waiting) pass p = pass_over-waits start file count waiting
+    (tried_again file one waiting pass)
+    (tried_again-waits start file count one waiting pass p)
+
+-- What passes over a file come to.
+pub record FileWaits (start : Progress) (file : ℕ) (after : Progress) : Type 0 where
+  pub fine : IsFine after.server
+  pub files : after.server.files ≡ start.server.files
+  pub here : AllWait after.server file
+  pub others : (other : ℕ) → other ≢ file → AllWait start.server other → AllWait after.server other
+
+-- below the next number
+below_one : (file n : ℕ) → file ≤ suc n → file ≢ suc n → file ≤ n
+below_one file n high away = omega (arith, high, away)
+
+-- a pass over a file leaves each first held request waiting
+one_pass-waits : (file : ℕ) (progress : Progress) → IsFine progress.server
+    → PassWaits progress file (length (progress.server.held file)) [] (one_pass file progress)
+one_pass-waits file progress f = pass_over-waits progress file (length (progress.server.held file))
+    (progress.server.held file)
+    (record { kept = []; progress = progress; has_answered = false })
+    (record {
+      fine = f;
+      files = refl;
+      in_pass = record {
+        is_held = refl;
+        is_counted = all_counted (progress.server.held file);
+        is_fewer =
+            λ never. absurd (true≢false (sym never));
+      };
+      kept_wait = λ e client one never. absurd (cc);
+      others = λ other away all. all;
+    })
+
+-- passes over a file leaves each first held request waiting
+passes_for-waits : (count file : ℕ) (progress : Progress) → length (progress.server.held file) < count
+    → IsFine progress.server
+    → FileWaits progress file (passes_for count file progress)
+unfolding passes_for
+passes_for-waits zero file progress less f = absurd (omega (arith, less))
+passes_for-waits (suc count) file progress less f =
+    let p = one_pass-waits file progress f in
+    let pass = one_pass file progress in
+    if_cases (FileWaits progress file) (one_pass file progress).has_answered
+    (passes_for count file (one_pass file progress).progress) (one_pass file progress).progress
+    (λ answered. let fewer = one_pass-fewer file progress answered in
+    let rest = passes_for-waits count file (one_pass file progress).progress (omega (arith, fewer, less))
+    p.fine in
+    record {
+      fine = rest.fine;
+      files = rest.files ∙ p.files;
+      here = rest.here;
+      others = λ other away all. rest.others other away (p.others other away all);
+    })
+    (λ none. record {
+      fine = p.fine;
+      files = p.files;
+      here = λ client one first. p.kept_wait none client one
+          (subst (λ list. find (λ other. other.client == client) list ≡ Some one)
+          (p.in_pass.is_held ∙ append-nil (one_pass file progress).kept) first);
+      others = p.others;
+    })
+
+-- what passes over files come to
+pub record FilesWait (start : Progress) (listed : List ℕ) (after : Progress) : Type 0 where
+  pub fine : IsFine after.server
+  pub files : after.server.files ≡ start.server.files
+  pub wait : (file : ℕ) → Among file listed ⊎ AllWait start.server file → AllWait after.server file
+
+-- passes over files leaves each first held request waiting
+passes_over-waits : (files : List ℕ) (progress : Progress) → IsFine progress.server
+    → FilesWait progress files (passes_over files progress)
+unfolding passes_over
+passes_over-waits [] progress f = record {
+  fine = f;
+  files = refl;
+  wait = λ file.
+      ⊎_elim (λ never. absurd never) (λ all. all);
+}
+passes_over-waits (file ∷ files) progress f =
+    let first = passes_for-waits (length (progress.server.held file) + 1) file progress (omega arith) f in
+    let rest = passes_over-waits files (passes file progress) first.fine in
+    record {
+      fine = rest.fine;
+      files = rest.files ∙ first.files;
+      wait = λ other known. either (other == file)
+          (λ e. rest.wait other (inr (subst (AllWait (passes file progress).server)
+          (sym ((Decides-eqb other file).0 e)) first.here)))
+          (λ e. let away : other ≢ file = λ same. clash (other == file) ((Decides-eqb other file).1 same) e in
+          ⊎_elim
+          (λ listed. ⊎_elim (λ same. absurd (away same)) (λ later. rest.wait other (inl later)) listed)
+          (λ all. rest.wait other (inr (first.others other away all))) known);
+    }
+
+-- a number from 1 to n is among them
+numbered_to : (n file : ℕ) → 1 ≤ file → file ≤ n → Among file (numbers_to n)
+numbered_to zero file low high = absurd (omega (arith, low, high))
+numbered_to (suc n) file low high = either (file == suc n)
+    (λ e. among_behind file (numbers_to n) (suc n ∷ []) (inl ((Decides-eqb file (suc n)).0 e)))
+    (λ e. among_before file (numbers_to n) (suc n ∷ []) (numbered_to n file low
+    (below_one file n high (λ same. clash (file == suc n) ((Decides-eqb file (suc n)).1 same) e))))
+
+-- a file of the server is among the numbers of its files
+file_numbered : (server : Server) (file : ℕ) → has_file server file ≡ true
+    → Among file (numbers_to server.files)
+file_numbered server file e =
+    let parts = and_parts (nat_le 1 file) (nat_le file server.files) e in
+    numbered_to server.files file (leb→le 1 file (subst T (sym parts.0) tt))
+    (leb→le file server.files (subst T (sym parts.1) tt))
+
+-- After passes over all files, wherever requests are held, the first of each client has to wait.
+pub record EveryoneWaits (server : Server) : Type 0 where
+  pub fine : IsFine server
+  pub wait : (file : ℕ) → AllWait server file
+
+-- passes over all files leave each first held request waiting
+pub all_passes-wait : (progress : Progress) → IsFine progress.server
+    → EveryoneWaits (all_passes progress).server
+unfolding all_passes
+all_passes-wait progress f =
+    let done = passes_over-waits (numbers_to progress.server.files) progress f in
+    let after = passes_over (numbers_to progress.server.files) progress in
+    record {
+      fine = done.fine;
+      wait = λ file client one first.
+          let there = find_has (λ other. other.client == client) one (after.server.held file) first in
+          let on_file = done.fine.orderly.held_files file one there.0 in
+          done.wait file (inl (file_numbered progress.server file
+          (file_frame after.server progress.server file (sym done.files) ∙ on_file))) client one first;
+    }

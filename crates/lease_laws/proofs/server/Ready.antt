@@ -1,0 +1,171 @@
+-- What stands once a create is ready: its key is at home on the file, no open there conflicts with it,
+-- and no other key there holds W.
+use Rattle.std.proofs.Common.{◌≡◌, sym, ap, ◌∙◌, ℕ, true, false, not, List, true≢false, ◌==◌}
+use Rattle.std.specs.Prelude.{◌&&◌, Option, Some, None}
+use Rattle.std.specs.List.{list_any}
+use Rattle.std.proofs.lemmas.Bool.Decides.{Decides-eqb}
+use Rattle.lease_state.specs.declared.access.Access.{Access}
+use Rattle.lease_state.specs.declared.access.Share.{Share}
+use Rattle.lease_state.specs.declared.status.Status.{Status}
+use Rattle.lease_model.specs.server.Allowed.{is_other_on, conflicts, conflicts_on}
+use Rattle.lease_model.specs.values.Keys.{Key}
+use Rattle.lease_model.specs.values.LeaseStates.{without_write}
+use Rattle.lease_model.specs.values.Lists.{is_empty}
+use Rattle.lease_model.specs.server.Progress.{Progress}
+use Rattle.lease_model.specs.server.Ready.{is_ready}
+use Rattle.lease_model.specs.messages.Requests.{Request, CreateAsk, LeaseOf}
+use Rattle.lease_laws.specs.server.Laws.{Among}
+use Rattle.lease_model.specs.server.State.{Server, Open, Lease, has_key, has_own_key, has_file}
+use Rattle.lease_model.specs.server.Wants.{Want, Finding, finding, lease_of, handle_wants, write_wants, create_finding, asked_finding, own_key, is_leased_elsewhere}
+use Rattle.lease_laws.proofs.server.Keys.{lease_by-key}
+use Rattle.lease_laws.proofs.server.Lists.{if_cases, clash, and_both, not_true, not_false, none_has}
+use Rattle.lease_laws.proofs.server.Tries.{IsFoundReady}
+use Rattle.lease_laws.proofs.server.Wants.{wants_where-none}
+
+-- The key is at home on the file, no open there conflicts, and no other key there holds W.
+pub record IsFree (opens : List Open) (leases : Key → Lease) (own : Option Key) (file : ℕ) (access : Access)
+    (share : Share) : Type 0 where
+  pub at_home : (one : Open) → Among one opens → has_own_key own one ≡ true → one.file ≡ file
+  pub peaceful : (one : Open) → Among one opens → one.file ≡ file → conflicts access share one ≡ false
+  pub unwritten : (key : Key) (one : Open) → Among one opens → one.file ≡ file → has_own_key own one ≡ false
+      → has_key key one ≡ true → (leases key).state.write ≡ false
+
+-- files that are one are equal
+same_file : (one : Open) (file : ℕ) → one.file ≡ file → (one.file == file) ≡ true
+same_file one file e = (Decides-eqb one.file file).1 e
+
+-- the key has no open elsewhere
+home_at : (server : Server) (own : Option Key) (file : ℕ) → is_leased_elsewhere server own file ≡ false
+    → (one : Open) → Among one server.opens → has_own_key own one ≡ true → one.file ≡ file
+unfolding is_leased_elsewhere
+home_at server None file e one a k = absurd (true≢false (sym k))
+home_at server (Some key) file e one a k = (Decides-eqb one.file file).0 (not_false (one.file == file) (λ d.
+    clash (has_key key one && not (one.file == file))
+    (and_both (has_key key one) (not (one.file == file)) k (ap not d))
+    (none_has (λ x. has_key key x && not (x.file == file)) one server.opens e a)))
+
+-- no open on the file conflicts
+peaceful_at : (server : Server) (file : ℕ) (access : Access) (share : Share)
+    → list_any (conflicts_on file access share) server.opens ≡ false
+    → (one : Open) → Among one server.opens → one.file ≡ file → conflicts access share one ≡ false
+unfolding conflicts_on
+peaceful_at server file access share e one a f = not_true (conflicts access share one) (λ c.
+    clash (one.file == file && conflicts access share one)
+    (and_both (one.file == file) (conflicts access share one) (same_file one file f) c)
+    (none_has (conflicts_on file access share) one server.opens e a))
+
+-- no other key on the file holds W
+unwritten_at : (server : Server) (own : Option Key) (file : ℕ) → is_empty (write_wants server own file) ≡ true
+    → (key : Key) (one : Open) → Among one server.opens → one.file ≡ file → has_own_key own one ≡ false
+    → has_key key one ≡ true → (server.leases key).state.write ≡ false
+unfolding write_wants is_other_on
+unwritten_at server own file none key one a f other k = not_true (server.leases key).state.write (λ w.
+    clash (is_other_on own file one && (lease_of server one).state.write)
+    (and_both (is_other_on own file one) (lease_of server one).state.write
+    (and_both (one.file == file) (not (has_own_key own one)) (same_file one file f) (ap not other))
+    (ap (λ l. l.state.write) (lease_by-key server key one.client one.lease_key k) ∙ w))
+    (wants_where-none server (λ x. is_other_on own file x && (lease_of server x).state.write) without_write
+    none key one a k))
+
+-- a finding that leaves nothing wanted
+abbrev pub FreeWhenEmpty : Server → Option Key → ℕ → Access → Share → Finding → Type 0
+FreeWhenEmpty server own file access share (Finding.Refused status) = Unit {0}
+FreeWhenEmpty server own file access share (Finding.Wants wants) =
+    is_empty wants ≡ true → IsFree server.opens server.leases own file access share
+
+-- a create that wants nothing is free
+create_finding-free : (server : Server) (own : Option Key) (file : ℕ) (access : Access) (share : Share)
+    → FreeWhenEmpty server own file access share (create_finding server own file access share)
+unfolding create_finding
+create_finding-free server own file access share =
+    if_cases (FreeWhenEmpty server own file access share) (is_leased_elsewhere server own file) _ _
+    (λ e. tt)
+    (λ home. if_cases (FreeWhenEmpty server own file access share)
+    (list_any (conflicts_on file access share) server.opens) _ _
+    (λ c. if_cases (FreeWhenEmpty server own file access share)
+    (is_empty (handle_wants server own file access share)) _ _
+    (λ n. tt) (λ n none. clash (is_empty (handle_wants server own file access share)) none n))
+    (λ peace none. record {
+      at_home = home_at server own file home;
+      peaceful = peaceful_at server file access share peace;
+      unwritten = unwritten_at server own file none;
+    }))
+
+-- what is known of a create with these contexts once it is ready
+abbrev pub CreateFree : Server → ℕ → ℕ → Access → Share → Option LeaseOf → Option ℕ → Type 0
+CreateFree server client file access share lease None = IsFree server.opens server.leases
+    (own_key client lease) file access share
+CreateFree server client file access share lease (Some file_id) = Unit {0}
+
+-- by its contexts
+abbrev pub ContextsFree : Server → ℕ → ℕ → Access → Share → Option CreateAsk → Type 0
+ContextsFree server client file access share None = Unit {0}
+ContextsFree server client file access share (Some ask) = CreateFree server client file access share ask.lease
+    ask.reconnect
+
+-- by the request
+abbrev pub RequestFree : Server → ℕ → Request → Type 0
+RequestFree server client (Request.Create file access share contexts) = ContextsFree server client file access
+    share contexts
+RequestFree server client (Request.Read file_id) = Unit {0}
+RequestFree server client (Request.Write file_id number patch) = Unit {0}
+RequestFree server client (Request.Close file_id) = Unit {0}
+RequestFree server client (Request.Acknowledge acknowledged) = Unit {0}
+
+-- one list of wants found is one list
+pub wants_same : (one other : List Want) → Finding.Wants one ≡ Finding.Wants other → one ≡ other
+wants_same one other e = cc
+
+-- what is found with nothing wanted is free
+found_free : (server : Server) (own : Option Key) (file : ℕ) (access : Access) (share : Share)
+    (found : Finding) (wants : List Want)
+    → FreeWhenEmpty server own file access share found → found ≡ Finding.Wants wants → is_empty wants ≡ true
+    → IsFree server.opens server.leases own file access share
+found_free server own file access share (Finding.Refused status) wants free e none = absurd (cc)
+found_free server own file access share (Finding.Wants others) wants free e none =
+    free (ap is_empty (wants_same others wants e) ∙ none)
+
+-- so is a create, with a reconnect or without
+asked_free : (server : Server) (client file : ℕ) (access : Access) (share : Share) (lease : Option LeaseOf)
+    (again : Option ℕ) (wants : List Want)
+    → asked_finding server client file access share lease again ≡ Finding.Wants wants → is_empty wants ≡ true
+    → CreateFree server client file access share lease again
+asked_free server client file access share lease None wants e none =
+    found_free server (own_key client lease) file access share
+    (create_finding server (own_key client lease) file access share) wants
+    (create_finding-free server (own_key client lease) file access share) e none
+asked_free server client file access share lease (Some file_id) wants e none = tt
+
+-- what a create needs, by its contexts
+contexts_free : (server : Server) (client file : ℕ) (access : Access) (share : Share)
+    (contexts : Option CreateAsk) (wants : List Want)
+    → finding server client (Request.Create file access share contexts) ≡ Finding.Wants wants
+    → is_empty wants ≡ true
+    → ContextsFree server client file access share contexts
+unfolding finding
+contexts_free server client file access share None wants e none = tt
+contexts_free server client file access share (Some ask) wants e none =
+    if_cases (λ found. found ≡ Finding.Wants wants
+    → CreateFree server client file access share ask.lease ask.reconnect)
+    (has_file server file) (asked_finding server client file access share ask.lease ask.reconnect)
+    (Finding.Refused Status.ObjectNameNotFound)
+    (λ t same. asked_free server client file access share ask.lease ask.reconnect wants same none)
+    (λ t same. absurd (cc)) e
+
+-- a create is ready only where it wants nothing
+create_ready-empty : (file : ℕ) (access : Access) (share : Share) (contexts : Option CreateAsk)
+    (leases : Key → Lease) (wants : List Want)
+    → is_ready (Request.Create file access share contexts) leases wants ≡ true → is_empty wants ≡ true
+unfolding is_ready
+create_ready-empty file access share contexts leases wants e = e
+
+-- what is known of a request once it is ready
+pub ready-free : (client : ℕ) (request : Request) (progress : Progress) → IsFoundReady client request progress
+    → RequestFree progress.server client request
+ready-free client (Request.Create file access share contexts) progress r = contexts_free progress.server
+    client file access share contexts
+    r.wants r.found (create_ready-empty file access share contexts progress.server.leases r.wants r.ready)
+ready-free client (Request.Read file_id) progress r = tt
+ready-free client (Request.Write file_id number patch) progress r = tt
+ready-free client (Request.Close file_id) progress r = tt
+ready-free client (Request.Acknowledge acknowledged) progress r = tt

@@ -1,0 +1,176 @@
+-- States by their three rights: parts, granted forms, and what may be broken to.
+use Rattle.std.proofs.Common.{◌≡◌, refl, sym, ap, subst, Bool, true, false, true≢false, arith}
+use Rattle.std.specs.Prelude.{◌||◌, Some, None}
+use Rattle.lease_state.specs.State.{State, granted_form_of, nothing_cached, needs_acknowledgment}
+use Rattle.lease_model.specs.values.LeaseStates.{is_within, same_state, without_write, without_handle}
+use Rattle.lease_laws.specs.server.Laws.{IsBrokenTo, IsLawful}
+use Rattle.lease_model.specs.server.State.{no_lease}
+use Rattle.lease_laws.proofs.server.Lists.{if_cases}
+
+-- A state that a lease may be lowered to: a granted form, a part of the lease's state, and less than
+-- it where the lease holds more than reads.
+pub record IsLowered (state : State) (lowered : State) : Type 0 where
+  pub is_part : is_within lowered state ≡ true
+  pub is_granted_form : granted_form_of lowered ≡ lowered
+  pub is_less : needs_acknowledgment state ≡ true → same_state lowered state ≡ false
+
+-- a state by its letters
+abbrev pub rights : Bool → Bool → Bool → State
+rights r w h = record { read = r; write = w; handle = h }
+
+-- the granted form of a granted form is itself
+pub granted_form_of-again : (state : State) → granted_form_of (granted_form_of state) ≡ granted_form_of state
+granted_form_of-again state = if_cases (λ g. granted_form_of g ≡ g) state.read state nothing_cached
+    (λ e. rw e refl) (λ e. refl)
+
+-- a granted form without W, by its letters
+form_without_write : (r w h : Bool) → granted_form_of (rights r w h) ≡ rights r w h
+    → granted_form_of (rights r false h) ≡ rights r false h
+form_without_write true w h e = refl
+form_without_write false w h e = ap (λ x. rights false false x) (ap (λ s. s.handle) e)
+
+-- a granted form without H, by its letters
+form_without_handle : (r w h : Bool) → granted_form_of (rights r w h) ≡ rights r w h
+    → granted_form_of (rights r w false) ≡ rights r w false
+form_without_handle true w h e = refl
+form_without_handle false w h e = ap (λ x. rights false x false) (ap (λ s. s.write) e)
+
+-- a granted form without one right is one
+pub without_write-form : (state : State) → granted_form_of state ≡ state
+    → granted_form_of (without_write state) ≡ without_write state
+without_write-form state e = form_without_write state.read state.write state.handle e
+
+-- a granted form without H is one
+pub without_handle-form : (state : State) → granted_form_of state ≡ state
+    → granted_form_of (without_handle state) ≡ without_handle state
+without_handle-form state e = form_without_handle state.read state.write state.handle e
+
+-- a state without W is a part
+part_without_write : (r w h : Bool) → is_within (rights r false h) (rights r w h) ≡ true
+part_without_write true w true = refl
+part_without_write true w false = refl
+part_without_write false w true = refl
+part_without_write false w false = refl
+
+-- a state without H is a part
+part_without_handle : (r w h : Bool) → is_within (rights r w false) (rights r w h) ≡ true
+part_without_handle true true h = refl
+part_without_handle true false h = refl
+part_without_handle false true h = refl
+part_without_handle false false h = refl
+
+-- and less, where it held W
+less_without_write : (r w h : Bool) → w ≡ true → same_state (rights r false h) (rights r w h) ≡ false
+less_without_write true true h e = refl
+less_without_write false true h e = refl
+less_without_write r false h e = absurd (true≢false (sym e))
+
+-- and less, where it held H
+less_without_handle : (r w h : Bool) → h ≡ true → same_state (rights r w false) (rights r w h) ≡ false
+less_without_handle true true true e = refl
+less_without_handle true false true e = refl
+less_without_handle false true true e = refl
+less_without_handle false false true e = refl
+less_without_handle r w false e = absurd (true≢false (sym e))
+
+-- nothing is less than what needs an acknowledgment
+less_nothing : (r w h : Bool) → (w || h) ≡ true → same_state nothing_cached (rights r w h) ≡ false
+less_nothing true w h e = refl
+less_nothing false true h e = refl
+less_nothing false false true e = refl
+less_nothing false false false e = absurd (true≢false (sym e))
+
+-- what the three kinds of request want a lease lowered to
+pub without_write-lowered : (state : State) → granted_form_of state ≡ state → state.write ≡ true
+    → IsLowered state (without_write state)
+without_write-lowered state form holds = record {
+  is_part = part_without_write state.read state.write state.handle;
+  is_granted_form = without_write-form state form;
+  is_less = λ e. less_without_write state.read state.write state.handle holds;
+}
+
+-- H taken away
+pub without_handle-lowered : (state : State) → granted_form_of state ≡ state → state.handle ≡ true
+    → IsLowered state (without_handle state)
+without_handle-lowered state form holds = record {
+  is_part = part_without_handle state.read state.write state.handle;
+  is_granted_form = without_handle-form state form;
+  is_less = λ e. less_without_handle state.read state.write state.handle holds;
+}
+
+-- all taken away
+pub nothing-lowered : (state : State) → IsLowered state nothing_cached
+nothing-lowered state = record {
+  is_part = refl;
+  is_granted_form = refl;
+  is_less = λ e. less_nothing state.read state.write state.handle e;
+}
+
+-- a part that holds W, by its letters
+within_write : (r w h : Bool) (s t u : Bool) → is_within (rights r w h) (rights s t u) ≡ true → w ≡ true
+    → t ≡ true
+within_write r w h s true u e f = refl
+within_write true w h true false u e f = grind arith
+within_write true w h false false u e f = grind arith
+within_write false w h s false u e f = grind arith
+
+-- a part that holds a right is a part of what holds it
+pub write_of_part : (part state : State) → is_within part state ≡ true → part.write ≡ true
+    → state.write ≡ true
+write_of_part part state e f = within_write part.read part.write part.handle state.read state.write
+    state.handle e f
+
+-- a part that holds H, by its letters
+within_handle : (r w h : Bool) (s t u : Bool) → is_within (rights r w h) (rights s t u) ≡ true → h ≡ true
+    → u ≡ true
+within_handle r w h s t true e f = refl
+within_handle r w h s t false e f = grind arith
+
+-- a part that holds H is a part of what holds it
+pub handle_of_part : (part state : State) → is_within part state ≡ true → part.handle ≡ true
+    → state.handle ≡ true
+handle_of_part part state e f = within_handle part.read part.write part.handle state.read state.write
+    state.handle e f
+
+-- one value found is one value
+some_same : (one other : State) → Some one ≡ Some other → one ≡ other
+some_same one other e = cc
+
+-- no lease is lawful
+pub no_lease-lawful : IsLawful no_lease
+no_lease-lawful = record {
+  is_granted_form = refl;
+  is_broken_so = λ lowered e. absurd (cc);
+}
+
+-- a lease that isn't breaking is lawful where its state is a granted form
+pub settled-lawful : (state : State) → granted_form_of state ≡ state
+    → IsLawful (record { state = state; broken_to = None })
+settled-lawful state form = record {
+  is_granted_form = form;
+  is_broken_so = λ lowered e. absurd (cc);
+}
+
+-- a lease that begins to break to a lowered state is lawful
+pub breaking-lawful : (state lowered : State) → granted_form_of state ≡ state
+    → needs_acknowledgment state ≡ true
+    → IsLowered state lowered → IsLawful (record { state = state; broken_to = Some lowered })
+breaking-lawful state lowered form needs low = record {
+  is_granted_form = form;
+  is_broken_so = λ other e. subst (λ s. IsBrokenTo state s) (some_same lowered other e) (record {
+    is_part = low.is_part;
+    is_less = low.is_less needs;
+    is_granted_form = low.is_granted_form;
+    is_acknowledged = needs;
+  });
+}
+
+-- neither is true
+or_false : (a b : Bool) → (a || b) ≡ false → (a ≡ false) × (b ≡ false)
+or_false true b e = absurd (true≢false e)
+or_false false b e = (refl, e)
+
+-- what needs no acknowledgment holds neither W nor H
+pub light_state : (state : State) → needs_acknowledgment state ≡ false
+    → (state.write ≡ false) × (state.handle ≡ false)
+light_state state light = or_false state.write state.handle light

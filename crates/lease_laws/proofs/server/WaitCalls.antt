@@ -1,0 +1,267 @@
+-- Every call keeps opens and held requests where they belong, and lets no first held request wait for
+-- nothing.
+use Rattle.std.proofs.Common.{◌≡◌, inl, refl, sym, ap, ◌∙◌, subst, ℕ, Bool, true, false, not, cond, List, map, arith, true≢false, ◌==◌}
+use Rattle.std.specs.Prelude.{Some}
+use Rattle.std.specs.List.{list_any}
+use Rattle.lease_model.specs.server.Calls.{Call, called, join, joined, cut, is_lost, disconnected, opens_disconnected, client_forgotten, key_expired, expire, scavenge, is_kept_open}
+use Rattle.lease_model.specs.values.Keys.{Key}
+use Rattle.lease_model.specs.values.Lists.{without}
+use Rattle.lease_model.specs.server.Passes.{all_passes}
+use Rattle.lease_model.specs.server.Progress.{Progress, begun, opens_dropped}
+use Rattle.lease_model.specs.messages.Requests.{Request}
+use Rattle.lease_laws.specs.server.Laws.{Among, IsSound, IsBlocked}
+use Rattle.lease_model.specs.server.State.{Server, Open, Held, new_server, has_key, has_file, is_breaking}
+use Rattle.lease_laws.specs.server.Waiting.{WaitsWell, IsAbout, IsOpenOn, IsOrderly}
+use Rattle.lease_model.specs.values.Tables.{put}
+use Rattle.lease_laws.proofs.server.Arrivals.{everyone_keeps, fine_goes, everyone_cases, receive-waits, new_server-waits}
+use Rattle.lease_laws.proofs.server.Calls.{joined-sound, opens_disconnected-sound, client_forgotten-sound, key_expired-sound, dropped_lease, left_lasting, lasting_left}
+use Rattle.lease_laws.proofs.server.Goes.{Goes, still_there, dropped-goes}
+use Rattle.lease_laws.proofs.server.Held.{SameHeld, dropped_held}
+use Rattle.lease_laws.proofs.server.Keeps.{Kept, Anywhere}
+use Rattle.lease_laws.proofs.server.Lists.{if_cases, clash, not_parts, among_filter, among_map}
+use Rattle.lease_laws.proofs.server.Orderly.{IsFine}
+use Rattle.lease_laws.proofs.server.PassWaits.{EveryoneWaits, all_passes-wait}
+use Rattle.lease_laws.proofs.server.Progress.{opens_dropped-sound}
+
+-- a client that is connected stays so when another joins
+put_true : (up : ℕ → Bool) (client other : ℕ) → up other ≡ true → put up client true other ≡ true
+unfolding put
+put_true up client other e = if_cases (λ b. b ≡ true) (other == client) true (up other) (λ t. refl) (λ t. e)
+
+-- a join: what a FileId is about stays
+joined-open : (client file file_id : ℕ) (progress : Progress) → IsOpenOn progress.server file file_id
+    → IsOpenOn (joined client progress).server file file_id
+unfolding joined
+joined-open client file file_id progress o = record { was_given = o.was_given; is_on_file = o.is_on_file }
+
+-- a join: what a request is about stays
+joined-about : (client file : ℕ) (request : Request) (progress : Progress)
+    → IsAbout progress.server file request → IsAbout (joined client progress).server file request
+joined-about client file (Request.Create at access share contexts) progress about = about
+joined-about client file (Request.Read file_id) progress about = joined-open client file file_id progress
+    about
+joined-about client file (Request.Write file_id number patch) progress about = joined-open client file file_id
+    progress about
+joined-about client file (Request.Close file_id) progress about = joined-open client file file_id progress
+    about
+joined-about client file (Request.Acknowledge given) progress about = about
+
+-- a join that applies keeps the order
+joined-orderly : (client : ℕ) (progress : Progress) → IsOrderly progress.server
+    → IsOrderly (joined client progress).server
+unfolding joined
+joined-orderly client progress o = record {
+  opens_up = λ one a up. put_true progress.server.connected client one.client (o.opens_up one a up);
+  open_files = o.open_files;
+  held_up = λ file one a. put_true progress.server.connected client one.client (o.held_up file one a);
+  held_files = o.held_files;
+  held_about = λ file one a. joined-about client file one.request progress (o.held_about file one a);
+}
+
+-- a join that applies lets wait what has to wait
+joined-kept : (client : ℕ) (progress : Progress) → Kept Anywhere progress (joined client progress)
+unfolding joined
+joined-kept client progress = record { stands = λ key one a k up b g. (a, b); finds = λ c id one e g. e }
+
+-- a join that applies leaves the held requests as they are
+joined-held : (client : ℕ) (progress : Progress) → SameHeld progress (joined client progress)
+unfolding joined
+joined-held client progress = refl
+
+-- a join leaves each first held request waiting
+join-waits : (server : Server) (client : ℕ) → EveryoneWaits server → EveryoneWaits (join server client).server
+unfolding join
+join-waits server client e = everyone_cases (server.connected client) (begun server)
+    (joined client (begun server))
+    (λ t. e)
+    (λ t. everyone_keeps (begun server) (joined client (begun server)) e
+    (record {
+      sound = joined-sound client (begun server) e.fine.sound;
+      orderly = joined-orderly client
+          (begun server) e.fine.orderly;
+    })
+    (joined-kept client (begun server)) (joined-held client (begun server)))
+
+-- to drop opens keeps the laws and the order
+dropped-fine : (test : Open → Bool) (progress : Progress) → IsFine progress.server
+    → IsFine (opens_dropped test progress).server
+dropped-fine test progress f = fine_goes progress (opens_dropped test progress) f
+    (opens_dropped-sound test progress f.sound) (dropped-goes test progress) (dropped_held test progress)
+
+-- to mark a key lets opens go on
+expired-goes : (key : Key) (progress : Progress) → Goes progress (key_expired key progress)
+unfolding key_expired
+expired-goes key progress = record {
+  files = refl;
+  ups = λ c. refl;
+  ids = omega arith;
+  from = λ one a. inl
+      (still_there progress.server one a);
+}
+
+-- to mark a key leaves the held requests as they are
+expired-held : (key : Key) (progress : Progress) → SameHeld progress (key_expired key progress)
+unfolding key_expired
+expired-held key progress = refl
+
+-- a timer that runs out leaves each first held request waiting
+expire-waits : (server : Server) (key : Key) → EveryoneWaits server → EveryoneWaits (expire server key).server
+unfolding expire
+expire-waits server key e =
+    let dropped = opens_dropped (has_key key) (begun server) in
+    let f = dropped-fine (has_key key) (begun server) e.fine in
+    everyone_cases (is_breaking (server.leases key)) (all_passes (key_expired key dropped)) (begun server)
+    (λ t. all_passes-wait (key_expired key dropped)
+    (fine_goes dropped (key_expired key dropped) f
+    (key_expired-sound key dropped f.sound (dropped_lease key (begun server)))
+    (expired-goes key dropped) (expired-held key dropped)))
+    (λ t. e)
+
+-- a scavenge leaves each first held request waiting
+scavenge-waits : (server : Server) (file_id : ℕ) → EveryoneWaits server
+    → EveryoneWaits (scavenge server file_id).server
+unfolding scavenge
+scavenge-waits server file_id e = everyone_cases (list_any (is_kept_open file_id) server.opens)
+    (all_passes (opens_dropped (is_kept_open file_id) (begun server))) (begun server)
+    (λ t. all_passes-wait (opens_dropped (is_kept_open file_id) (begun server))
+    (dropped-fine (is_kept_open file_id) (begun server) e.fine))
+    (λ t. e)
+
+-- an open of another client isn't disconnected
+record IsCutFrom (server : Server) (client : ℕ) (one : Open) : Type 0 where
+  was : Open
+  was_there : Among was server.opens
+  same_id : one.file_id ≡ was.file_id
+  same_file : one.file ≡ was.file
+  same_client : one.client ≡ was.client
+  up : one.connected ≡ true → (was.connected ≡ true) × (was.client == client ≡ false)
+
+-- an open after a cut
+cut_open : (server : Server) (client : ℕ) (was : Open) (b : Bool) → (was.client == client) ≡ b
+    → Among was server.opens
+    → IsCutFrom server client (cond b (record was { connected = false }) was)
+cut_open server client was true e a = record {
+  was = was;
+  was_there = a;
+  same_id = refl;
+  same_file = refl;
+  same_client = refl;
+  up = λ never. absurd (true≢false (sym never));
+}
+cut_open server client was false e a = record {
+  was = was;
+  was_there = a;
+  same_id = refl;
+  same_file = refl;
+  same_client = refl;
+  up = λ u. (u, e);
+}
+
+-- the opens after a cut
+cut_opens : (server : Server) (client : ℕ) (one : Open) → Among one (map (disconnected client) server.opens)
+    → IsCutFrom server client one
+cut_opens server client one a =
+    let x = among_map (disconnected client) one server.opens a in
+    subst (IsCutFrom server client) (sym x.2) (cut_open server client x.0 ((x.0).client == client) refl x.1)
+
+-- another client stays as it was
+put_other : (up : ℕ → Bool) (client other : ℕ) → other == client ≡ false
+    → put up client false other ≡ up other
+unfolding put
+put_other up client other e = if_cases (λ b. b ≡ up other) (other == client) false (up other)
+    (λ t. clash (other == client) t e) (λ t. refl)
+
+-- a cut: what a FileId is about stays
+cut_about_open : (client file file_id : ℕ) (progress : Progress) → IsOpenOn progress.server file file_id
+    → IsOpenOn (client_forgotten client (opens_disconnected client progress)).server file file_id
+unfolding client_forgotten opens_disconnected
+cut_about_open client file file_id progress o = record {
+  was_given = o.was_given;
+  is_on_file = λ one a e. let x = cut_opens progress.server client one a in
+      x.same_file ∙ o.is_on_file x.was x.was_there (sym x.same_id ∙ e);
+}
+
+-- a cut: what a request is about stays
+cut_about : (client file : ℕ) (request : Request) (progress : Progress) → IsAbout progress.server file request
+    → IsAbout (client_forgotten client (opens_disconnected client progress)).server file request
+cut_about client file (Request.Create at access share contexts) progress about = about
+cut_about client file (Request.Read file_id) progress about = cut_about_open client file file_id progress
+    about
+cut_about client file (Request.Write file_id number patch) progress about = cut_about_open client file file_id
+    progress about
+cut_about client file (Request.Close file_id) progress about = cut_about_open client file file_id progress
+    about
+cut_about client file (Request.Acknowledge given) progress about = about
+
+-- a cut keeps the order
+cut_orderly : (client : ℕ) (progress : Progress) → IsOrderly progress.server
+    → IsOrderly (client_forgotten client (opens_disconnected client progress)).server
+unfolding client_forgotten opens_disconnected
+cut_orderly client progress o =
+    let left : (file : ℕ) (one : Held) → Among one
+    (without (λ x. x.client == client) (progress.server.held file))
+    → (Among one (progress.server.held file)) × (not (one.client == client) ≡ true) =
+    λ file one a. among_filter (λ x. not (x.client == client)) one (progress.server.held file) a in
+    record {
+      opens_up = λ one a up. let x = cut_opens progress.server client one a in
+          let was = x.up up in
+          put_other progress.server.connected client one.client (ap (λ c. c == client) x.same_client ∙ was.1)
+          ∙ ap (λ c. progress.server.connected c) x.same_client ∙ o.opens_up x.was x.was_there was.0;
+      open_files = λ one a. let x = cut_opens progress.server client one a in
+          ap (λ f. has_file progress.server f) x.same_file ∙ o.open_files x.was x.was_there;
+      held_up = λ file one a. let x = left file one a in
+          put_other progress.server.connected client one.client (not_parts (one.client == client) x.1)
+          ∙ o.held_up file one x.0;
+      held_files = λ file one a. o.held_files file one (left file one a).0;
+      held_about = λ file one a. cut_about client file one.request progress
+          (o.held_about file one (left file one a).0);
+    }
+
+-- a cut leaves each first held request waiting
+cut-waits : (server : Server) (client : ℕ) → EveryoneWaits server → EveryoneWaits (cut server client).server
+unfolding cut
+cut-waits server client e =
+    let dropped = opens_dropped (is_lost server client) (begun server) in
+    let f = dropped-fine (is_lost server client) (begun server) e.fine in
+    everyone_cases (server.connected client)
+    (all_passes (client_forgotten client (opens_disconnected client dropped))) (begun server)
+    (λ t. all_passes-wait (client_forgotten client (opens_disconnected client dropped)) (record {
+      sound = client_forgotten-sound client (opens_disconnected client dropped)
+          (opens_disconnected-sound client dropped f.sound
+          (λ one a c. lasting_left (is_lost server client) (begun server) one a
+          (left_lasting client server one e.fine.sound a c)));
+      orderly = cut_orderly client dropped f.orderly;
+    }))
+    (λ t. e)
+
+-- every call
+pub called-waits : (server : Server) (call : Call) → EveryoneWaits server
+    → EveryoneWaits (called server call).server
+called-waits server (Call.Join client) e = join-waits server client e
+called-waits server (Call.Receive client request) e = receive-waits server client request e
+called-waits server (Call.Cut client) e = cut-waits server client e
+called-waits server (Call.Expire key) e = expire-waits server key e
+called-waits server (Call.Scavenge file_id) e = scavenge-waits server file_id e
+
+-- the first server waits well
+pub first-waits-well : (contents : List (List ℕ)) → WaitsWell (new_server contents)
+first-waits-well contents = let e = new_server-waits contents in
+    record { is_orderly = e.fine.orderly; all_wait = e.wait }
+
+-- every call lets requests wait well
+pub called-waits-well : (server : Server) (call : Call) → IsSound server → WaitsWell server
+    → WaitsWell (called server call).server
+called-waits-well server call s w =
+    let e = called-waits server call (record {
+      fine = record { sound = s; orderly = w.is_orderly };
+      wait =
+          w.all_wait;
+    }) in
+    record { is_orderly = e.fine.orderly; all_wait = e.wait }
+
+-- a key that holds W isn't blocked on its file
+pub writer-unblocked : (server : Server) (key : Key) (one : Open) → IsSound server
+    → (server.leases key).state.write ≡ true
+    → Among one server.opens → has_key key one ≡ true → IsBlocked server (Some key) one.file → ⊥
+writer-unblocked server key one s w a k b = clash (has_key key b.one)
+    (s.one_writer key one b.one w a k b.is_there b.is_on_file) b.is_other

@@ -1,0 +1,265 @@
+-- What a look at a request wants: each wanted lease can be so lowered.
+use Rattle.std.proofs.Common.{◌≡◌, ◌⊎◌, inl, inr, ⊎_elim, refl, sym, ap, ◌∙◌, subst, ℕ, Bool, true, false, List, [], ◌∷◌, map, true≢false}
+use Rattle.std.specs.Prelude.{if◌then◌else◌, ◌&&◌, filter, Option, Some, None}
+use Rattle.std.specs.List.{list_any}
+use Rattle.lease_state.specs.State.{State, granted_form_of, nothing_cached}
+use Rattle.lease_state.specs.declared.access.Access.{Access}
+use Rattle.lease_state.specs.declared.access.Share.{Share}
+use Rattle.lease_state.specs.declared.status.Status.{Status}
+use Rattle.lease_model.specs.server.Allowed.{is_other_on, conflicts_on}
+use Rattle.lease_state.specs.declared.patch.Patch.{Patch}
+use Rattle.lease_model.specs.values.Patches.{is_within_limit}
+use Rattle.lease_model.specs.values.Keys.{Key, key_eq, key_before}
+use Rattle.lease_model.specs.values.LeaseStates.{holds_any, without_write, without_handle}
+use Rattle.lease_model.specs.values.Lists.{is_empty}
+use Rattle.lease_model.specs.messages.Requests.{Request, CreateAsk, LeaseOf}
+use Rattle.lease_laws.specs.server.Laws.{Among, IsSound}
+use Rattle.lease_model.specs.server.State.{Server, Open, no_lease, has_key, is_key, has_file}
+use Rattle.lease_model.specs.values.Sharing.{may_read, may_write}
+use Rattle.lease_model.specs.server.Wants.{Want, Finding, finding, key_added, open_key_added, key_of, keys_of, lease_of, wants_where, handle_wants, write_wants, all_wants, create_finding, reconnect_finding, write_finding, asked_finding, read_finding, by_open, by_contexts, own_key, key_of_open, connected_open, is_leased_elsewhere, awaits}
+use Rattle.lease_laws.proofs.server.Keys.{is_key-refl, lease_by-key}
+use Rattle.lease_laws.proofs.server.Lists.{if_cases, clash, and_parts, not_true, among_filter, among_filtered, among_map}
+use Rattle.lease_laws.proofs.server.States.{IsLowered, without_write-lowered, without_handle-lowered, nothing-lowered}
+
+-- a key among the keys with one more is that one, or was among them
+key_added-has : (key new : Key) (keys : List Key) → Among key (key_added new keys) → (key ≡ new)
+    ⊎ Among key keys
+unfolding key_added
+key_added-has key new [] (inl e) = inl e
+key_added-has key new [] (inr never) = absurd never
+key_added-has key new (other ∷ keys) h =
+    if_cases (λ l. Among key l → (key ≡ new) ⊎ Among key (other ∷ keys)) (key_eq new other) (other ∷ keys)
+    (if key_before new other then new ∷ other ∷ keys else other ∷ key_added new keys)
+    (λ e a. inr a)
+    (λ e. if_cases (λ l. Among key l → (key ≡ new) ⊎ Among key (other ∷ keys)) (key_before new other)
+    (new ∷ other ∷ keys) (other ∷ key_added new keys)
+    (λ b a. a)
+    (λ b a. ⊎_elim (λ same. inr (inl same))
+    (λ later. ⊎_elim (λ same. inl same) (λ found. inr (inr found)) (key_added-has key new keys later)) a)) h
+
+-- a key with one more open is that open's, or was there
+open_key_added-has : (key : Key) (client : ℕ) (bytes : Option (List ℕ)) (keys : List Key)
+    → Among key (open_key_added client bytes keys) → (is_key key client bytes ≡ true) ⊎ Among key keys
+open_key_added-has key client None keys a = inr a
+open_key_added-has key client (Some bytes) keys a = ⊎_elim
+    (λ same. inl (ap (λ k. is_key k client (Some bytes)) same ∙ is_key-refl client bytes))
+    (λ found. inr found) (key_added-has key (key_of client bytes) keys a)
+
+-- each of the keys of opens is the key of one of them
+pub keys_of-has : (key : Key) (opens : List Open) → Among key (keys_of opens)
+    → (one : Open) × (Among one opens) × (has_key key one ≡ true)
+unfolding keys_of
+keys_of-has key [] a = absurd a
+keys_of-has key (one ∷ opens) a = ⊎_elim
+    (λ k. (one, inl refl, k))
+    (λ later. let x = keys_of-has key opens later in (x.0, inr x.1, x.2))
+    (open_key_added-has key one.client one.lease_key (keys_of opens) a)
+
+-- with one more there are some
+key_added-some : (new : Key) (keys : List Key) → is_empty (key_added new keys) ≡ false
+unfolding key_added
+key_added-some new [] = refl
+key_added-some new (other ∷ keys) =
+    if_cases (λ l. is_empty l ≡ false) (key_eq new other) (other ∷ keys)
+    (if key_before new other then new ∷ other ∷ keys else other ∷ key_added new keys)
+    (λ e. refl)
+    (λ e. if_cases (λ l. is_empty l ≡ false) (key_before new other) (new ∷ other ∷ keys)
+    (other ∷ key_added new keys)
+    (λ b. refl) (λ b. refl))
+
+-- an open with a key adds one
+open_key_added-keyed : (key : Key) (client : ℕ) (bytes : Option (List ℕ)) (keys : List Key)
+    → is_key key client bytes ≡ true → is_empty (open_key_added client bytes keys) ≡ false
+open_key_added-keyed key client None keys k = absurd (true≢false (sym k))
+open_key_added-keyed key client (Some bytes) keys k = key_added-some (key_of client bytes) keys
+
+-- another open leaves some
+open_key_added-more : (client : ℕ) (bytes : Option (List ℕ)) (keys : List Key)
+    → is_empty keys ≡ false → is_empty (open_key_added client bytes keys) ≡ false
+open_key_added-more client None keys e = e
+open_key_added-more client (Some bytes) keys e = key_added-some (key_of client bytes) keys
+
+-- opens one of which has a key have some keys
+pub keys_of-some : (key : Key) (one : Open) (opens : List Open) → Among one opens → has_key key one ≡ true
+    → is_empty (keys_of opens) ≡ false
+unfolding keys_of
+keys_of-some key one [] a k = absurd a
+keys_of-some key one (other ∷ opens) (inl same) k =
+    open_key_added-keyed key other.client other.lease_key (keys_of opens)
+    (ap (λ o. has_key key o) (sym same) ∙ k)
+keys_of-some key one (other ∷ opens) (inr a) k =
+    open_key_added-more other.client other.lease_key (keys_of opens) (keys_of-some key one opens a k)
+
+-- a mapped list is empty where the list is
+map_empty : {X Y : Type 0} (f : X → Y) (xs : List X) → is_empty (map f xs) ≡ is_empty xs
+map_empty f [] = refl
+map_empty f (x ∷ xs) = refl
+
+-- where nothing is wanted, no open with a key passes the test
+pub wants_where-none : (server : Server) (test : Open → Bool) (lowering : State → State)
+    → is_empty (wants_where server test lowering) ≡ true
+    → (key : Key) (one : Open) → Among one server.opens → has_key key one ≡ true → test one ≡ false
+unfolding wants_where
+wants_where-none server test lowering none key one a k = not_true (test one) (λ t.
+    clash (is_empty (keys_of (filter test server.opens)))
+    (sym (map_empty (λ x. record { key = x; lowered = lowering (server.leases x).state })
+    (keys_of (filter test server.opens))) ∙ none)
+    (keys_of-some key one (filter test server.opens) (among_filtered test one server.opens a t) k))
+
+-- a want fits a server where the key's state can be so lowered, and its timer didn't run out
+pub record Fits (server : Server) (want : Want) : Type 0 where
+  pub can_lower : IsLowered (server.leases want.key).state want.lowered
+  pub is_timely : server.expired want.key ≡ false
+
+-- each want fits
+abbrev pub AllFit : Server → List Want → Type 0
+AllFit server wants = (want : Want) → Among want wants → Fits server want
+
+-- a want fits where its lease isn't none
+fits-at : (server : Server) (lowering : State → State) (key : Key) → IsSound server
+    → ((server.leases key) ≡ no_lease → ⊥)
+    → IsLowered (server.leases key).state (lowering (server.leases key).state)
+    → Fits server (record { key = key; lowered = lowering (server.leases key).state })
+fits-at server lowering key s held low = record {
+  can_lower = low;
+  is_timely = not_true (server.expired key) (λ out. held (s.timed_out key out));
+}
+
+-- wants fit where each open that passes the test has a lease that can be so lowered
+pub wants_where-fit : (server : Server) (test : Open → Bool) (lowering : State → State) → IsSound server
+    → ((one : Open) → test one ≡ true → granted_form_of (lease_of server one).state ≡
+    (lease_of server one).state
+    → ((lease_of server one) ≡ no_lease → ⊥) × IsLowered (lease_of server one).state
+    (lowering (lease_of server one).state))
+    → AllFit server (wants_where server test lowering)
+unfolding wants_where
+wants_where-fit server test lowering s good want a =
+    let x = among_map (λ key. record { key = key; lowered = lowering (server.leases key).state }) want
+    (keys_of (filter test server.opens)) a in
+    let y = keys_of-has x.0 (filter test server.opens) x.1 in
+    let z = among_filter test y.0 server.opens y.1 in
+    let same : lease_of server y.0 ≡ server.leases x.0 = lease_by-key server x.0 (y.0).client (y.0).lease_key
+    y.2 in
+    let both = good y.0 z.1 (ap (λ l. granted_form_of l.state) same ∙ (s.lawful x.0).is_granted_form
+    ∙ ap (λ l. l.state) (sym same)) in
+    subst (λ w. Fits server w) (sym x.2) (fits-at server lowering x.0 s
+    (λ e. both.0 (same ∙ e))
+    (subst (λ l. IsLowered l.state (lowering l.state)) same both.1))
+
+-- a conflicting create's wants fit
+pub handle_wants-fit : (server : Server) (own : Option Key) (file : ℕ) (access : Access) (share : Share)
+    → IsSound server → AllFit server (handle_wants server own file access share)
+unfolding handle_wants
+handle_wants-fit server own file access share s = wants_where-fit server
+    (λ one. conflicts_on file access share one && is_other_on own file one &&
+    (lease_of server one).state.handle)
+    without_handle s
+    (λ one t form. let holds = (and_parts (conflicts_on file access share one && is_other_on own file one)
+    (lease_of server one).state.handle t).1 in (
+      (λ e. clash (lease_of server one).state.handle holds (ap (λ l. l.state.handle) e)),
+      without_handle-lowered (lease_of server one).state form holds,
+    ))
+
+-- a create's wants fit
+pub write_wants-fit : (server : Server) (own : Option Key) (file : ℕ) → IsSound server
+    → AllFit server (write_wants server own file)
+unfolding write_wants
+write_wants-fit server own file s = wants_where-fit server
+    (λ one. is_other_on own file one && (lease_of server one).state.write) without_write s
+    (λ one t form. let holds = (and_parts (is_other_on own file one) (lease_of server one).state.write t).1 in (
+      (λ e. clash (lease_of server one).state.write holds (ap (λ l. l.state.write) e)),
+      without_write-lowered (lease_of server one).state form holds,
+    ))
+
+-- a write's wants fit
+pub all_wants-fit : (server : Server) (own : Option Key) (file : ℕ) → IsSound server
+    → AllFit server (all_wants server own file)
+unfolding all_wants
+all_wants-fit server own file s = wants_where-fit server
+    (λ one. is_other_on own file one && holds_any (lease_of server one).state) (λ state. nothing_cached) s
+    (λ one t form. let holds = (and_parts (is_other_on own file one) (holds_any (lease_of server one).state)
+    t).1 in (
+      (λ e. clash (holds_any (lease_of server one).state) holds (ap (λ l. holds_any l.state) e)),
+      nothing-lowered (lease_of server one).state,
+    ))
+
+-- all that a finding wants fits
+abbrev pub FindingFits : Server → Finding → Type 0
+FindingFits server (Finding.Refused status) = Unit {0}
+FindingFits server (Finding.Wants wants) = AllFit server wants
+
+-- what a create finds fits
+pub create_finding-fits : (server : Server) (own : Option Key) (file : ℕ) (access : Access) (share : Share)
+    → IsSound server → FindingFits server (create_finding server own file access share)
+unfolding create_finding
+create_finding-fits server own file access share s =
+    if_cases (FindingFits server) (is_leased_elsewhere server own file) _ _
+    (λ e. tt)
+    (λ e. if_cases (FindingFits server) (list_any (conflicts_on file access share) server.opens) _ _
+    (λ c. if_cases (FindingFits server) (is_empty (handle_wants server own file access share)) _ _
+    (λ n. tt) (λ n. handle_wants-fit server own file access share s))
+    (λ c. write_wants-fit server own file s))
+
+-- what a reconnect finds fits
+pub reconnect_finding-fits : (server : Server) (client file : ℕ) (own : Option Key) (file_id : ℕ)
+    → FindingFits server (reconnect_finding server client file own file_id)
+unfolding reconnect_finding
+reconnect_finding-fits server client file own file_id =
+    if_cases (FindingFits server) (list_any (awaits client file own file_id) server.opens) (Finding.Wants [])
+    (Finding.Refused Status.ObjectNameNotFound)
+    (λ e want a. absurd a) (λ e. tt)
+
+-- what a write finds fits
+pub write_finding-fits : (server : Server) (one : Open) (patch : Patch) → IsSound server
+    → FindingFits server (write_finding server one patch)
+unfolding write_finding
+write_finding-fits server one patch s =
+    if_cases (FindingFits server) (may_write one.access) _ _
+    (λ e. if_cases (FindingFits server) (is_within_limit patch) _ _
+    (λ i. all_wants-fit server (key_of_open one) one.file s) (λ i. tt))
+    (λ e. tt)
+
+-- what a create finds fits, with a reconnect or without
+asked_finding-fits : (server : Server) (client file : ℕ) (access : Access) (share : Share)
+    (lease : Option LeaseOf) (again : Option ℕ)
+    → IsSound server → FindingFits server (asked_finding server client file access share lease again)
+asked_finding-fits server client file access share lease None s = create_finding-fits server
+    (own_key client lease) file access share s
+asked_finding-fits server client file access share lease (Some file_id) s = reconnect_finding-fits server
+    client file (own_key client lease) file_id
+
+-- what is found by an open fits
+by_open-fits : (server : Server) (one : Option Open) (found : Open → Finding)
+    → ((x : Open) → FindingFits server (found x))
+    → FindingFits server (by_open one found)
+by_open-fits server None found fits = tt
+by_open-fits server (Some one) found fits = fits one
+
+-- what is found by contexts fits
+by_contexts-fits : (server : Server) (ask : Option CreateAsk) (found : CreateAsk → Finding)
+    → ((x : CreateAsk) → FindingFits server (found x))
+    → FindingFits server (by_contexts ask found)
+by_contexts-fits server None found fits = tt
+by_contexts-fits server (Some ask) found fits = fits ask
+
+-- what a read finds fits
+read_finding-fits : (server : Server) (one : Open) → FindingFits server (read_finding one)
+read_finding-fits server one = if_cases (FindingFits server) (may_read one.access) (Finding.Wants [])
+    (Finding.Refused Status.AccessDenied)
+    (λ e want a. absurd a) (λ e. tt)
+
+-- all that a look at a request wants fits
+pub finding-fits : (server : Server) (client : ℕ) (request : Request) → IsSound server
+    → FindingFits server (finding server client request)
+unfolding finding
+finding-fits server client (Request.Create file access share contexts) s = by_contexts-fits server contexts _
+    (λ ask. if_cases (FindingFits server) (has_file server file) _ _
+    (λ e. asked_finding-fits server client file access share ask.lease ask.reconnect s) (λ e. tt))
+finding-fits server client (Request.Read file_id) s = by_open-fits server
+    (connected_open server client file_id) _ (read_finding-fits server)
+finding-fits server client (Request.Write file_id number patch) s = by_open-fits server
+    (connected_open server client file_id) _
+    (λ one. write_finding-fits server one patch s)
+finding-fits server client (Request.Close file_id) s = by_open-fits server
+    (connected_open server client file_id) _ (λ one want a. absurd a)
+finding-fits server client (Request.Acknowledge acknowledged) s = λ want a. absurd a

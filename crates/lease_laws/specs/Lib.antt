@@ -1,0 +1,4 @@
+pub mod client
+pub mod messages
+pub mod records
+pub mod server

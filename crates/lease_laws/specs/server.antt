@@ -1,0 +1,4 @@
+pub mod Enough
+pub mod Laws
+pub mod Outs
+pub mod Waiting

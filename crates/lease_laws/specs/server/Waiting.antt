@@ -1,0 +1,44 @@
+-- The laws of waiting: who is connected, where requests are held, and that each waits for a break.
+use Rattle.std.specs.Prelude.{◌≡◌, ℕ, ◌≤◌, true, Some, find, ◌==◌}
+use Rattle.lease_model.specs.messages.Requests.{Request}
+use Rattle.lease_laws.specs.server.Laws.{Among, HasToWait}
+use Rattle.lease_model.specs.server.State.{Server, Open, Held, has_file}
+
+-- a FileId that was given, and whose open, if it is there yet, is on the file
+pub record IsOpenOn (server : Server) (file : ℕ) (file_id : ℕ) : Type 0 where
+  pub was_given : file_id ≤ server.last_id
+  pub is_on_file : (one : Open) → Among one server.opens → one.file_id ≡ file_id → one.file ≡ file
+
+-- the request is about the file
+abbrev pub IsAbout : Server → ℕ → Request → Type 0
+IsAbout server file (Request.Create other access share contexts) = other ≡ file
+IsAbout server file (Request.Read file_id) = IsOpenOn server file file_id
+IsAbout server file (Request.Write file_id number patch) = IsOpenOn server file file_id
+IsAbout server file (Request.Close file_id) = IsOpenOn server file file_id
+IsAbout server file (Request.Acknowledge acknowledged) = ⊥
+
+-- Where opens and held requests are.
+--   opens_up: the client of a connected open is connected
+--   open_files: opens are on files of the server
+--   held_up: the client of a held request is connected
+--   held_files: requests are held on files of the server
+--   held_about: a request is held on the file that it is about
+pub record IsOrderly (server : Server) : Type 0 where
+  pub opens_up : (one : Open) → Among one server.opens → one.connected ≡ true
+      → server.connected one.client ≡ true
+  pub open_files : (one : Open) → Among one server.opens → has_file server one.file ≡ true
+  pub held_up : (file : ℕ) (one : Held) → Among one (server.held file) → server.connected one.client ≡ true
+  pub held_files : (file : ℕ) (one : Held) → Among one (server.held file) → has_file server file ≡ true
+  pub held_about : (file : ℕ) (one : Held) → Among one (server.held file) → IsAbout server file one.request
+
+-- On the file, the first held request of each client has to wait.
+abbrev pub AllWait : Server → ℕ → Type 0
+AllWait server file = (client : ℕ) (one : Held)
+    → find (λ other. other.client == client) (server.held file) ≡ Some one
+    → HasToWait server client one.request
+
+-- The laws of waiting. (With them a key that holds W has no request of its own among the first held on
+-- its file.)
+pub record WaitsWell (server : Server) : Type 0 where
+  pub is_orderly : IsOrderly server
+  pub all_wait : (file : ℕ) → AllWait server file

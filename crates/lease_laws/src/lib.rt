@@ -1,0 +1,17 @@
+//! What is true of the definitions of servers, clients, records and messages: public functions with an
+//! empty body whose contracts carry the laws.
+#![tactic(auto)]
+
+mod client_laws;
+mod enough_laws;
+mod from_bytes;
+mod past_laws;
+mod server_laws;
+mod verdict_law;
+
+pub use client_laws::clients_are_sound;
+pub use enough_laws::rounds_and_passes_end;
+pub use from_bytes::bytes_laws;
+pub use past_laws::{contents_of_runs, writes_of_runs};
+pub use server_laws::{laws_of_servers, outs_of_calls, waiting_of_servers, waits_of_tries};
+pub use verdict_law::verdict_decides;

@@ -1,0 +1,56 @@
+ghost use Rattle.std.specs.Prelude.{true, List, ℕ, ◌≡◌, Some, None};
+ghost use Rattle.lease_model.specs.server.Answers.{concluded};
+ghost use Rattle.lease_model.specs.server.Attempt.{Outcome, tried};
+ghost use Rattle.lease_model.specs.server.Calls.{Call, called, receive};
+ghost use Rattle.lease_state.specs.declared.patch.Patch.{Patch};
+ghost use Rattle.lease_model.specs.values.Keys.{Key};
+ghost use Rattle.lease_model.specs.server.Progress.{Progress};
+ghost use Rattle.lease_model.specs.messages.Requests.{Request};
+ghost use Rattle.lease_laws.specs.server.Laws.{Among, IsSound, IsBlocked, HasToWait};
+ghost use Rattle.lease_laws.specs.server.Outs.{EachOut, IsFlaggedRightly, ArePaired, IsBreak, IsNoBreak, GoOn, AreBreaksFirst, IsAlone, CachesAlone};
+ghost use Rattle.lease_model.specs.server.State.{Server, Open, new_server, has_key};
+ghost use Rattle.lease_laws.specs.server.Waiting.{WaitsWell};
+ghost use Rattle.lease_model.specs.server.Wants.{connected_open};
+
+/// The laws of every server hold of the first one, and every call keeps them.
+pub fn laws_of_servers()
+    ensures first { (contents : List (List ℕ)) → IsSound (new_server contents) }
+    ensures kept { (server : Server) (call : Call) → IsSound server → IsSound (called server call).server }
+{}
+
+/// The laws of waiting hold of the first server, and every call keeps them: who is connected, on which
+/// file requests are held, and that the first held request of each client there waits for a break of
+/// another key. So a key that holds W on a file has no request of its own waiting there.
+pub fn waiting_of_servers()
+    ensures first { (contents : List (List ℕ)) → WaitsWell (new_server contents) }
+    ensures kept { (server : Server) (call : Call) → IsSound server → WaitsWell server → WaitsWell (called server call).server }
+    ensures writer { (server : Server) (key : Key) (one : Open) → IsSound server → (server.leases key).state.write ≡ true
+        → Among one server.opens → has_key key one ≡ true → IsBlocked server (Some key) one.file → ⊥ }
+{}
+
+/// What a call gives out. Breaks are flagged rightly. A Changed stands directly before its WriteDone.
+/// The Breaks for a request stand before its answer, and so before its Changed: a try gives out Breaks
+/// alone, and the end of a try none; so it is in the whole of a call that tries one request. And once
+/// a write is ready to be done, no other key on its file caches anything.
+pub fn outs_of_calls()
+    ensures flagged { (server : Server) (call : Call) → EachOut IsFlaggedRightly (called server call).outs }
+    ensures paired { (server : Server) (call : Call) → ArePaired None (called server call).outs }
+    ensures tries { (client : ℕ) (request : Request) (progress : Progress)
+        → GoOn IsBreak progress.outs (tried client request progress).progress.outs }
+    ensures answers { (client : ℕ) (request : Request) (progress : Progress) (outcome : Outcome)
+        → GoOn IsNoBreak progress.outs (concluded client request progress outcome).outs }
+    ensures received { (server : Server) (client : ℕ) (request : Request) → IsAlone request
+        → AreBreaksFirst (receive server client request).outs }
+    ensures written { (client : ℕ) (file_id : ℕ) (number : ℕ) (patch : Patch) (progress : Progress) (one : Open)
+        → IsSound progress.server
+        → (tried client (Request.Write file_id number patch) progress).outcome ≡ Outcome.Ready
+        → connected_open (tried client (Request.Write file_id number patch) progress).progress.server client file_id ≡ Some one
+        → CachesAlone (tried client (Request.Write file_id number patch) progress).progress.server one }
+{}
+
+/// A try waits only where the request has to: on its file another key is breaking. Does nothing.
+pub fn waits_of_tries()
+    ensures { (client : ℕ) (request : Request) (progress : Progress) → IsSound progress.server
+        → (tried client request progress).outcome ≡ Outcome.Waits
+        → HasToWait (tried client request progress).progress.server client request }
+{}

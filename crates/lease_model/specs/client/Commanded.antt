@@ -1,0 +1,194 @@
+-- What a client does with a command (own, but for the create that it sends: MS-SMB2 3.2.4.3).
+use Rattle.std.specs.Prelude.{ℕ, zero, suc, ◌+◌, Bool, true, false, Option, Some, None, List, [], ◌∷◌, ◌++◌, if◌then◌else◌, ◌==◌, ◌&&◌, ◌||◌, not, nat_lt}
+use Rattle.lease_state.specs.State.{State}
+use Rattle.lease_state.specs.declared.access.Access.{Access}
+use Rattle.lease_state.specs.declared.access.Share.{Share}
+use Rattle.lease_model.specs.client.State.{Client, Entry, LiveEntry, Pending, Phase, closed_entry, live_entry, lease_key, knows_file, view}
+use Rattle.lease_model.specs.client.Step.{Step, Turn, turned, refused_step, write_requests}
+use Rattle.lease_model.specs.client.Commands.{Command, Answer, Refusal, Note}
+use Rattle.lease_state.specs.declared.patch.Patch.{Patch}
+use Rattle.lease_model.specs.values.Patches.{is_within_limit}
+use Rattle.lease_model.specs.values.Limits.{count_limit, last_write_number}
+use Rattle.lease_model.specs.values.Lists.{is_empty}
+use Rattle.lease_model.specs.messages.Requests.{Request}
+use Rattle.lease_model.specs.values.Sharing.{may_read, may_write, same_access, same_share}
+use Rattle.lease_model.specs.values.Tables.{put}
+
+-- the create that opens a file: RqLs under the file's key, and DHnQ where durable is asked
+abbrev pub create_request : Client → ℕ → Access → Share → State → Bool → Request
+create_request client file access share want durable =
+    Request.Create file access share (Some (record {
+      lease = Some (record { key = lease_key client.guid file; state = want });
+      durable = durable;
+      reconnect = None;
+    }))
+
+abbrev pub turn_of : Entry → Answer → List Request → Turn
+turn_of entry answer requests =
+    record { entry = entry; answer = answer; requests = requests; settled = [] }
+
+-- an Open of a file that isn't open: only between a connect and the next notice
+abbrev pub opening_step : Client → ℕ → Access → Share → State → Bool → List Pending → Step
+opening_step client file access share want durable sent =
+    if client.connected
+    then turned client file (turn_of (record { phase = Phase.Opening access share; sent = sent })
+    Answer.Waiting (create_request client file access share want durable ∷ []))
+    else refused_step client Refusal.Offline
+
+abbrev pub on_closed : Client → ℕ → List Pending → Command → Step
+on_closed client file sent (Command.Open _ access share want durable) =
+    opening_step client file access share want durable sent
+on_closed client file sent command = refused_step client Refusal.NotOpen
+
+-- An Open of a live entry with its own access and share is one handle more.
+unfoldable pub handle_added : Client → ℕ → LiveEntry → List Pending → Step
+handle_added client file live sent =
+    if live.handles == count_limit then refused_step client Refusal.UsedUp
+    else turned client file
+    (turn_of (live_entry (record live { handles = live.handles + 1 }) sent) Answer.Done [])
+
+-- what a live entry does with an Open of another access or share
+unfoldable pub open_other : Client → ℕ → LiveEntry → List Pending → Access → Share → State → Bool → Step
+open_other client file live sent access share want durable = refused_step client Refusal.Differs
+
+unfoldable pub open_on_live : Client → ℕ → LiveEntry → List Pending → Access → Share → State → Bool → Step
+open_on_live client file live sent access share want durable =
+    if same_access access live.access && same_share share live.share
+    then handle_added client file live sent
+    else open_other client file live sent access share want durable
+
+-- the last handle goes: the entry is parked where the belief holds H, else the unsent writes and a
+-- Close are sent
+unfoldable pub last_handle_closed : Client → ℕ → LiveEntry → List Pending → Step
+last_handle_closed client file live sent =
+    if live.belief.handle
+    then turned client file (turn_of (live_entry (record live { handles = 0 }) sent) Answer.Done [])
+    else turned client file (turn_of (closed_entry (sent ++ live.unsent)) Answer.Done
+    (write_requests live.file_id live.unsent ++ Request.Close live.file_id ∷ []))
+
+-- some Read or sent write of the file isn't answered
+abbrev pub has_unanswered : LiveEntry → List Pending → Bool
+has_unanswered live sent = not (live.reads == 0) || not (is_empty sent)
+
+abbrev pub one_handle_less : ℕ → ℕ
+one_handle_less zero = 0
+one_handle_less (suc handles) = handles
+
+unfoldable pub close_on_live : Client → ℕ → LiveEntry → List Pending → Step
+close_on_live client file live sent =
+    if nat_lt 1 live.handles
+    then turned client file (turn_of
+    (live_entry (record live { handles = one_handle_less live.handles }) sent) Answer.Done [])
+    else (if has_unanswered live sent then refused_step client Refusal.Busy
+    else last_handle_closed client file live sent)
+
+-- a read from the cache
+unfoldable pub cached_read : Client → ℕ → List ℕ → Step
+cached_read client file bytes = record {
+  client = client;
+  answer = Answer.Bytes bytes true;
+  requests = [];
+  notes = Note.CachedRead file bytes ∷ [];
+}
+
+-- a read that is sent
+unfoldable pub read_sent : Client → ℕ → LiveEntry → List Pending → Step
+read_sent client file live sent =
+    if live.reads == count_limit then refused_step client Refusal.UsedUp
+    else turned client file (turn_of (live_entry (record live { reads = live.reads + 1 }) sent)
+    Answer.Waiting (Request.Read live.file_id ∷ []))
+
+abbrev pub read_from : Client → ℕ → LiveEntry → List Pending → Bool → Option (List ℕ) → Step
+read_from client file live sent true (Some base) = cached_read client file (view base sent live.unsent)
+read_from client file live sent _ _ = read_sent client file live sent
+
+unfoldable pub read_on_live : Client → ℕ → LiveEntry → List Pending → Step
+read_on_live client file live sent =
+    if may_read live.access then read_from client file live sent live.belief.read live.base
+    else refused_step client Refusal.Denied
+
+-- a write takes the client's next number, and is noted
+abbrev pub wrote_step : Client → ℕ → Entry → Answer → List Request → Pending → Step
+wrote_step client file entry answer requests write = record {
+  client = record client {
+    entries = put client.entries file entry;
+    last_number = client.last_number + 1;
+  };
+  answer = answer;
+  requests = requests;
+  notes = Note.Wrote file write.number write.patch write.buffered ∷ [];
+}
+
+abbrev pub next_write : Client → Patch → Bool → Pending
+next_write client patch buffered =
+    record { number = client.last_number + 1; patch = patch; buffered = buffered }
+
+unfoldable pub write_buffered : Client → ℕ → LiveEntry → List Pending → Patch → Step
+write_buffered client file live sent patch = wrote_step client file
+    (live_entry (record live { unsent = live.unsent ++ next_write client patch true ∷ [] }) sent)
+    Answer.Done [] (next_write client patch true)
+
+unfoldable pub write_sent : Client → ℕ → LiveEntry → List Pending → Patch → Step
+write_sent client file live sent patch = wrote_step client file
+    (live_entry live (sent ++ next_write client patch false ∷ []))
+    Answer.Waiting (Request.Write live.file_id (client.last_number + 1) patch ∷ [])
+    (next_write client patch false)
+
+-- under W a write is buffered, else it is sent
+abbrev pub write_taken : Client → ℕ → LiveEntry → List Pending → Patch → Step
+write_taken client file live sent patch =
+    if live.belief.write then write_buffered client file live sent patch
+    else write_sent client file live sent patch
+
+-- first the access, then the write's end, then the numbers that are left
+unfoldable pub write_on_live : Client → ℕ → LiveEntry → List Pending → Patch → Step
+write_on_live client file live sent patch =
+    if not (may_write live.access) then refused_step client Refusal.Denied
+    else (if not (is_within_limit patch) then refused_step client Refusal.TooLong
+    else (if client.last_number == last_write_number then refused_step client Refusal.UsedUp
+    else write_taken client file live sent patch))
+
+-- the unsent writes are sent, in order
+unfoldable pub flush_on_live : Client → ℕ → LiveEntry → List Pending → Step
+flush_on_live client file live sent = turned client file (turn_of
+    (live_entry (record live { unsent = [] }) (sent ++ live.unsent))
+    (if is_empty live.unsent then Answer.Done else Answer.Waiting)
+    (write_requests live.file_id live.unsent))
+
+-- a parked entry hears only an Open
+abbrev pub unless_parked : Client → LiveEntry → Step → Step
+unless_parked client live step = if live.handles == 0 then refused_step client Refusal.NotOpen else step
+
+abbrev pub on_live : Client → ℕ → LiveEntry → List Pending → Command → Step
+on_live client file live sent (Command.Open _ access share want durable) =
+    open_on_live client file live sent access share want durable
+on_live client file live sent (Command.Close _) =
+    unless_parked client live (close_on_live client file live sent)
+on_live client file live sent (Command.Read _) =
+    unless_parked client live (read_on_live client file live sent)
+on_live client file live sent (Command.Write _ patch) =
+    unless_parked client live (write_on_live client file live sent patch)
+on_live client file live sent (Command.Flush _) =
+    unless_parked client live (flush_on_live client file live sent)
+
+abbrev pub on_entry : Client → ℕ → Command → List Pending → Phase → Step
+on_entry client file command sent Phase.Closed = on_closed client file sent command
+on_entry client file command sent (Phase.Opening access share) = refused_step client Refusal.Busy
+on_entry client file command sent (Phase.Live live) = on_live client file live sent command
+on_entry client file command sent (Phase.Offline parted) = refused_step client Refusal.Offline
+on_entry client file command sent (Phase.Reconnecting parted) = refused_step client Refusal.Busy
+
+abbrev pub file_of : Command → ℕ
+file_of (Command.Open file access share want durable) = file
+file_of (Command.Close file) = file
+file_of (Command.Read file) = file
+file_of (Command.Write file patch) = file
+file_of (Command.Flush file) = file
+
+-- A command comes from the application.
+unfoldable pub commanded : Client → Command → Step
+commanded client command =
+    if knows_file client (file_of command)
+    then on_entry client (file_of command) command (client.entries (file_of command)).sent
+    (client.entries (file_of command)).phase
+    else refused_step client Refusal.NotOpen

@@ -1,0 +1,93 @@
+-- What a client does where it notices that its connection is lost, and where it connects
+-- (MS-SMB2 3.2.7.1, 3.2.4.4).
+use Rattle.std.specs.Prelude.{ℕ, Bool, true, false, Some, List, [], ◌∷◌, ◌++◌, filter, flat_map, if◌then◌else◌}
+use Rattle.lease_state.specs.State.{nothing_cached}
+use Rattle.lease_model.specs.client.State.{Client, Entry, LiveEntry, Parted, Pending, Phase, closed_entry, lease_key, belief_of}
+use Rattle.lease_model.specs.client.Step.{Step, Turn, settled_as, believes_noted}
+use Rattle.lease_model.specs.client.Commands.{Answer, Note, Settlement}
+use Rattle.lease_model.specs.values.Lists.{without, numbers_to}
+use Rattle.lease_model.specs.messages.Requests.{Request}
+
+-- every entry has a turn of its own; notes and requests stand file by file
+unfoldable pub all_turned : Client → Bool → (ℕ → Entry → Turn) → Step
+all_turned client connected turn = record {
+  client = record client {
+    connected = connected;
+    entries = λ file. (turn file (client.entries file)).entry;
+  };
+  answer = Answer.Quiet;
+  requests = flat_map (λ file. (turn file (client.entries file)).requests) (numbers_to client.files);
+  notes = flat_map
+      (λ file. (turn file (client.entries file)).settled
+      ++ believes_noted file (belief_of (client.entries file))
+      (belief_of (turn file (client.entries file)).entry))
+      (numbers_to client.files);
+}
+
+abbrev pub silent_turn : Entry → List Note → Turn
+silent_turn entry settled =
+    record { entry = entry; answer = Answer.Quiet; requests = []; settled = settled }
+
+-- an entry that doesn't outlive its connection: of its writes nobody knows
+abbrev pub ended_turn : List Pending → Turn
+ended_turn unanswered = silent_turn (closed_entry []) (settled_as Settlement.Unknown unanswered)
+
+abbrev pub offline_turn : Parted → List Pending → Turn
+offline_turn parted unanswered = silent_turn (record { phase = Phase.Offline parted; sent = [] })
+    (settled_as Settlement.Unknown unanswered)
+
+abbrev pub parted_from : LiveEntry → List Pending → Parted
+parted_from live kept = record {
+  file_id = live.file_id;
+  access = live.access;
+  share = live.share;
+  handles = live.handles;
+  kept = kept;
+}
+
+-- A live durable entry goes offline. Where its belief held W it keeps its buffered writes, those
+-- sent and those unsent; the others are settled as unknown.
+unfoldable pub live_parted : LiveEntry → List Pending → Turn
+live_parted live sent =
+    if live.belief.write
+    then offline_turn (parted_from live (filter (λ write. write.buffered) (sent ++ live.unsent)))
+    (without (λ write. write.buffered) (sent ++ live.unsent))
+    else offline_turn (parted_from live []) (sent ++ live.unsent)
+
+-- a live entry that isn't durable ends
+unfoldable pub live_noticed : LiveEntry → List Pending → Turn
+live_noticed live sent =
+    if live.durable then live_parted live sent else ended_turn (sent ++ live.unsent)
+
+abbrev pub notice_turn : List Pending → Phase → Turn
+notice_turn sent Phase.Closed = ended_turn sent
+notice_turn sent (Phase.Opening access share) = ended_turn sent
+notice_turn sent (Phase.Live live) = live_noticed live sent
+notice_turn sent (Phase.Offline parted) = offline_turn parted sent
+notice_turn sent (Phase.Reconnecting parted) = offline_turn parted sent
+
+-- The client notices that its connection is lost.
+unfoldable pub noticed : Client → Step
+noticed client = all_turned client false (λ file entry. notice_turn entry.sent entry.phase)
+
+-- the create that reconnects: RqLs with the file's key and no state (own), and DHnC of the FileId
+abbrev pub reconnect_request : Client → ℕ → Parted → Request
+reconnect_request client file parted =
+    Request.Create file parted.access parted.share (Some (record {
+      lease = Some (record { key = lease_key client.guid file; state = nothing_cached });
+      durable = false;
+      reconnect = Some parted.file_id;
+    }))
+
+abbrev pub connect_turn : Client → ℕ → List Pending → Phase → Turn
+connect_turn client file sent (Phase.Offline parted) = record {
+  entry = record { phase = Phase.Reconnecting parted; sent = sent };
+  answer = Answer.Quiet;
+  requests = reconnect_request client file parted ∷ [];
+  settled = [];
+}
+connect_turn client file sent phase = silent_turn (record { phase = phase; sent = sent }) []
+
+-- The client connects: each offline entry is reconnecting.
+unfoldable pub connected : Client → Step
+connected client = all_turned client true (λ file entry. connect_turn client file entry.sent entry.phase)

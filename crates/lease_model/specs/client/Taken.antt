@@ -1,0 +1,317 @@
+-- What a client does with a message of the server.
+use Rattle.std.specs.Prelude.{ℕ, zero, suc, Bool, true, false, Option, Some, None, List, [], ◌∷◌, ◌++◌, length, if◌then◌else◌, ◌==◌, ◌&&◌, ◌||◌, not, nat_le, bytes_eq, find}
+use Rattle.std.specs.List.{list_any}
+use Rattle.lease_state.specs.State.{State, nothing_cached}
+use Rattle.lease_state.specs.declared.access.Access.{Access}
+use Rattle.lease_state.specs.declared.access.Share.{Share}
+use Rattle.lease_state.specs.declared.status.Status.{Status}
+use Rattle.lease_model.specs.client.State.{Client, Entry, LiveEntry, Parted, Pending, Phase, closed_entry, live_entry, lease_key, view}
+use Rattle.lease_model.specs.client.Step.{Step, Turn, turned, quiet_step, write_requests, settled_as}
+use Rattle.lease_model.specs.client.Commands.{Answer, Note, Settlement}
+use Rattle.lease_state.specs.Content.{patch as patched}
+use Rattle.lease_model.specs.values.LeaseStates.{meet}
+use Rattle.lease_state.specs.declared.content.TheConstants.{FILE_LIMIT}
+use Rattle.lease_model.specs.values.Lists.{numbers_to}
+use Rattle.lease_model.specs.messages.Replies.{Reply, BreakNotice, CreateAnswer, LeaseGiven}
+use Rattle.lease_model.specs.messages.Requests.{Request}
+
+-- the first file, in number order, of which this is so
+abbrev pub file_where : Client → (ℕ → Bool) → Option ℕ
+file_where client test = find test (numbers_to client.files)
+
+-- a turn of the file that was found, or nothing
+abbrev pub on_file : Client → Option ℕ → (ℕ → Step) → Step
+on_file client None step = quiet_step client
+on_file client (Some file) step = step file
+
+-- ---- a lease break (MS-SMB2 3.2.5.19.2)
+
+-- writes or handles go
+abbrev pub gives_up : State → State → Bool
+gives_up old new = (old.write && not new.write) || (old.handle && not new.handle)
+
+-- writes that must be sent before the break is answered, and what then stays unsent
+abbrev pub flushed : State → State → List Pending → List Pending
+flushed old new unsent = if gives_up old new then unsent else []
+
+abbrev pub unflushed : State → State → List Pending → List Pending
+unflushed old new unsent = if gives_up old new then [] else unsent
+
+abbrev pub acknowledgment : BreakNotice → State → List Request
+acknowledgment notice state =
+    if notice.ack_required
+    then Request.Acknowledge (Some (record { key = notice.key; state = state })) ∷ []
+    else []
+
+-- the belief is lowered; without reads the base is dropped, and the acknowledgment comes last
+unfoldable pub belief_lowered : LiveEntry → List Pending → BreakNotice → State → Turn
+belief_lowered live sent notice new = record {
+  entry = live_entry
+      (record live {
+        belief = new;
+        base = if new.read then live.base else None;
+        unsent = unflushed live.belief new live.unsent;
+      })
+      (sent ++ flushed live.belief new live.unsent);
+  answer = Answer.Quiet;
+  requests = write_requests live.file_id (flushed live.belief new live.unsent) ++ acknowledgment notice new;
+  settled = [];
+}
+
+-- A parked entry that loses H closes its open, which is its answer (3.2.5.19.2).
+unfoldable pub parked_closed : LiveEntry → List Pending → Turn
+parked_closed live sent = record {
+  entry = closed_entry (sent ++ live.unsent);
+  answer = Answer.Quiet;
+  requests = write_requests live.file_id live.unsent ++ Request.Close live.file_id ∷ [];
+  settled = [];
+}
+
+unfoldable pub break_turn : LiveEntry → List Pending → BreakNotice → State → Turn
+break_turn live sent notice new =
+    if live.handles == 0 && (live.belief.handle && not new.handle)
+    then parked_closed live sent
+    else belief_lowered live sent notice new
+
+-- a break of an entry that isn't live is ignored
+abbrev pub break_on : Client → ℕ → BreakNotice → List Pending → Phase → Step
+break_on client file notice sent (Phase.Live live) =
+    turned client file (break_turn live sent notice (meet live.belief notice.lowered))
+break_on client file notice sent phase = quiet_step client
+
+abbrev pub is_key_of : Client → List ℕ → ℕ → Bool
+is_key_of client key file = bytes_eq (lease_key client.guid file) key
+
+unfoldable pub broken : Client → Option BreakNotice → Step
+broken client None = quiet_step client
+broken client (Some notice) = on_file client (file_where client (is_key_of client notice.key))
+    (λ file. break_on client file notice (client.entries file).sent (client.entries file).phase)
+
+-- ---- a create is answered (3.2.5.7)
+
+-- The belief is the reply's state, or none while a break is in progress, without RqLs, or under
+-- another key.
+abbrev pub given_state : List ℕ → Option LeaseGiven → State
+given_state key None = nothing_cached
+given_state key (Some given) =
+    if bytes_eq given.key key && not given.in_progress then given.state else nothing_cached
+
+unfoldable pub opened_turn : ℕ → Access → Share → List Pending → CreateAnswer → State → Turn
+opened_turn file_id access share sent answer belief = record {
+  entry = live_entry
+      (record {
+        file_id = file_id;
+        access = access;
+        share = share;
+        durable = answer.durable;
+        belief = belief;
+        handles = 1;
+        reads = 0;
+        base = None;
+        unsent = [];
+      })
+      sent;
+  answer = Answer.Done;
+  requests = [];
+  settled = [];
+}
+
+-- A reconnected entry has its own FileId and handles, and no base; what it kept is unsent again
+-- under W, and else given up.
+unfoldable pub reconnected_turn : Parted → List Pending → State → Turn
+reconnected_turn parted sent belief = record {
+  entry = live_entry
+      (record {
+        file_id = parted.file_id;
+        access = parted.access;
+        share = parted.share;
+        durable = true;
+        belief = belief;
+        handles = parted.handles;
+        reads = 0;
+        base = None;
+        unsent = if belief.write then parted.kept else [];
+      })
+      sent;
+  answer = Answer.Done;
+  requests = [];
+  settled = if belief.write then [] else settled_as Settlement.Lost parted.kept;
+}
+
+-- what a live entry does with a Created: nothing
+unfoldable pub created_on_live : Client → ℕ → LiveEntry → List Pending → ℕ → CreateAnswer → State → Step
+created_on_live client file live sent file_id answer belief = quiet_step client
+
+abbrev pub created_on : Client → ℕ → ℕ → CreateAnswer → State → List Pending → Phase → Step
+created_on client file file_id answer belief sent (Phase.Opening access share) =
+    turned client file (opened_turn file_id access share sent answer belief)
+created_on client file file_id answer belief sent (Phase.Reconnecting parted) =
+    turned client file (reconnected_turn parted sent belief)
+created_on client file file_id answer belief sent (Phase.Live live) =
+    created_on_live client file live sent file_id answer belief
+created_on client file file_id answer belief sent phase = quiet_step client
+
+-- a reply that can't be read is ignored
+unfoldable pub create_answered : Client → ℕ → ℕ → Option CreateAnswer → Step
+create_answered client file file_id None = quiet_step client
+create_answered client file file_id (Some answer) = created_on client file file_id answer
+    (given_state (lease_key client.guid file) answer.lease)
+    (client.entries file).sent (client.entries file).phase
+
+abbrev pub failed_turn : Status → List Pending → List Pending → Turn
+failed_turn status sent kept = record {
+  entry = closed_entry sent;
+  answer = Answer.Failed status;
+  requests = [];
+  settled = settled_as Settlement.Lost kept;
+}
+
+-- what a live entry does with a failed create: nothing
+unfoldable pub create_failed_on_live : Client → ℕ → LiveEntry → List Pending → Status → Step
+create_failed_on_live client file live sent status = quiet_step client
+
+abbrev pub failed_on : Client → ℕ → Status → List Pending → Phase → Step
+failed_on client file status sent (Phase.Opening access share) =
+    turned client file (failed_turn status sent [])
+failed_on client file status sent (Phase.Reconnecting parted) =
+    turned client file (failed_turn status sent parted.kept)
+failed_on client file status sent (Phase.Live live) =
+    create_failed_on_live client file live sent status
+failed_on client file status sent phase = quiet_step client
+
+unfoldable pub create_failed : Client → ℕ → Status → Step
+create_failed client file status =
+    failed_on client file status (client.entries file).sent (client.entries file).phase
+
+-- ---- reads and writes are answered (3.2.5.11, 3.2.5.12)
+
+-- the entry is live under the FileId, and a Read is unanswered
+abbrev pub reads_under : ℕ → Phase → Bool
+reads_under file_id (Phase.Live live) = live.file_id == file_id && not (live.reads == 0)
+reads_under file_id phase = false
+
+abbrev pub one_read_less : ℕ → ℕ
+one_read_less zero = 0
+one_read_less (suc reads) = reads
+
+-- The bytes of a Read become the base where the belief holds R; the application sees its own
+-- unanswered writes in them.
+unfoldable pub read_turn : LiveEntry → List Pending → List ℕ → Turn
+read_turn live sent bytes = record {
+  entry = live_entry
+      (record live {
+        reads = one_read_less live.reads;
+        base = if live.belief.read then Some bytes else live.base;
+      })
+      sent;
+  answer = Answer.Bytes (view bytes sent live.unsent) false;
+  requests = [];
+  settled = [];
+}
+
+abbrev pub read_on : Client → ℕ → List ℕ → List Pending → Phase → Step
+read_on client file bytes sent (Phase.Live live) = turned client file (read_turn live sent bytes)
+read_on client file bytes sent phase = quiet_step client
+
+-- a Read of more bytes than a file may have is ignored
+unfoldable pub read_answered : Client → ℕ → List ℕ → Step
+read_answered client file_id bytes =
+    if nat_le (length bytes) FILE_LIMIT
+    then on_file client (file_where client (λ file. reads_under file_id (client.entries file).phase))
+    (λ file. read_on client file bytes (client.entries file).sent (client.entries file).phase)
+    else quiet_step client
+
+abbrev pub is_file_closed : Status → Bool
+is_file_closed Status.FileClosed = true
+is_file_closed status = false
+
+-- FILE_CLOSED for the FileId of a live entry: its open is gone, and its unsent writes have failed.
+unfoldable pub closed_by_server : LiveEntry → List Pending → List Note → Status → Turn
+closed_by_server live sent settled status = record {
+  entry = closed_entry sent;
+  answer = Answer.Failed status;
+  requests = [];
+  settled = settled ++ settled_as Settlement.Failed live.unsent;
+}
+
+abbrev pub still_open : Entry → List Note → Status → Turn
+still_open entry settled status =
+    record { entry = entry; answer = Answer.Failed status; requests = []; settled = settled }
+
+unfoldable pub read_failed_turn : LiveEntry → List Pending → Status → Turn
+read_failed_turn live sent status =
+    if is_file_closed status
+    then closed_by_server live sent [] status
+    else still_open (live_entry (record live { reads = one_read_less live.reads }) sent) [] status
+
+abbrev pub read_failed_on : Client → ℕ → Status → List Pending → Phase → Step
+read_failed_on client file status sent (Phase.Live live) =
+    turned client file (read_failed_turn live sent status)
+read_failed_on client file status sent phase = quiet_step client
+
+unfoldable pub read_failed : Client → ℕ → Status → Step
+read_failed client file_id status =
+    on_file client (file_where client (λ file. reads_under file_id (client.entries file).phase))
+    (λ file. read_failed_on client file status (client.entries file).sent (client.entries file).phase)
+
+-- a sent, unanswered write of this number
+abbrev pub is_numbered : ℕ → Pending → Bool
+is_numbered number write = write.number == number
+
+abbrev pub has_sent : Client → ℕ → ℕ → Bool
+has_sent client number file = list_any (is_numbered number) (client.entries file).sent
+
+-- the writes without the first of this number
+unfoldable pub sent_without : ℕ → List Pending → List Pending
+sent_without number [] = []
+sent_without number (write ∷ writes) =
+    if write.number == number then writes else write ∷ sent_without number writes
+
+-- a base, if there is one, with the write of this number
+abbrev pub base_with : Option Pending → Option (List ℕ) → Option (List ℕ)
+base_with (Some write) (Some base) = Some (patched base write.patch)
+base_with _ base = base
+
+abbrev pub phase_with : Option Pending → Phase → Phase
+phase_with write (Phase.Live live) = Phase.Live (record live { base = base_with write live.base })
+phase_with write phase = phase
+
+-- A write is done: it is settled, and the base, if any, is patched.
+unfoldable pub write_done_turn : ℕ → Entry → Turn
+write_done_turn number entry = record {
+  entry = record {
+    phase = phase_with (find (is_numbered number) entry.sent) entry.phase;
+    sent = sent_without number entry.sent;
+  };
+  answer = Answer.Quiet;
+  requests = [];
+  settled = Note.Settled number Settlement.Done ∷ [];
+}
+
+unfoldable pub write_done : Client → ℕ → Step
+write_done client number = on_file client (file_where client (has_sent client number))
+    (λ file. turned client file (write_done_turn number (client.entries file)))
+
+abbrev pub write_failed_in : ℕ → ℕ → Status → List Pending → Phase → Turn
+write_failed_in file_id number status sent (Phase.Live live) =
+    if is_file_closed status && live.file_id == file_id
+    then closed_by_server live sent (Note.Settled number Settlement.Failed ∷ []) status
+    else still_open (live_entry live sent) (Note.Settled number Settlement.Failed ∷ []) status
+write_failed_in file_id number status sent phase =
+    still_open (record { phase = phase; sent = sent }) (Note.Settled number Settlement.Failed ∷ []) status
+
+unfoldable pub write_failed : Client → ℕ → ℕ → Status → Step
+write_failed client file_id number status = on_file client (file_where client (has_sent client number))
+    (λ file. turned client file (write_failed_in file_id number status
+    (sent_without number (client.entries file).sent) (client.entries file).phase))
+
+-- A message of the server comes.
+unfoldable pub taken : Client → Reply → Step
+taken client (Reply.Created file file_id contexts) = create_answered client file file_id contexts
+taken client (Reply.CreateFailed file status) = create_failed client file status
+taken client (Reply.ReadDone file_id bytes) = read_answered client file_id bytes
+taken client (Reply.ReadFailed file_id status) = read_failed client file_id status
+taken client (Reply.WriteDone file_id number) = write_done client number
+taken client (Reply.WriteFailed file_id number status) = write_failed client file_id number status
+taken client (Reply.Break notice) = broken client notice
+taken client reply = quiet_step client

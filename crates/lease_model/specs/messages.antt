@@ -1,0 +1,3 @@
+pub mod FromBytes
+pub mod Replies
+pub mod Requests

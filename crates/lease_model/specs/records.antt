@@ -1,0 +1,4 @@
+pub mod Facts
+pub mod Past
+pub mod Safe
+pub mod Verdict

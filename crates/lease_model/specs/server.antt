@@ -1,0 +1,12 @@
+pub mod Acknowledge
+pub mod Allowed
+pub mod Answers
+pub mod Attempt
+pub mod Calls
+pub mod Grant
+pub mod Passes
+pub mod Progress
+pub mod Queries
+pub mod Ready
+pub mod State
+pub mod Wants

@@ -1,0 +1,86 @@
+-- What a server knows (MS-SMB2 3.3.1.4, 3.3.1.10, 3.3.1.12, in the profile's terms).
+use Rattle.std.specs.Prelude.{ℕ, ◌-◌, Bool, false, Option, Some, None, List, [], length, min, nat_le, ◌&&◌, ◌==◌, is_some, slice_get, unwrap_or, find, bytes_eq}
+use Rattle.std.specs.List.{list_any}
+use Rattle.lease_state.specs.State.{State, nothing_cached}
+use Rattle.lease_state.specs.declared.access.Access.{Access}
+use Rattle.lease_state.specs.declared.access.Share.{Share}
+use Rattle.lease_model.specs.values.Keys.{Key}
+use Rattle.lease_model.specs.messages.Requests.{Request}
+
+-- An open of a file (3.3.1.10). `lease_key` is None for an open without RqLs. A durable open
+-- outlives its connection, and is then there but not connected.
+pub record Open : Type 0 where
+  pub file_id : ℕ
+  pub client : ℕ
+  pub file : ℕ
+  pub lease_key : Option (List ℕ)
+  pub access : Access
+  pub share : Share
+  pub durable : Bool
+  pub connected : Bool
+
+-- A lease (3.3.1.12): its state and, while it is breaking, the state that it is broken to.
+pub record Lease : Type 0 where
+  pub state : State
+  pub broken_to : Option State
+
+abbrev pub is_breaking : Lease → Bool
+is_breaking lease = is_some lease.broken_to
+
+-- a key without an open has this
+abbrev pub no_lease : Lease
+no_lease = record { state = nothing_cached; broken_to = None }
+
+-- a request that waits for a lease break, with its client
+pub record Held : Type 0 where
+  pub client : ℕ
+  pub request : Request
+
+-- Files are those from 1 to `files`. `held` has for each file the requests that wait there, in
+-- order of arrival; `last_id` is the FileId given last.
+pub record Server : Type 0 where
+  pub files : ℕ
+  pub contents : ℕ → List ℕ
+  pub opens : List Open
+  pub leases : Key → Lease
+  pub held : ℕ → List Held
+  pub connected : ℕ → Bool
+  pub expired : Key → Bool
+  pub last_id : ℕ
+
+-- a server with these contents, numbered from 1; files past 255 have no number
+unfoldable pub new_server : List (List ℕ) → Server
+new_server contents = record {
+  files = min (length contents) 255;
+  contents = λ file. unwrap_or (slice_get contents (file - 1)) [];
+  opens = [];
+  leases = λ key. no_lease;
+  held = λ file. [];
+  connected = λ client. false;
+  expired = λ key. false;
+  last_id = 0;
+}
+
+abbrev pub has_file : Server → ℕ → Bool
+has_file server file = nat_le 1 file && nat_le file server.files
+
+-- the open has this key: its client's, under this LeaseKey
+abbrev pub is_key : Key → ℕ → Option (List ℕ) → Bool
+is_key key client None = false
+is_key key client (Some bytes) = key.client == client && bytes_eq key.bytes bytes
+
+abbrev pub has_key : Key → Open → Bool
+has_key key one = is_key key one.client one.lease_key
+
+-- an open without a key counts as a key of its own (own): it has the key of no request
+abbrev pub has_own_key : Option Key → Open → Bool
+has_own_key None one = false
+has_own_key (Some key) one = has_key key one
+
+-- a lease exists while an open has its key
+abbrev pub has_lease : Server → Key → Bool
+has_lease server key = list_any (has_key key) server.opens
+
+-- the open of this FileId, whoever's it is
+abbrev pub open_of : List Open → ℕ → Option Open
+open_of opens file_id = find (λ one. one.file_id == file_id) opens

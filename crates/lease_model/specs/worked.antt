@@ -1,0 +1,9 @@
+pub mod ClientCalls
+pub mod Letters
+pub mod RunsOfBreaks
+pub mod RunsOfCuts
+pub mod RunsOfOthers
+pub mod RunsOfReads
+pub mod Schedules
+pub mod ServerCalls
+pub mod Verdicts

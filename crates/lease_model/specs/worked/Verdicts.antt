@@ -1,0 +1,55 @@
+-- Worked verdicts on records, also on records that no run gives.
+use Rattle.std.specs.Prelude.{◌≡◌, ◌-◌, true, false, [], ◌∷◌}
+use Rattle.lease_model.specs.client.Commands.{Settlement}
+use Rattle.lease_state.specs.declared.patch.Patch.{Patch}
+use Rattle.lease_model.specs.records.Facts.{Fact}
+use Rattle.lease_model.specs.worked.Letters.{R, RW}
+use Rattle.lease_state.specs.declared.content.TheConstants.{FILE_LIMIT}
+use Rattle.lease_model.specs.records.Verdict.{Verdict, verdict}
+
+abbrev pub x_at_0 : Patch
+x_at_0 = record { offset = 0; bytes = 0x58 ∷ [] }
+
+-- the verdicts on five records, each with one thing wrong
+abbrev pub OneFlaw : Type 0
+OneFlaw =
+    (verdict (Fact.Start 1 [] ∷ Fact.Joined 1 ∷ Fact.Joined 2 ∷ Fact.Believes 1 1 RW ∷ Fact.Believes 2 1 R ∷ [])
+    ∷ verdict (Fact.Start 1 (0x61 ∷ []) ∷ Fact.Joined 1 ∷ Fact.Sent 1 ∷ Fact.Took 1
+    ∷ Fact.CachedRead 1 1 (0x62 ∷ []) ∷ [])
+    ∷ verdict (Fact.Start 1 [] ∷ Fact.Joined 1 ∷ Fact.Wrote 1 1 1 x_at_0 true ∷ Fact.Opened 1 2
+    ∷ Fact.Changed 1 1 1 x_at_0 ∷ [])
+    ∷ verdict (Fact.Start 1 [] ∷ Fact.Joined 1 ∷ Fact.Wrote 1 1 1 x_at_0 false
+    ∷ Fact.Settled 1 1 Settlement.Done ∷ [])
+    ∷ verdict (Fact.Joined 1 ∷ Fact.Took 1 ∷ []) ∷ [])
+    ≡ Verdict.Unsafe 5 1 ∷ Verdict.Unsafe 5 2 ∷ Verdict.Unsafe 5 3 ∷ Verdict.Unsafe 4 4
+    ∷ Verdict.Malformed 2 ∷ []
+
+-- Of a client that has strayed nothing is promised; straying later excuses nothing.
+abbrev pub StrayedVerdicts : Type 0
+StrayedVerdicts =
+    (verdict (Fact.Start 1 [] ∷ Fact.Joined 1 ∷ Fact.Strayed 1 ∷ Fact.Wrote 1 1 1 x_at_0 true
+    ∷ Fact.Opened 1 2 ∷ Fact.Changed 1 1 1 x_at_0 ∷ [])
+    ∷ verdict (Fact.Start 1 [] ∷ Fact.Joined 1 ∷ Fact.Wrote 1 1 1 x_at_0 true
+    ∷ Fact.Opened 1 2 ∷ Fact.Changed 1 1 1 x_at_0 ∷ Fact.Strayed 1 ∷ [])
+    ∷ verdict (Fact.Start 1 [] ∷ Fact.Joined 1 ∷ Fact.Joined 2 ∷ Fact.Strayed 1 ∷ Fact.Believes 1 1 RW
+    ∷ Fact.Believes 2 1 R ∷ []) ∷ [])
+    ≡ Verdict.Safe ∷ Verdict.Unsafe 5 3 ∷ Verdict.Safe ∷ []
+
+-- A file may be started after the place whose content counts, and a write may be settled before it
+-- was given: such records are safe, though no run gives them.
+abbrev pub StrangeOrder : Type 0
+StrangeOrder =
+    (verdict (Fact.Joined 1 ∷ Fact.Sent 1 ∷ Fact.Start 1 (0x61 ∷ []) ∷ Fact.Took 1
+    ∷ Fact.CachedRead 1 1 (0x61 ∷ []) ∷ [])
+    ∷ verdict (Fact.Start 1 (0x61 ∷ []) ∷ Fact.Joined 1 ∷ Fact.Settled 1 1 Settlement.Lost ∷ Fact.Sent 1
+    ∷ Fact.Took 1 ∷ Fact.Wrote 1 1 1 x_at_0 true ∷ Fact.CachedRead 1 1 (0x61 ∷ []) ∷ []) ∷ [])
+    ≡ Verdict.Safe ∷ Verdict.Safe ∷ []
+
+-- The limit: a write that ends at it, and one that ends past it.
+abbrev pub LimitVerdicts : Type 0
+LimitVerdicts =
+    (verdict (Fact.Start 1 [] ∷ Fact.Joined 1
+    ∷ Fact.Wrote 1 1 1 (record { offset = FILE_LIMIT - 1; bytes = 0x58 ∷ [] }) false ∷ [])
+    ∷ verdict (Fact.Start 1 [] ∷ Fact.Joined 1
+    ∷ Fact.Wrote 1 1 1 (record { offset = FILE_LIMIT; bytes = 0x58 ∷ [] }) false ∷ []) ∷ [])
+    ≡ Verdict.Safe ∷ Verdict.Malformed 3 ∷ []
