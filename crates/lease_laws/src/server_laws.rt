@@ -10,7 +10,7 @@ ghost use Rattle.lease_laws.specs.server.Laws.{Among, IsSound, IsBlocked, HasToW
 ghost use Rattle.lease_laws.specs.server.Outs.{EachOut, IsFlaggedRightly, ArePaired, IsBreak, IsNoBreak, GoOn, AreBreaksFirst, IsAlone, CachesAlone};
 ghost use Rattle.lease_model.specs.server.State.{Server, Open, new_server, has_key};
 ghost use Rattle.lease_laws.specs.server.Waiting.{WaitsWell};
-ghost use Rattle.lease_model.specs.server.Wants.{connected_open};
+ghost use Rattle.lease_model.specs.server.Findings.{connected_open};
 
 /// The laws of every server hold of the first one, and every call keeps them.
 pub fn laws_of_servers()

@@ -3,7 +3,10 @@ pub mod Allowed
 pub mod Answers
 pub mod Attempt
 pub mod Calls
+pub mod Findings
 pub mod Grant
+pub mod KeyOrder
+pub mod Naming
 pub mod Passes
 pub mod Progress
 pub mod Queries

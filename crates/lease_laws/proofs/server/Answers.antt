@@ -17,7 +17,8 @@ use Rattle.lease_model.specs.messages.Replies.{Reply}
 use Rattle.lease_model.specs.messages.Requests.{Request, CreateAsk, LeaseOf}
 use Rattle.lease_laws.specs.server.Laws.{Among, AreSound, IsSound}
 use Rattle.lease_model.specs.server.State.{Open, Lease, has_key, is_breaking, has_lease}
-use Rattle.lease_model.specs.server.Wants.{key_of, connected_open}
+use Rattle.lease_model.specs.server.Naming.{key_of}
+use Rattle.lease_model.specs.server.Findings.{connected_open}
 use Rattle.lease_laws.proofs.server.Grants.{granted-sound}
 use Rattle.lease_laws.proofs.server.Keys.{is_key-one}
 use Rattle.lease_laws.proofs.server.Leases.{put_sound}

@@ -20,7 +20,8 @@ use Rattle.lease_laws.specs.server.Outs.{IsAlone}
 use Rattle.lease_model.specs.server.State.{Server, Open, Held, new_server, has_file, has_lease}
 use Rattle.lease_laws.specs.server.Waiting.{IsAbout, IsOpenOn, IsOrderly}
 use Rattle.lease_model.specs.values.Tables.{put}
-use Rattle.lease_model.specs.server.Wants.{connected_open, key_of}
+use Rattle.lease_model.specs.server.Findings.{connected_open}
+use Rattle.lease_model.specs.server.Naming.{key_of}
 use Rattle.lease_laws.proofs.server.Answers.{acknowledged-sound}
 use Rattle.lease_laws.proofs.server.Calls.{new_server-sound}
 use Rattle.lease_laws.proofs.server.FileReady.{ready-file}

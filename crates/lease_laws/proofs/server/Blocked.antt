@@ -20,7 +20,10 @@ use Rattle.lease_model.specs.messages.Requests.{Request, CreateAsk, LeaseOf}
 use Rattle.lease_laws.specs.server.Laws.{Among, IsSound, IsBlocked, IsOpenBlocked, HasToWait}
 use Rattle.lease_model.specs.server.State.{Server, Open, has_key, has_own_key, has_file, has_lease, is_breaking}
 use Rattle.lease_model.specs.values.Sharing.{may_read, may_write}
-use Rattle.lease_model.specs.server.Wants.{Want, Finding, finding, lease_of, wants_where, keys_of, handle_wants, write_wants, all_wants, create_finding, reconnect_finding, write_finding, asked_finding, read_finding, by_open, own_key, key_of_open, connected_open, is_leased_elsewhere, awaits}
+use Rattle.lease_model.specs.server.Wants.{Want, wants_where, handle_wants, write_wants, all_wants}
+use Rattle.lease_model.specs.server.Findings.{Finding, finding, create_finding, reconnect_finding, write_finding, asked_finding, read_finding, by_open, connected_open, is_leased_elsewhere, awaits}
+use Rattle.lease_model.specs.server.Naming.{lease_of, own_key, key_of_open}
+use Rattle.lease_model.specs.server.KeyOrder.{keys_of}
 use Rattle.lease_laws.proofs.server.Keys.{is_key-one}
 use Rattle.lease_laws.proofs.server.Lists.{if_cases, clash, and_parts, not_parts, not_true, not_false, any_has, among_map, among_filter}
 use Rattle.lease_laws.proofs.server.Met.{wants_met-were, wants_met-found}

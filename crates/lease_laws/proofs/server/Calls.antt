@@ -15,7 +15,7 @@ use Rattle.lease_model.specs.messages.Requests.{Request}
 use Rattle.lease_laws.specs.server.Laws.{Among, AreSound, IsSound, IsLasting}
 use Rattle.lease_model.specs.server.State.{Server, Open, no_lease, new_server, has_key, is_key, is_breaking}
 use Rattle.lease_model.specs.values.Tables.{put_key}
-use Rattle.lease_model.specs.server.Wants.{lease_of, lease_by, key_of}
+use Rattle.lease_model.specs.server.Naming.{lease_of, lease_by, key_of}
 use Rattle.lease_laws.proofs.server.Answers.{acknowledged-sound, refused-sound, concluded-sound, map_same, choose_connection}
 use Rattle.lease_laws.proofs.server.Keys.{put_key-cases, is_key-refl, lease_by-key}
 use Rattle.lease_laws.proofs.server.Lists.{if_cases, either, clash, and_both, and_parts, not_parts, not_false, among_filter, any_has}

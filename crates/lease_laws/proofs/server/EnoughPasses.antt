@@ -18,7 +18,8 @@ use Rattle.lease_model.specs.messages.Replies.{Reply}
 use Rattle.lease_model.specs.messages.Requests.{Request, CreateAsk, LeaseOf}
 use Rattle.lease_model.specs.server.State.{Server, Open, Lease, Held, has_lease, is_breaking}
 use Rattle.lease_model.specs.values.Tables.{put}
-use Rattle.lease_model.specs.server.Wants.{Want, Finding, finding, connected_open}
+use Rattle.lease_model.specs.server.Wants.{Want}
+use Rattle.lease_model.specs.server.Findings.{Finding, finding, connected_open}
 use Rattle.lease_state.specs.declared.status.Status.{Status}
 use Rattle.lease_laws.proofs.server.Lists.{if_cases, either, clash}
 

@@ -10,7 +10,9 @@ use Rattle.lease_model.specs.server.Ready.{waits_for}
 use Rattle.lease_model.specs.messages.Requests.{Request}
 use Rattle.lease_laws.specs.server.Laws.{Among}
 use Rattle.lease_model.specs.server.State.{Server, Open, Lease, no_lease, has_key, is_key, is_breaking, has_lease}
-use Rattle.lease_model.specs.server.Wants.{Want, key_added, open_key_added, key_of, keys_of, lease_by, lease_of, wants_where}
+use Rattle.lease_model.specs.server.Wants.{Want, wants_where}
+use Rattle.lease_model.specs.server.KeyOrder.{key_added, open_key_added, keys_of}
+use Rattle.lease_model.specs.server.Naming.{key_of, lease_by, lease_of}
 use Rattle.lease_laws.proofs.server.Keys.{key_eq-same, is_key-refl, put_key-cases, put_key-here}
 use Rattle.lease_laws.proofs.server.Lists.{if_cases, clash, and_parts, and_both, not_true, not_false, among_filter, among_filtered, among_map, any_has, has_any}
 

@@ -20,7 +20,9 @@ use Rattle.lease_model.specs.messages.Requests.{Request, CreateAsk, LeaseOf}
 use Rattle.lease_laws.specs.server.Laws.{Among}
 use Rattle.lease_model.specs.server.State.{Server, Open, has_file}
 use Rattle.lease_model.specs.values.Sharing.{may_read, may_write}
-use Rattle.lease_model.specs.server.Wants.{Want, Finding, finding, handle_wants, write_wants, all_wants, create_finding, reconnect_finding, write_finding, read_finding, by_open, own_key, key_of_open, connected_open, is_leased_elsewhere, awaits}
+use Rattle.lease_model.specs.server.Wants.{Want, handle_wants, write_wants, all_wants}
+use Rattle.lease_model.specs.server.Findings.{Finding, finding, create_finding, reconnect_finding, write_finding, read_finding, by_open, connected_open, is_leased_elsewhere, awaits}
+use Rattle.lease_model.specs.server.Naming.{own_key, key_of_open}
 use Rattle.lease_laws.proofs.server.EnoughRounds.{IsAfterBreaks, IsRoundDone, is_wanted, nothing_wanted, round_done}
 use Rattle.lease_laws.proofs.server.Lists.{if_cases, either, clash, and_parts, not_true, any_has, has_any}
 

@@ -11,7 +11,9 @@ use Rattle.lease_model.specs.server.Progress.{Progress}
 use Rattle.lease_model.specs.messages.Requests.{Request, CreateAsk, LeaseOf}
 use Rattle.lease_laws.specs.server.Laws.{Among}
 use Rattle.lease_model.specs.server.State.{Server, Open, has_file, has_key}
-use Rattle.lease_model.specs.server.Wants.{Want, Finding, finding, asked_finding, reconnect_finding, own_key, awaits}
+use Rattle.lease_model.specs.server.Wants.{Want}
+use Rattle.lease_model.specs.server.Findings.{Finding, finding, asked_finding, reconnect_finding, awaits}
+use Rattle.lease_model.specs.server.Naming.{own_key}
 use Rattle.lease_laws.proofs.server.Lists.{if_cases, and_parts, any_has}
 use Rattle.lease_laws.proofs.server.Tries.{IsFoundReady}
 

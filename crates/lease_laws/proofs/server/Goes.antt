@@ -20,7 +20,9 @@ use Rattle.lease_model.specs.messages.Replies.{Reply}
 use Rattle.lease_model.specs.messages.Requests.{Request, CreateAsk, LeaseOf}
 use Rattle.lease_laws.specs.server.Laws.{Among, AreInOrder, IsSound}
 use Rattle.lease_model.specs.server.State.{Server, Open, Lease, has_file, has_lease, is_breaking}
-use Rattle.lease_model.specs.server.Wants.{Want, Finding, finding, connected_open, key_of}
+use Rattle.lease_model.specs.server.Wants.{Want}
+use Rattle.lease_model.specs.server.Findings.{Finding, finding, connected_open}
+use Rattle.lease_model.specs.server.Naming.{key_of}
 use Rattle.lease_laws.proofs.server.FileReady.{IsAwaited, AgainReady, ContextsReady, FileReady}
 use Rattle.lease_laws.proofs.server.Lists.{if_cases, among_append, among_filter, among_map}
 

@@ -17,7 +17,7 @@ use Rattle.lease_model.specs.messages.Replies.{Reply}
 use Rattle.lease_model.specs.messages.Requests.{LeaseOf}
 use Rattle.lease_laws.specs.server.Laws.{Among, AreSound, IsSound}
 use Rattle.lease_model.specs.server.State.{Server, Open, Lease, no_lease, has_key, has_own_key, is_key, is_breaking}
-use Rattle.lease_model.specs.server.Wants.{key_of, own_key}
+use Rattle.lease_model.specs.server.Naming.{key_of, own_key}
 use Rattle.lease_laws.proofs.server.Keys.{is_key-refl, is_key-one}
 use Rattle.lease_laws.proofs.server.Leases.{MayBecome, MayOpen, put_sound, open_sound}
 use Rattle.lease_laws.proofs.server.Lists.{if_cases, either, clash, and_both, not_true, not_false, none_has, has_any, among_append, among_behind}

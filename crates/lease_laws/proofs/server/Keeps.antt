@@ -22,7 +22,9 @@ use Rattle.lease_laws.specs.server.Laws.{Among, AreInOrder, IsSound, IsBlocked, 
 use Rattle.lease_model.specs.server.State.{Server, Open, has_key, has_lease, is_breaking}
 use Rattle.lease_laws.specs.server.Outs.{IsAlone}
 use Rattle.lease_laws.specs.server.Waiting.{IsAbout}
-use Rattle.lease_model.specs.server.Wants.{Want, Finding, finding, own_key, connected_open, key_of, key_of_open}
+use Rattle.lease_model.specs.server.Wants.{Want}
+use Rattle.lease_model.specs.server.Findings.{Finding, finding, connected_open}
+use Rattle.lease_model.specs.server.Naming.{own_key, key_of, key_of_open}
 use Rattle.lease_laws.proofs.server.Answers.{breaking_present}
 use Rattle.lease_laws.proofs.server.Goes.{one_id}
 use Rattle.lease_laws.proofs.server.Keys.{put_key-cases}

@@ -7,7 +7,7 @@ use Rattle.lease_laws.proofs.server.Lists.{if_cases, and_parts, and_both}
 use Rattle.lease_model.specs.values.Keys.{Key, key_eq}
 use Rattle.lease_model.specs.server.State.{is_key, Server}
 use Rattle.lease_model.specs.values.Tables.{put_key}
-use Rattle.lease_model.specs.server.Wants.{key_of, lease_by}
+use Rattle.lease_model.specs.server.Naming.{key_of, lease_by}
 
 -- keys of one client and the same bytes are one
 key_of_parts : (one other : Key) → one.client ≡ other.client → one.bytes ≡ other.bytes → one ≡ other

@@ -11,7 +11,10 @@ use Rattle.lease_model.specs.server.Ready.{waits_for}
 use Rattle.lease_model.specs.messages.Requests.{Request}
 use Rattle.lease_laws.specs.server.Laws.{Among, IsSound}
 use Rattle.lease_model.specs.server.State.{Server, Open, Lease, no_lease, has_key, is_key, is_breaking, has_lease}
-use Rattle.lease_model.specs.server.Wants.{Want, key_added, open_key_added, key_of, keys_of, lease_of, lease_by, wants_where, connected_open}
+use Rattle.lease_model.specs.server.Wants.{Want, wants_where}
+use Rattle.lease_model.specs.server.KeyOrder.{key_added, open_key_added, keys_of}
+use Rattle.lease_model.specs.server.Naming.{key_of, lease_of, lease_by}
+use Rattle.lease_model.specs.server.Findings.{connected_open}
 use Rattle.lease_laws.proofs.server.Breaks.{IsAlong, under-itself, want_met-along, opens_dropped-under, light_part}
 use Rattle.lease_laws.proofs.server.Keys.{key_eq-same, key_eq-refl, is_key-refl, is_key-one, lease_by-key, put_key-cases}
 use Rattle.lease_laws.proofs.server.Lists.{if_cases, clash, and_both, and_parts, not_parts, not_true, among_filter, among_filtered, any_has, has_any, none_has}

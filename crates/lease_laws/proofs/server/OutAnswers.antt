@@ -22,7 +22,9 @@ use Rattle.lease_laws.specs.server.Laws.{IsSound}
 use Rattle.lease_laws.specs.server.Outs.{IsBreak, IsNoBreak, GoOn, AreBreaksFirst, IsAlone, CachesAlone}
 use Rattle.lease_model.specs.server.State.{Server, Open, Lease, has_own_key}
 use Rattle.lease_model.specs.values.Sharing.{may_write}
-use Rattle.lease_model.specs.server.Wants.{Want, Finding, finding, by_open, write_finding, all_wants, connected_open, key_of_open, lease_of}
+use Rattle.lease_model.specs.server.Wants.{Want, all_wants}
+use Rattle.lease_model.specs.server.Findings.{Finding, finding, by_open, write_finding, connected_open}
+use Rattle.lease_model.specs.server.Naming.{key_of_open, lease_of}
 use Rattle.lease_laws.proofs.server.Keys.{lease_by-key}
 use Rattle.lease_laws.proofs.server.Lists.{if_cases, clash, and_both, not_true}
 use Rattle.lease_laws.proofs.server.OutCalls.{tried-breaks, concluded-answers, request_held-outs}

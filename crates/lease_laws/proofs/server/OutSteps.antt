@@ -19,7 +19,9 @@ use Rattle.lease_model.specs.messages.Replies.{Reply, Out}
 use Rattle.lease_model.specs.messages.Requests.{Request, CreateAsk, LeaseOf}
 use Rattle.lease_laws.specs.server.Outs.{EachOut, IsNoBreak, GoOn}
 use Rattle.lease_model.specs.server.State.{Open, Lease, has_lease, is_breaking}
-use Rattle.lease_model.specs.server.Wants.{Want, Finding, finding, key_of, connected_open}
+use Rattle.lease_model.specs.server.Wants.{Want}
+use Rattle.lease_model.specs.server.Findings.{Finding, finding, connected_open}
+use Rattle.lease_model.specs.server.Naming.{key_of}
 use Rattle.lease_laws.proofs.server.Lists.{if_cases}
 use Rattle.lease_laws.proofs.server.OutLists.{AreFair, IsGoodBreak, AreAnswered, answered_by, answered_nothing, go_on-same, go_on-twice}
 

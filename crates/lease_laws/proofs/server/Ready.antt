@@ -16,7 +16,9 @@ use Rattle.lease_model.specs.server.Ready.{is_ready}
 use Rattle.lease_model.specs.messages.Requests.{Request, CreateAsk, LeaseOf}
 use Rattle.lease_laws.specs.server.Laws.{Among}
 use Rattle.lease_model.specs.server.State.{Server, Open, Lease, has_key, has_own_key, has_file}
-use Rattle.lease_model.specs.server.Wants.{Want, Finding, finding, lease_of, handle_wants, write_wants, create_finding, asked_finding, own_key, is_leased_elsewhere}
+use Rattle.lease_model.specs.server.Wants.{Want, handle_wants, write_wants}
+use Rattle.lease_model.specs.server.Findings.{Finding, finding, create_finding, asked_finding, is_leased_elsewhere}
+use Rattle.lease_model.specs.server.Naming.{lease_of, own_key}
 use Rattle.lease_laws.proofs.server.Keys.{lease_by-key}
 use Rattle.lease_laws.proofs.server.Lists.{if_cases, clash, and_both, not_true, not_false, none_has}
 use Rattle.lease_laws.proofs.server.Tries.{IsFoundReady}

@@ -19,7 +19,9 @@ use Rattle.lease_model.specs.messages.Requests.{Request, CreateAsk, LeaseOf}
 use Rattle.lease_laws.specs.server.Laws.{IsSound, HasToWait}
 use Rattle.lease_model.specs.server.State.{Server, Open, Lease, has_file}
 use Rattle.lease_model.specs.values.Sharing.{may_read, may_write}
-use Rattle.lease_model.specs.server.Wants.{Want, Finding, finding, wants_where, handle_wants, write_wants, all_wants, create_finding, reconnect_finding, write_finding, asked_finding, read_finding, by_open, own_key, key_of_open, connected_open, is_leased_elsewhere, awaits}
+use Rattle.lease_model.specs.server.Wants.{Want, wants_where, handle_wants, write_wants, all_wants}
+use Rattle.lease_model.specs.server.Findings.{Finding, finding, create_finding, reconnect_finding, write_finding, asked_finding, read_finding, by_open, connected_open, is_leased_elsewhere, awaits}
+use Rattle.lease_model.specs.server.Naming.{own_key, key_of_open}
 use Rattle.lease_laws.proofs.server.Breaks.{wants_met-sound, light_writeless}
 use Rattle.lease_laws.proofs.server.Blocked.{round_waits}
 use Rattle.lease_laws.proofs.server.Lists.{if_cases, clash, not_true, has_any, any_has, among_map}

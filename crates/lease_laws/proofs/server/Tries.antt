@@ -5,7 +5,8 @@ use Rattle.lease_model.specs.server.Progress.{Progress}
 use Rattle.lease_model.specs.server.Ready.{is_ready}
 use Rattle.lease_model.specs.messages.Requests.{Request}
 use Rattle.lease_laws.specs.server.Laws.{IsSound}
-use Rattle.lease_model.specs.server.Wants.{Want, Finding, finding}
+use Rattle.lease_model.specs.server.Wants.{Want}
+use Rattle.lease_model.specs.server.Findings.{Finding, finding}
 use Rattle.lease_laws.proofs.server.Breaks.{wants_met-sound}
 use Rattle.lease_laws.proofs.server.Lists.{if_cases}
 use Rattle.lease_laws.proofs.server.Wants.{FindingFits, finding-fits}

@@ -16,7 +16,10 @@ use Rattle.lease_model.specs.messages.Requests.{Request, CreateAsk, LeaseOf}
 use Rattle.lease_laws.specs.server.Laws.{Among, IsSound}
 use Rattle.lease_model.specs.server.State.{Server, Open, no_lease, has_key, is_key, has_file}
 use Rattle.lease_model.specs.values.Sharing.{may_read, may_write}
-use Rattle.lease_model.specs.server.Wants.{Want, Finding, finding, key_added, open_key_added, key_of, keys_of, lease_of, wants_where, handle_wants, write_wants, all_wants, create_finding, reconnect_finding, write_finding, asked_finding, read_finding, by_open, by_contexts, own_key, key_of_open, connected_open, is_leased_elsewhere, awaits}
+use Rattle.lease_model.specs.server.Wants.{Want, wants_where, handle_wants, write_wants, all_wants}
+use Rattle.lease_model.specs.server.Findings.{Finding, finding, create_finding, reconnect_finding, write_finding, asked_finding, read_finding, by_open, by_contexts, connected_open, is_leased_elsewhere, awaits}
+use Rattle.lease_model.specs.server.KeyOrder.{key_added, open_key_added, keys_of}
+use Rattle.lease_model.specs.server.Naming.{key_of, lease_of, own_key, key_of_open}
 use Rattle.lease_laws.proofs.server.Keys.{is_key-refl, lease_by-key}
 use Rattle.lease_laws.proofs.server.Lists.{if_cases, clash, and_parts, not_true, among_filter, among_filtered, among_map}
 use Rattle.lease_laws.proofs.server.States.{IsLowered, without_write-lowered, without_handle-lowered, nothing-lowered}

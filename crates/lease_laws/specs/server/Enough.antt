@@ -6,7 +6,8 @@ use Rattle.lease_model.specs.server.Passes.{one_pass, passes_for, passes}
 use Rattle.lease_model.specs.server.Progress.{Progress}
 use Rattle.lease_model.specs.server.Ready.{is_ready}
 use Rattle.lease_model.specs.messages.Requests.{Request}
-use Rattle.lease_model.specs.server.Wants.{Want, Finding, finding}
+use Rattle.lease_model.specs.server.Wants.{Want}
+use Rattle.lease_model.specs.server.Findings.{Finding, finding}
 
 -- Why a try ends: its last look refuses the request, or finds it ready, or what this look wanted is
 -- done as far as it can be, and the request has to wait for it.

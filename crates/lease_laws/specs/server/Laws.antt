@@ -7,7 +7,8 @@ use Rattle.lease_model.specs.values.Keys.{Key}
 use Rattle.lease_model.specs.values.LeaseStates.{is_within, same_state}
 use Rattle.lease_model.specs.messages.Requests.{Request}
 use Rattle.lease_model.specs.server.State.{Server, Open, Lease, no_lease, is_breaking, has_key, has_own_key}
-use Rattle.lease_model.specs.server.Wants.{own_key, key_of_open, connected_open}
+use Rattle.lease_model.specs.server.Naming.{own_key, key_of_open}
+use Rattle.lease_model.specs.server.Findings.{connected_open}
 
 -- the element is on the list
 abbrev pub Among : {X : Type 0} → X → List X → Type 0

@@ -6,7 +6,7 @@ use Rattle.lease_model.specs.messages.Replies.{Reply, Out}
 use Rattle.lease_model.specs.messages.Requests.{Request}
 use Rattle.lease_laws.specs.server.Laws.{Among}
 use Rattle.lease_model.specs.server.State.{Server, Open, has_key, has_own_key}
-use Rattle.lease_model.specs.server.Wants.{key_of_open}
+use Rattle.lease_model.specs.server.Naming.{key_of_open}
 
 -- what holds of each out
 abbrev pub EachOut : (Out → Type 0) → List Out → Type 0

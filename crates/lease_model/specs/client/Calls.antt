@@ -1,6 +1,6 @@
 -- The calls of a client machine.
 use Rattle.lease_model.specs.client.Commanded.{commanded}
-use Rattle.lease_model.specs.client.Connection.{noticed, connected}
+use Rattle.lease_model.specs.client.Connection.{noticed, connection_made}
 use Rattle.lease_model.specs.client.Taken.{taken}
 use Rattle.lease_model.specs.client.State.{Client}
 use Rattle.lease_model.specs.client.Step.{Step}
@@ -17,4 +17,4 @@ abbrev pub client_called : Client → ClientCall → Step
 client_called client (ClientCall.Commanded command) = commanded client command
 client_called client (ClientCall.Taken reply) = taken client reply
 client_called client ClientCall.Noticed = noticed client
-client_called client ClientCall.Connected = connected client
+client_called client ClientCall.Connected = connection_made client

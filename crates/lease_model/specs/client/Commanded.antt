@@ -1,43 +1,39 @@
 -- What a client does with a command (own, but for the create that it sends: MS-SMB2 3.2.4.3).
-use Rattle.std.specs.Prelude.{ℕ, zero, suc, ◌+◌, Bool, true, false, Option, Some, None, List, [], ◌∷◌, ◌++◌, if◌then◌else◌, ◌==◌, ◌&&◌, ◌||◌, not, nat_lt}
-use Rattle.lease_state.specs.State.{State}
-use Rattle.lease_state.specs.declared.access.Access.{Access}
-use Rattle.lease_state.specs.declared.access.Share.{Share}
-use Rattle.lease_model.specs.client.State.{Client, Entry, LiveEntry, Pending, Phase, closed_entry, live_entry, lease_key, knows_file, view}
+use Rattle.std.specs.Prelude.{ℕ, zero, suc, ◌+◌, Bool, true, false, Option, Some, None, List, [], ◌∷◌, ◌++◌, if◌then◌else◌, ◌==◌, ◌&&◌, ◌||◌, not, nat_lt, is_some}
+use Rattle.lease_model.specs.client.State.{Client, Entry, LiveEntry, Asked, Pending, Phase, closed_entry, live_entry, lease_key, knows_file, view}
 use Rattle.lease_model.specs.client.Step.{Step, Turn, turned, refused_step, write_requests}
-use Rattle.lease_model.specs.client.Commands.{Command, Answer, Refusal, Note}
+use Rattle.lease_model.specs.client.Commands.{Command, OpenTerms, Answer, Refusal, Note}
 use Rattle.lease_state.specs.declared.patch.Patch.{Patch}
 use Rattle.lease_model.specs.values.Patches.{is_within_limit}
 use Rattle.lease_model.specs.values.Limits.{count_limit, last_write_number}
 use Rattle.lease_model.specs.values.Lists.{is_empty}
-use Rattle.lease_model.specs.messages.Requests.{Request}
-use Rattle.lease_model.specs.values.Sharing.{may_read, may_write, same_access, same_share}
+use Rattle.lease_model.specs.messages.Requests.{FileRequest, Request}
+use Rattle.lease_model.specs.values.Sharing.{may_read, may_write, same_access, same_share, either_access, both_share}
 use Rattle.lease_model.specs.values.Tables.{put}
 
 -- the create that opens a file: RqLs under the file's key, and DHnQ where durable is asked
-abbrev pub create_request : Client → ℕ → Access → Share → State → Bool → Request
-create_request client file access share want durable =
-    Request.Create file access share (Some (record {
-      lease = Some (record { key = lease_key client.guid file; state = want });
-      durable = durable;
+abbrev pub create_request : Client → ℕ → OpenTerms → Request
+create_request client file terms =
+    Request.OnFile (FileRequest.Create file terms.access terms.share (Some (record {
+      lease = Some (record { key = lease_key client.guid file; state = terms.want });
+      durable = terms.durable;
       reconnect = None;
-    }))
+    })))
 
 abbrev pub turn_of : Entry → Answer → List Request → Turn
 turn_of entry answer requests =
     record { entry = entry; answer = answer; requests = requests; settled = [] }
 
 -- an Open of a file that isn't open: only between a connect and the next notice
-abbrev pub opening_step : Client → ℕ → Access → Share → State → Bool → List Pending → Step
-opening_step client file access share want durable sent =
-    if client.connected
-    then turned client file (turn_of (record { phase = Phase.Opening access share; sent = sent })
-    Answer.Waiting (create_request client file access share want durable ∷ []))
+abbrev pub opening_step : Client → ℕ → OpenTerms → List Pending → Step
+opening_step client file terms sent =
+    if client.is_online
+    then turned client file (turn_of (record { phase = Phase.Opening terms.access terms.share; sent = sent })
+    Answer.Waiting (create_request client file terms ∷ []))
     else refused_step client Refusal.Offline
 
 abbrev pub on_closed : Client → ℕ → List Pending → Command → Step
-on_closed client file sent (Command.Open _ access share want durable) =
-    opening_step client file access share want durable sent
+on_closed client file sent (Command.Open _ terms) = opening_step client file terms sent
 on_closed client file sent command = refused_step client Refusal.NotOpen
 
 -- An Open of a live entry with its own access and share is one handle more.
@@ -47,15 +43,53 @@ handle_added client file live sent =
     else turned client file
     (turn_of (live_entry (record live { handles = live.handles + 1 }) sent) Answer.Done [])
 
--- what a live entry does with an Open of another access or share
-unfoldable pub open_other : Client → ℕ → LiveEntry → List Pending → Access → Share → State → Bool → Step
-open_other client file live sent access share want durable = refused_step client Refusal.Differs
+abbrev pub is_asking : LiveEntry → Bool
+is_asking live = is_some live.asking
 
-unfoldable pub open_on_live : Client → ℕ → LiveEntry → List Pending → Access → Share → State → Bool → Step
-open_on_live client file live sent access share want durable =
-    if same_access access live.access && same_share share live.share
+-- A parked entry that is asked for more gives its open up and opens the file anew: the unsent writes, a
+-- Close of the old FileId, and a create on the command's own terms.
+unfoldable pub opened_anew : Client → ℕ → LiveEntry → List Pending → OpenTerms → Step
+opened_anew client file live sent terms = turned client file (turn_of
+    (record { phase = Phase.Opening terms.access terms.share; sent = sent ++ live.unsent })
+    Answer.Waiting
+    (write_requests live.file_id live.unsent
+    ++ Request.OnFile (FileRequest.Close live.file_id) ∷ create_request client file terms ∷ []))
+
+-- the access that does what either does, the share that allows what both allow, the state that is wanted
+-- now, and durable where that is asked or the entry is so
+abbrev pub joint_terms : LiveEntry → OpenTerms → OpenTerms
+joint_terms live terms = record {
+  access = either_access live.access terms.access;
+  share = both_share live.share terms.share;
+  want = terms.want;
+  durable = terms.durable || live.durable;
+}
+
+abbrev pub asked_by : OpenTerms → Asked
+asked_by terms = record { access = terms.access; share = terms.share }
+
+-- An entry with a handle asks for more: a second create under its key is sent, and until that is answered
+-- the entry goes on under its FileId.
+unfoldable pub more_asked : Client → ℕ → LiveEntry → List Pending → OpenTerms → Step
+more_asked client file live sent terms =
+    if live.handles == count_limit then refused_step client Refusal.UsedUp
+    else turned client file (turn_of
+    (live_entry (record live { asking = Some (asked_by (joint_terms live terms)) }) sent)
+    Answer.Waiting (create_request client file (joint_terms live terms) ∷ []))
+
+-- what a live entry does with an Open of another access or share
+unfoldable pub open_other : Client → ℕ → LiveEntry → List Pending → OpenTerms → Step
+open_other client file live sent terms =
+    if live.handles == 0 then opened_anew client file live sent terms
+    else more_asked client file live sent terms
+
+-- while an entry is asking, every Open is refused
+unfoldable pub open_on_live : Client → ℕ → LiveEntry → List Pending → OpenTerms → Step
+open_on_live client file live sent terms =
+    if is_asking live then refused_step client Refusal.Busy
+    else (if same_access terms.access live.access && same_share terms.share live.share
     then handle_added client file live sent
-    else open_other client file live sent access share want durable
+    else open_other client file live sent terms)
 
 -- the last handle goes: the entry is parked where the belief holds H, else the unsent writes and a
 -- Close are sent
@@ -64,7 +98,7 @@ last_handle_closed client file live sent =
     if live.belief.handle
     then turned client file (turn_of (live_entry (record live { handles = 0 }) sent) Answer.Done [])
     else turned client file (turn_of (closed_entry (sent ++ live.unsent)) Answer.Done
-    (write_requests live.file_id live.unsent ++ Request.Close live.file_id ∷ []))
+    (write_requests live.file_id live.unsent ++ Request.OnFile (FileRequest.Close live.file_id) ∷ []))
 
 -- some Read or sent write of the file isn't answered
 abbrev pub has_unanswered : LiveEntry → List Pending → Bool
@@ -74,12 +108,13 @@ abbrev pub one_handle_less : ℕ → ℕ
 one_handle_less zero = 0
 one_handle_less (suc handles) = handles
 
+-- the last handle stays while something is unanswered, or the entry is asking
 unfoldable pub close_on_live : Client → ℕ → LiveEntry → List Pending → Step
 close_on_live client file live sent =
     if nat_lt 1 live.handles
     then turned client file (turn_of
     (live_entry (record live { handles = one_handle_less live.handles }) sent) Answer.Done [])
-    else (if has_unanswered live sent then refused_step client Refusal.Busy
+    else (if is_asking live || has_unanswered live sent then refused_step client Refusal.Busy
     else last_handle_closed client file live sent)
 
 -- a read from the cache
@@ -91,12 +126,13 @@ cached_read client file bytes = record {
   notes = Note.CachedRead file bytes ∷ [];
 }
 
--- a read that is sent
+-- a read that is sent; none is while the entry is asking
 unfoldable pub read_sent : Client → ℕ → LiveEntry → List Pending → Step
 read_sent client file live sent =
-    if live.reads == count_limit then refused_step client Refusal.UsedUp
+    if is_asking live then refused_step client Refusal.Busy
+    else (if live.reads == count_limit then refused_step client Refusal.UsedUp
     else turned client file (turn_of (live_entry (record live { reads = live.reads + 1 }) sent)
-    Answer.Waiting (Request.Read live.file_id ∷ []))
+    Answer.Waiting (Request.OnFile (FileRequest.Read live.file_id) ∷ [])))
 
 abbrev pub read_from : Client → ℕ → LiveEntry → List Pending → Bool → Option (List ℕ) → Step
 read_from client file live sent true (Some base) = cached_read client file (view base sent live.unsent)
@@ -131,7 +167,7 @@ write_buffered client file live sent patch = wrote_step client file
 unfoldable pub write_sent : Client → ℕ → LiveEntry → List Pending → Patch → Step
 write_sent client file live sent patch = wrote_step client file
     (live_entry live (sent ++ next_write client patch false ∷ []))
-    Answer.Waiting (Request.Write live.file_id (client.last_number + 1) patch ∷ [])
+    Answer.Waiting (Request.OnFile (FileRequest.Write live.file_id (client.last_number + 1) patch) ∷ [])
     (next_write client patch false)
 
 -- under W a write is buffered, else it is sent
@@ -160,8 +196,7 @@ abbrev pub unless_parked : Client → LiveEntry → Step → Step
 unless_parked client live step = if live.handles == 0 then refused_step client Refusal.NotOpen else step
 
 abbrev pub on_live : Client → ℕ → LiveEntry → List Pending → Command → Step
-on_live client file live sent (Command.Open _ access share want durable) =
-    open_on_live client file live sent access share want durable
+on_live client file live sent (Command.Open _ terms) = open_on_live client file live sent terms
 on_live client file live sent (Command.Close _) =
     unless_parked client live (close_on_live client file live sent)
 on_live client file live sent (Command.Read _) =
@@ -179,7 +214,7 @@ on_entry client file command sent (Phase.Offline parted) = refused_step client R
 on_entry client file command sent (Phase.Reconnecting parted) = refused_step client Refusal.Busy
 
 abbrev pub file_of : Command → ℕ
-file_of (Command.Open file access share want durable) = file
+file_of (Command.Open file terms) = file
 file_of (Command.Close file) = file
 file_of (Command.Read file) = file
 file_of (Command.Write file patch) = file

@@ -7,14 +7,22 @@ use Rattle.lease_state.specs.declared.access.Share.{Share}
 use Rattle.lease_state.specs.declared.status.Status.{Status}
 use Rattle.lease_state.specs.declared.patch.Patch.{Patch}
 
+-- how a file is to be opened: what is done with it, what others may do, the lease's state that is wanted,
+-- and whether the open is to outlive its connection
+pub record OpenTerms : Type 0 where
+  pub access : Access
+  pub share : Share
+  pub want : State
+  pub durable : Bool
+
 pub data Command : Type 0 where
-  Open : (file : ℕ) (access : Access) (share : Share) (want : State) (durable : Bool) → Command
+  Open : (file : ℕ) (terms : OpenTerms) → Command
   Close : (file : ℕ) → Command
   Read : (file : ℕ) → Command
   Write : (file : ℕ) (patch : Patch) → Command
   Flush : (file : ℕ) → Command
 
--- why a command is refused; it then changes nothing and sends nothing
+-- why a command is refused; it then changes nothing and sends nothing (Differs is never answered any more)
 pub data Refusal : Type 0 where
   NotOpen : Refusal
   Busy : Refusal

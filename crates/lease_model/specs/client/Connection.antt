@@ -6,13 +6,13 @@ use Rattle.lease_model.specs.client.State.{Client, Entry, LiveEntry, Parted, Pen
 use Rattle.lease_model.specs.client.Step.{Step, Turn, settled_as, believes_noted}
 use Rattle.lease_model.specs.client.Commands.{Answer, Note, Settlement}
 use Rattle.lease_model.specs.values.Lists.{without, numbers_to}
-use Rattle.lease_model.specs.messages.Requests.{Request}
+use Rattle.lease_model.specs.messages.Requests.{FileRequest, Request}
 
 -- every entry has a turn of its own; notes and requests stand file by file
 unfoldable pub all_turned : Client → Bool → (ℕ → Entry → Turn) → Step
-all_turned client connected turn = record {
+all_turned client online turn = record {
   client = record client {
-    connected = connected;
+    is_online = online;
     entries = λ file. (turn file (client.entries file)).entry;
   };
   answer = Answer.Quiet;
@@ -37,16 +37,16 @@ offline_turn parted unanswered = silent_turn (record { phase = Phase.Offline par
     (settled_as Settlement.Unknown unanswered)
 
 abbrev pub parted_from : LiveEntry → List Pending → Parted
-parted_from live kept = record {
+parted_from live writes = record {
   file_id = live.file_id;
   access = live.access;
   share = live.share;
   handles = live.handles;
-  kept = kept;
+  writes = writes;
 }
 
 -- A live durable entry goes offline. Where its belief held W it keeps its buffered writes, those
--- sent and those unsent; the others are settled as unknown.
+-- sent and those unsent; the others are settled as unknown. That it was asking for more is forgotten.
 unfoldable pub live_parted : LiveEntry → List Pending → Turn
 live_parted live sent =
     if live.belief.write
@@ -73,11 +73,11 @@ noticed client = all_turned client false (λ file entry. notice_turn entry.sent 
 -- the create that reconnects: RqLs with the file's key and no state (own), and DHnC of the FileId
 abbrev pub reconnect_request : Client → ℕ → Parted → Request
 reconnect_request client file parted =
-    Request.Create file parted.access parted.share (Some (record {
+    Request.OnFile (FileRequest.Create file parted.access parted.share (Some (record {
       lease = Some (record { key = lease_key client.guid file; state = nothing_cached });
       durable = false;
       reconnect = Some parted.file_id;
-    }))
+    })))
 
 abbrev pub connect_turn : Client → ℕ → List Pending → Phase → Turn
 connect_turn client file sent (Phase.Offline parted) = record {
@@ -89,5 +89,5 @@ connect_turn client file sent (Phase.Offline parted) = record {
 connect_turn client file sent phase = silent_turn (record { phase = phase; sent = sent }) []
 
 -- The client connects: each offline entry is reconnecting.
-unfoldable pub connected : Client → Step
-connected client = all_turned client true (λ file entry. connect_turn client file entry.sent entry.phase)
+unfoldable pub connection_made : Client → Step
+connection_made client = all_turned client true (λ file entry. connect_turn client file entry.sent entry.phase)

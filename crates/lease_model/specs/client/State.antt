@@ -12,9 +12,15 @@ pub record Pending : Type 0 where
   pub patch : Patch
   pub buffered : Bool
 
+-- the access and the share of a create that is under way
+pub record Asked : Type 0 where
+  pub access : Access
+  pub share : Share
+
 -- A live entry: the open that it stands for, what the client believes of the lease, how many
 -- handles applications have on it, how many Reads are unanswered, the file as last known, and the
--- buffered writes that aren't sent. With no handle it is parked.
+-- buffered writes that aren't sent. With no handle it is parked. While it is asking for more, a second
+-- create under its key is under way.
 pub record LiveEntry : Type 0 where
   pub file_id : ℕ
   pub access : Access
@@ -25,6 +31,7 @@ pub record LiveEntry : Type 0 where
   pub reads : ℕ
   pub base : Option (List ℕ)
   pub unsent : List Pending
+  pub asking : Option Asked
 
 -- what an entry keeps while it is offline or reconnecting: its open, and buffered writes
 pub record Parted : Type 0 where
@@ -32,7 +39,7 @@ pub record Parted : Type 0 where
   pub access : Access
   pub share : Share
   pub handles : ℕ
-  pub kept : List Pending
+  pub writes : List Pending
 
 pub data Phase : Type 0 where
   Closed : Phase
@@ -46,12 +53,12 @@ pub record Entry : Type 0 where
   pub phase : Phase
   pub sent : List Pending
 
--- A client: files are those from 1 to `files`; `connected` holds from a connect to the next
+-- A client: files are those from 1 to `files`; `is_online` holds from a connect to the next
 -- notice; `last_number` is that of its last write.
 pub record Client : Type 0 where
   pub guid : List ℕ
   pub files : ℕ
-  pub connected : Bool
+  pub is_online : Bool
   pub last_number : ℕ
   pub entries : ℕ → Entry
 
@@ -65,7 +72,7 @@ unfoldable pub new_client : List ℕ → ℕ → Client
 new_client guid files = record {
   guid = guid;
   files = files;
-  connected = false;
+  is_online = false;
   last_number = 0;
   entries = λ file. closed_entry [];
 }

@@ -5,7 +5,7 @@ use Rattle.lease_state.specs.State.{State}
 use Rattle.lease_model.specs.client.State.{Client, Entry, Pending, belief_of}
 use Rattle.lease_model.specs.client.Commands.{Answer, Refusal, Note, Settlement}
 use Rattle.lease_model.specs.values.LeaseStates.{same_state}
-use Rattle.lease_model.specs.messages.Requests.{Request}
+use Rattle.lease_model.specs.messages.Requests.{FileRequest, Request}
 use Rattle.lease_model.specs.values.Tables.{put}
 
 pub record Step : Type 0 where
@@ -43,7 +43,8 @@ quiet_step client = record { client = client; answer = Answer.Quiet; requests = 
 
 -- the writes as requests under a FileId, in order
 abbrev pub write_requests : ℕ → List Pending → List Request
-write_requests file_id writes = map (λ write. Request.Write file_id write.number write.patch) writes
+write_requests file_id writes =
+    map (λ write. Request.OnFile (FileRequest.Write file_id write.number write.patch)) writes
 
 -- each of the writes settled in one way, in order
 abbrev pub settled_as : Settlement → List Pending → List Note

@@ -1,11 +1,11 @@
 -- What a client does with a message of the server.
-use Rattle.std.specs.Prelude.{ℕ, zero, suc, Bool, true, false, Option, Some, None, List, [], ◌∷◌, ◌++◌, length, if◌then◌else◌, ◌==◌, ◌&&◌, ◌||◌, not, nat_le, bytes_eq, find}
+use Rattle.std.specs.Prelude.{ℕ, zero, suc, ◌+◌, Bool, true, false, Option, Some, None, List, [], ◌∷◌, ◌++◌, length, if◌then◌else◌, ◌==◌, ◌&&◌, ◌||◌, not, nat_le, bytes_eq, find}
 use Rattle.std.specs.List.{list_any}
 use Rattle.lease_state.specs.State.{State, nothing_cached}
 use Rattle.lease_state.specs.declared.access.Access.{Access}
 use Rattle.lease_state.specs.declared.access.Share.{Share}
 use Rattle.lease_state.specs.declared.status.Status.{Status}
-use Rattle.lease_model.specs.client.State.{Client, Entry, LiveEntry, Parted, Pending, Phase, closed_entry, live_entry, lease_key, view}
+use Rattle.lease_model.specs.client.State.{Client, Entry, LiveEntry, Asked, Parted, Pending, Phase, closed_entry, live_entry, lease_key, view}
 use Rattle.lease_model.specs.client.Step.{Step, Turn, turned, quiet_step, write_requests, settled_as}
 use Rattle.lease_model.specs.client.Commands.{Answer, Note, Settlement}
 use Rattle.lease_state.specs.Content.{patch as patched}
@@ -13,7 +13,7 @@ use Rattle.lease_model.specs.values.LeaseStates.{meet}
 use Rattle.lease_state.specs.declared.content.TheConstants.{FILE_LIMIT}
 use Rattle.lease_model.specs.values.Lists.{numbers_to}
 use Rattle.lease_model.specs.messages.Replies.{Reply, BreakNotice, CreateAnswer, LeaseGiven}
-use Rattle.lease_model.specs.messages.Requests.{Request}
+use Rattle.lease_model.specs.messages.Requests.{FileRequest, Request}
 
 -- the first file, in number order, of which this is so
 abbrev pub file_where : Client → (ℕ → Bool) → Option ℕ
@@ -63,7 +63,7 @@ unfoldable pub parked_closed : LiveEntry → List Pending → Turn
 parked_closed live sent = record {
   entry = closed_entry (sent ++ live.unsent);
   answer = Answer.Quiet;
-  requests = write_requests live.file_id live.unsent ++ Request.Close live.file_id ∷ [];
+  requests = write_requests live.file_id live.unsent ++ Request.OnFile (FileRequest.Close live.file_id) ∷ [];
   settled = [];
 }
 
@@ -109,6 +109,7 @@ opened_turn file_id access share sent answer belief = record {
         reads = 0;
         base = None;
         unsent = [];
+        asking = None;
       })
       sent;
   answer = Answer.Done;
@@ -130,51 +131,102 @@ reconnected_turn parted sent belief = record {
         handles = parted.handles;
         reads = 0;
         base = None;
-        unsent = if belief.write then parted.kept else [];
+        unsent = if belief.write then parted.writes else [];
+        asking = None;
       })
       sent;
   answer = Answer.Done;
   requests = [];
-  settled = if belief.write then [] else settled_as Settlement.Lost parted.kept;
+  settled = if belief.write then [] else settled_as Settlement.Lost parted.writes;
 }
 
--- what a live entry does with a Created: nothing
-unfoldable pub created_on_live : Client → ℕ → LiveEntry → List Pending → ℕ → CreateAnswer → State → Step
-created_on_live client file live sent file_id answer belief = quiet_step client
+-- What an entry that asked for more then believes: what it believed while a break is in progress, and else
+-- the reply's state, or none without RqLs or under another key.
+abbrev pub promoted_belief : List ℕ → State → Option LeaseGiven → State
+promoted_belief key belief None = nothing_cached
+promoted_belief key belief (Some given) =
+    if given.in_progress then belief
+    else (if bytes_eq given.key key then given.state else nothing_cached)
 
-abbrev pub created_on : Client → ℕ → ℕ → CreateAnswer → State → List Pending → Phase → Step
-created_on client file file_id answer belief sent (Phase.Opening access share) =
-    turned client file (opened_turn file_id access share sent answer belief)
-created_on client file file_id answer belief sent (Phase.Reconnecting parted) =
-    turned client file (reconnected_turn parted sent belief)
-created_on client file file_id answer belief sent (Phase.Live live) =
-    created_on_live client file live sent file_id answer belief
-created_on client file file_id answer belief sent phase = quiet_step client
+-- An entry that asked for more has its new open, one handle more, and closes the old one. Where the new
+-- belief lacks W its unsent writes have failed, and where it lacks R the base is dropped.
+unfoldable pub promoted_turn : LiveEntry → List Pending → Asked → ℕ → Bool → State → Turn
+promoted_turn live sent asked file_id durable belief = record {
+  entry = live_entry
+      (record live {
+        file_id = file_id;
+        access = asked.access;
+        share = asked.share;
+        durable = durable;
+        belief = belief;
+        handles = live.handles + 1;
+        base = if belief.read then live.base else None;
+        unsent = if belief.write then live.unsent else [];
+        asking = None;
+      })
+      sent;
+  answer = Answer.Done;
+  requests = Request.OnFile (FileRequest.Close live.file_id) ∷ [];
+  settled = if belief.write then [] else settled_as Settlement.Failed live.unsent;
+}
+
+-- a live entry that didn't ask for more passes a Created over
+abbrev pub created_for : Client → ℕ → LiveEntry → List Pending → ℕ → CreateAnswer → Option Asked → Step
+created_for client file live sent file_id answer None = quiet_step client
+created_for client file live sent file_id answer (Some asked) = turned client file
+    (promoted_turn live sent asked file_id answer.durable
+    (promoted_belief (lease_key client.guid file) live.belief answer.lease))
+
+unfoldable pub created_on_live : Client → ℕ → LiveEntry → List Pending → ℕ → CreateAnswer → Step
+created_on_live client file live sent file_id answer =
+    created_for client file live sent file_id answer live.asking
+
+-- the belief that a reply to a create gives to an entry that had none
+abbrev pub first_belief : Client → ℕ → CreateAnswer → State
+first_belief client file answer = given_state (lease_key client.guid file) answer.lease
+
+abbrev pub created_on : Client → ℕ → ℕ → CreateAnswer → List Pending → Phase → Step
+created_on client file file_id answer sent (Phase.Opening access share) = turned client file
+    (opened_turn file_id access share sent answer (first_belief client file answer))
+created_on client file file_id answer sent (Phase.Reconnecting parted) =
+    turned client file (reconnected_turn parted sent (first_belief client file answer))
+created_on client file file_id answer sent (Phase.Live live) =
+    created_on_live client file live sent file_id answer
+created_on client file file_id answer sent phase = quiet_step client
 
 -- a reply that can't be read is ignored
 unfoldable pub create_answered : Client → ℕ → ℕ → Option CreateAnswer → Step
 create_answered client file file_id None = quiet_step client
 create_answered client file file_id (Some answer) = created_on client file file_id answer
-    (given_state (lease_key client.guid file) answer.lease)
     (client.entries file).sent (client.entries file).phase
 
+abbrev pub still_open : Entry → List Note → Status → Turn
+still_open entry settled status =
+    record { entry = entry; answer = Answer.Failed status; requests = []; settled = settled }
+
 abbrev pub failed_turn : Status → List Pending → List Pending → Turn
-failed_turn status sent kept = record {
+failed_turn status sent writes = record {
   entry = closed_entry sent;
   answer = Answer.Failed status;
   requests = [];
-  settled = settled_as Settlement.Lost kept;
+  settled = settled_as Settlement.Lost writes;
 }
 
--- what a live entry does with a failed create: nothing
+-- an entry that asked for more goes on without; any other live entry passes a failed create over
+abbrev pub create_failed_for : Client → ℕ → LiveEntry → List Pending → Status → Option Asked → Step
+create_failed_for client file live sent status None = quiet_step client
+create_failed_for client file live sent status (Some asked) = turned client file
+    (still_open (live_entry (record live { asking = None }) sent) [] status)
+
 unfoldable pub create_failed_on_live : Client → ℕ → LiveEntry → List Pending → Status → Step
-create_failed_on_live client file live sent status = quiet_step client
+create_failed_on_live client file live sent status =
+    create_failed_for client file live sent status live.asking
 
 abbrev pub failed_on : Client → ℕ → Status → List Pending → Phase → Step
 failed_on client file status sent (Phase.Opening access share) =
     turned client file (failed_turn status sent [])
 failed_on client file status sent (Phase.Reconnecting parted) =
-    turned client file (failed_turn status sent parted.kept)
+    turned client file (failed_turn status sent parted.writes)
 failed_on client file status sent (Phase.Live live) =
     create_failed_on_live client file live sent status
 failed_on client file status sent phase = quiet_step client
@@ -225,18 +277,19 @@ abbrev pub is_file_closed : Status → Bool
 is_file_closed Status.FileClosed = true
 is_file_closed status = false
 
+-- an entry without its open: it is closed, or opening where it had asked for more
+abbrev pub without_open : Option Asked → List Pending → Entry
+without_open None sent = closed_entry sent
+without_open (Some asked) sent = record { phase = Phase.Opening asked.access asked.share; sent = sent }
+
 -- FILE_CLOSED for the FileId of a live entry: its open is gone, and its unsent writes have failed.
 unfoldable pub closed_by_server : LiveEntry → List Pending → List Note → Status → Turn
 closed_by_server live sent settled status = record {
-  entry = closed_entry sent;
+  entry = without_open live.asking sent;
   answer = Answer.Failed status;
   requests = [];
   settled = settled ++ settled_as Settlement.Failed live.unsent;
 }
-
-abbrev pub still_open : Entry → List Note → Status → Turn
-still_open entry settled status =
-    record { entry = entry; answer = Answer.Failed status; requests = []; settled = settled }
 
 unfoldable pub read_failed_turn : LiveEntry → List Pending → Status → Turn
 read_failed_turn live sent status =

@@ -16,19 +16,19 @@ use Rattle.lease_model.specs.messages.Requests as requests
 use Rattle.lease_model.specs.messages.Requests.{LeaseOf, CreateAsk}
 
 -- the create contexts of a request (MS-SMB2 2.2.13.2)
-abbrev pub lease_asked : LeaseView → LeaseOf
-lease_asked lease = record { key = lease.key; state = lease.state }
+abbrev pub lease_wanted : LeaseView → LeaseOf
+lease_wanted lease = record { key = lease.key; state = lease.state }
 
 abbrev pub ask_found : Result CreateView WireFault → Option CreateAsk
-ask_found (Ok v) = Some (record { lease = option_map lease_asked v.lease; durable = v.durable; reconnect = v.reconnect })
+ask_found (Ok v) = Some (record { lease = option_map lease_wanted v.lease; durable = v.durable; reconnect = v.reconnect })
 ask_found (Err fault) = None
 
 -- those of a response (2.2.14.2)
-abbrev pub lease_given : LeaseView → LeaseGiven
-lease_given lease = record { key = lease.key; state = lease.state; in_progress = lease.breaking }
+abbrev pub lease_read : LeaseView → LeaseGiven
+lease_read lease = record { key = lease.key; state = lease.state; in_progress = lease.breaking }
 
 abbrev pub answer_found : Result CreateView WireFault → Option CreateAnswer
-answer_found (Ok v) = Some (record { lease = option_map lease_given v.lease; durable = v.durable })
+answer_found (Ok v) = Some (record { lease = option_map lease_read v.lease; durable = v.durable })
 answer_found (Err fault) = None
 
 -- an acknowledgment (2.2.24.2) or its response (2.2.25.2), where the bytes begin with one
@@ -53,10 +53,10 @@ notice_in bytes =
 -- a request of the model from a real one
 abbrev pub request_of : real_request.Request → requests.Request
 request_of (real_request.TheVariants.Create file access share contexts) =
-    requests.Request.Create file.0 access share (ask_found (value_of Direction.Request contexts))
-request_of (real_request.TheVariants.Read fid) = requests.Request.Read fid.0
-request_of (real_request.TheVariants.Write fid number patch) = requests.Request.Write fid.0 number patch
-request_of (real_request.TheVariants.Close fid) = requests.Request.Close fid.0
+    requests.Request.OnFile (requests.FileRequest.Create file.0 access share (ask_found (value_of Direction.Request contexts)))
+request_of (real_request.TheVariants.Read fid) = requests.Request.OnFile (requests.FileRequest.Read fid.0)
+request_of (real_request.TheVariants.Write fid number patch) = requests.Request.OnFile (requests.FileRequest.Write fid.0 number patch)
+request_of (real_request.TheVariants.Close fid) = requests.Request.OnFile (requests.FileRequest.Close fid.0)
 request_of (real_request.TheVariants.Ack bytes) = requests.Request.Acknowledge (acknowledged_in bytes)
 
 -- a reply of the model from a real one

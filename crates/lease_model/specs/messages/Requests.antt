@@ -18,11 +18,15 @@ pub record CreateAsk : Type 0 where
   pub durable : Bool
   pub reconnect : Option ℕ
 
--- CREATE (2.2.13), READ (2.2.19), WRITE (2.2.21) with the client's own number of the write,
--- CLOSE (2.2.15), and the acknowledgment of a lease break (2.2.24.2)
+-- requests about a file: CREATE (2.2.13), READ (2.2.19), WRITE (2.2.21) with the client's own number of
+-- the write, and CLOSE (2.2.15)
+pub data FileRequest : Type 0 where
+  Create : (file : ℕ) (access : Access) (share : Share) (contexts : Option CreateAsk) → FileRequest
+  Read : (file_id : ℕ) → FileRequest
+  Write : (file_id : ℕ) (number : ℕ) (patch : Patch) → FileRequest
+  Close : (file_id : ℕ) → FileRequest
+
+-- one of these, or the acknowledgment of a lease break (2.2.24.2)
 pub data Request : Type 0 where
-  Create : (file : ℕ) (access : Access) (share : Share) (contexts : Option CreateAsk) → Request
-  Read : (file_id : ℕ) → Request
-  Write : (file_id : ℕ) (number : ℕ) (patch : Patch) → Request
-  Close : (file_id : ℕ) → Request
+  OnFile : (request : FileRequest) → Request
   Acknowledge : (acknowledged : Option LeaseOf) → Request

@@ -44,16 +44,16 @@ has_joined client (Fact.Joined other ∷ past) = other == client || has_joined c
 has_joined client (_ ∷ past) = has_joined client past
 
 -- the client joined, and neither was its connection lost nor did a timer of its run out since
-unfoldable pub is_joined : ℕ → List Fact → Bool
-is_joined client [] = false
-is_joined client (Fact.Joined other ∷ past) = other == client || is_joined client past
-is_joined client (Fact.Dropped other ∷ past) = not (other == client) && is_joined client past
-is_joined client (Fact.Expired other file ∷ past) = not (other == client) && is_joined client past
-is_joined client (_ ∷ past) = is_joined client past
+unfoldable pub is_served : ℕ → List Fact → Bool
+is_served client [] = false
+is_served client (Fact.Joined other ∷ past) = other == client || is_served client past
+is_served client (Fact.Dropped other ∷ past) = not (other == client) && is_served client past
+is_served client (Fact.Expired other file ∷ past) = not (other == client) && is_served client past
+is_served client (_ ∷ past) = is_served client past
 
 -- Such a client is good, unless it ever strayed.
 unfoldable pub is_good : ℕ → List Fact → Bool
-is_good client past = not (has_strayed client past) && is_joined client past
+is_good client past = not (has_strayed client past) && is_served client past
 
 -- For each message sent to the client since it joined last, in order: the past before it was sent.
 unfoldable pub sendings : ℕ → List Fact → List (List Fact)

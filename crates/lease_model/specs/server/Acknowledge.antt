@@ -8,7 +8,7 @@ use Rattle.lease_model.specs.server.Progress.{Progress, stepped, with_lease, rep
 use Rattle.lease_model.specs.messages.Replies.{Reply, Out}
 use Rattle.lease_model.specs.messages.Requests.{LeaseOf}
 use Rattle.lease_model.specs.server.State.{has_lease}
-use Rattle.lease_model.specs.server.Wants.{key_of}
+use Rattle.lease_model.specs.server.Naming.{key_of}
 
 -- the lease has the granted form of the acknowledged state, and isn't breaking
 unfoldable pub break_ended : Key → State → Progress → Progress

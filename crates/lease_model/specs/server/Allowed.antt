@@ -2,12 +2,12 @@
 use Rattle.std.specs.Prelude.{ℕ, Bool, Option, if◌then◌else◌, ◌==◌, ◌&&◌, not}
 use Rattle.std.specs.List.{list_any}
 use Rattle.lease_state.specs.State.{State, granted_form_of}
+use Rattle.lease_state.specs.Access.{conflict}
 use Rattle.lease_state.specs.declared.access.Access.{Access}
 use Rattle.lease_state.specs.declared.access.Share.{Share}
 use Rattle.lease_model.specs.values.Keys.{Key}
 use Rattle.lease_model.specs.values.LeaseStates.{without_write}
 use Rattle.lease_model.specs.server.State.{Server, Open, has_own_key}
-use Rattle.lease_model.specs.values.Sharing.{permits}
 
 -- an open on the file that has another key than the request; None: the request has no key
 unfoldable pub is_other_on : Option Key → ℕ → Open → Bool
@@ -21,10 +21,6 @@ allowed server own file want =
     then without_write (granted_form_of want)
     else granted_form_of want
 
--- Two opens conflict where the access of one isn't within what the other shares (MS-SMB2
--- 3.3.5.9, STATUS_SHARING_VIOLATION).
-unfoldable pub conflicts : Access → Share → Open → Bool
-conflicts access share one = not (permits share one.access && permits one.share access)
-
+-- an open on the file that conflicts with this access and share (MS-SMB2 3.3.5.9, SHARING_VIOLATION)
 unfoldable pub conflicts_on : ℕ → Access → Share → Open → Bool
-conflicts_on file access share one = one.file == file && conflicts access share one
+conflicts_on file access share one = one.file == file && conflict access share one.access one.share

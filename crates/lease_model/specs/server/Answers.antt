@@ -8,10 +8,10 @@ use Rattle.lease_state.specs.Content.{patch as patched}
 use Rattle.lease_model.specs.server.Grant.{granted, reconnected}
 use Rattle.lease_model.specs.server.Progress.{Progress, stepped, opens_dropped, replied, refused}
 use Rattle.lease_model.specs.messages.Replies.{Reply, Out}
-use Rattle.lease_model.specs.messages.Requests.{Request, CreateAsk, LeaseOf}
+use Rattle.lease_model.specs.messages.Requests.{FileRequest, CreateAsk, LeaseOf}
 use Rattle.lease_model.specs.server.State.{Open}
 use Rattle.lease_model.specs.values.Tables.{put}
-use Rattle.lease_model.specs.server.Wants.{connected_open}
+use Rattle.lease_model.specs.server.Findings.{connected_open}
 
 -- A write is done (MS-SMB2 3.3.5.13): the file is changed, and the reply follows directly.
 unfoldable pub changed : ℕ → ℕ → ℕ → ℕ → Patch → Progress → Progress
@@ -46,20 +46,19 @@ on_contexts None done progress = progress
 on_contexts (Some ask) done progress = done ask progress
 
 -- A request that is ready is answered. (A ready request has its open, or its contexts.)
-unfoldable pub answered : ℕ → Request → Progress → Progress
-answered client (Request.Create file access share contexts) progress = on_contexts contexts
+unfoldable pub answered : ℕ → FileRequest → Progress → Progress
+answered client (FileRequest.Create file access share contexts) progress = on_contexts contexts
     (λ ask. created client file access share ask.lease ask.durable ask.reconnect) progress
-answered client (Request.Read file_id) progress = on_open (connected_open progress.server client file_id)
+answered client (FileRequest.Read file_id) progress = on_open (connected_open progress.server client file_id)
     (λ file. read_done client file file_id) progress
-answered client (Request.Write file_id number patch) progress = on_open
+answered client (FileRequest.Write file_id number patch) progress = on_open
     (connected_open progress.server client file_id)
     (λ file. changed client file file_id number patch) progress
-answered client (Request.Close file_id) progress = on_open (connected_open progress.server client file_id)
+answered client (FileRequest.Close file_id) progress = on_open (connected_open progress.server client file_id)
     (λ file. closed client file_id) progress
-answered client (Request.Acknowledge acknowledged) progress = progress
 
 -- the end of a try that doesn't wait
-abbrev pub concluded : ℕ → Request → Progress → Outcome → Progress
+abbrev pub concluded : ℕ → FileRequest → Progress → Outcome → Progress
 concluded client request progress (Outcome.Refused status) = refused client request status progress
 concluded client request progress Outcome.Waits = progress
 concluded client request progress Outcome.Ready = answered client request progress

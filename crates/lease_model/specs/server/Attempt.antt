@@ -7,9 +7,10 @@ use Rattle.lease_state.specs.declared.status.Status.{Status}
 use Rattle.lease_model.specs.values.Keys.{Key}
 use Rattle.lease_model.specs.server.Progress.{Progress, opens_dropped, lease_lowered, break_begun}
 use Rattle.lease_model.specs.server.Ready.{is_ready, waits_for}
-use Rattle.lease_model.specs.messages.Requests.{Request}
+use Rattle.lease_model.specs.messages.Requests.{FileRequest}
 use Rattle.lease_model.specs.server.State.{Open, has_key, has_lease, is_breaking}
-use Rattle.lease_model.specs.server.Wants.{Want, Finding, finding}
+use Rattle.lease_model.specs.server.Wants.{Want}
+use Rattle.lease_model.specs.server.Findings.{Finding, finding}
 
 -- an open of the key whose client is away
 abbrev pub is_left_open : Key → Open → Bool
@@ -47,26 +48,26 @@ abbrev pub ended : Progress → Outcome → Tried
 ended progress outcome = record { progress = progress; outcome = outcome }
 
 -- some lease of the wants keeps the request waiting
-abbrev pub must_wait : Request → Progress → List Want → Bool
+abbrev pub must_wait : FileRequest → Progress → List Want → Bool
 must_wait request progress wants =
     list_any (λ want. waits_for request (progress.server.leases want.key)) wants
 
-abbrev pub after_breaks : (Progress → Tried) → Request → List Want → Progress → Tried
+abbrev pub after_breaks : (Progress → Tried) → FileRequest → List Want → Progress → Tried
 after_breaks again request wants progress =
     if must_wait request progress wants then ended progress Outcome.Waits else again progress
 
-abbrev pub after_finding : (Progress → Tried) → Request → Progress → Finding → Tried
-after_finding again request progress (Finding.Refused status) = ended progress (Outcome.Refused status)
-after_finding again request progress (Finding.Wants wants) =
+abbrev pub after_finding : (Progress → Tried) → FileRequest → Progress → Finding → Tried
+after_finding again request progress (Finding.Fails status) = ended progress (Outcome.Refused status)
+after_finding again request progress (Finding.Needs wants) =
     if is_ready request progress.server.leases wants then ended progress Outcome.Ready
     else after_breaks again request wants (wants_met wants progress)
 
 -- At most so many rounds.
-unfoldable pub tried_for : ℕ → ℕ → Request → Progress → Tried
+unfoldable pub tried_for : ℕ → ℕ → FileRequest → Progress → Tried
 tried_for zero client request progress = ended progress Outcome.Waits
 tried_for (suc rounds) client request progress =
     after_finding (tried_for rounds client request) request progress (finding progress.server client request)
 
 -- Three are enough: one may break handles, one writes, and the last finds nothing more.
-abbrev pub tried : ℕ → Request → Progress → Tried
+abbrev pub tried : ℕ → FileRequest → Progress → Tried
 tried client request progress = tried_for 3 client request progress

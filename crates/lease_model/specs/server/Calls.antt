@@ -10,10 +10,11 @@ use Rattle.lease_model.specs.values.Keys.{Key}
 use Rattle.lease_model.specs.values.Lists.{without}
 use Rattle.lease_model.specs.server.Passes.{all_passes, is_behind}
 use Rattle.lease_model.specs.server.Progress.{Progress, begun, stepped, opens_dropped, request_held, refused}
-use Rattle.lease_model.specs.messages.Requests.{Request, CreateAsk}
+use Rattle.lease_model.specs.messages.Requests.{FileRequest, Request, CreateAsk}
 use Rattle.lease_model.specs.server.State.{Server, Open, Held, has_file, has_key, is_breaking}
 use Rattle.lease_model.specs.values.Tables.{put, put_key}
-use Rattle.lease_model.specs.server.Wants.{connected_open, lease_of}
+use Rattle.lease_model.specs.server.Findings.{connected_open}
+use Rattle.lease_model.specs.server.Naming.{lease_of}
 
 -- the file of a request, or the status that refuses it as it comes
 abbrev pub file_of_open : Option Open → Result ℕ Status
@@ -24,24 +25,23 @@ abbrev pub file_of_create : Server → ℕ → Option CreateAsk → Result ℕ S
 file_of_create server file None = Err Status.InvalidParameter
 file_of_create server file (Some ask) = if has_file server file then Ok file else Err Status.ObjectNameNotFound
 
-unfoldable pub file_asked : Server → ℕ → Request → Result ℕ Status
-file_asked server client (Request.Create file access share contexts) = file_of_create server file contexts
-file_asked server client (Request.Read file_id) = file_of_open (connected_open server client file_id)
-file_asked server client (Request.Write file_id number patch) =
+unfoldable pub file_asked : Server → ℕ → FileRequest → Result ℕ Status
+file_asked server client (FileRequest.Create file access share contexts) = file_of_create server file contexts
+file_asked server client (FileRequest.Read file_id) = file_of_open (connected_open server client file_id)
+file_asked server client (FileRequest.Write file_id number patch) =
     file_of_open (connected_open server client file_id)
-file_asked server client (Request.Close file_id) = file_of_open (connected_open server client file_id)
-file_asked server client (Request.Acknowledge given) = Err Status.InvalidParameter
+file_asked server client (FileRequest.Close file_id) = file_of_open (connected_open server client file_id)
 
-abbrev pub held_of : ℕ → Request → Held
+abbrev pub held_of : ℕ → FileRequest → Held
 held_of client request = record { client = client; request = request }
 
-abbrev pub after_first_try : ℕ → ℕ → Request → Progress → Outcome → Progress
+abbrev pub after_first_try : ℕ → ℕ → FileRequest → Progress → Outcome → Progress
 after_first_try client file request progress Outcome.Waits =
     request_held file (held_of client request) progress
 after_first_try client file request progress outcome = concluded client request progress outcome
 
 -- A request waits behind an earlier one of its client and file (own), and else is tried.
-abbrev pub arrived_on : ℕ → Request → Progress → Result ℕ Status → Progress
+abbrev pub arrived_on : ℕ → FileRequest → Progress → Result ℕ Status → Progress
 arrived_on client request progress (Err status) = refused client request status progress
 arrived_on client request progress (Ok file) =
     if is_behind client (progress.server.held file)
@@ -49,38 +49,45 @@ arrived_on client request progress (Ok file) =
     else after_first_try client file request
     (tried client request progress).progress (tried client request progress).outcome
 
--- A request of a connected client comes (MS-SMB2 3.3.5). Acknowledgments never wait, and after an
--- acknowledgment or a close held requests are tried again.
+abbrev pub first_tried : ℕ → FileRequest → Progress → Progress
+first_tried client request progress =
+    arrived_on client request progress (file_asked progress.server client request)
+
+-- after a close held requests are tried again, whatever became of it
+abbrev pub file_request_arrived : ℕ → FileRequest → Progress → Progress
+file_request_arrived client (FileRequest.Close file_id) progress =
+    all_passes (first_tried client (FileRequest.Close file_id) progress)
+file_request_arrived client request progress = first_tried client request progress
+
+-- A request of a connected client comes (MS-SMB2 3.3.5). Acknowledgments never wait, and after each of
+-- them held requests are tried again.
 unfoldable pub arrived : ℕ → Request → Progress → Progress
 arrived client (Request.Acknowledge given) progress = all_passes (acknowledged client given progress)
-arrived client (Request.Close file_id) progress = all_passes (arrived_on client (Request.Close file_id)
-    progress (file_asked progress.server client (Request.Close file_id)))
-arrived client request progress =
-    arrived_on client request progress (file_asked progress.server client request)
+arrived client (Request.OnFile request) progress = file_request_arrived client request progress
 
 unfoldable pub receive : Server → ℕ → Request → Progress
 receive server client request =
-    if server.connected client then arrived client request (begun server) else begun server
+    if server.present client then arrived client request (begun server) else begun server
 
 -- A client connects (3.3.5.1), and its keys are no longer expired (own).
 unfoldable pub joined : ℕ → Progress → Progress
 joined client progress = stepped progress (record progress.server {
-  connected = put progress.server.connected client true;
+  present = put progress.server.present client true;
   expired = λ key. if key.client == client then false else progress.server.expired key;
 }) []
 
 unfoldable pub join : Server → ℕ → Progress
-join server client = if server.connected client then begun server else joined client (begun server)
+join server client = if server.present client then begun server else joined client (begun server)
 
 -- Own (3.3.7.1): an open outlives its client's connection where it is durable, its lease holds H,
 -- and the lease isn't breaking.
-unfoldable pub is_kept : Server → Open → Bool
-is_kept server one =
+unfoldable pub outlives_connection : Server → Open → Bool
+outlives_connection server one =
     one.durable && (lease_of server one).state.handle && not (is_breaking (lease_of server one))
 
 -- connected opens of the client that don't outlive the connection
 abbrev pub is_lost : Server → ℕ → Open → Bool
-is_lost server client one = one.client == client && one.connected && not (is_kept server one)
+is_lost server client one = one.client == client && one.connected && not (outlives_connection server one)
 
 abbrev pub disconnected : ℕ → Open → Open
 disconnected client one = if one.client == client then record one { connected = false } else one
@@ -92,14 +99,14 @@ opens_disconnected client progress = stepped progress
 -- the connection and the client's held requests are forgotten
 unfoldable pub client_forgotten : ℕ → Progress → Progress
 client_forgotten client progress = stepped progress (record progress.server {
-  connected = put progress.server.connected client false;
+  present = put progress.server.present client false;
   held = λ file. without (λ one. one.client == client) (progress.server.held file);
 }) []
 
 -- A client's connection is lost (3.3.7.1).
 unfoldable pub cut : Server → ℕ → Progress
 cut server client =
-    if server.connected client
+    if server.present client
     then all_passes (client_forgotten client (opens_disconnected client
     (opens_dropped (is_lost server client) (begun server))))
     else begun server
@@ -115,14 +122,14 @@ expire server key =
     then all_passes (key_expired key (opens_dropped (has_key key) (begun server)))
     else begun server
 
-abbrev pub is_kept_open : ℕ → Open → Bool
-is_kept_open file_id one = one.file_id == file_id && not one.connected
+abbrev pub is_left_behind : ℕ → Open → Bool
+is_left_behind file_id one = one.file_id == file_id && not one.connected
 
 -- The timer of a durable open runs out (3.3.6.2): a disconnected open is closed.
 unfoldable pub scavenge : Server → ℕ → Progress
 scavenge server file_id =
-    if list_any (is_kept_open file_id) server.opens
-    then all_passes (opens_dropped (is_kept_open file_id) (begun server))
+    if list_any (is_left_behind file_id) server.opens
+    then all_passes (opens_dropped (is_left_behind file_id) (begun server))
     else begun server
 
 -- any call

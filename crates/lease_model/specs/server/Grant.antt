@@ -12,7 +12,7 @@ use Rattle.lease_model.specs.server.Progress.{Progress, stepped, with_lease, rep
 use Rattle.lease_model.specs.messages.Replies.{Reply, Out, LeaseGiven}
 use Rattle.lease_model.specs.messages.Requests.{LeaseOf}
 use Rattle.lease_model.specs.server.State.{Server, Open, Lease, no_lease, is_breaking}
-use Rattle.lease_model.specs.server.Wants.{key_of}
+use Rattle.lease_model.specs.server.Naming.{key_of}
 
 -- what a key is offered: nothing where its timer ran out (own)
 unfoldable pub offered : Server → Key → ℕ → State → State

@@ -15,23 +15,23 @@ is_behind client held = list_any (λ one. one.client == client) held
 -- a pass under way: the requests that it passed over and that still wait, the call so far, and
 -- whether the pass answered any
 pub record Pass : Type 0 where
-  pub kept : List Held
+  pub passed : List Held
   pub progress : Progress
   pub has_answered : Bool
 
-abbrev pub pass_kept : Held → Pass → Progress → Pass
-pass_kept one pass progress = record pass { kept = pass.kept ++ one ∷ []; progress = progress }
+abbrev pub left_waiting : Held → Pass → Progress → Pass
+left_waiting one pass progress = record pass { passed = pass.passed ++ one ∷ []; progress = progress }
 
 -- the request leaves the held ones, and is answered or refused
 abbrev pub pass_answered : ℕ → Held → List Held → Pass → Tried → Pass
 pass_answered file one waiting pass done = record pass {
   progress = concluded one.client one.request
-      (held_left file (pass.kept ++ waiting) done.progress) done.outcome;
+      (held_left file (pass.passed ++ waiting) done.progress) done.outcome;
   has_answered = true;
 }
 
 abbrev pub after_try : ℕ → Held → List Held → Pass → Progress → Outcome → Pass
-after_try file one waiting pass progress Outcome.Waits = pass_kept one pass progress
+after_try file one waiting pass progress Outcome.Waits = left_waiting one pass progress
 after_try file one waiting pass progress outcome =
     pass_answered file one waiting pass (record { progress = progress; outcome = outcome })
 
@@ -39,7 +39,7 @@ after_try file one waiting pass progress outcome =
 -- those behind it.
 unfoldable pub tried_again : ℕ → Held → List Held → Pass → Pass
 tried_again file one waiting pass =
-    if is_behind one.client pass.kept then pass_kept one pass pass.progress
+    if is_behind one.client pass.passed then left_waiting one pass pass.progress
     else after_try file one waiting pass
     (tried one.client one.request pass.progress).progress
     (tried one.client one.request pass.progress).outcome
@@ -51,7 +51,7 @@ pass_over file (one ∷ waiting) pass = pass_over file waiting (tried_again file
 -- one pass over a file
 abbrev pub one_pass : ℕ → Progress → Pass
 one_pass file progress = pass_over file (progress.server.held file)
-    (record { kept = []; progress = progress; has_answered = false })
+    (record { passed = []; progress = progress; has_answered = false })
 
 abbrev pub after_pass : (Progress → Progress) → Pass → Progress
 after_pass again pass = if pass.has_answered then again pass.progress else pass.progress

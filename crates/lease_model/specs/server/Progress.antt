@@ -7,7 +7,7 @@ use Rattle.lease_state.specs.declared.status.Status.{Status}
 use Rattle.lease_model.specs.values.Keys.{Key}
 use Rattle.lease_model.specs.values.Lists.{without}
 use Rattle.lease_model.specs.messages.Replies.{Reply, Out}
-use Rattle.lease_model.specs.messages.Requests.{Request}
+use Rattle.lease_model.specs.messages.Requests.{FileRequest}
 use Rattle.lease_model.specs.server.State.{Server, Open, Lease, Held, no_lease, has_key}
 use Rattle.lease_model.specs.values.Tables.{put, put_key}
 
@@ -71,16 +71,15 @@ held_left file left progress =
     stepped progress (record progress.server { held = put progress.server.held file left }) []
 
 -- the reply that refuses a request
-abbrev pub refusal_of : Request → Status → Reply
-refusal_of (Request.Create file access share contexts) status = Reply.CreateFailed file status
-refusal_of (Request.Read file_id) status = Reply.ReadFailed file_id status
-refusal_of (Request.Write file_id number patch) status = Reply.WriteFailed file_id number status
-refusal_of (Request.Close file_id) status = Reply.CloseFailed file_id status
-refusal_of (Request.Acknowledge acknowledged) status = Reply.AckFailed status
+abbrev pub refusal_of : FileRequest → Status → Reply
+refusal_of (FileRequest.Create file access share contexts) status = Reply.CreateFailed file status
+refusal_of (FileRequest.Read file_id) status = Reply.ReadFailed file_id status
+refusal_of (FileRequest.Write file_id number patch) status = Reply.WriteFailed file_id number status
+refusal_of (FileRequest.Close file_id) status = Reply.CloseFailed file_id status
 
 -- a reply is sent, and nothing changes
 abbrev pub replied : ℕ → Reply → Progress → Progress
 replied client reply progress = stepped progress progress.server (Out.Sent client reply ∷ [])
 
-unfoldable pub refused : ℕ → Request → Status → Progress → Progress
+unfoldable pub refused : ℕ → FileRequest → Status → Progress → Progress
 refused client request status progress = replied client (refusal_of request status) progress

@@ -1,11 +1,13 @@
 -- What a server knows (MS-SMB2 3.3.1.4, 3.3.1.10, 3.3.1.12, in the profile's terms).
-use Rattle.std.specs.Prelude.{ℕ, ◌-◌, Bool, false, Option, Some, None, List, [], length, min, nat_le, ◌&&◌, ◌==◌, is_some, slice_get, unwrap_or, find, bytes_eq}
+use Rattle.std.specs.Prelude.{ℕ, Bool, false, Option, Some, None, List, [], length, take, nat_le, ◌&&◌, ◌==◌, is_some, bytes_eq}
 use Rattle.std.specs.List.{list_any}
 use Rattle.lease_state.specs.State.{State, nothing_cached}
 use Rattle.lease_state.specs.declared.access.Access.{Access}
 use Rattle.lease_state.specs.declared.access.Share.{Share}
 use Rattle.lease_model.specs.values.Keys.{Key}
-use Rattle.lease_model.specs.messages.Requests.{Request}
+use Rattle.lease_model.specs.values.Limits.{last_file_number}
+use Rattle.lease_model.specs.values.Tables.{numbered}
+use Rattle.lease_model.specs.messages.Requests.{FileRequest}
 
 -- An open of a file (3.3.1.10). `lease_key` is None for an open without RqLs. A durable open
 -- outlives its connection, and is then there but not connected.
@@ -34,29 +36,34 @@ no_lease = record { state = nothing_cached; broken_to = None }
 -- a request that waits for a lease break, with its client
 pub record Held : Type 0 where
   pub client : ℕ
-  pub request : Request
+  pub request : FileRequest
 
--- Files are those from 1 to `files`. `held` has for each file the requests that wait there, in
--- order of arrival; `last_id` is the FileId given last.
+-- Files are those from 1 to `files`. `held` has for each file the requests that wait there, in order of
+-- arrival; `present` are the clients whose connection the server has; `expired` are the keys whose break
+-- timer ran out since their client joined; `last_id` is the FileId given last.
 pub record Server : Type 0 where
   pub files : ℕ
   pub contents : ℕ → List ℕ
   pub opens : List Open
   pub leases : Key → Lease
   pub held : ℕ → List Held
-  pub connected : ℕ → Bool
+  pub present : ℕ → Bool
   pub expired : Key → Bool
   pub last_id : ℕ
 
--- a server with these contents, numbered from 1; files past 255 have no number
+-- those of these contents that have a number
+abbrev pub with_number : List (List ℕ) → List (List ℕ)
+with_number contents = take last_file_number contents
+
+-- A server with these contents, numbered from 1. A file that isn't there has no bytes.
 unfoldable pub new_server : List (List ℕ) → Server
 new_server contents = record {
-  files = min (length contents) 255;
-  contents = λ file. unwrap_or (slice_get contents (file - 1)) [];
+  files = length (with_number contents);
+  contents = numbered [] (with_number contents);
   opens = [];
   leases = λ key. no_lease;
   held = λ file. [];
-  connected = λ client. false;
+  present = λ client. false;
   expired = λ key. false;
   last_id = 0;
 }
@@ -80,7 +87,3 @@ has_own_key (Some key) one = has_key key one
 -- a lease exists while an open has its key
 abbrev pub has_lease : Server → Key → Bool
 has_lease server key = list_any (has_key key) server.opens
-
--- the open of this FileId, whoever's it is
-abbrev pub open_of : List Open → ℕ → Option Open
-open_of opens file_id = find (λ one. one.file_id == file_id) opens

@@ -7,10 +7,14 @@ unfoldable pub files_limit : ℕ
 files_limit = 8
 
 unfoldable pub clients_limit : ℕ
-clients_limit = 8
+clients_limit = 16
 
 unfoldable pub events_limit : ℕ
 events_limit = 10000
+
+-- the last number that a file of a server can have: those of one byte
+unfoldable pub last_file_number : ℕ
+last_file_number = 255
 
 -- the last FileId, the last number that a client gives a write: those of eight bytes
 unfoldable pub last_file_id : ℕ

@@ -1,6 +1,6 @@
 -- Access and share access of opens (MS-SMB2 2.2.13; conflicts: MS-FSA 2.1.5.1.2.2 by 3.3.5.9).
 use Rattle.std.specs.Prelude.{Bool, true, false}
-use Rattle.lease_state.specs.Access.{uses_of, allowed_by, is_within}
+use Rattle.lease_state.specs.Access.{uses_of}
 use Rattle.lease_state.specs.declared.access.Access.{Access}
 use Rattle.lease_state.specs.declared.access.Share.{Share}
 
@@ -9,10 +9,6 @@ may_read access = (uses_of access).read
 
 abbrev pub may_write : Access → Bool
 may_write access = (uses_of access).write
-
--- the access is within what is shared
-unfoldable pub permits : Share → Access → Bool
-permits share access = is_within (uses_of access) (allowed_by share)
 
 abbrev pub same_access : Access → Access → Bool
 same_access Access.Read Access.Read = true
@@ -26,3 +22,17 @@ same_share Share.Read Share.Read = true
 same_share Share.Write Share.Write = true
 same_share Share.ReadWrite Share.ReadWrite = true
 same_share _ _ = false
+
+-- the access that does what either does
+abbrev pub either_access : Access → Access → Access
+either_access Access.Read Access.Read = Access.Read
+either_access Access.Write Access.Write = Access.Write
+either_access _ _ = Access.ReadWrite
+
+-- the share that lets others do what both let them do
+abbrev pub both_share : Share → Share → Share
+both_share Share.ReadWrite other = other
+both_share share Share.ReadWrite = share
+both_share Share.Read Share.Read = Share.Read
+both_share Share.Write Share.Write = Share.Write
+both_share _ _ = Share.Nothing

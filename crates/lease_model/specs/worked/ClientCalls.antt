@@ -7,7 +7,7 @@ use Rattle.lease_model.specs.client.State.{Client, new_client}
 use Rattle.lease_model.specs.client.Commands.{Command, Answer, Refusal, Note, Settlement}
 use Rattle.lease_model.specs.worked.Letters.{RH, RWH}
 use Rattle.lease_model.specs.messages.Replies.{Reply}
-use Rattle.lease_model.specs.messages.Requests.{Request}
+use Rattle.lease_model.specs.messages.Requests.{FileRequest, Request}
 
 -- what a call shows of its step
 pub record Shown : Type 0 where
@@ -37,7 +37,12 @@ its_key = 0x11 ∷ 0x11 ∷ 0x11 ∷ 0x11 ∷ 0x11 ∷ 0x11 ∷ 0x11 ∷ 0x11 �
     ∷ 1 ∷ 0 ∷ 0 ∷ 0 ∷ []
 
 abbrev pub open_shared : ClientCall
-open_shared = ClientCall.Commanded (Command.Open 1 Access.ReadWrite Share.ReadWrite RWH false)
+open_shared = ClientCall.Commanded (Command.Open 1 (record {
+  access = Access.ReadWrite;
+  share = Share.ReadWrite;
+  want = RWH;
+  durable = false;
+}))
 
 abbrev pub write_byte : ℕ → ℕ → ClientCall
 write_byte offset byte = ClientCall.Commanded (Command.Write 1 (record { offset = offset; bytes = byte ∷ [] }))
@@ -74,20 +79,20 @@ abbrev pub ClientSteps : Type 0
 ClientSteps = steps_along one_client first_calls ≡
     shown (Answer.Refused Refusal.Offline) [] []
     ∷ shown Answer.Quiet [] []
-    ∷ shown Answer.Waiting (Request.Create 1 Access.ReadWrite Share.ReadWrite (Some (record {
+    ∷ shown Answer.Waiting (Request.OnFile (FileRequest.Create 1 Access.ReadWrite Share.ReadWrite (Some (record {
       lease = Some (record { key = its_key; state = RWH });
       durable = false;
       reconnect = None;
-    })) ∷ []) []
+    }))) ∷ []) []
     ∷ shown Answer.Done [] (Note.Believes 1 RWH ∷ [])
     ∷ shown Answer.Done [] (Note.Wrote 1 1 (record { offset = 0; bytes = 0x58 ∷ [] }) true ∷ [])
     ∷ shown Answer.Done [] (Note.Wrote 1 2 (record { offset = 4; bytes = 0x59 ∷ [] }) true ∷ [])
-    ∷ shown Answer.Waiting (Request.Read 1 ∷ []) []
+    ∷ shown Answer.Waiting (Request.OnFile (FileRequest.Read 1) ∷ []) []
     ∷ shown (Answer.Bytes own_bytes false) [] []
     ∷ shown (Answer.Bytes own_bytes true) [] (Note.CachedRead 1 own_bytes ∷ [])
     ∷ shown Answer.Quiet
-    (Request.Write 1 1 (record { offset = 0; bytes = 0x58 ∷ [] })
-    ∷ Request.Write 1 2 (record { offset = 4; bytes = 0x59 ∷ [] })
+    (Request.OnFile (FileRequest.Write 1 1 (record { offset = 0; bytes = 0x58 ∷ [] }))
+    ∷ Request.OnFile (FileRequest.Write 1 2 (record { offset = 4; bytes = 0x59 ∷ [] }))
     ∷ Request.Acknowledge (Some (record { key = its_key; state = RH })) ∷ [])
     (Note.Believes 1 RH ∷ [])
     ∷ shown Answer.Quiet [] (Note.Settled 1 Settlement.Done ∷ [])

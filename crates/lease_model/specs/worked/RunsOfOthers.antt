@@ -7,7 +7,7 @@ use Rattle.lease_model.specs.world.Events.{Event, ServerTakes, ClientTakes, Cut,
 use Rattle.lease_model.specs.records.Facts.{Fact, Start, Joined, Dropped, Sent, Took, Opened, Changed, Wrote, Believes, Strayed}
 use Rattle.lease_model.specs.worked.Letters.{R, RH, RWH}
 use Rattle.lease_model.specs.messages.Replies.{Reply}
-use Rattle.lease_model.specs.messages.Requests.{Request}
+use Rattle.lease_model.specs.messages.Requests.{FileRequest, Request}
 use Rattle.lease_model.specs.worked.Schedules.{opening, writing, at, first_key, two_clients, two_clients_two_files}
 use Rattle.lease_model.specs.records.Verdict.{Verdict, verdict}
 use Rattle.lease_model.specs.world.World.{first_world}
@@ -41,9 +41,10 @@ abbrev pub strayed_events : List Event
 strayed_events =
     Connect 1 ∷ Connect 2 ∷ opening 1 1 Access.ReadWrite Share.ReadWrite RWH false ∷ ServerTakes 1
     ∷ ClientTakes 1 ∷ writing 1 1 0 (0x58 ∷ [])
-    ∷ Raw 2 (Request.Create 1 Access.ReadWrite Share.ReadWrite (Some (record { lease = None; durable = false; reconnect = None })))
+    ∷ Raw 2 (Request.OnFile (FileRequest.Create 1 Access.ReadWrite Share.ReadWrite
+    (Some (record { lease = None; durable = false; reconnect = None }))))
     ∷ ServerTakes 2 ∷ Raw 2 (Request.Acknowledge (Some (record { key = first_key; state = RH })))
-    ∷ ServerTakes 2 ∷ ClientTakes 1 ∷ ServerTakes 1 ∷ ServerTakes 1 ∷ Raw 2 (Request.Close 1)
+    ∷ ServerTakes 2 ∷ ClientTakes 1 ∷ ServerTakes 1 ∷ ServerTakes 1 ∷ Raw 2 (Request.OnFile (FileRequest.Close 1))
     ∷ ServerTakes 2 ∷ []
 
 abbrev pub strayed_record : List Fact

@@ -47,7 +47,8 @@ at offset bytes = record { offset = offset; bytes = bytes }
 
 -- the commands of an application, each as an event: client, file, and the rest
 abbrev pub opening : ℕ → ℕ → Access → Share → State → Bool → Event
-opening client file access share want durable = Event.App client (Command.Open file access share want durable)
+opening client file access share want durable = Event.App client (Command.Open file
+    (record { access = access; share = share; want = want; durable = durable }))
 
 abbrev pub closing : ℕ → ℕ → Event
 closing client file = Event.App client (Command.Close file)

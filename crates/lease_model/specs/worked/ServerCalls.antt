@@ -9,7 +9,7 @@ use Rattle.lease_model.specs.server.Allowed.{allowed}
 use Rattle.lease_model.specs.server.Calls.{Call, called}
 use Rattle.lease_model.specs.worked.Letters.{R, RH, RWH}
 use Rattle.lease_model.specs.messages.Replies.{Reply, Out}
-use Rattle.lease_model.specs.messages.Requests.{Request, LeaseOf}
+use Rattle.lease_model.specs.messages.Requests.{FileRequest, Request, LeaseOf}
 use Rattle.lease_model.specs.server.State.{Server, new_server}
 
 -- the server after calls, and what each of them gave out
@@ -30,15 +30,22 @@ sample_named = record { client = 1; bytes = sample_key }
 
 -- a create that asks for a lease, and one that asks for none
 abbrev pub leased : ℕ → Access → Share → State → Request
-leased file access share want = Request.Create file access share (Some (record {
+leased file access share want = Request.OnFile (FileRequest.Create file access share (Some (record {
   lease = Some (record { key = sample_key; state = want });
   durable = false;
   reconnect = None;
-}))
+})))
 
 abbrev pub plain : ℕ → Access → Share → Request
-plain file access share =
-    Request.Create file access share (Some (record { lease = None; durable = false; reconnect = None }))
+plain file access share = Request.OnFile
+    (FileRequest.Create file access share (Some (record { lease = None; durable = false; reconnect = None })))
+
+abbrev pub write_by : ℕ → ℕ → ℕ → ℕ → Request
+write_by file_id number offset byte =
+    Request.OnFile (FileRequest.Write file_id number (record { offset = offset; bytes = byte ∷ [] }))
+
+abbrev pub close_of : ℕ → Request
+close_of file_id = Request.OnFile (FileRequest.Close file_id)
 
 abbrev pub created_leased : ℕ → ℕ → State → Reply
 created_leased file file_id state = Reply.Created file file_id (Some (record {
@@ -76,9 +83,9 @@ shared_calls =
 
 abbrev pub later_calls : List Call
 later_calls =
-    Call.Receive 2 (Request.Write 2 1 (record { offset = 0; bytes = 0x59 ∷ [] }))
-    ∷ Call.Receive 2 (Request.Close 2)
-    ∷ Call.Receive 2 (Request.Close 2)
+    Call.Receive 2 (write_by 2 1 0 0x59)
+    ∷ Call.Receive 2 (close_of 2)
+    ∷ Call.Receive 2 (close_of 2)
     ∷ Call.Receive 1 (leased 1 Access.ReadWrite Share.ReadWrite RWH)
     ∷ Call.Receive 1 (leased 2 Access.ReadWrite Share.ReadWrite RWH)
     ∷ Call.Receive 1 (leased 3 Access.ReadWrite Share.ReadWrite RWH)
@@ -155,7 +162,7 @@ OddStates = (given_for 2 ∷ given_for 4 ∷ given_for 6 ∷ given_for 0xfffffff
 -- RH. Closing one of the two opens changes nothing; closing both leaves the file to anybody.
 abbrev pub after_closing : List ℕ → Server
 after_closing file_ids = server_after (server_after (server_after two_files shared_calls) later_calls)
-    (map (λ file_id. Call.Receive 1 (Request.Close file_id)) file_ids)
+    (map (λ file_id. Call.Receive 1 (close_of file_id)) file_ids)
 
 abbrev pub LaterAllowed : Type 0
 LaterAllowed =
@@ -175,8 +182,8 @@ waiting_calls =
     ∷ Call.Receive 2 (leased 1 Access.ReadWrite Share.ReadWrite RH)
     ∷ Call.Receive 3 (leased 1 Access.ReadWrite Share.ReadWrite RH)
     ∷ Call.Receive 1 (plain 1 Access.ReadWrite Share.Nothing)
-    ∷ Call.Receive 2 (Request.Write 1 1 (record { offset = 0; bytes = 0x58 ∷ [] }))
-    ∷ Call.Receive 2 (Request.Close 1)
+    ∷ Call.Receive 2 (write_by 1 1 0 0x58)
+    ∷ Call.Receive 2 (close_of 1)
     ∷ Call.Receive 3 (Request.Acknowledge (sample_lease R))
     ∷ []
 

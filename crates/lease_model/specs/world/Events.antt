@@ -2,7 +2,7 @@
 use Rattle.std.specs.Prelude.{ℕ, Option, Some, None, List, [], ◌∷◌, reverse, if◌then◌else◌}
 use Rattle.lease_model.specs.server.Calls.{receive, join, cut, expire, scavenge}
 use Rattle.lease_model.specs.client.Commanded.{commanded}
-use Rattle.lease_model.specs.client.Connection.{noticed, connected}
+use Rattle.lease_model.specs.client.Connection.{noticed, connection_made}
 use Rattle.lease_model.specs.client.Taken.{taken}
 use Rattle.lease_model.specs.client.State.{lease_key}
 use Rattle.lease_model.specs.client.Step.{Step}
@@ -15,7 +15,7 @@ use Rattle.lease_model.specs.messages.Replies.{Reply}
 use Rattle.lease_model.specs.messages.Requests.{Request}
 use Rattle.lease_model.specs.server.State.{has_file}
 use Rattle.lease_model.specs.values.Tables.{put}
-use Rattle.lease_model.specs.server.Wants.{key_of}
+use Rattle.lease_model.specs.server.Naming.{key_of}
 use Rattle.lease_model.specs.world.World.{World, Setup, Link, has_client, happened, first_world, all_delivered, requests_sent, noted}
 
 -- App: a client's application gives a command. ServerTakes, ClientTakes: the server or a client
@@ -88,7 +88,7 @@ link_connected world client = stepped_in
     (served
     (happened (record world { links = put world.links client Link.Up }) (Fact.Joined client))
     (join world.server client))
-    client (connected (world.clients client))
+    client (connection_made (world.clients client))
 
 abbrev pub connect_over : World → ℕ → Link → World
 connect_over world client Link.Down = link_connected world client

@@ -1,12 +1,12 @@
 -- Clients, a server, and what lies between them: for each client a link and two queues (own).
-use Rattle.std.specs.Prelude.{ℕ, ◌+◌, ◌-◌, Bool, List, [], ◌∷◌, ◌++◌, length, reverse, nat_le, ◌&&◌, slice_get, unwrap_or}
+use Rattle.std.specs.Prelude.{ℕ, ◌+◌, Bool, List, [], ◌∷◌, ◌++◌, length, reverse, nat_le, ◌&&◌}
 use Rattle.lease_model.specs.client.State.{Client, new_client}
 use Rattle.lease_model.specs.client.Commands.{Note}
 use Rattle.lease_model.specs.records.Facts.{Fact}
 use Rattle.lease_model.specs.messages.Replies.{Reply, Out}
 use Rattle.lease_model.specs.messages.Requests.{Request}
 use Rattle.lease_model.specs.server.State.{Server, new_server}
-use Rattle.lease_model.specs.values.Tables.{put}
+use Rattle.lease_model.specs.values.Tables.{put, numbered}
 
 -- A link is down, up, or cut: the server has lost it, and the client hasn't noticed yet.
 pub data Link : Type 0 where
@@ -42,8 +42,7 @@ starts_from file (bytes ∷ files) = Fact.Start file bytes ∷ starts_from (file
 unfoldable pub first_world : Setup → World
 first_world setup = record {
   count = length setup.clients;
-  clients = λ client.
-      new_client (unwrap_or (slice_get setup.clients (client - 1)) []) (length setup.files);
+  clients = λ client. new_client (numbered [] setup.clients client) (length setup.files);
   server = new_server setup.files;
   links = λ client. Link.Down;
   requests = λ client. [];
