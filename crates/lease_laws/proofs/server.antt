@@ -1,6 +1,7 @@
 pub mod Answers
 pub mod Arrivals
 pub mod Blocked
+pub mod Breaking
 pub mod Breaks
 pub mod Calls
 pub mod EnoughPasses
@@ -11,6 +12,7 @@ pub mod Goes
 pub mod Grants
 pub mod Held
 pub mod Keeps
+pub mod KeyOrder
 pub mod Keys
 pub mod Leases
 pub mod Lists

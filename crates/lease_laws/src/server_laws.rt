@@ -5,7 +5,7 @@ ghost use Rattle.lease_model.specs.server.Calls.{Call, called, receive};
 ghost use Rattle.lease_state.specs.declared.patch.Patch.{Patch};
 ghost use Rattle.lease_model.specs.values.Keys.{Key};
 ghost use Rattle.lease_model.specs.server.Progress.{Progress};
-ghost use Rattle.lease_model.specs.messages.Requests.{Request};
+ghost use Rattle.lease_model.specs.messages.Requests.{FileRequest, Request};
 ghost use Rattle.lease_laws.specs.server.Laws.{Among, IsSound, IsBlocked, HasToWait};
 ghost use Rattle.lease_laws.specs.server.Outs.{EachOut, IsFlaggedRightly, ArePaired, IsBreak, IsNoBreak, GoOn, AreBreaksFirst, IsAlone, CachesAlone};
 ghost use Rattle.lease_model.specs.server.State.{Server, Open, new_server, has_key};
@@ -35,22 +35,22 @@ pub fn waiting_of_servers()
 pub fn outs_of_calls()
     ensures flagged { (server : Server) (call : Call) → EachOut IsFlaggedRightly (called server call).outs }
     ensures paired { (server : Server) (call : Call) → ArePaired None (called server call).outs }
-    ensures tries { (client : ℕ) (request : Request) (progress : Progress)
+    ensures tries { (client : ℕ) (request : FileRequest) (progress : Progress)
         → GoOn IsBreak progress.outs (tried client request progress).progress.outs }
-    ensures answers { (client : ℕ) (request : Request) (progress : Progress) (outcome : Outcome)
+    ensures answers { (client : ℕ) (request : FileRequest) (progress : Progress) (outcome : Outcome)
         → GoOn IsNoBreak progress.outs (concluded client request progress outcome).outs }
-    ensures received { (server : Server) (client : ℕ) (request : Request) → IsAlone request
-        → AreBreaksFirst (receive server client request).outs }
+    ensures received { (server : Server) (client : ℕ) (request : FileRequest) → IsAlone request
+        → AreBreaksFirst (receive server client (Request.OnFile request)).outs }
     ensures written { (client : ℕ) (file_id : ℕ) (number : ℕ) (patch : Patch) (progress : Progress) (one : Open)
         → IsSound progress.server
-        → (tried client (Request.Write file_id number patch) progress).outcome ≡ Outcome.Ready
-        → connected_open (tried client (Request.Write file_id number patch) progress).progress.server client file_id ≡ Some one
-        → CachesAlone (tried client (Request.Write file_id number patch) progress).progress.server one }
+        → (tried client (FileRequest.Write file_id number patch) progress).outcome ≡ Outcome.Ready
+        → connected_open (tried client (FileRequest.Write file_id number patch) progress).progress.server client file_id ≡ Some one
+        → CachesAlone (tried client (FileRequest.Write file_id number patch) progress).progress.server one }
 {}
 
 /// A try waits only where the request has to: on its file another key is breaking. Does nothing.
 pub fn waits_of_tries()
-    ensures { (client : ℕ) (request : Request) (progress : Progress) → IsSound progress.server
+    ensures { (client : ℕ) (request : FileRequest) (progress : Progress) → IsSound progress.server
         → (tried client request progress).outcome ≡ Outcome.Waits
         → HasToWait (tried client request progress).progress.server client request }
 {}

@@ -1,16 +1,18 @@
 -- What a client notes of writes agrees with their numbers.
+use Rattle.lease_model.specs.values.Sharing.{same_access, same_share}
+use Rattle.lease_model.specs.values.Limits.{count_limit}
 use Rattle.std.proofs.Common.{◌≡◌, ◌≤◌, arith, ℕ, ◌+◌, Bool, true, false, List, [], ◌∷◌, ◌++◌, Option, Some, None, refl}
-use Rattle.std.specs.Prelude.{◌&&◌, not, ◌==◌, flat_map, find, nat_lt, nat_le}
+use Rattle.std.specs.Prelude.{◌&&◌, not, ◌==◌, flat_map, find, nat_lt, nat_le, if◌then◌else◌}
 use Rattle.lease_laws.proofs.server.Lists.{clash, and_parts, find_has}
 use Rattle.lease_state.specs.State.{State}
 use Rattle.lease_model.specs.client.Calls.{ClientCall, client_called}
-use Rattle.lease_model.specs.client.Commanded.{turn_of, next_write, wrote_step, on_closed, handle_added, open_other, open_on_live, last_handle_closed, close_on_live, cached_read, read_sent, read_from, read_on_live, write_buffered, write_sent, write_on_live, flush_on_live, on_live, on_entry, commanded, file_of}
-use Rattle.lease_model.specs.client.Connection.{all_turned, live_parted, live_noticed, notice_turn, noticed, connect_turn, connected}
-use Rattle.lease_model.specs.client.Taken.{belief_lowered, break_on, break_turn, broken, closed_by_server, create_answered, create_failed, create_failed_on_live, created_on, created_on_live, failed_on, failed_turn, file_where, has_sent, is_file_closed, is_key_of, on_file, one_read_less, opened_turn, parked_closed, read_answered, read_failed, read_failed_on, read_failed_turn, read_on, read_turn, reads_under, reconnected_turn, sent_without, still_open, taken, write_done, write_done_turn, write_failed, write_failed_in}
+use Rattle.lease_model.specs.client.Commanded.{turn_of, next_write, wrote_step, on_closed, handle_added, open_other, open_on_live, last_handle_closed, close_on_live, cached_read, read_sent, read_from, read_on_live, write_buffered, write_sent, write_on_live, flush_on_live, on_live, on_entry, commanded, file_of, opened_anew, more_asked, joint_terms, asked_by, create_request, is_asking}
+use Rattle.lease_model.specs.client.Connection.{all_turned, live_parted, live_noticed, notice_turn, noticed, connect_turn, connection_made}
+use Rattle.lease_model.specs.client.Taken.{belief_lowered, break_on, break_turn, broken, closed_by_server, create_answered, create_failed, create_failed_on_live, created_on, created_on_live, failed_on, failed_turn, file_where, has_sent, is_file_closed, is_key_of, on_file, one_read_less, opened_turn, parked_closed, read_answered, read_failed, read_failed_on, read_failed_turn, read_on, read_turn, reads_under, reconnected_turn, sent_without, still_open, taken, write_done, write_done_turn, write_failed, write_failed_in, first_belief, promoted_turn, promoted_belief, created_for, create_failed_for}
 use Rattle.lease_laws.specs.client.Laws.{IsSoundClient, TellNumbers, unsent_in, are_rising, has_number}
-use Rattle.lease_model.specs.client.State.{Client, Entry, LiveEntry, Pending, Phase, live_entry, belief_of}
+use Rattle.lease_model.specs.client.State.{Client, Entry, LiveEntry, Pending, Phase, live_entry, belief_of, Asked, lease_key}
 use Rattle.lease_model.specs.client.Step.{Step, Turn, turned, quiet_step, refused_step, believes_noted, settled_as}
-use Rattle.lease_model.specs.client.Commands.{Command, Answer, Refusal, Note, Settlement}
+use Rattle.lease_model.specs.client.Commands.{Command, Answer, Refusal, Note, Settlement, OpenTerms}
 use Rattle.lease_model.specs.values.LeaseStates.{meet, same_state}
 use Rattle.lease_state.specs.declared.patch.Patch.{Patch}
 use Rattle.lease_model.specs.messages.Requests.{Request}
@@ -123,13 +125,38 @@ wrote_tells client file entry answer requests write is = record { tells = (omega
 
 -- ---- commands
 
+-- an entry asks for more, or is opened anew
+open_other_tells : (client : Client) (file : ℕ) (live : LiveEntry) (sent : List Pending) (terms : OpenTerms)
+    → Telling client (open_other client file live sent terms)
+unfolding open_other opened_anew more_asked
+open_other_tells client file live sent terms = if_either (Telling client) (live.handles == 0)
+    (opened_anew client file live sent terms) (more_asked client file live sent terms)
+    (plain_tells client file _ _ _)
+    (if_either (Telling client) (live.handles == count_limit) (refused_step client Refusal.UsedUp)
+    (turned client file (turn_of
+    (live_entry (record live { asking = Some (asked_by (joint_terms live terms)) }) sent)
+    Answer.Waiting (create_request client file (joint_terms live terms) ∷ [])))
+    (refused_tells client Refusal.UsedUp) (plain_tells client file _ _ _))
+
+-- one handle more
+handle_added_tells : (client : Client) (file : ℕ) (live : LiveEntry) (sent : List Pending)
+    → Telling client (handle_added client file live sent)
+unfolding handle_added
+handle_added_tells client file live sent = if_either (Telling client) _ _ _ (refused_tells client Refusal.UsedUp)
+    (plain_tells client file _ _ _)
+
 -- an Open of a live entry
-open_tells : (client : Client) (file : ℕ) (live : LiveEntry) (sent : List Pending) (access : Access) (share : Share)
-    (want : State) (durable : Bool) → Telling client (open_on_live client file live sent access share want durable)
-unfolding open_on_live open_other handle_added
-open_tells client file live sent access share want durable = if_either (Telling client) _ _ _
-    (if_either (Telling client) _ _ _ (refused_tells client Refusal.UsedUp) (plain_tells client file _ _ _))
-    (refused_tells client Refusal.Differs)
+open_tells : (client : Client) (file : ℕ) (live : LiveEntry) (sent : List Pending) (terms : OpenTerms)
+    → Telling client (open_on_live client file live sent terms)
+unfolding open_on_live
+open_tells client file live sent terms = if_either (Telling client) (is_asking live)
+    (refused_step client Refusal.Busy)
+    (if same_access terms.access live.access && same_share terms.share live.share
+    then handle_added client file live sent else open_other client file live sent terms)
+    (refused_tells client Refusal.Busy)
+    (if_either (Telling client) (same_access terms.access live.access && same_share terms.share live.share)
+    (handle_added client file live sent) (open_other client file live sent terms)
+    (handle_added_tells client file live sent) (open_other_tells client file live sent terms))
 
 -- the last handle goes
 last_handle_tells : (client : Client) (file : ℕ) (live : LiveEntry) (sent : List Pending)
@@ -149,8 +176,8 @@ close_tells client file live sent = if_either (Telling client) _ _ _ (plain_tell
 read_sent_tells : (client : Client) (file : ℕ) (live : LiveEntry) (sent : List Pending)
     → Telling client (read_sent client file live sent)
 unfolding read_sent
-read_sent_tells client file live sent =
-    if_either (Telling client) _ _ _ (refused_tells client Refusal.UsedUp) (plain_tells client file _ _ _)
+read_sent_tells client file live sent = if_either (Telling client) _ _ _ (refused_tells client Refusal.Busy)
+    (if_either (Telling client) _ _ _ (refused_tells client Refusal.UsedUp) (plain_tells client file _ _ _))
 
 -- a Read from the cache, or one that is sent
 read_from_tells : (client : Client) (file : ℕ) (live : LiveEntry) (sent : List Pending) (reads : Bool)
@@ -182,8 +209,7 @@ write_tells client file live sent patch = if_either (Telling client) _ _ _ (refu
 live_command_tells : (client : Client) (file : ℕ) (live : LiveEntry) (sent : List Pending) (command : Command)
     → Telling client (on_live client file live sent command)
 unfolding flush_on_live
-live_command_tells client file live sent (Command.Open f access share want durable) =
-    open_tells client file live sent access share want durable
+live_command_tells client file live sent (Command.Open f terms) = open_tells client file live sent terms
 live_command_tells client file live sent (Command.Close f) =
     if_either (Telling client) _ _ _ (refused_tells client Refusal.NotOpen) (close_tells client file live sent)
 live_command_tells client file live sent (Command.Read f) =
@@ -196,7 +222,7 @@ live_command_tells client file live sent (Command.Flush f) =
 -- any command for a closed entry
 closed_command_tells : (client : Client) (file : ℕ) (sent : List Pending) (command : Command)
     → Telling client (on_closed client file sent command)
-closed_command_tells client file sent (Command.Open f access share want durable) =
+closed_command_tells client file sent (Command.Open f terms) =
     if_either (Telling client) _ _ _ (plain_tells client file _ _ _) (refused_tells client Refusal.Offline)
 closed_command_tells client file sent (Command.Close f) = refused_tells client Refusal.NotOpen
 closed_command_tells client file sent (Command.Read f) = refused_tells client Refusal.NotOpen
@@ -265,28 +291,54 @@ broken_tells client None = quiet_tells client
 broken_tells client (Some notice) = file_tells client (is_key_of client notice.key) _ (λ file passes.
     break_on_tells client file notice (client.entries file).sent (client.entries file).phase)
 
+-- what is given up without W was given before
+lost_old : (last : ℕ) (writes : Bool) (outcome : Settlement) (sent unsent : List Pending)
+    → are_rising 0 last (sent ++ unsent) ≡ true
+    → AreOld last (if writes then [] else settled_as outcome unsent)
+lost_old last writes outcome sent unsent e = if_either (AreOld last) writes [] (settled_as outcome unsent) tt
+    (old_some last outcome unsent (sent ++ unsent) (thin_behind sent unsent) e)
+
+-- a create is answered on a live entry, which may have asked for it
+created_for_tells : (client : Client) (file : ℕ) (live : LiveEntry) (sent : List Pending) (file_id : ℕ)
+    (answer : CreateAnswer) (asking : Option Asked)
+    → are_rising 0 client.last_number (sent ++ live.unsent) ≡ true
+    → Telling client (created_for client file live sent file_id answer asking)
+unfolding promoted_turn
+created_for_tells client file live sent file_id answer None e = quiet_tells client
+created_for_tells client file live sent file_id answer (Some asked) e =
+    let belief : State = promoted_belief (lease_key client.guid file) live.belief answer.lease in
+    turned_tells client file (promoted_turn live sent asked file_id answer.durable belief)
+    (lost_old client.last_number belief.write Settlement.Failed sent live.unsent e)
+
 -- a create is answered
-created_tells : (client : Client) (file file_id : ℕ) (answer : CreateAnswer) (belief : State) (sent : List Pending)
+created_tells : (client : Client) (file file_id : ℕ) (answer : CreateAnswer) (sent : List Pending)
     (phase : Phase) → are_rising 0 client.last_number (sent ++ unsent_in phase) ≡ true
-    → Telling client (created_on client file file_id answer belief sent phase)
+    → Telling client (created_on client file file_id answer sent phase)
 unfolding opened_turn reconnected_turn created_on_live
-created_tells client file file_id answer belief sent (Phase.Opening access share) e =
-    turned_tells client file (opened_turn file_id access share sent answer belief) tt
-created_tells client file file_id answer belief sent (Phase.Reconnecting parted) e =
-    turned_tells client file (reconnected_turn parted sent belief)
-    (if_either (AreOld client.last_number) belief.write [] (settled_as Settlement.Lost parted.kept) tt
-    (old_some client.last_number Settlement.Lost parted.kept (sent ++ parted.kept) (thin_behind sent parted.kept) e))
-created_tells client file file_id answer belief sent (Phase.Live live) e = quiet_tells client
-created_tells client file file_id answer belief sent Phase.Closed e = quiet_tells client
-created_tells client file file_id answer belief sent (Phase.Offline parted) e = quiet_tells client
+created_tells client file file_id answer sent (Phase.Opening access share) e =
+    turned_tells client file (opened_turn file_id access share sent answer (first_belief client file answer)) tt
+created_tells client file file_id answer sent (Phase.Reconnecting parted) e =
+    turned_tells client file (reconnected_turn parted sent (first_belief client file answer))
+    (lost_old client.last_number (first_belief client file answer).write Settlement.Lost sent parted.writes e)
+created_tells client file file_id answer sent (Phase.Live live) e =
+    created_for_tells client file live sent file_id answer live.asking e
+created_tells client file file_id answer sent Phase.Closed e = quiet_tells client
+created_tells client file file_id answer sent (Phase.Offline parted) e = quiet_tells client
 
 -- any answer to a create
 create_answered_tells : (client : Client) (file file_id : ℕ) (contexts : Option CreateAnswer) → Numbers client
     → Telling client (create_answered client file file_id contexts)
 unfolding create_answered
 create_answered_tells client file file_id None own = quiet_tells client
-create_answered_tells client file file_id (Some answer) own = created_tells client file file_id answer _
+create_answered_tells client file file_id (Some answer) own = created_tells client file file_id answer
     (client.entries file).sent (client.entries file).phase (own.rising file)
+
+-- a create failed for a live entry, which may have asked for it
+failed_for_tells : (client : Client) (file : ℕ) (live : LiveEntry) (sent : List Pending) (status : Status)
+    (asking : Option Asked) → Telling client (create_failed_for client file live sent status asking)
+failed_for_tells client file live sent status None = quiet_tells client
+failed_for_tells client file live sent status (Some asked) = turned_tells client file
+    (still_open (live_entry (record live { asking = None }) sent) [] status) tt
 
 -- a create failed
 failed_on_tells : (client : Client) (file : ℕ) (status : Status) (sent : List Pending) (phase : Phase)
@@ -295,9 +347,10 @@ unfolding create_failed_on_live
 failed_on_tells client file status sent (Phase.Opening access share) e =
     turned_tells client file (failed_turn status sent []) tt
 failed_on_tells client file status sent (Phase.Reconnecting parted) e =
-    turned_tells client file (failed_turn status sent parted.kept)
-    (old_some client.last_number Settlement.Lost parted.kept (sent ++ parted.kept) (thin_behind sent parted.kept) e)
-failed_on_tells client file status sent (Phase.Live live) e = quiet_tells client
+    turned_tells client file (failed_turn status sent parted.writes)
+    (old_some client.last_number Settlement.Lost parted.writes (sent ++ parted.writes) (thin_behind sent parted.writes) e)
+failed_on_tells client file status sent (Phase.Live live) e =
+    failed_for_tells client file live sent status live.asking
 failed_on_tells client file status sent Phase.Closed e = quiet_tells client
 failed_on_tells client file status sent (Phase.Offline parted) e = quiet_tells client
 
@@ -433,9 +486,9 @@ notice_old last sent (Phase.Opening access share) e =
     old_some last Settlement.Unknown sent (sent ++ []) (thin_front sent []) e
 notice_old last sent (Phase.Live live) e = live_noticed_old last live sent e
 notice_old last sent (Phase.Offline parted) e =
-    old_some last Settlement.Unknown sent (sent ++ parted.kept) (thin_front sent parted.kept) e
+    old_some last Settlement.Unknown sent (sent ++ parted.writes) (thin_front sent parted.writes) e
 notice_old last sent (Phase.Reconnecting parted) e =
-    old_some last Settlement.Unknown sent (sent ++ parted.kept) (thin_front sent parted.kept) e
+    old_some last Settlement.Unknown sent (sent ++ parted.writes) (thin_front sent parted.writes) e
 
 -- each entry has a turn that settles writes given before
 all_tell : (client : Client) (connected : Bool) (turn : ℕ → Entry → Turn)
@@ -470,8 +523,8 @@ connect_old last client file sent (Phase.Offline parted) = tt
 connect_old last client file sent (Phase.Reconnecting parted) = tt
 
 -- a new connection
-connected_tells : (client : Client) → Telling client (connected client)
-unfolding connected
+connected_tells : (client : Client) → Telling client (connection_made client)
+unfolding connection_made
 connected_tells client = all_tell client true _
     (λ file. connect_old client.last_number client file (client.entries file).sent (client.entries file).phase)
 

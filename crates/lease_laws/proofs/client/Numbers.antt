@@ -1,19 +1,21 @@
 -- The unanswered writes of a client have their own numbers, and every call keeps it so.
+use Rattle.lease_model.specs.values.Sharing.{same_access, same_share}
+use Rattle.lease_model.specs.values.Limits.{count_limit}
 use Rattle.std.proofs.Common.{◌≡◌, ℕ, ◌+◌, Bool, true, false, List, [], ◌∷◌, ◌++◌, Option, Some, None, refl, ap, sym, subst, ◌∙◌, append_assoc}
 use Rattle.std.specs.Prelude.{◌&&◌, not, ◌==◌, if◌then◌else◌}
 use Rattle.lease_laws.proofs.server.Lists.{if_cases}
 use Rattle.lease_state.specs.State.{State}
 use Rattle.lease_model.specs.client.Calls.{ClientCall, client_called}
-use Rattle.lease_model.specs.client.Commanded.{turn_of, next_write, wrote_step, on_closed, handle_added, open_other, open_on_live, last_handle_closed, close_on_live, cached_read, read_sent, read_from, read_on_live, write_buffered, write_sent, write_on_live, flush_on_live, on_live, on_entry, commanded, one_handle_less, file_of}
-use Rattle.lease_model.specs.client.Connection.{all_turned, live_parted, live_noticed, notice_turn, noticed, connect_turn, connected}
-use Rattle.lease_model.specs.client.Taken.{on_file, belief_lowered, parked_closed, break_turn, break_on, broken, opened_turn, reconnected_turn, created_on_live, created_on, create_answered, create_failed_on_live, failed_on, failed_turn, create_failed, read_turn, read_on, read_answered, closed_by_server, read_failed_turn, read_failed_on, read_failed, sent_without, phase_with, write_done_turn, write_done, write_failed_in, write_failed, taken, is_file_closed, still_open, one_read_less, gives_up}
+use Rattle.lease_model.specs.client.Commanded.{turn_of, next_write, wrote_step, on_closed, handle_added, open_other, open_on_live, last_handle_closed, close_on_live, cached_read, read_sent, read_from, read_on_live, write_buffered, write_sent, write_on_live, flush_on_live, on_live, on_entry, commanded, one_handle_less, file_of, opened_anew, more_asked, joint_terms, asked_by, create_request, is_asking}
+use Rattle.lease_model.specs.client.Connection.{all_turned, live_parted, live_noticed, notice_turn, noticed, connect_turn, connection_made}
+use Rattle.lease_model.specs.client.Taken.{on_file, belief_lowered, parked_closed, break_turn, break_on, broken, opened_turn, reconnected_turn, created_on_live, created_on, create_answered, create_failed_on_live, failed_on, failed_turn, create_failed, read_turn, read_on, read_answered, closed_by_server, read_failed_turn, read_failed_on, read_failed, sent_without, phase_with, write_done_turn, write_done, write_failed_in, write_failed, taken, is_file_closed, still_open, one_read_less, gives_up, first_belief, promoted_turn, promoted_belief, created_for, create_failed_for, without_open}
 use Rattle.lease_laws.specs.client.Laws.{IsSoundPhase, HaveOwnNumbers, unanswered_in, unsent_in}
-use Rattle.lease_model.specs.client.State.{Client, Entry, LiveEntry, Pending, Phase, new_client, live_entry}
+use Rattle.lease_model.specs.client.State.{Client, Entry, LiveEntry, Pending, Phase, new_client, live_entry, Asked, lease_key}
 use Rattle.lease_model.specs.client.Step.{Step, Turn, turned, quiet_step, refused_step}
-use Rattle.lease_model.specs.client.Commands.{Command, Answer, Refusal, Note, Settlement}
+use Rattle.lease_model.specs.client.Commands.{Command, Answer, Refusal, Note, Settlement, OpenTerms}
 use Rattle.lease_model.specs.values.LeaseStates.{meet}
 use Rattle.lease_state.specs.declared.patch.Patch.{Patch}
-use Rattle.lease_model.specs.messages.Requests.{Request}
+use Rattle.lease_model.specs.messages.Requests.{Request, FileRequest}
 use Rattle.lease_model.specs.messages.Replies.{Reply, BreakNotice, CreateAnswer}
 use Rattle.lease_model.specs.values.Tables.{put}
 use Rattle.lease_state.specs.declared.access.Access.{Access}
@@ -90,15 +92,43 @@ live_same client file live new sent answer requests own is same =
     turned_own client file (turn_of (live_entry new sent) answer requests) (sent ++ live.unsent) own is
     (thin_equal (sent ++ new.unsent) (sent ++ live.unsent) (ap (λ (l : List Pending). sent ++ l) same))
 
+-- an entry asks for more, or is opened anew
+open_other_own : (client : Client) (file : ℕ) (live : LiveEntry) (sent : List Pending) (terms : OpenTerms)
+    → Numbers client → unanswered_in (client.entries file) ≡ sent ++ live.unsent
+    → Own (open_other client file live sent terms)
+unfolding open_other opened_anew more_asked
+open_other_own client file live sent terms own is = if_either Own (live.handles == 0)
+    (opened_anew client file live sent terms) (more_asked client file live sent terms)
+    (turned_own client file _ (sent ++ live.unsent) own is (all_sent sent live.unsent))
+    (if_either Own (live.handles == count_limit) (refused_step client Refusal.UsedUp)
+    (turned client file (turn_of
+    (live_entry (record live { asking = Some (asked_by (joint_terms live terms)) }) sent)
+    Answer.Waiting (create_request client file (joint_terms live terms) ∷ [])))
+    (refused_own client Refusal.UsedUp own) (live_same client file live
+    (record live { asking = Some (asked_by (joint_terms live terms)) }) sent Answer.Waiting
+    (create_request client file (joint_terms live terms) ∷ []) own is refl))
+
+-- one handle more
+handle_added_own : (client : Client) (file : ℕ) (live : LiveEntry) (sent : List Pending)
+    → Numbers client → unanswered_in (client.entries file) ≡ sent ++ live.unsent
+    → Own (handle_added client file live sent)
+unfolding handle_added
+handle_added_own client file live sent own is = if_either Own _ _ _ (refused_own client Refusal.UsedUp own)
+    (live_same client file live (record live { handles = live.handles + 1 }) sent Answer.Done [] own is refl)
+
 -- an Open of a live entry
-open_own : (client : Client) (file : ℕ) (live : LiveEntry) (sent : List Pending) (access : Access) (share : Share)
-    (want : State) (durable : Bool) → Numbers client → unanswered_in (client.entries file) ≡ sent ++ live.unsent
-    → Own (open_on_live client file live sent access share want durable)
-unfolding open_on_live open_other handle_added
-open_own client file live sent access share want durable own is = if_either Own _ _ _
-    (if_either Own _ _ _ (refused_own client Refusal.UsedUp own)
-    (live_same client file live (record live { handles = live.handles + 1 }) sent Answer.Done [] own is refl))
-    (refused_own client Refusal.Differs own)
+open_own : (client : Client) (file : ℕ) (live : LiveEntry) (sent : List Pending) (terms : OpenTerms)
+    → Numbers client → unanswered_in (client.entries file) ≡ sent ++ live.unsent
+    → Own (open_on_live client file live sent terms)
+unfolding open_on_live
+open_own client file live sent terms own is = if_either Own (is_asking live)
+    (refused_step client Refusal.Busy)
+    (if same_access terms.access live.access && same_share terms.share live.share
+    then handle_added client file live sent else open_other client file live sent terms)
+    (refused_own client Refusal.Busy own)
+    (if_either Own (same_access terms.access live.access && same_share terms.share live.share)
+    (handle_added client file live sent) (open_other client file live sent terms)
+    (handle_added_own client file live sent own is) (open_other_own client file live sent terms own is))
 
 -- the last handle goes: the entry is parked or closed
 last_handle_own : (client : Client) (file : ℕ) (live : LiveEntry) (sent : List Pending) → Numbers client
@@ -120,9 +150,10 @@ close_own client file live sent own is = if_either Own _ _ _
 read_sent_own : (client : Client) (file : ℕ) (live : LiveEntry) (sent : List Pending) → Numbers client
     → unanswered_in (client.entries file) ≡ sent ++ live.unsent → Own (read_sent client file live sent)
 unfolding read_sent
-read_sent_own client file live sent own is = if_either Own _ _ _ (refused_own client Refusal.UsedUp own)
+read_sent_own client file live sent own is = if_either Own _ _ _ (refused_own client Refusal.Busy own)
+    (if_either Own _ _ _ (refused_own client Refusal.UsedUp own)
     (live_same client file live (record live { reads = live.reads + 1 }) sent Answer.Waiting
-    (Request.Read live.file_id ∷ []) own is refl)
+    (Request.OnFile (FileRequest.Read live.file_id) ∷ []) own is refl))
 
 -- a Read is answered from the cache or sent
 read_from_own : (client : Client) (file : ℕ) (live : LiveEntry) (sent : List Pending) (reads : Bool)
@@ -157,7 +188,7 @@ unfolding write_sent
 write_sent_own client file live sent patch own is none =
     let write : Pending = next_write client patch false in
     wrote_own client file (live_entry live (sent ++ write ∷ [])) Answer.Waiting
-    (Request.Write live.file_id (client.last_number + 1) patch ∷ []) write own refl
+    (Request.OnFile (FileRequest.Write live.file_id (client.last_number + 1) patch) ∷ []) write own refl
     (behind write live.unsent none ∙ ap (λ (l : List Pending). l ++ write ∷ []) (sym is))
   where
     behind : (write : Pending) (unsent : List Pending) → unsent ≡ []
@@ -187,8 +218,8 @@ flush_own client file live sent own is =
 live_command_own : (client : Client) (file : ℕ) (live : LiveEntry) (sent : List Pending) (command : Command)
     → Numbers client → unanswered_in (client.entries file) ≡ sent ++ live.unsent
     → (live.belief.write ≡ false → live.unsent ≡ []) → Own (on_live client file live sent command)
-live_command_own client file live sent (Command.Open f access share want durable) own is none =
-    open_own client file live sent access share want durable own is
+live_command_own client file live sent (Command.Open f terms) own is none =
+    open_own client file live sent terms own is
 live_command_own client file live sent (Command.Close f) own is none =
     if_either Own _ _ _ (refused_own client Refusal.NotOpen own) (close_own client file live sent own is)
 live_command_own client file live sent (Command.Read f) own is none =
@@ -201,7 +232,7 @@ live_command_own client file live sent (Command.Flush f) own is none =
 -- any command for a closed entry
 closed_command_own : (client : Client) (file : ℕ) (sent : List Pending) (command : Command) → Numbers client
     → unanswered_in (client.entries file) ≡ sent ++ [] → Own (on_closed client file sent command)
-closed_command_own client file sent (Command.Open f access share want durable) own is =
+closed_command_own client file sent (Command.Open f terms) own is =
     if_either Own _ _ _ (turned_own client file _ (sent ++ []) own is (thin_same (sent ++ [])))
     (refused_own client Refusal.Offline own)
 closed_command_own client file sent (Command.Close f) own is = refused_own client Refusal.NotOpen own
@@ -212,7 +243,7 @@ closed_command_own client file sent (Command.Flush f) own is = refused_own clien
 -- any command for an entry in any phase
 entry_command_own : (client : Client) (file : ℕ) (command : Command) (sent : List Pending) (phase : Phase)
     → Numbers client → unanswered_in (client.entries file) ≡ sent ++ unsent_in phase
-    → IsSoundPhase client.connected sent phase → Own (on_entry client file command sent phase)
+    → IsSoundPhase client.is_online sent phase → Own (on_entry client file command sent phase)
 entry_command_own client file command sent Phase.Closed own is s = closed_command_own client file sent command own is
 entry_command_own client file command sent (Phase.Opening access share) own is s = refused_own client Refusal.Busy own
 entry_command_own client file command sent (Phase.Live live) own is s =
@@ -278,27 +309,50 @@ again_thin : (writes : Bool) (sent kept : List Pending)
 again_thin true sent kept = thin_same (sent ++ kept)
 again_thin false sent kept = sent_left sent kept
 
+-- a create is answered on a live entry, which may have asked for it
+created_for_own : (client : Client) (file : ℕ) (live : LiveEntry) (sent : List Pending) (file_id : ℕ)
+    (answer : CreateAnswer) (asking : Option Asked) → Numbers client
+    → unanswered_in (client.entries file) ≡ sent ++ live.unsent
+    → Own (created_for client file live sent file_id answer asking)
+unfolding promoted_turn
+created_for_own client file live sent file_id answer None own is = quiet_own client own
+created_for_own client file live sent file_id answer (Some asked) own is =
+    let belief : State = promoted_belief (lease_key client.guid file) live.belief answer.lease in
+    turned_own client file (promoted_turn live sent asked file_id answer.durable belief) (sent ++ live.unsent) own is
+    (again_thin belief.write sent live.unsent)
+
 -- a create is answered
-created_own : (client : Client) (file file_id : ℕ) (answer : CreateAnswer) (belief : State) (sent : List Pending)
+created_own : (client : Client) (file file_id : ℕ) (answer : CreateAnswer) (sent : List Pending)
     (phase : Phase) → Numbers client → unanswered_in (client.entries file) ≡ sent ++ unsent_in phase
-    → Own (created_on client file file_id answer belief sent phase)
+    → Own (created_on client file file_id answer sent phase)
 unfolding opened_turn reconnected_turn created_on_live
-created_own client file file_id answer belief sent (Phase.Opening access share) own is =
-    turned_own client file (opened_turn file_id access share sent answer belief) (sent ++ []) own is (thin_same (sent ++ []))
-created_own client file file_id answer belief sent (Phase.Reconnecting parted) own is =
-    turned_own client file (reconnected_turn parted sent belief) (sent ++ parted.kept) own is
-    (again_thin belief.write sent parted.kept)
-created_own client file file_id answer belief sent (Phase.Live live) own is = quiet_own client own
-created_own client file file_id answer belief sent Phase.Closed own is = quiet_own client own
-created_own client file file_id answer belief sent (Phase.Offline parted) own is = quiet_own client own
+created_own client file file_id answer sent (Phase.Opening access share) own is =
+    turned_own client file (opened_turn file_id access share sent answer (first_belief client file answer))
+    (sent ++ []) own is (thin_same (sent ++ []))
+created_own client file file_id answer sent (Phase.Reconnecting parted) own is =
+    turned_own client file (reconnected_turn parted sent (first_belief client file answer)) (sent ++ parted.writes)
+    own is (again_thin (first_belief client file answer).write sent parted.writes)
+created_own client file file_id answer sent (Phase.Live live) own is =
+    created_for_own client file live sent file_id answer live.asking own is
+created_own client file file_id answer sent Phase.Closed own is = quiet_own client own
+created_own client file file_id answer sent (Phase.Offline parted) own is = quiet_own client own
 
 -- any answer to a create
 create_answered_own : (client : Client) (file file_id : ℕ) (contexts : Option CreateAnswer) → Numbers client
     → Own (create_answered client file file_id contexts)
 unfolding create_answered
 create_answered_own client file file_id None own = quiet_own client own
-create_answered_own client file file_id (Some answer) own = created_own client file file_id answer _
+create_answered_own client file file_id (Some answer) own = created_own client file file_id answer
     (client.entries file).sent (client.entries file).phase own refl
+
+-- a create failed for a live entry, which may have asked for it
+failed_for_own : (client : Client) (file : ℕ) (live : LiveEntry) (sent : List Pending) (status : Status)
+    (asking : Option Asked) → Numbers client → unanswered_in (client.entries file) ≡ sent ++ live.unsent
+    → Own (create_failed_for client file live sent status asking)
+failed_for_own client file live sent status None own is = quiet_own client own
+failed_for_own client file live sent status (Some asked) own is = turned_own client file
+    (still_open (live_entry (record live { asking = None }) sent) [] status) (sent ++ live.unsent) own is
+    (thin_same (sent ++ live.unsent))
 
 -- a create failed
 failed_on_own : (client : Client) (file : ℕ) (status : Status) (sent : List Pending) (phase : Phase) → Numbers client
@@ -307,8 +361,9 @@ unfolding create_failed_on_live
 failed_on_own client file status sent (Phase.Opening access share) own is =
     turned_own client file (failed_turn status sent []) (sent ++ []) own is (sent_left sent [])
 failed_on_own client file status sent (Phase.Reconnecting parted) own is =
-    turned_own client file (failed_turn status sent parted.kept) (sent ++ parted.kept) own is (sent_left sent parted.kept)
-failed_on_own client file status sent (Phase.Live live) own is = quiet_own client own
+    turned_own client file (failed_turn status sent parted.writes) (sent ++ parted.writes) own is (sent_left sent parted.writes)
+failed_on_own client file status sent (Phase.Live live) own is =
+    failed_for_own client file live sent status live.asking own is
 failed_on_own client file status sent Phase.Closed own is = quiet_own client own
 failed_on_own client file status sent (Phase.Offline parted) own is = quiet_own client own
 
@@ -338,6 +393,12 @@ read_answered_own client file_id bytes own = if_either Own _ _ _
     read_on_own client file bytes (client.entries file).sent (client.entries file).phase own refl))
     (quiet_own client own)
 
+-- an entry without its open has its sent writes
+gone_thin : (asking : Option Asked) (sent some unsent : List Pending)
+    → IsThinner (some ++ []) (sent ++ unsent) → IsThinner (unanswered_in (without_open asking some)) (sent ++ unsent)
+gone_thin None sent some unsent thin = thin
+gone_thin (Some asked) sent some unsent thin = thin
+
 -- a Read failed
 read_failed_on_own : (client : Client) (file : ℕ) (status : Status) (sent : List Pending) (phase : Phase) → Numbers client
     → unanswered_in (client.entries file) ≡ sent ++ unsent_in phase → Own (read_failed_on client file status sent phase)
@@ -347,7 +408,7 @@ read_failed_on_own client file status sent (Phase.Live live) own is =
     (if_either (λ (t : Turn). IsThinner (unanswered_in t.entry) (sent ++ live.unsent)) (is_file_closed status)
     (closed_by_server live sent [] status)
     (still_open (live_entry (record live { reads = one_read_less live.reads }) sent) [] status)
-    (sent_left sent live.unsent) (thin_same (sent ++ live.unsent)))
+    (gone_thin live.asking sent sent live.unsent (sent_left sent live.unsent)) (thin_same (sent ++ live.unsent)))
 read_failed_on_own client file status sent Phase.Closed own is = quiet_own client own
 read_failed_on_own client file status sent (Phase.Opening access share) own is = quiet_own client own
 read_failed_on_own client file status sent (Phase.Offline parted) own is = quiet_own client own
@@ -365,8 +426,8 @@ done_thin : (number : ℕ) (write : Option Pending) (sent : List Pending) (phase
 done_thin number write sent Phase.Closed = thin_without number sent []
 done_thin number write sent (Phase.Opening access share) = thin_without number sent []
 done_thin number write sent (Phase.Live live) = thin_without number sent live.unsent
-done_thin number write sent (Phase.Offline parted) = thin_without number sent parted.kept
-done_thin number write sent (Phase.Reconnecting parted) = thin_without number sent parted.kept
+done_thin number write sent (Phase.Offline parted) = thin_without number sent parted.writes
+done_thin number write sent (Phase.Reconnecting parted) = thin_without number sent parted.writes
 
 -- any write that is done
 write_done_own : (client : Client) (number : ℕ) → Numbers client → Own (write_done client number)
@@ -385,11 +446,12 @@ failed_thin file_id number status sent (Phase.Live live) =
     (is_file_closed status && live.file_id == file_id)
     (closed_by_server live (sent_without number sent) (Note.Settled number Settlement.Failed ∷ []) status)
     (still_open (live_entry live (sent_without number sent)) (Note.Settled number Settlement.Failed ∷ []) status)
-    (without_left number sent live.unsent) (thin_without number sent live.unsent)
+    (gone_thin live.asking sent (sent_without number sent) live.unsent (without_left number sent live.unsent))
+    (thin_without number sent live.unsent)
 failed_thin file_id number status sent Phase.Closed = thin_without number sent []
 failed_thin file_id number status sent (Phase.Opening access share) = thin_without number sent []
-failed_thin file_id number status sent (Phase.Offline parted) = thin_without number sent parted.kept
-failed_thin file_id number status sent (Phase.Reconnecting parted) = thin_without number sent parted.kept
+failed_thin file_id number status sent (Phase.Offline parted) = thin_without number sent parted.writes
+failed_thin file_id number status sent (Phase.Reconnecting parted) = thin_without number sent parted.writes
 
 -- any failed write
 write_failed_own : (client : Client) (file_id number : ℕ) (status : Status) → Numbers client
@@ -434,8 +496,8 @@ notice_thin : (sent : List Pending) (phase : Phase)
 notice_thin sent Phase.Closed = thin_none (sent ++ [])
 notice_thin sent (Phase.Opening access share) = thin_none (sent ++ [])
 notice_thin sent (Phase.Live live) = live_noticed_thin live sent
-notice_thin sent (Phase.Offline parted) = thin_behind sent parted.kept
-notice_thin sent (Phase.Reconnecting parted) = thin_behind sent parted.kept
+notice_thin sent (Phase.Offline parted) = thin_behind sent parted.writes
+notice_thin sent (Phase.Reconnecting parted) = thin_behind sent parted.writes
 
 -- a lost connection
 noticed_own : (client : Client) → Numbers client → Own (noticed client)
@@ -452,12 +514,12 @@ connect_thin : (client : Client) (file : ℕ) (sent : List Pending) (phase : Pha
 connect_thin client file sent Phase.Closed = thin_same (sent ++ [])
 connect_thin client file sent (Phase.Opening access share) = thin_same (sent ++ [])
 connect_thin client file sent (Phase.Live live) = thin_same (sent ++ live.unsent)
-connect_thin client file sent (Phase.Offline parted) = thin_same (sent ++ parted.kept)
-connect_thin client file sent (Phase.Reconnecting parted) = thin_same (sent ++ parted.kept)
+connect_thin client file sent (Phase.Offline parted) = thin_same (sent ++ parted.writes)
+connect_thin client file sent (Phase.Reconnecting parted) = thin_same (sent ++ parted.writes)
 
 -- a new connection
-connected_own : (client : Client) → Numbers client → Own (connected client)
-unfolding connected all_turned
+connected_own : (client : Client) → Numbers client → Own (connection_made client)
+unfolding connection_made all_turned
 connected_own client own = record {
   after = thin_table client.last_number (λ f. unanswered_in (client.entries f))
       (λ f. unanswered_in (connect_turn client f (client.entries f).sent (client.entries f).phase).entry)

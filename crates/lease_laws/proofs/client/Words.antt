@@ -1,9 +1,9 @@
 -- Words on tests, tables and writes, and what becomes of one entry of a client.
-use Rattle.std.proofs.Common.{◌≡◌, ℕ, Bool, true, false, List, [], ◌∷◌, ◌++◌, Option, Some, None, refl, arith}
-use Rattle.std.specs.Prelude.{◌&&◌, ◌||◌, not, ◌==◌, if◌then◌else◌, filter}
-use Rattle.lease_laws.proofs.server.Lists.{if_cases, and_parts, and_both}
+use Rattle.std.proofs.Common.{◌≡◌, ◌≤◌, ℕ, zero, suc, Bool, true, false, List, [], ◌∷◌, ◌++◌, Option, Some, None, refl, arith}
+use Rattle.std.specs.Prelude.{◌&&◌, ◌||◌, not, ◌==◌, if◌then◌else◌, filter, nat_lt}
+use Rattle.lease_laws.proofs.server.Lists.{if_cases, clash, and_parts, and_both}
 use Rattle.lease_state.specs.State.{State}
-use Rattle.lease_model.specs.client.Connection.{connected}
+use Rattle.lease_model.specs.client.Commanded.{one_handle_less}
 use Rattle.lease_model.specs.client.Taken.{sent_without, base_with, phase_with, gives_up}
 use Rattle.lease_laws.specs.client.Laws.{are_buffered, IsSoundPhase, IsSoundEntry}
 use Rattle.lease_model.specs.client.State.{Client, Pending, Phase}
@@ -41,11 +41,27 @@ unfolding sent_without
 sent_without-none number [] e = refl
 sent_without-none number (w ∷ sent) e = let c : ⊥ = cc in absurd c
 
+-- some handle is at least one
+pub some_handle : (handles : ℕ) → (handles == 0) ≡ false → 1 ≤ handles
+some_handle zero e = clash true refl e
+some_handle (suc handles) e = omega arith
+
+-- one less than more than one is at least one
+pub one_less_still : (handles : ℕ) → nat_lt 1 handles ≡ true → 1 ≤ one_handle_less handles
+one_less_still zero e = clash false e refl
+one_less_still (suc zero) e = clash false e refl
+one_less_still (suc (suc handles)) e = omega arith
+
+-- what is neither is not the one
+pub or_neither : (a b : Bool) → (a || b) ≡ false → a ≡ false
+or_neither true b e = e
+or_neither false b e = refl
+
 -- ---- one entry
 
 -- the part of the laws that speaks of one entry
 abbrev pub HasSoundEntries : Client → Type 0
-HasSoundEntries client = (file : ℕ) → IsSoundEntry client.connected (client.entries file)
+HasSoundEntries client = (file : ℕ) → IsSoundEntry client.is_online (client.entries file)
 
 -- no base is patched where there is none
 pub base_with-none : (write : Option Pending) (base : Option (List ℕ)) → base ≡ None → base_with write base ≡ None
@@ -89,6 +105,7 @@ done_sound connected number write sent (Phase.Live live) s = (
     base_under_reads = λ r. base_with-none write live.base (s.1.base_under_reads r);
     unsent_under_writes = s.1.unsent_under_writes;
     unsent_buffered = s.1.unsent_buffered;
+    asking_with_handles = s.1.asking_with_handles;
   },
 )
 done_sound connected number write sent (Phase.Offline parted) s = (s.0, sent_without-none number sent s.1, s.2)

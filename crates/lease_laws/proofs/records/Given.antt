@@ -4,7 +4,7 @@ use Rattle.std.specs.Prelude.{Option, Some, None, if◌then◌else◌, ◌==◌,
 use Rattle.std.specs.List.{list_all}
 use Rattle.lease_model.specs.server.Calls.{receive, join, cut, expire, scavenge}
 use Rattle.lease_model.specs.client.Calls.{ClientCall, client_called}
-use Rattle.lease_model.specs.client.Connection.{connected}
+use Rattle.lease_model.specs.client.Connection.{connection_made}
 use Rattle.lease_model.specs.client.Step.{Step}
 use Rattle.lease_model.specs.client.Commands.{Note, Settlement}
 use Rattle.lease_model.specs.world.Events.{Event, served, stepped_in, server_takes, client_takes, link_cut, cut_over, link_noticed, notice_over, link_connected, connect_over, machine_key, timer_expired, scavenged, strayed_over, applied, client_of, happens, after}
@@ -274,11 +274,11 @@ unfolding link_connected
 connect_given world client Link.Down g =
     let up : World = happened (record world { links = put world.links client Link.Up }) (Fact.Joined client) in
     let joined : World = served up (join world.server client) in
-    stepped_given joined client (connected (world.clients client))
+    stepped_given joined client (connection_made (world.clients client))
     (served_given up (join world.server client) (happened_given world.clients world.past (Fact.Joined client) refl g))
     (called_sound (world.clients client) ClientCall.Connected (g.sound client))
-    (subst (λ (c : ℕ → Client). TellNumbers (c client).last_number (connected (world.clients client)).notes
-    (connected (world.clients client)).client.last_number)
+    (subst (λ (c : ℕ → Client). TellNumbers (c client).last_number (connection_made (world.clients client)).notes
+    (connection_made (world.clients client)).client.last_number)
     (sym (served_clients up (join world.server client)))
     (called_tells (world.clients client) ClientCall.Connected (g.sound client)))
 connect_given world client Link.Up g = g

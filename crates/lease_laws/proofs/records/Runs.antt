@@ -5,7 +5,7 @@ use Rattle.std.specs.List.{list_all}
 use mathlib.Core.List.{reverse_aux}
 use Rattle.lease_model.specs.server.Calls.{receive, join, cut, expire, scavenge}
 use Rattle.lease_model.specs.client.Commanded.{commanded}
-use Rattle.lease_model.specs.client.Connection.{noticed, connected}
+use Rattle.lease_model.specs.client.Connection.{noticed, connection_made}
 use Rattle.lease_model.specs.client.Taken.{taken}
 use Rattle.lease_model.specs.client.Step.{Step}
 use Rattle.lease_model.specs.client.Commands.{Note}
@@ -101,7 +101,7 @@ notice_begun world client Link.Up b = b
 -- a client connects
 connect_begun : (world : World) (client : ℕ) (link : Link) → IsBegun world → IsBegun (connect_over world client link)
 unfolding link_connected starts_first
-connect_begun world client Link.Down b = stepped_begun _ client (connected (world.clients client))
+connect_begun world client Link.Down b = stepped_begun _ client (connection_made (world.clients client))
     (served_begun _ (join world.server client) (record { first = b.first }))
 connect_begun world client Link.Up b = b
 connect_begun world client Link.Cut b = b

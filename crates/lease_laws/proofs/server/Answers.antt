@@ -14,7 +14,7 @@ use Rattle.lease_model.specs.values.Keys.{Key}
 use Rattle.lease_model.specs.values.LeaseStates.{is_within}
 use Rattle.lease_model.specs.server.Progress.{Progress, replied, refused}
 use Rattle.lease_model.specs.messages.Replies.{Reply}
-use Rattle.lease_model.specs.messages.Requests.{Request, CreateAsk, LeaseOf}
+use Rattle.lease_model.specs.messages.Requests.{FileRequest, CreateAsk, LeaseOf}
 use Rattle.lease_laws.specs.server.Laws.{Among, AreSound, IsSound}
 use Rattle.lease_model.specs.server.State.{Open, Lease, has_key, is_breaking, has_lease}
 use Rattle.lease_model.specs.server.Naming.{key_of}
@@ -102,32 +102,31 @@ on_open-sound None done progress s each = s
 on_open-sound (Some one) done progress s each = each one.file
 
 -- a request that is ready is answered
-pub answered-sound : (client : ℕ) (request : Request) (progress : Progress) → IsSound progress.server
+pub answered-sound : (client : ℕ) (request : FileRequest) (progress : Progress) → IsSound progress.server
     → RequestFree progress.server client request → IsSound (answered client request progress).server
 unfolding answered
-answered-sound client (Request.Create file access share contexts) progress s free = on_contexts-sound client
+answered-sound client (FileRequest.Create file access share contexts) progress s free = on_contexts-sound client
     file access share contexts progress s free
-answered-sound client (Request.Read file_id) progress s free = on_open-sound
+answered-sound client (FileRequest.Read file_id) progress s free = on_open-sound
     (connected_open progress.server client file_id)
     (λ file. read_done client file file_id) progress s (λ file. s)
-answered-sound client (Request.Write file_id number patch) progress s free = on_open-sound
+answered-sound client (FileRequest.Write file_id number patch) progress s free = on_open-sound
     (connected_open progress.server client file_id)
     (λ file. changed client file file_id number patch) progress s
     (λ file. changed-sound client file file_id number patch progress s)
-answered-sound client (Request.Close file_id) progress s free = on_open-sound
+answered-sound client (FileRequest.Close file_id) progress s free = on_open-sound
     (connected_open progress.server client file_id)
     (λ file. closed client file_id) progress s (λ file. closed-sound client file_id progress s)
-answered-sound client (Request.Acknowledge acknowledged) progress s free = s
 
 -- a refusal keeps the laws
-pub refused-sound : (client : ℕ) (request : Request) (status : Status) (progress : Progress)
+pub refused-sound : (client : ℕ) (request : FileRequest) (status : Status) (progress : Progress)
     → IsSound progress.server
     → IsSound (refused client request status progress).server
 unfolding refused
 refused-sound client request status progress s = s
 
 -- the end of a try
-pub concluded-sound : (client : ℕ) (request : Request) (progress : Progress) (outcome : Outcome)
+pub concluded-sound : (client : ℕ) (request : FileRequest) (progress : Progress) (outcome : Outcome)
     → IsSound progress.server
     → (outcome ≡ Outcome.Ready → RequestFree progress.server client request)
     → IsSound (concluded client request progress outcome).server

@@ -8,13 +8,13 @@ use Rattle.lease_state.specs.declared.status.Status.{Status}
 use Rattle.lease_model.specs.server.Acknowledge.{acknowledged, judged, break_ended}
 use Rattle.lease_model.specs.server.Answers.{concluded}
 use Rattle.lease_model.specs.server.Attempt.{Outcome, Tried, tried}
-use Rattle.lease_model.specs.server.Calls.{receive, arrived, arrived_on, after_first_try, held_of, file_asked, file_of_open, file_of_create}
+use Rattle.lease_model.specs.server.Calls.{file_request_arrived, receive, arrived, arrived_on, after_first_try, held_of, file_asked, file_of_open, file_of_create}
 use Rattle.lease_model.specs.values.Keys.{Key}
 use Rattle.lease_model.specs.values.LeaseStates.{is_within}
 use Rattle.lease_model.specs.server.Passes.{is_behind}
 use Rattle.lease_model.specs.server.Progress.{Progress, begun, request_held, refused, replied}
 use Rattle.lease_model.specs.messages.Replies.{Reply}
-use Rattle.lease_model.specs.messages.Requests.{Request, CreateAsk, LeaseOf}
+use Rattle.lease_model.specs.messages.Requests.{FileRequest, Request, CreateAsk, LeaseOf}
 use Rattle.lease_laws.specs.server.Laws.{Among, IsSound, HasToWait}
 use Rattle.lease_laws.specs.server.Outs.{IsAlone}
 use Rattle.lease_model.specs.server.State.{Server, Open, Held, new_server, has_file, has_lease}
@@ -88,19 +88,18 @@ create_file server at file (Some ask) e = if_cases
     (λ t never. absurd (cc)) e
 
 -- the file of a request is one of the server, and the request is about it
-asked_file : (server : Server) (client file : ℕ) (request : Request) → IsSound server → IsOrderly server
+asked_file : (server : Server) (client file : ℕ) (request : FileRequest) → IsSound server → IsOrderly server
     → file_asked server client request ≡ Ok file
     → (has_file server file ≡ true) × IsAbout server file request
 unfolding file_asked
-asked_file server client file (Request.Create at access share contexts) s o e = create_file server at file
+asked_file server client file (FileRequest.Create at access share contexts) s o e = create_file server at file
     contexts e
-asked_file server client file (Request.Read file_id) s o e = open_file server client file_id file
+asked_file server client file (FileRequest.Read file_id) s o e = open_file server client file_id file
     (connected_open server client file_id) s o refl e
-asked_file server client file (Request.Write file_id number patch) s o e = open_file server client file_id
+asked_file server client file (FileRequest.Write file_id number patch) s o e = open_file server client file_id
     file (connected_open server client file_id) s o refl e
-asked_file server client file (Request.Close file_id) s o e = open_file server client file_id file
+asked_file server client file (FileRequest.Close file_id) s o e = open_file server client file_id file
     (connected_open server client file_id) s o refl e
-asked_file server client file (Request.Acknowledge given) s o never = absurd (cc)
 
 -- to hold a request lets opens go on
 request_held-goes : (file : ℕ) (one : Held) (progress : Progress)
@@ -118,7 +117,7 @@ request_held-goes file one progress = record {
 request_held-kept : (file : ℕ) (one : Held) (progress : Progress)
     → Kept Anywhere progress (request_held file one progress)
 unfolding request_held
-request_held-kept file one progress = record { stands = λ key x a k up b g. (a, b); finds = λ c id x e g. e }
+request_held-kept file one progress = record { stands = λ key x a k up b g. (a, refl); finds = λ c id x e g. e }
 
 -- what holds of the requests of each file, once one more is held
 request_held-cases : (P : List Held → Type 0) (file : ℕ) (one : Held) (progress : Progress) (other : ℕ)
@@ -182,7 +181,7 @@ request_held-waits file one progress e well new =
     }
 
 -- a refusal leaves each first held request waiting
-refused_waits : (client : ℕ) (request : Request) (status : Status) (progress : Progress)
+refused_waits : (client : ℕ) (request : FileRequest) (status : Status) (progress : Progress)
     → EveryoneWaits progress.server → EveryoneWaits (refused client request status progress).server
 unfolding refused
 refused_waits client request status progress e = e
@@ -197,8 +196,8 @@ everyone_keeps before after e f keeps same = record {
 }
 
 -- a call that has tried a request, and answers it
-concluded_fine : (client : ℕ) (request : Request) (before : Progress) (done : Tried) → IsFine before.server
-    → before.server.connected client ≡ true
+concluded_fine : (client : ℕ) (request : FileRequest) (before : Progress) (done : Tried) → IsFine before.server
+    → before.server.present client ≡ true
     → IsTry client request before done → IsFine (concluded client request done.progress done.outcome).server
 concluded_fine client request before done f up t =
     fine_concluded client request done.progress done.outcome (fine_try client request before done f t)
@@ -207,15 +206,15 @@ concluded_fine client request before done f up t =
     (λ ready. ready-file client request done.progress (t.good.found_ready ready))
 
 -- a try leaves each first held request waiting
-try_waits : (client : ℕ) (request : Request) (before : Progress) (done : Tried) → EveryoneWaits before.server
+try_waits : (client : ℕ) (request : FileRequest) (before : Progress) (done : Tried) → EveryoneWaits before.server
     → IsTry client request before done
     → EveryoneWaits done.progress.server
 try_waits client request before done e t = everyone_keeps before done.progress e
     (fine_try client request before done e.fine t) t.keeps t.held
 
 -- so does its end, where it closes nothing
-concluded_waits : (client : ℕ) (request : Request) (before : Progress) (done : Tried)
-    → EveryoneWaits before.server → before.server.connected client ≡ true
+concluded_waits : (client : ℕ) (request : FileRequest) (before : Progress) (done : Tried)
+    → EveryoneWaits before.server → before.server.present client ≡ true
     → IsAlone request → IsTry client request before done
     → EveryoneWaits (concluded client request done.progress done.outcome).server
 concluded_waits client request before done e up alone t =
@@ -235,7 +234,7 @@ well_goes before after file one g well = record {
 }
 
 -- what follows a first try keeps the laws and the order
-first_try-fine : (client file : ℕ) (request : Request) (before : Progress) (progress : Progress)
+first_try-fine : (client file : ℕ) (request : FileRequest) (before : Progress) (progress : Progress)
     (outcome : Outcome) → IsFine before.server
     → IsHeldWell before.server file (held_of client request)
     → IsTry client request before (record { progress = progress; outcome = outcome })
@@ -251,7 +250,7 @@ first_try-fine client file request before progress Outcome.Ready f well t =
     concluded_fine client request before (record { progress = progress; outcome = Outcome.Ready }) f well.up t
 
 -- what follows a first try leaves each first held request waiting
-first_try-waits : (client file : ℕ) (request : Request) (before : Progress) (progress : Progress)
+first_try-waits : (client file : ℕ) (request : FileRequest) (before : Progress) (progress : Progress)
     (outcome : Outcome) → EveryoneWaits before.server
     → IsHeldWell before.server file (held_of client request) → IsAlone request
     → IsTry client request before (record { progress = progress; outcome = outcome })
@@ -269,13 +268,13 @@ first_try-waits client file request before progress Outcome.Ready e well alone t
     alone t
 
 -- a refusal keeps the laws and the order
-refused-fine : (client : ℕ) (request : Request) (status : Status) (progress : Progress)
+refused-fine : (client : ℕ) (request : FileRequest) (status : Status) (progress : Progress)
     → IsFine progress.server → IsFine (refused client request status progress).server
 unfolding refused
 refused-fine client request status progress f = f
 
 -- a request on a file keeps the laws and the order
-arrived_on-fine : (client : ℕ) (request : Request) (progress : Progress) (asked : Result ℕ Status)
+arrived_on-fine : (client : ℕ) (request : FileRequest) (progress : Progress) (asked : Result ℕ Status)
     → IsFine progress.server
     → ((file : ℕ) → asked ≡ Ok file → IsHeldWell progress.server file (held_of client request))
     → IsFine (arrived_on client request progress asked).server
@@ -291,7 +290,7 @@ arrived_on-fine client request progress (Ok file) f well =
     (any_try client request progress f.sound))
 
 -- a request on a file leaves each first held request waiting
-arrived_on-waits : (client : ℕ) (request : Request) (progress : Progress) (asked : Result ℕ Status)
+arrived_on-waits : (client : ℕ) (request : FileRequest) (progress : Progress) (asked : Result ℕ Status)
     → EveryoneWaits progress.server → IsAlone request
     → ((file : ℕ) → asked ≡ Ok file → IsHeldWell progress.server file (held_of client request))
     → EveryoneWaits (arrived_on client request progress asked).server
@@ -309,8 +308,8 @@ arrived_on-waits client request progress (Ok file) e alone well =
     (any_try client request progress e.fine.sound))
 
 -- a request that comes may be held on its file
-asked_well : (client : ℕ) (request : Request) (progress : Progress) → IsFine progress.server
-    → progress.server.connected client ≡ true
+asked_well : (client : ℕ) (request : FileRequest) (progress : Progress) → IsFine progress.server
+    → progress.server.present client ≡ true
     → (file : ℕ) → file_asked progress.server client request ≡ Ok file
     → IsHeldWell progress.server file (held_of client request)
 asked_well client request progress f up file e =
@@ -356,9 +355,32 @@ fine_goes before after f s g same = record {
       (subst (λ held. Among one (held file)) same a));
 }
 
+-- a request about a file leaves each first held request waiting
+file_request-waits : (client : ℕ) (request : FileRequest) (progress : Progress) → EveryoneWaits progress.server
+    → progress.server.present client ≡ true
+    → EveryoneWaits (file_request_arrived client request progress).server
+file_request-waits client (FileRequest.Close file_id) progress e up = all_passes-wait
+    (arrived_on client (FileRequest.Close file_id) progress
+    (file_asked progress.server client (FileRequest.Close file_id)))
+    (arrived_on-fine client (FileRequest.Close file_id) progress
+    (file_asked progress.server client (FileRequest.Close file_id)) e.fine
+    (asked_well client (FileRequest.Close file_id) progress e.fine up))
+file_request-waits client (FileRequest.Create at access share contexts) progress e up =
+    arrived_on-waits client (FileRequest.Create at access share contexts) progress
+    (file_asked progress.server client (FileRequest.Create at access share contexts)) e tt
+    (asked_well client (FileRequest.Create at access share contexts) progress e.fine up)
+file_request-waits client (FileRequest.Read file_id) progress e up =
+    arrived_on-waits client (FileRequest.Read file_id) progress
+    (file_asked progress.server client (FileRequest.Read file_id)) e tt
+    (asked_well client (FileRequest.Read file_id) progress e.fine up)
+file_request-waits client (FileRequest.Write file_id number patch) progress e up =
+    arrived_on-waits client (FileRequest.Write file_id number patch) progress
+    (file_asked progress.server client (FileRequest.Write file_id number patch)) e tt
+    (asked_well client (FileRequest.Write file_id number patch) progress e.fine up)
+
 -- a request that comes leaves each first held request waiting
 arrived-waits : (client : ℕ) (request : Request) (progress : Progress) → EveryoneWaits progress.server
-    → progress.server.connected client ≡ true
+    → progress.server.present client ≡ true
     → EveryoneWaits (arrived client request progress).server
 unfolding arrived
 arrived-waits client (Request.Acknowledge given) progress e up = all_passes-wait
@@ -366,24 +388,7 @@ arrived-waits client (Request.Acknowledge given) progress e up = all_passes-wait
     (fine_goes progress (acknowledged client given progress) e.fine
     (acknowledged-sound client given progress e.fine.sound)
     (acknowledged-goes client given progress) (acknowledged-held client given progress))
-arrived-waits client (Request.Close file_id) progress e up = all_passes-wait
-    (arrived_on client (Request.Close file_id) progress
-    (file_asked progress.server client (Request.Close file_id)))
-    (arrived_on-fine client (Request.Close file_id) progress
-    (file_asked progress.server client (Request.Close file_id)) e.fine
-    (asked_well client (Request.Close file_id) progress e.fine up))
-arrived-waits client (Request.Create at access share contexts) progress e up =
-    arrived_on-waits client (Request.Create at access share contexts) progress
-    (file_asked progress.server client (Request.Create at access share contexts)) e tt
-    (asked_well client (Request.Create at access share contexts) progress e.fine up)
-arrived-waits client (Request.Read file_id) progress e up =
-    arrived_on-waits client (Request.Read file_id) progress
-    (file_asked progress.server client (Request.Read file_id)) e tt
-    (asked_well client (Request.Read file_id) progress e.fine up)
-arrived-waits client (Request.Write file_id number patch) progress e up =
-    arrived_on-waits client (Request.Write file_id number patch) progress
-    (file_asked progress.server client (Request.Write file_id number patch)) e tt
-    (asked_well client (Request.Write file_id number patch) progress e.fine up)
+arrived-waits client (Request.OnFile request) progress e up = file_request-waits client request progress e up
 
 -- a choice of two calls under way
 pub everyone_cases : (b : Bool) (x y : Progress) → (b ≡ true → EveryoneWaits x.server)
@@ -394,6 +399,6 @@ everyone_cases b x y at_true at_false = if_cases (λ p. EveryoneWaits p.server) 
 pub receive-waits : (server : Server) (client : ℕ) (request : Request) → EveryoneWaits server
     → EveryoneWaits (receive server client request).server
 unfolding receive
-receive-waits server client request e = everyone_cases (server.connected client)
+receive-waits server client request e = everyone_cases (server.present client)
     (arrived client request (begun server)) (begun server)
     (λ up. arrived-waits client request (begun server) e up) (λ down. e)

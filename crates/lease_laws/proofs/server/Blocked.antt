@@ -15,15 +15,16 @@ use Rattle.lease_model.specs.values.Keys.{Key}
 use Rattle.lease_model.specs.values.LeaseStates.{holds_any, without_write, without_handle}
 use Rattle.lease_model.specs.values.Lists.{is_empty}
 use Rattle.lease_model.specs.server.Progress.{Progress}
-use Rattle.lease_model.specs.server.Ready.{waits_for}
-use Rattle.lease_model.specs.messages.Requests.{Request, CreateAsk, LeaseOf}
-use Rattle.lease_laws.specs.server.Laws.{Among, IsSound, IsBlocked, IsOpenBlocked, HasToWait}
-use Rattle.lease_model.specs.server.State.{Server, Open, has_key, has_own_key, has_file, has_lease, is_breaking}
+use Rattle.lease_model.specs.server.Ready.{breaks_to_some, waits_for}
+use Rattle.lease_model.specs.messages.Requests.{FileRequest, CreateAsk, LeaseOf}
+use Rattle.lease_laws.specs.server.Laws.{Among, IsSound, IsBlockedBy, IsOpenBlocked, HasToWait}
+use Rattle.lease_model.specs.server.State.{Server, Open, Lease, has_key, has_own_key, has_file, has_lease, is_breaking}
 use Rattle.lease_model.specs.values.Sharing.{may_read, may_write}
 use Rattle.lease_model.specs.server.Wants.{Want, wants_where, handle_wants, write_wants, all_wants}
 use Rattle.lease_model.specs.server.Findings.{Finding, finding, create_finding, reconnect_finding, write_finding, asked_finding, read_finding, by_open, connected_open, is_leased_elsewhere, awaits}
 use Rattle.lease_model.specs.server.Naming.{lease_of, own_key, key_of_open}
 use Rattle.lease_model.specs.server.KeyOrder.{keys_of}
+use Rattle.lease_laws.proofs.server.Breaking.{some_breaks}
 use Rattle.lease_laws.proofs.server.Keys.{is_key-one}
 use Rattle.lease_laws.proofs.server.Lists.{if_cases, clash, and_parts, not_parts, not_true, not_false, any_has, among_map, among_filter}
 use Rattle.lease_laws.proofs.server.Met.{wants_met-were, wants_met-found}
@@ -102,21 +103,22 @@ other_alike (Some mine) key one other k j e = not_true (has_key mine other) (λ 
     clash (has_key mine one) (ap (λ x. has_key x one) (is_key-one mine key other.client other.lease_key t j)
     ∙ k) e)
 
--- a round that has to wait leaves the file blocked
-wait_blocked : (request : Request) (own : Option Key) (file : ℕ) (wants : List Want) (progress : Progress)
+-- a round that leaves such a lease leaves the file blocked by it
+wait_blocked : (test : Lease → Bool) (own : Option Key) (file : ℕ) (wants : List Want) (progress : Progress)
+    → ((lease : Lease) → test lease ≡ true → is_breaking lease ≡ true)
     → IsSound progress.server
     → IsSound (wants_met wants progress).server → AreOtherKeys progress.server own file wants
-    → must_wait request (wants_met wants progress) wants ≡ true
-    → IsBlocked (wants_met wants progress).server own file
-unfolding waits_for
-wait_blocked request own file wants progress s next other wait =
+    → list_any (λ want. test ((wants_met wants progress).server.leases want.key)) wants ≡ true
+    → IsBlockedBy test (wants_met wants progress).server own file
+wait_blocked test own file wants progress only s next other wait =
     let met = wants_met wants progress in
-    let x = any_has (λ want. waits_for request (met.server.leases want.key)) wants wait in
+    let x = any_has (λ want. test (met.server.leases want.key)) wants wait in
     let was = other x.0 x.1 in
-    let y = any_has (has_key (x.0).key) met.server.opens (breaking_open met.server (x.0).key next x.2) in
+    let y = any_has (has_key (x.0).key) met.server.opens
+    (breaking_open met.server (x.0).key next (only (met.server.leases (x.0).key) x.2)) in
     record {
       key = (x.0).key;
-      is_breaking = x.2;
+      is_in_the_way = x.2;
       one = y.0;
       is_there = y.1;
       is_on_file = s.one_file (x.0).key was.one y.0 was.is_there was.has_the_key
@@ -127,8 +129,8 @@ wait_blocked request own file wants progress s next other wait =
 
 -- what is wanted is of other keys
 abbrev WantsOther : Server → Option Key → ℕ → Finding → Type 0
-WantsOther server own file (Finding.Refused status) = Unit {0}
-WantsOther server own file (Finding.Wants wants) = AreOtherKeys server own file wants
+WantsOther server own file (Finding.Fails status) = Unit {0}
+WantsOther server own file (Finding.Needs wants) = AreOtherKeys server own file wants
 
 -- what a create finds
 create_other : (server : Server) (own : Option Key) (file : ℕ) (access : Access) (share : Share)
@@ -148,7 +150,7 @@ reconnect_other : (server : Server) (client file : ℕ) (own : Option Key) (file
 unfolding reconnect_finding
 reconnect_other server client file own file_id =
     if_cases (WantsOther server own file) (list_any (awaits client file own file_id) server.opens)
-    (Finding.Wants []) (Finding.Refused Status.ObjectNameNotFound)
+    (Finding.Needs []) (Finding.Fails Status.ObjectNameNotFound)
     (λ e want a. absurd a) (λ e. tt)
 
 -- what a create finds, with a reconnect or without
@@ -174,11 +176,11 @@ write_other server one patch =
 -- what is found wants other keys
 found_other : (server : Server) (own : Option Key) (file : ℕ) (found : Finding) (wants : List Want)
     → WantsOther server own file found
-    → found ≡ Finding.Wants wants → AreOtherKeys server own file wants
+    → found ≡ Finding.Needs wants → AreOtherKeys server own file wants
 found_other server own file found wants other e = subst (WantsOther server own file) e other
 
 -- nothing wanted is nothing to wait for
-nobody_waits : {X : Type 0} (request : Request) (wants : List Want) (progress : Progress) → [] ≡ wants
+nobody_waits : {X : Type 0} (request : FileRequest) (wants : List Want) (progress : Progress) → [] ≡ wants
     → must_wait request (wants_met wants progress) wants ≡ true → X
 nobody_waits request wants progress e wait = absurd
     (true≢false (sym (subst (λ x. must_wait request (wants_met x progress) x ≡ true) (sym e) wait)))
@@ -187,21 +189,20 @@ nobody_waits request wants progress e wait = absurd
 create_waits : (client file : ℕ) (access : Access) (share : Share) (contexts : Option CreateAsk)
     (progress : Progress) (wants : List Want)
     → IsSound progress.server → IsSound (wants_met wants progress).server
-    → finding progress.server client (Request.Create file access share contexts) ≡ Finding.Wants wants
-    → must_wait (Request.Create file access share contexts) (wants_met wants progress) wants ≡ true
-    → HasToWait (wants_met wants progress).server client (Request.Create file access share contexts)
-unfolding finding
+    → finding progress.server client (FileRequest.Create file access share contexts) ≡ Finding.Needs wants
+    → must_wait (FileRequest.Create file access share contexts) (wants_met wants progress) wants ≡ true
+    → HasToWait (wants_met wants progress).server client (FileRequest.Create file access share contexts)
+unfolding finding waits_for
 create_waits client file access share None progress wants s next never wait = absurd (cc)
 create_waits client file access share (Some ask) progress wants s next found wait =
-    wait_blocked (Request.Create file access share (Some ask)) (own_key client ask.lease) file wants progress
-    s next
+    wait_blocked (λ lease. is_breaking lease) (own_key client ask.lease) file wants progress (λ lease b. b) s next
     (found_other progress.server (own_key client ask.lease) file
     (if has_file progress.server file then asked_finding progress.server client file access share ask.lease
     ask.reconnect
-    else Finding.Refused Status.ObjectNameNotFound) wants
+    else Finding.Fails Status.ObjectNameNotFound) wants
     (if_cases (WantsOther progress.server (own_key client ask.lease) file) (has_file progress.server file)
     (asked_finding progress.server client file access share ask.lease ask.reconnect)
-    (Finding.Refused Status.ObjectNameNotFound)
+    (Finding.Fails Status.ObjectNameNotFound)
     (λ e. asked_other progress.server client file access share ask.lease ask.reconnect) (λ e. tt))
     found) wait
 
@@ -210,15 +211,16 @@ write_waits_at : (client file_id number : ℕ) (patch : Patch) (progress : Progr
     (one : Option Open)
     → IsSound progress.server → IsSound (wants_met wants progress).server
     → connected_open progress.server client file_id ≡ one
-    → by_open one (λ x. write_finding progress.server x patch) ≡ Finding.Wants wants
-    → must_wait (Request.Write file_id number patch) (wants_met wants progress) wants ≡ true
+    → by_open one (λ x. write_finding progress.server x patch) ≡ Finding.Needs wants
+    → must_wait (FileRequest.Write file_id number patch) (wants_met wants progress) wants ≡ true
     → IsOpenBlocked (wants_met wants progress).server client file_id
+unfolding waits_for
 write_waits_at client file_id number patch progress wants None s next is_open never wait = absurd (cc)
 write_waits_at client file_id number patch progress wants (Some one) s next is_open found wait = record {
   one = one;
   is_open = wants_met-found wants progress client file_id ∙ is_open;
-  is_blocked = wait_blocked (Request.Write file_id number patch) (key_of_open one) one.file wants progress s
-      next
+  is_blocked = wait_blocked (λ lease. breaks_to_some lease) (key_of_open one) one.file wants progress
+      (λ lease. some_breaks lease.broken_to) s next
       (found_other progress.server (key_of_open one) one.file (write_finding progress.server one patch) wants
       (write_other progress.server one patch) found) wait;
 }
@@ -226,8 +228,8 @@ write_waits_at client file_id number patch progress wants (Some one) s next is_o
 -- a write that has to wait is blocked
 write_waits : (client file_id number : ℕ) (patch : Patch) (progress : Progress) (wants : List Want)
     → IsSound progress.server → IsSound (wants_met wants progress).server
-    → finding progress.server client (Request.Write file_id number patch) ≡ Finding.Wants wants
-    → must_wait (Request.Write file_id number patch) (wants_met wants progress) wants ≡ true
+    → finding progress.server client (FileRequest.Write file_id number patch) ≡ Finding.Needs wants
+    → must_wait (FileRequest.Write file_id number patch) (wants_met wants progress) wants ≡ true
     → IsOpenBlocked (wants_met wants progress).server client file_id
 unfolding finding
 write_waits client file_id number patch progress wants s next found wait =
@@ -236,8 +238,8 @@ write_waits client file_id number patch progress wants s next found wait =
 
 -- a finding that refuses, or wants nothing
 abbrev Idle : Finding → Type 0
-Idle (Finding.Refused status) = Unit {0}
-Idle (Finding.Wants wants) = [] ≡ wants
+Idle (Finding.Fails status) = Unit {0}
+Idle (Finding.Needs wants) = [] ≡ wants
 
 -- what is idle by every open
 by_open-idle : (one : Option Open) (found : Open → Finding) → ((x : Open) → Idle (found x))
@@ -247,57 +249,46 @@ by_open-idle (Some one) found each = each one
 
 -- a read wants nothing
 read-idle : (one : Open) → Idle (read_finding one)
-read-idle one = if_cases Idle (may_read one.access) (Finding.Wants []) (Finding.Refused Status.AccessDenied)
+read-idle one = if_cases Idle (may_read one.access) (Finding.Needs []) (Finding.Fails Status.AccessDenied)
     (λ e. refl) (λ e. tt)
 
 -- what is idle never waits
-idle_waits : {X : Type 0} (request : Request) (progress : Progress) (wants : List Want) (found : Finding)
+idle_waits : {X : Type 0} (request : FileRequest) (progress : Progress) (wants : List Want) (found : Finding)
     → Idle found
-    → found ≡ Finding.Wants wants → must_wait request (wants_met wants progress) wants ≡ true → X
+    → found ≡ Finding.Needs wants → must_wait request (wants_met wants progress) wants ≡ true → X
 idle_waits request progress wants found idle e wait = nobody_waits request wants progress (subst Idle e idle)
     wait
 
 -- a read never waits
 read_waits : {X : Type 0} (client file_id : ℕ) (progress : Progress) (wants : List Want)
-    → finding progress.server client (Request.Read file_id) ≡ Finding.Wants wants
-    → must_wait (Request.Read file_id) (wants_met wants progress) wants ≡ true → X
+    → finding progress.server client (FileRequest.Read file_id) ≡ Finding.Needs wants
+    → must_wait (FileRequest.Read file_id) (wants_met wants progress) wants ≡ true → X
 unfolding finding
-read_waits client file_id progress wants found wait = idle_waits (Request.Read file_id) progress wants
+read_waits client file_id progress wants found wait = idle_waits (FileRequest.Read file_id) progress wants
     (by_open (connected_open progress.server client file_id) read_finding)
     (by_open-idle (connected_open progress.server client file_id) read_finding read-idle) found wait
 
 -- a close never waits
 close_waits : {X : Type 0} (client file_id : ℕ) (progress : Progress) (wants : List Want)
-    → finding progress.server client (Request.Close file_id) ≡ Finding.Wants wants
-    → must_wait (Request.Close file_id) (wants_met wants progress) wants ≡ true → X
+    → finding progress.server client (FileRequest.Close file_id) ≡ Finding.Needs wants
+    → must_wait (FileRequest.Close file_id) (wants_met wants progress) wants ≡ true → X
 unfolding finding
-close_waits client file_id progress wants found wait = idle_waits (Request.Close file_id) progress wants
-    (by_open (connected_open progress.server client file_id) (λ one. Finding.Wants []))
-    (by_open-idle (connected_open progress.server client file_id) (λ one. Finding.Wants []) (λ one. refl))
+close_waits client file_id progress wants found wait = idle_waits (FileRequest.Close file_id) progress wants
+    (by_open (connected_open progress.server client file_id) (λ one. Finding.Needs []))
+    (by_open-idle (connected_open progress.server client file_id) (λ one. Finding.Needs []) (λ one. refl))
     found wait
 
--- an acknowledgment never waits
-acknowledge_waits : {X : Type 0} (client : ℕ) (given : Option LeaseOf) (progress : Progress)
-    (wants : List Want)
-    → finding progress.server client (Request.Acknowledge given) ≡ Finding.Wants wants
-    → must_wait (Request.Acknowledge given) (wants_met wants progress) wants ≡ true → X
-unfolding finding
-acknowledge_waits client given progress wants found wait = idle_waits (Request.Acknowledge given) progress
-    wants (Finding.Wants []) refl found wait
-
 -- where a round of a try has to wait, so has the request
-pub round_waits : (client : ℕ) (request : Request) (progress : Progress) (wants : List Want)
+pub round_waits : (client : ℕ) (request : FileRequest) (progress : Progress) (wants : List Want)
     → IsSound progress.server → IsSound (wants_met wants progress).server
-    → finding progress.server client request ≡ Finding.Wants wants
+    → finding progress.server client request ≡ Finding.Needs wants
     → must_wait request (wants_met wants progress) wants ≡ true
     → HasToWait (wants_met wants progress).server client request
-round_waits client (Request.Create file access share contexts) progress wants s next found wait = create_waits
+round_waits client (FileRequest.Create file access share contexts) progress wants s next found wait = create_waits
     client file access share contexts progress wants s next found wait
-round_waits client (Request.Read file_id) progress wants s next found wait = read_waits client file_id
+round_waits client (FileRequest.Read file_id) progress wants s next found wait = read_waits client file_id
     progress wants found wait
-round_waits client (Request.Write file_id number patch) progress wants s next found wait = write_waits client
+round_waits client (FileRequest.Write file_id number patch) progress wants s next found wait = write_waits client
     file_id number patch progress wants s next found wait
-round_waits client (Request.Close file_id) progress wants s next found wait = close_waits client file_id
+round_waits client (FileRequest.Close file_id) progress wants s next found wait = close_waits client file_id
     progress wants found wait
-round_waits client (Request.Acknowledge given) progress wants s next found wait = acknowledge_waits client
-    given progress wants found wait

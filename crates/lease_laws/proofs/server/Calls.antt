@@ -6,12 +6,12 @@ use Rattle.std.proofs.lemmas.Bool.Decides.{Decides-eqb}
 use Rattle.lease_state.specs.declared.status.Status.{Status}
 use Rattle.lease_model.specs.server.Acknowledge.{acknowledged}
 use Rattle.lease_model.specs.server.Attempt.{Outcome, tried}
-use Rattle.lease_model.specs.server.Calls.{Call, called, join, joined, receive, arrived, arrived_on, after_first_try, held_of, file_asked, cut, is_kept, is_lost, disconnected, opens_disconnected, client_forgotten, key_expired, expire, scavenge, is_kept_open}
+use Rattle.lease_model.specs.server.Calls.{file_request_arrived, Call, called, join, joined, receive, arrived, arrived_on, after_first_try, held_of, file_asked, cut, outlives_connection, is_lost, disconnected, opens_disconnected, client_forgotten, key_expired, expire, scavenge, is_left_behind}
 use Rattle.lease_model.specs.values.Keys.{Key}
 use Rattle.lease_model.specs.values.Lists.{without}
 use Rattle.lease_model.specs.server.Passes.{all_passes, is_behind}
 use Rattle.lease_model.specs.server.Progress.{Progress, begun, opens_dropped, with_opens, request_held}
-use Rattle.lease_model.specs.messages.Requests.{Request}
+use Rattle.lease_model.specs.messages.Requests.{FileRequest, Request}
 use Rattle.lease_laws.specs.server.Laws.{Among, AreSound, IsSound, IsLasting}
 use Rattle.lease_model.specs.server.State.{Server, Open, no_lease, new_server, has_key, is_key, is_breaking}
 use Rattle.lease_model.specs.values.Tables.{put_key}
@@ -91,12 +91,12 @@ sound_cases b x y at_true at_false = if_cases (λ p. IsSound p.server) b x y at_
 -- a join keeps the laws
 pub join-sound : (server : Server) (client : ℕ) → IsSound server → IsSound (join server client).server
 unfolding join
-join-sound server client s = sound_cases (server.connected client) (begun server)
+join-sound server client s = sound_cases (server.present client) (begun server)
     (joined client (begun server))
     (λ e. s) (λ e. joined-sound client (begun server) s)
 
 -- what follows a first try keeps the laws
-after_first_try-sound : (client file : ℕ) (request : Request) (progress : Progress) (outcome : Outcome)
+after_first_try-sound : (client file : ℕ) (request : FileRequest) (progress : Progress) (outcome : Outcome)
     → IsGoodTry client request (record { progress = progress; outcome = outcome })
     → IsSound (after_first_try client file request progress outcome).server
 after_first_try-sound client file request progress Outcome.Waits good = request_held-sound file
@@ -109,7 +109,7 @@ after_first_try-sound client file request progress Outcome.Ready good = conclude
     (λ r. ready-free client request progress (good.found_ready r))
 
 -- a request on a file keeps the laws
-pub arrived_on-sound : (client : ℕ) (request : Request) (progress : Progress) (asked : Result ℕ Status)
+pub arrived_on-sound : (client : ℕ) (request : FileRequest) (progress : Progress) (asked : Result ℕ Status)
     → IsSound progress.server
     → IsSound (arrived_on client request progress asked).server
 arrived_on-sound client request progress (Err status) s = refused-sound client request status progress s
@@ -123,32 +123,37 @@ arrived_on-sound client request progress (Ok file) s = sound_cases
     (tried client request progress).outcome
     (tried_for-good 3 client request progress s))
 
+-- a request about a file keeps the laws
+file_request-sound : (client : ℕ) (request : FileRequest) (progress : Progress) → IsSound progress.server
+    → IsSound (file_request_arrived client request progress).server
+file_request-sound client (FileRequest.Close file_id) progress s = all_passes-sound
+    (arrived_on client (FileRequest.Close file_id) progress
+    (file_asked progress.server client (FileRequest.Close file_id)))
+    (arrived_on-sound client (FileRequest.Close file_id) progress
+    (file_asked progress.server client (FileRequest.Close file_id)) s)
+file_request-sound client (FileRequest.Create file access share contexts) progress s =
+    arrived_on-sound client (FileRequest.Create file access share contexts) progress
+    (file_asked progress.server client (FileRequest.Create file access share contexts)) s
+file_request-sound client (FileRequest.Read file_id) progress s =
+    arrived_on-sound client (FileRequest.Read file_id) progress
+    (file_asked progress.server client (FileRequest.Read file_id)) s
+file_request-sound client (FileRequest.Write file_id number patch) progress s =
+    arrived_on-sound client (FileRequest.Write file_id number patch) progress
+    (file_asked progress.server client (FileRequest.Write file_id number patch)) s
+
 -- a request that comes keeps the laws
 arrived-sound : (client : ℕ) (request : Request) (progress : Progress) → IsSound progress.server
     → IsSound (arrived client request progress).server
 unfolding arrived
 arrived-sound client (Request.Acknowledge given) progress s = all_passes-sound
     (acknowledged client given progress) (acknowledged-sound client given progress s)
-arrived-sound client (Request.Close file_id) progress s = all_passes-sound
-    (arrived_on client (Request.Close file_id) progress
-    (file_asked progress.server client (Request.Close file_id)))
-    (arrived_on-sound client (Request.Close file_id) progress
-    (file_asked progress.server client (Request.Close file_id)) s)
-arrived-sound client (Request.Create file access share contexts) progress s =
-    arrived_on-sound client (Request.Create file access share contexts) progress
-    (file_asked progress.server client (Request.Create file access share contexts)) s
-arrived-sound client (Request.Read file_id) progress s =
-    arrived_on-sound client (Request.Read file_id) progress
-    (file_asked progress.server client (Request.Read file_id)) s
-arrived-sound client (Request.Write file_id number patch) progress s =
-    arrived_on-sound client (Request.Write file_id number patch) progress
-    (file_asked progress.server client (Request.Write file_id number patch)) s
+arrived-sound client (Request.OnFile request) progress s = file_request-sound client request progress s
 
 -- a request received keeps the laws
 pub receive-sound : (server : Server) (client : ℕ) (request : Request) → IsSound server
     → IsSound (receive server client request).server
 unfolding receive
-receive-sound server client request s = sound_cases (server.connected client)
+receive-sound server client request s = sound_cases (server.present client)
     (arrived client request (begun server)) (begun server)
     (λ e. arrived-sound client request (begun server) s) (λ e. s)
 
@@ -160,8 +165,8 @@ handle_key server client None h = absurd (true≢false (sym h))
 handle_key server client (Some bytes) h = (key_of client bytes, is_key-refl client bytes)
 
 -- an open that is kept outlives its connection
-pub kept_lasting : (server : Server) (one : Open) → is_kept server one ≡ true → IsLasting server.leases one
-unfolding is_kept
+pub kept_lasting : (server : Server) (one : Open) → outlives_connection server one ≡ true → IsLasting server.leases one
+unfolding outlives_connection
 kept_lasting server one kept =
     let outer = and_parts (one.durable && (lease_of server one).state.handle)
     (not (is_breaking (lease_of server one))) kept in
@@ -201,9 +206,9 @@ unfolding opens_dropped with_opens
 left_lasting client server one s a c =
     let was = among_filter (λ x. not (is_lost server client x)) one server.opens a in
     either one.connected
-    (λ up. kept_lasting server one (not_false (is_kept server one) (λ gone.
+    (λ up. kept_lasting server one (not_false (outlives_connection server one) (λ gone.
     clash (is_lost server client one)
-    (and_both (one.client == client && one.connected) (not (is_kept server one))
+    (and_both (one.client == client && one.connected) (not (outlives_connection server one))
     (and_both (one.client == client) one.connected ((Decides-eqb one.client client).1 c) up) (ap not gone))
     (not_parts (is_lost server client one) was.1))))
     (λ down. s.disconnected one was.0 down)
@@ -238,7 +243,7 @@ cut-sound : (server : Server) (client : ℕ) → IsSound server → IsSound (cut
 unfolding cut
 cut-sound server client s =
     let dropped = opens_dropped (is_lost server client) (begun server) in
-    sound_cases (server.connected client) (all_passes
+    sound_cases (server.present client) (all_passes
     (client_forgotten client (opens_disconnected client dropped))) (begun server)
     (λ e. all_passes-sound (client_forgotten client (opens_disconnected client dropped))
     (client_forgotten-sound client (opens_disconnected client dropped)
@@ -285,10 +290,10 @@ expire-sound server key s = sound_cases (is_breaking (server.leases key))
 -- a scavenge keeps the laws
 scavenge-sound : (server : Server) (file_id : ℕ) → IsSound server → IsSound (scavenge server file_id).server
 unfolding scavenge
-scavenge-sound server file_id s = sound_cases (list_any (is_kept_open file_id) server.opens)
-    (all_passes (opens_dropped (is_kept_open file_id) (begun server))) (begun server)
-    (λ e. all_passes-sound (opens_dropped (is_kept_open file_id) (begun server))
-    (opens_dropped-sound (is_kept_open file_id) (begun server) s))
+scavenge-sound server file_id s = sound_cases (list_any (is_left_behind file_id) server.opens)
+    (all_passes (opens_dropped (is_left_behind file_id) (begun server))) (begun server)
+    (λ e. all_passes-sound (opens_dropped (is_left_behind file_id) (begun server))
+    (opens_dropped-sound (is_left_behind file_id) (begun server) s))
     (λ e. s)
 
 -- every call keeps the laws

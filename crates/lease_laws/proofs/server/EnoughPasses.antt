@@ -11,11 +11,11 @@ use Rattle.lease_laws.specs.server.Enough.{PassesEnd, PassesAreEnough}
 use Rattle.lease_model.specs.server.Grant.{granted, granted_with, lease_after, lease_put, reconnected}
 use Rattle.lease_model.specs.values.Keys.{Key}
 use Rattle.lease_model.specs.values.Limits.{last_file_id}
-use Rattle.lease_model.specs.server.Passes.{Pass, is_behind, pass_kept, pass_answered, after_try, tried_again, pass_over, one_pass, passes_for}
+use Rattle.lease_model.specs.server.Passes.{Pass, is_behind, left_waiting, pass_answered, after_try, tried_again, pass_over, one_pass, passes_for}
 use Rattle.lease_model.specs.server.Progress.{Progress, opens_dropped, with_opens, lease_lowered, break_begun, held_left, replied, refused}
 use Rattle.lease_model.specs.server.Ready.{is_ready}
 use Rattle.lease_model.specs.messages.Replies.{Reply}
-use Rattle.lease_model.specs.messages.Requests.{Request, CreateAsk, LeaseOf}
+use Rattle.lease_model.specs.messages.Requests.{FileRequest, CreateAsk, LeaseOf}
 use Rattle.lease_model.specs.server.State.{Server, Open, Lease, Held, has_lease, is_breaking}
 use Rattle.lease_model.specs.values.Tables.{put}
 use Rattle.lease_model.specs.server.Wants.{Want}
@@ -61,11 +61,11 @@ wants_met_holds [] progress = refl
 wants_met_holds (want ∷ wants) progress = wants_met_holds wants (want_met want progress) ∙ want_met_holds want progress
 
 -- a round of a try
-after_finding_holds : (again : Progress → Tried) (request : Request) (progress : Progress) (found : Finding)
+after_finding_holds : (again : Progress → Tried) (request : FileRequest) (progress : Progress) (found : Finding)
     → ((q : Progress) → HoldsSame q (again q).progress)
     → HoldsSame progress (after_finding again request progress found).progress
-after_finding_holds again request progress (Finding.Refused status) same = refl
-after_finding_holds again request progress (Finding.Wants wants) same =
+after_finding_holds again request progress (Finding.Fails status) same = refl
+after_finding_holds again request progress (Finding.Needs wants) same =
     if_cases (λ (t : Tried). HoldsSame progress t.progress) (is_ready request progress.server.leases wants)
     (ended progress Outcome.Ready) (after_breaks again request wants (wants_met wants progress))
     (λ r. refl)
@@ -75,7 +75,7 @@ after_finding_holds again request progress (Finding.Wants wants) same =
     (λ w. same (wants_met wants progress) ∙ wants_met_holds wants progress))
 
 -- a try
-tried_holds : (rounds client : ℕ) (request : Request) (progress : Progress)
+tried_holds : (rounds client : ℕ) (request : FileRequest) (progress : Progress)
     → HoldsSame progress (tried_for rounds client request progress).progress
 unfolding tried_for
 tried_holds zero client request progress = refl
@@ -130,21 +130,20 @@ on_contexts_holds client file access share (Some ask) progress =
     created_holds client file access share ask.lease ask.durable ask.reconnect progress
 
 -- any request that is ready is answered
-answered_holds : (client : ℕ) (request : Request) (progress : Progress) → HoldsSame progress (answered client request progress)
+answered_holds : (client : ℕ) (request : FileRequest) (progress : Progress) → HoldsSame progress (answered client request progress)
 unfolding answered changed closed
-answered_holds client (Request.Create file access share contexts) progress =
+answered_holds client (FileRequest.Create file access share contexts) progress =
     on_contexts_holds client file access share contexts progress
-answered_holds client (Request.Read file_id) progress =
+answered_holds client (FileRequest.Read file_id) progress =
     on_open_holds (connected_open progress.server client file_id) (λ file. read_done client file file_id) progress (λ file. refl)
-answered_holds client (Request.Write file_id number patch) progress =
+answered_holds client (FileRequest.Write file_id number patch) progress =
     on_open_holds (connected_open progress.server client file_id) (λ file. changed client file file_id number patch) progress (λ file. refl)
-answered_holds client (Request.Close file_id) progress =
+answered_holds client (FileRequest.Close file_id) progress =
     on_open_holds (connected_open progress.server client file_id) (λ file. closed client file_id) progress
     (λ file. dropped_holds (λ one. one.file_id == file_id) progress)
-answered_holds client (Request.Acknowledge acknowledged) progress = refl
 
 -- a try that ended is answered
-concluded_holds : (client : ℕ) (request : Request) (progress : Progress) (outcome : Outcome)
+concluded_holds : (client : ℕ) (request : FileRequest) (progress : Progress) (outcome : Outcome)
     → HoldsSame progress (concluded client request progress outcome)
 unfolding refused
 concluded_holds client request progress (Outcome.Refused status) = refl
@@ -156,20 +155,20 @@ concluded_holds client request progress Outcome.Ready = answered_holds client re
 -- A pass under way: what it passed over and what is behind is what is held; that isn't more than at
 -- its beginning, and less where it answered a request.
 record IsUnderWay (file : ℕ) (waiting : List Held) (count : ℕ) (pass : Pass) : Type 0 where
-  held : pass.progress.server.held file ≡ pass.kept ++ waiting
-  no_more : length pass.kept + length waiting ≤ count
-  fewer : pass.has_answered ≡ true → length pass.kept + length waiting < count
+  held : pass.progress.server.held file ≡ pass.passed ++ waiting
+  no_more : length pass.passed + length waiting ≤ count
+  fewer : pass.has_answered ≡ true → length pass.passed + length waiting < count
 
 -- one more is passed over
 kept_on : (file : ℕ) (one : Held) (waiting : List Held) (count : ℕ) (pass : Pass) (progress : Progress)
     → HoldsSame pass.progress progress → IsUnderWay file (one ∷ waiting) count pass
-    → IsUnderWay file waiting count (pass_kept one pass progress)
+    → IsUnderWay file waiting count (left_waiting one pass progress)
 kept_on file one waiting count pass progress same way =
-    let longer : length (pass.kept ++ one ∷ []) ≡ length pass.kept + 1 = length-append pass.kept (one ∷ []) in
+    let longer : length (pass.passed ++ one ∷ []) ≡ length pass.passed + 1 = length-append pass.passed (one ∷ []) in
     let shorter : length (one ∷ waiting) ≡ length waiting + 1 = length_more one waiting in
     record {
       held = ap (λ (table : ℕ → List Held). table file) same ∙ way.held
-          ∙ sym (append_assoc pass.kept (one ∷ []) waiting);
+          ∙ sym (append_assoc pass.passed (one ∷ []) waiting);
       no_more = let before = way.no_more in omega arith;
       fewer = λ a. let before = way.fewer a in omega arith;
     }
@@ -190,8 +189,8 @@ answered_on file one waiting count pass done way =
     let shorter : length (one ∷ waiting) ≡ length waiting + 1 = omega arith in
     record {
       held = ap (λ (table : ℕ → List Held). table file)
-          (concluded_holds one.client one.request (held_left file (pass.kept ++ waiting) done.progress) done.outcome)
-          ∙ put_here done.progress.server.held file (pass.kept ++ waiting);
+          (concluded_holds one.client one.request (held_left file (pass.passed ++ waiting) done.progress) done.outcome)
+          ∙ put_here done.progress.server.held file (pass.passed ++ waiting);
       no_more = let before = way.no_more in omega arith;
       fewer = λ a. let before = way.no_more in omega arith;
     }
@@ -212,8 +211,8 @@ tried_again_on : (file : ℕ) (one : Held) (waiting : List Held) (count : ℕ) (
 unfolding tried_again
 tried_again_on file one waiting count pass way =
     let try : Tried = tried one.client one.request pass.progress in
-    if_cases (IsUnderWay file waiting count) (is_behind one.client pass.kept)
-    (pass_kept one pass pass.progress) (after_try file one waiting pass try.progress try.outcome)
+    if_cases (IsUnderWay file waiting count) (is_behind one.client pass.passed)
+    (left_waiting one pass pass.progress) (after_try file one waiting pass try.progress try.outcome)
     (λ b. kept_on file one waiting count pass pass.progress refl way)
     (λ b. after_try_on file one waiting count pass try.progress try.outcome
     (tried_holds 3 one.client one.request pass.progress) way)
@@ -231,11 +230,11 @@ one_pass_fewer : (file : ℕ) (progress : Progress) → (one_pass file progress)
 one_pass_fewer file progress answered =
     let way : IsUnderWay file [] (length (progress.server.held file)) (one_pass file progress) =
     pass_over_on file (progress.server.held file) (length (progress.server.held file))
-    (record { kept = []; progress = progress; has_answered = false })
+    (record { passed = []; progress = progress; has_answered = false })
     (record { held = refl; no_more = omega arith; fewer = λ a. clash false a refl }) in
     let less = way.fewer answered in
-    let left : length ((one_pass file progress).progress.server.held file) ≡ length (one_pass file progress).kept =
-    ap (λ (l : List Held). length l) way.held ∙ length-append (one_pass file progress).kept [] ∙ omega arith in
+    let left : length ((one_pass file progress).progress.server.held file) ≡ length (one_pass file progress).passed =
+    ap (λ (l : List Held). length l) way.held ∙ length-append (one_pass file progress).passed [] ∙ omega arith in
     omega arith
 
 -- ---- passes

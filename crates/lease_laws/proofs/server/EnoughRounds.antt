@@ -1,20 +1,21 @@
 -- What is wanted and doesn't keep a request waiting is gone after one round.
 use Rattle.std.proofs.Common.{◌≡◌, ◌⊎◌, inl, inr, ⊎_elim, arith, refl, sym, ap, ◌∙◌, subst, ℕ, Bool, true, false, not, List, [], ◌∷◌, map}
 use Rattle.std.specs.Prelude.{if◌then◌else◌, ◌&&◌, filter, find, Option, Some, None}
-use Rattle.std.specs.List.{list_any}
+use Rattle.std.specs.List.{list_any, list_all}
 use Rattle.lease_state.specs.State.{State, nothing_cached, needs_acknowledgment}
-use Rattle.lease_model.specs.server.Attempt.{is_left_open, lease_broken, want_met, wants_met, must_wait}
+use Rattle.lease_model.specs.server.Attempt.{is_left_open, lease_broken, want_met, wants_met}
 use Rattle.lease_model.specs.values.Keys.{Key, key_eq, key_before}
 use Rattle.lease_model.specs.server.Progress.{Progress, opens_dropped, with_opens, lease_lowered, break_begun}
-use Rattle.lease_model.specs.server.Ready.{waits_for}
-use Rattle.lease_model.specs.messages.Requests.{Request}
+use Rattle.lease_model.specs.server.Ready.{breaks_to_some, breaks_to_none}
 use Rattle.lease_laws.specs.server.Laws.{Among}
 use Rattle.lease_model.specs.server.State.{Server, Open, Lease, no_lease, has_key, is_key, is_breaking, has_lease}
 use Rattle.lease_model.specs.server.Wants.{Want, wants_where}
 use Rattle.lease_model.specs.server.KeyOrder.{key_added, open_key_added, keys_of}
 use Rattle.lease_model.specs.server.Naming.{key_of, lease_by, lease_of}
-use Rattle.lease_laws.proofs.server.Keys.{key_eq-same, is_key-refl, put_key-cases, put_key-here}
-use Rattle.lease_laws.proofs.server.Lists.{if_cases, clash, and_parts, and_both, not_true, not_false, among_filter, among_filtered, among_map, any_has, has_any}
+use Rattle.lease_laws.proofs.server.Breaking.{to_nothing}
+use Rattle.lease_laws.proofs.server.Keys.{key_eq-same, is_key-refl, is_key-one, put_key-cases, put_key-here}
+use Rattle.lease_laws.proofs.server.Lists.{if_cases, clash, and_parts, and_both, not_true, not_false, among_filter, among_filtered, among_map, any_has, has_any, none_has, each_all}
+use Rattle.lease_laws.proofs.server.Wants.{keys_of-has}
 
 -- ---- words on lists
 
@@ -328,40 +329,57 @@ wanted_has holds base lowering server one bytes a e b h =
     (and_both (base one) (holds (lease_of server one).state) b
     (ap (λ (key : Option (List ℕ)). holds (lease_by server one.client key).state) e ∙ h))) e)
 
--- a breaking lease keeps a request waiting
-breaking_waits : (request : Request) (lease : Lease) → is_breaking lease ≡ true → waits_for request lease ≡ true
-unfolding waits_for
-breaking_waits request lease b = b
+-- an open that is still wanted after a round: its lease was wanted, and is breaking
+pub record IsStillWanted (holds : State → Bool) (base : Open → Bool) (lowering : State → State) (before : Server)
+    (after : Server) (key : Key) : Type 0 where
+  pub was_wanted : Among (record { key = key; lowered = lowering (before.leases key).state })
+      (wanted holds base lowering before)
+  pub is_breaking : is_breaking (after.leases key) ≡ true
 
--- an open that is left after a round that doesn't wait: its lease has nothing to give up
-left_met : (holds : State → Bool) (base : Open → Bool) (lowering : State → State) (request : Request)
-    (before after : Server) (one : Open) (key : Option (List ℕ)) → one.lease_key ≡ key
-    → holds nothing_cached ≡ false
+-- its key is the open's
+still_wanted : (holds : State → Bool) (base : Open → Bool) (lowering : State → State)
+    (before after : Server) (one : Open) (bytes : List ℕ) → one.lease_key ≡ Some bytes
     → IsRound holds (wanted holds base lowering before) before after
-    → list_any (λ want. waits_for request (after.leases want.key)) (wanted holds base lowering before) ≡ false
-    → Among one after.opens → is_wanted holds base after one ≡ false
-left_met holds base lowering request before after one None e nothing round ready a =
-    not_true (is_wanted holds base after one) (λ t. clash (holds (lease_of after one).state)
-    (and_parts (base one) (holds (lease_of after one).state) t).1
-    (ap (λ (key : Option (List ℕ)). holds (lease_by after one.client key).state) e ∙ nothing))
-left_met holds base lowering request before after one (Some bytes) e nothing round ready a =
+    → Among one after.opens → is_wanted holds base after one ≡ true
+    → IsStillWanted holds base lowering before after (key_of one.client bytes)
+still_wanted holds base lowering before after one bytes e round a t =
     let key : Key = key_of one.client bytes in
     let lease : lease_of after one ≡ after.leases key = ap (λ (k : Option (List ℕ)). lease_by after one.client k) e in
     let want : Want = record { key = key; lowered = lowering (before.leases key).state } in
-    not_true (is_wanted holds base after one) (λ t.
     let parts : (base one ≡ true) × (holds (lease_of after one).state ≡ true) = and_parts (base one) (holds (lease_of after one).state) t in
     let now : holds (after.leases key).state ≡ true = ap (λ (l : Lease). holds l.state) (sym lease) ∙ parts.1 in
     let was : holds (before.leases key).state ≡ true =
     not_false (holds (before.leases key).state) (λ n. clash (holds (after.leases key).state) now (round.goes_on.no_new_right key n)) in
     let wanted_too : Among want (wanted holds base lowering before) =
     wanted_has holds base lowering before one bytes (round.goes_on.no_new_open one a) e parts.0 was in
-    ⊎_elim
-    (λ b. clash (list_any (λ want. waits_for request (after.leases want.key)) (wanted holds base lowering before))
-    (has_any (λ want. waits_for request (after.leases want.key)) want (wanted holds base lowering before) wanted_too
-    (breaking_waits request (after.leases key) b)) ready)
-    (λ r. clash (holds (after.leases key).state) now r)
-    (round.met want wanted_too (has_any (has_key key) one after.opens a
-    (ap (λ (k : Option (List ℕ)). is_key key one.client k) e ∙ is_key-refl one.client bytes))))
+    record {
+      was_wanted = wanted_too;
+      is_breaking = ⊎_elim (λ b. b) (λ r. clash (holds (after.leases key).state) now r)
+          (round.met want wanted_too (has_any (has_key key) one after.opens a
+          (ap (λ (k : Option (List ℕ)). is_key key one.client k) e ∙ is_key-refl one.client bytes)));
+    }
+
+-- none of the wants' leases passes the test
+abbrev pub NoneIs : (Lease → Bool) → Server → List Want → Type 0
+NoneIs test server wants = list_any (λ want. test (server.leases want.key)) wants ≡ false
+
+-- an open that is left after a round that leaves nothing breaking: its lease has nothing to give up
+left_met : (holds : State → Bool) (base : Open → Bool) (lowering : State → State)
+    (before after : Server) (one : Open) (key : Option (List ℕ)) → one.lease_key ≡ key
+    → holds nothing_cached ≡ false
+    → IsRound holds (wanted holds base lowering before) before after
+    → NoneIs (λ lease. is_breaking lease) after (wanted holds base lowering before)
+    → Among one after.opens → is_wanted holds base after one ≡ false
+left_met holds base lowering before after one None e nothing round ready a =
+    not_true (is_wanted holds base after one) (λ t. clash (holds (lease_of after one).state)
+    (and_parts (base one) (holds (lease_of after one).state) t).1
+    (ap (λ (key : Option (List ℕ)). holds (lease_by after one.client key).state) e ∙ nothing))
+left_met holds base lowering before after one (Some bytes) e nothing round ready a =
+    not_true (is_wanted holds base after one) (λ t.
+    let still = still_wanted holds base lowering before after one bytes e round a t in
+    clash (list_any (λ want. is_breaking (after.leases want.key)) (wanted holds base lowering before))
+    (has_any (λ want. is_breaking (after.leases want.key)) _ (wanted holds base lowering before) still.was_wanted
+    still.is_breaking) ready)
 
 -- where no open's lease has anything to give up, nothing is wanted
 pub nothing_wanted : (holds : State → Bool) (base : Open → Bool) (lowering : State → State) (server : Server)
@@ -377,18 +395,71 @@ pub record IsRoundDone (holds : State → Bool) (base : Open → Bool) (before :
   pub goes_on : IsAfterBreaks holds before after
   pub none_left : (one : Open) → Among one after.opens → is_wanted holds base after one ≡ false
 
--- after a round that does not keep the request waiting, nothing of the kind is wanted
-pub round_done : (holds : State → Bool) (base : Open → Bool) (lowering : State → State) (request : Request) (progress : Progress)
+-- after a round that leaves none of its leases breaking, nothing of the kind is wanted
+pub round_done : (holds : State → Bool) (base : Open → Bool) (lowering : State → State) (progress : Progress)
     → holds nothing_cached ≡ false → ((state : State) → holds (lowering state) ≡ false)
-    → must_wait request (wants_met (wanted holds base lowering progress.server) progress)
-    (wanted holds base lowering progress.server) ≡ false
+    → NoneIs (λ lease. is_breaking lease) (wants_met (wanted holds base lowering progress.server) progress).server
+    (wanted holds base lowering progress.server)
     → IsRoundDone holds base progress.server (wants_met (wanted holds base lowering progress.server) progress).server
-round_done holds base lowering request progress nothing low ready =
+round_done holds base lowering progress nothing low ready =
     let wants : List Want = wanted holds base lowering progress.server in
     let round : IsRound holds wants progress.server (wants_met wants progress).server =
     wants_met_met holds wants progress nothing (wanted_low holds base lowering progress.server low) in
     record {
       goes_on = round.goes_on;
-      none_left = λ one a. left_met holds base lowering request progress.server (wants_met wants progress).server
+      none_left = λ one a. left_met holds base lowering progress.server (wants_met wants progress).server
           one one.lease_key refl nothing round ready a;
+    }
+
+-- each lease that is wanted is breaking to nothing
+abbrev pub AllBreakToNone : Server → List Want → Type 0
+AllBreakToNone server wants = list_all (λ want. breaks_to_none (server.leases want.key)) wants ≡ true
+
+-- what a round leaves behind where it leaves no lease breaking to something
+pub record IsRoundBroken (holds : State → Bool) (base : Open → Bool) (lowering : State → State) (before : Server)
+    (after : Server) : Type 0 where
+  pub goes_on : IsAfterBreaks holds before after
+  pub to_none : AllBreakToNone after (wanted holds base lowering after)
+
+-- a key that is still wanted is that of an open which is
+still_open : (holds : State → Bool) (base : Open → Bool) (lowering : State → State) (before after : Server) (key : Key)
+    (one : Open) (bytes : Option (List ℕ)) → one.lease_key ≡ bytes → has_key key one ≡ true
+    → IsRound holds (wanted holds base lowering before) before after
+    → Among one after.opens → is_wanted holds base after one ≡ true
+    → IsStillWanted holds base lowering before after key
+still_open holds base lowering before after key one None e k round a t =
+    clash (has_key key one) k (ap (λ (b : Option (List ℕ)). is_key key one.client b) e)
+still_open holds base lowering before after key one (Some bytes) e k round a t =
+    subst (λ x. IsStillWanted holds base lowering before after x)
+    (is_key-one (key_of one.client bytes) key one.client (Some bytes) (is_key-refl one.client bytes)
+    (ap (λ (b : Option (List ℕ)). is_key key one.client b) (sym e) ∙ k))
+    (still_wanted holds base lowering before after one bytes e round a t)
+
+-- after a round that leaves none of its leases breaking to something, what is still wanted is breaking to
+-- nothing
+pub round_broken : (holds : State → Bool) (base : Open → Bool) (lowering : State → State) (progress : Progress)
+    → holds nothing_cached ≡ false → ((state : State) → holds (lowering state) ≡ false)
+    → NoneIs (λ lease. breaks_to_some lease) (wants_met (wanted holds base lowering progress.server) progress).server
+    (wanted holds base lowering progress.server)
+    → IsRoundBroken holds base lowering progress.server
+    (wants_met (wanted holds base lowering progress.server) progress).server
+unfolding wants_where
+round_broken holds base lowering progress nothing low ready =
+    let wants : List Want = wanted holds base lowering progress.server in
+    let after : Server = (wants_met wants progress).server in
+    let round : IsRound holds wants progress.server after =
+    wants_met_met holds wants progress nothing (wanted_low holds base lowering progress.server low) in
+    record {
+      goes_on = round.goes_on;
+      to_none = each_all (λ want. breaks_to_none (after.leases want.key)) (wanted holds base lowering after)
+          (λ want a.
+          let x = among_map (λ key. record { key = key; lowered = lowering (after.leases key).state }) want
+          (keys_of (filter (is_wanted holds base after) after.opens)) a in
+          let y = keys_of-has x.0 (filter (is_wanted holds base after) after.opens) x.1 in
+          let z = among_filter (is_wanted holds base after) y.0 after.opens y.1 in
+          let still = still_open holds base lowering progress.server after x.0 y.0 (y.0).lease_key refl y.2 round
+          z.0 z.1 in
+          ap (λ (w : Want). breaks_to_none (after.leases w.key)) x.2
+          ∙ to_nothing (after.leases x.0).broken_to still.is_breaking
+          (none_has (λ want. breaks_to_some (after.leases want.key)) _ wants ready still.was_wanted));
     }

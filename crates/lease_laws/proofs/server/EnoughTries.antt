@@ -15,43 +15,43 @@ use Rattle.lease_model.specs.values.Keys.{Key}
 use Rattle.lease_model.specs.values.LeaseStates.{holds_any, without_write, without_handle}
 use Rattle.lease_model.specs.values.Lists.{is_empty}
 use Rattle.lease_model.specs.server.Progress.{Progress}
-use Rattle.lease_model.specs.server.Ready.{is_ready}
-use Rattle.lease_model.specs.messages.Requests.{Request, CreateAsk, LeaseOf}
+use Rattle.lease_model.specs.server.Ready.{is_ready, waits_for, breaks_to_some}
+use Rattle.lease_model.specs.messages.Requests.{FileRequest, CreateAsk, LeaseOf}
 use Rattle.lease_laws.specs.server.Laws.{Among}
-use Rattle.lease_model.specs.server.State.{Server, Open, has_file}
+use Rattle.lease_model.specs.server.State.{Server, Open, Lease, has_file, is_breaking}
 use Rattle.lease_model.specs.values.Sharing.{may_read, may_write}
 use Rattle.lease_model.specs.server.Wants.{Want, handle_wants, write_wants, all_wants}
 use Rattle.lease_model.specs.server.Findings.{Finding, finding, create_finding, reconnect_finding, write_finding, read_finding, by_open, connected_open, is_leased_elsewhere, awaits}
 use Rattle.lease_model.specs.server.Naming.{own_key, key_of_open}
-use Rattle.lease_laws.proofs.server.EnoughRounds.{IsAfterBreaks, IsRoundDone, is_wanted, nothing_wanted, round_done}
+use Rattle.lease_laws.proofs.server.EnoughRounds.{IsAfterBreaks, IsRoundDone, NoneIs, IsRoundBroken, AllBreakToNone, is_wanted, nothing_wanted, round_done, round_broken}
 use Rattle.lease_laws.proofs.server.Lists.{if_cases, either, clash, and_parts, not_true, any_has, has_any}
 
 -- ---- so many rounds are enough for a try
 
 -- after a look, the try ends or the rest of it does
-abbrev EndsAfter : (Progress → Type 0) → Request → Progress → Finding → Type 0
-EndsAfter next request progress (Finding.Refused status) = Unit {0}
-EndsAfter next request progress (Finding.Wants wants) = is_ready request progress.server.leases wants ≡ false
+abbrev pub EndsAfter : (Progress → Type 0) → FileRequest → Progress → Finding → Type 0
+EndsAfter next request progress (Finding.Fails status) = Unit {0}
+EndsAfter next request progress (Finding.Needs wants) = is_ready request progress.server.leases wants ≡ false
     → must_wait request (wants_met wants progress) wants ≡ false → next (wants_met wants progress)
 
 -- the try ends in so many rounds
-Ends : ℕ → ℕ → Request → Progress → Type 0
+unfoldable pub Ends : ℕ → ℕ → FileRequest → Progress → Type 0
 Ends zero client request progress = ⊥
 Ends (suc rounds) client request progress =
     EndsAfter (Ends rounds client request) request progress (finding progress.server client request)
 
 -- where the rest of two tries is the same, so are the tries
-same_after : (again other : Progress → Tried) (next : Progress → Type 0) (request : Request) (progress : Progress)
+same_after : (again other : Progress → Tried) (next : Progress → Type 0) (request : FileRequest) (progress : Progress)
     (found : Finding) → ((q : Progress) → next q → again q ≡ other q) → EndsAfter next request progress found
     → after_finding again request progress found ≡ after_finding other request progress found
-same_after again other next request progress (Finding.Refused status) same ends = refl
-same_after again other next request progress (Finding.Wants wants) same ends =
+same_after again other next request progress (Finding.Fails status) same ends = refl
+same_after again other next request progress (Finding.Needs wants) same ends =
     either (is_ready request progress.server.leases wants) (λ r. rw r refl)
     (λ r. either (must_wait request (wants_met wants progress) wants) (λ w. rw (r, w) refl)
     (λ w. rw (r, w) (same (wants_met wants progress) (ends r w))))
 
 -- where so many rounds are enough, more do the same
-more_same : (rounds more client : ℕ) (request : Request) (progress : Progress) → Ends rounds client request progress
+more_same : (rounds more client : ℕ) (request : FileRequest) (progress : Progress) → Ends rounds client request progress
     → rounds ≤ more → tried_for more client request progress ≡ tried_for rounds client request progress
 unfolding tried_for Ends
 more_same zero more client request progress ends le = absurd ends
@@ -62,14 +62,14 @@ more_same (suc rounds) (suc more) client request progress ends le =
     (λ q e. more_same rounds more client request q e (omega arith)) ends
 
 -- and the try ends for a reason
-after_reason : (again : Progress → Tried) (next : Progress → Type 0) (client : ℕ) (request : Request) (progress : Progress)
+after_reason : (again : Progress → Tried) (next : Progress → Type 0) (client : ℕ) (request : FileRequest) (progress : Progress)
     (found : Finding) → finding progress.server client request ≡ found
     → ((q : Progress) → next q → EndsFor client request (again q).progress (again q).outcome)
     → EndsAfter next request progress found
     → EndsFor client request (after_finding again request progress found).progress
     (after_finding again request progress found).outcome
-after_reason again next client request progress (Finding.Refused status) e good ends = e
-after_reason again next client request progress (Finding.Wants wants) e good ends =
+after_reason again next client request progress (Finding.Fails status) e good ends = e
+after_reason again next client request progress (Finding.Needs wants) e good ends =
     if_cases (λ (t : Tried). EndsFor client request t.progress t.outcome) (is_ready request progress.server.leases wants)
     (ended progress Outcome.Ready) (after_breaks again request wants (wants_met wants progress))
     (λ r. (wants, e, r))
@@ -80,7 +80,7 @@ after_reason again next client request progress (Finding.Wants wants) e good end
     (λ w. good (wants_met wants progress) (ends r w)))
 
 -- a try of so many rounds ends for a reason
-with_reason : (rounds client : ℕ) (request : Request) (progress : Progress) → Ends rounds client request progress
+with_reason : (rounds client : ℕ) (request : FileRequest) (progress : Progress) → Ends rounds client request progress
     → EndsFor client request (tried_for rounds client request progress).progress
     (tried_for rounds client request progress).outcome
 unfolding tried_for Ends
@@ -92,35 +92,60 @@ with_reason (suc rounds) client request progress ends =
 -- ---- one round more
 
 -- a look refuses the request
-ends_refused : (rounds client : ℕ) (request : Request) (progress : Progress) (status : Status)
-    → finding progress.server client request ≡ Finding.Refused status → Ends (suc rounds) client request progress
+ends_refused : (rounds client : ℕ) (request : FileRequest) (progress : Progress) (status : Status)
+    → finding progress.server client request ≡ Finding.Fails status → Ends (suc rounds) client request progress
 unfolding Ends
 ends_refused rounds client request progress status e =
     subst (λ (f : Finding). EndsAfter (Ends rounds client request) request progress f) (sym e) tt
 
 -- a look wants leases broken, and then the rest of the try ends
-ends_wants : (rounds client : ℕ) (request : Request) (progress : Progress) (wants : List Want)
-    → finding progress.server client request ≡ Finding.Wants wants
+ends_wants : (rounds client : ℕ) (request : FileRequest) (progress : Progress) (wants : List Want)
+    → finding progress.server client request ≡ Finding.Needs wants
     → (must_wait request (wants_met wants progress) wants ≡ false → Ends rounds client request (wants_met wants progress))
     → Ends (suc rounds) client request progress
 unfolding Ends
 ends_wants rounds client request progress wants e next =
     subst (λ (f : Finding). EndsAfter (Ends rounds client request) request progress f) (sym e) (λ r w. next w)
 
+-- where nothing is wanted each request is ready
+nothing_ready : (request : FileRequest) (leases : Key → Lease) → is_ready request leases [] ≡ true
+unfolding is_ready
+nothing_ready (FileRequest.Create file access share contexts) leases = refl
+nothing_ready (FileRequest.Read file_id) leases = refl
+nothing_ready (FileRequest.Write file_id number patch) leases = refl
+nothing_ready (FileRequest.Close file_id) leases = refl
+
 -- a look wants nothing
-ends_ready : (rounds client : ℕ) (request : Request) (progress : Progress)
-    → finding progress.server client request ≡ Finding.Wants [] → Ends (suc rounds) client request progress
-unfolding Ends is_ready
+ends_ready : (rounds client : ℕ) (request : FileRequest) (progress : Progress)
+    → finding progress.server client request ≡ Finding.Needs [] → Ends (suc rounds) client request progress
+unfolding Ends
 ends_ready rounds client request progress e =
     subst (λ (f : Finding). EndsAfter (Ends rounds client request) request progress f) (sym e)
-    (λ r w. clash true refl r)
+    (λ r w. clash (is_ready request progress.server.leases []) (nothing_ready request progress.server.leases) r)
+
+-- a look finds the request ready
+ends_found : (rounds client : ℕ) (request : FileRequest) (progress : Progress) (wants : List Want)
+    → finding progress.server client request ≡ Finding.Needs wants
+    → is_ready request progress.server.leases wants ≡ true → Ends (suc rounds) client request progress
+unfolding Ends
+ends_found rounds client request progress wants e ready =
+    subst (λ (f : Finding). EndsAfter (Ends rounds client request) request progress f) (sym e)
+    (λ r w. clash (is_ready request progress.server.leases wants) ready r)
 
 -- ---- a create
 
 -- the request of a create that doesn't reconnect
-abbrev create : ℕ → Access → Share → Option LeaseOf → Bool → Request
-create file access share lease durable = Request.Create file access share
+abbrev create : ℕ → Access → Share → Option LeaseOf → Bool → FileRequest
+create file access share lease durable = FileRequest.Create file access share
     (Some (record { lease = lease; durable = durable; reconnect = None }))
+
+-- a create that goes on waits for no lease that is breaking
+create_goes_on : (file : ℕ) (access : Access) (share : Share) (lease : Option LeaseOf) (durable : Bool)
+    (wants : List Want) (progress : Progress)
+    → must_wait (create file access share lease durable) progress wants ≡ false
+    → NoneIs (λ lease. is_breaking lease) progress.server wants
+unfolding waits_for
+create_goes_on file access share lease durable wants progress e = e
 
 -- the file is there, and the key has no lease on another
 record IsAt (own : Option Key) (file : ℕ) (server : Server) : Type 0 where
@@ -153,14 +178,14 @@ at_after holds own file before after later at = record {
 -- what a look at a create finds
 finds_nowhere : (client file : ℕ) (access : Access) (share : Share) (lease : Option LeaseOf) (durable : Bool) (server : Server)
     → has_file server file ≡ false
-    → finding server client (create file access share lease durable) ≡ Finding.Refused Status.ObjectNameNotFound
+    → finding server client (create file access share lease durable) ≡ Finding.Fails Status.ObjectNameNotFound
 unfolding finding
 finds_nowhere client file access share lease durable server e = rw e refl
 
 -- its key has a lease on another file
 finds_elsewhere : (client file : ℕ) (access : Access) (share : Share) (lease : Option LeaseOf) (durable : Bool) (server : Server)
     → has_file server file ≡ true → is_leased_elsewhere server (own_key client lease) file ≡ true
-    → finding server client (create file access share lease durable) ≡ Finding.Refused Status.InvalidParameter
+    → finding server client (create file access share lease durable) ≡ Finding.Fails Status.InvalidParameter
 unfolding finding create_finding
 finds_elsewhere client file access share lease durable server e h = rw (e, h) refl
 
@@ -168,7 +193,7 @@ finds_elsewhere client file access share lease durable server e h = rw (e, h) re
 finds_writes : (client file : ℕ) (access : Access) (share : Share) (lease : Option LeaseOf) (durable : Bool) (server : Server)
     → IsAt (own_key client lease) file server → list_any (conflicts_on file access share) server.opens ≡ false
     → finding server client (create file access share lease durable)
-    ≡ Finding.Wants (write_wants server (own_key client lease) file)
+    ≡ Finding.Needs (write_wants server (own_key client lease) file)
 unfolding finding create_finding
 finds_writes client file access share lease durable server at calm = rw (at.there, at.home, calm) refl
 
@@ -176,7 +201,7 @@ finds_writes client file access share lease durable server at calm = rw (at.ther
 finds_violation : (client file : ℕ) (access : Access) (share : Share) (lease : Option LeaseOf) (durable : Bool) (server : Server)
     → IsAt (own_key client lease) file server → list_any (conflicts_on file access share) server.opens ≡ true
     → is_empty (handle_wants server (own_key client lease) file access share) ≡ true
-    → finding server client (create file access share lease durable) ≡ Finding.Refused Status.SharingViolation
+    → finding server client (create file access share lease durable) ≡ Finding.Fails Status.SharingViolation
 unfolding finding create_finding
 finds_violation client file access share lease durable server at clash none =
     rw (at.there, at.home, clash, none) refl
@@ -186,7 +211,7 @@ finds_handles : (client file : ℕ) (access : Access) (share : Share) (lease : O
     → IsAt (own_key client lease) file server → list_any (conflicts_on file access share) server.opens ≡ true
     → is_empty (handle_wants server (own_key client lease) file access share) ≡ false
     → finding server client (create file access share lease durable)
-    ≡ Finding.Wants (handle_wants server (own_key client lease) file access share)
+    ≡ Finding.Needs (handle_wants server (own_key client lease) file access share)
 unfolding finding create_finding
 finds_handles client file access share lease durable server at clash some =
     rw (at.there, at.home, clash, some) refl
@@ -214,7 +239,7 @@ unfolding write_wants
 last_round rounds client file access share lease durable progress at calm none =
     ends_ready rounds client (create file access share lease durable) progress
     (finds_writes client file access share lease durable progress.server at calm
-    ∙ ap (λ (w : List Want). Finding.Wants w)
+    ∙ ap (λ (w : List Want). Finding.Needs w)
     (nothing_wanted writes (is_other_on (own_key client lease) file) without_write progress.server none))
 
 -- where no conflict is left, two rounds are enough
@@ -231,7 +256,8 @@ write_round rounds client file access share lease durable progress at calm =
     (finds_writes client file access share lease durable progress.server at calm)
     (λ ready.
     let done : IsRoundDone writes (is_other_on own file) progress.server next.server =
-    round_done writes (is_other_on own file) without_write (create file access share lease durable) progress refl (λ s. refl) ready in
+    round_done writes (is_other_on own file) without_write progress refl (λ s. refl)
+    (create_goes_on file access share lease durable (write_wants progress.server own file) next ready) in
     last_round rounds client file access share lease durable next
     (at_after writes own file progress.server next.server done.goes_on at)
     (fewer_none (conflicts_on file access share) progress.server next.server done.goes_on.no_new_open calm)
@@ -267,8 +293,8 @@ handle_round client file access share lease durable progress at clash some =
     (finds_handles client file access share lease durable progress.server at clash some)
     (λ ready.
     let done : IsRoundDone handles (in_conflict own file access share) progress.server next.server =
-    round_done handles (in_conflict own file access share) without_handle (create file access share lease durable) progress
-    refl (λ s. refl) ready in
+    round_done handles (in_conflict own file access share) without_handle progress refl (λ s. refl)
+    (create_goes_on file access share lease durable (handle_wants progress.server own file access share) next ready) in
     handles_gone client file access share lease durable next
     (at_after handles own file progress.server next.server done.goes_on at) done.none_left)
 
@@ -295,15 +321,15 @@ create_ends client file access share lease durable progress =
 
 -- a look that refuses, or wants nothing
 abbrev IsPlain : Finding → Type 0
-IsPlain (Finding.Refused status) = Unit {0}
-IsPlain (Finding.Wants wants) = wants ≡ []
+IsPlain (Finding.Fails status) = Unit {0}
+IsPlain (Finding.Needs wants) = wants ≡ []
 
 -- such a request ends at once
-plain_ends : (client : ℕ) (request : Request) (progress : Progress) (found : Finding)
+plain_ends : (client : ℕ) (request : FileRequest) (progress : Progress) (found : Finding)
     → finding progress.server client request ≡ found → IsPlain found → Ends 3 client request progress
-plain_ends client request progress (Finding.Refused status) e plain = ends_refused 2 client request progress status e
-plain_ends client request progress (Finding.Wants wants) e plain =
-    ends_ready 2 client request progress (e ∙ ap (λ (w : List Want). Finding.Wants w) plain)
+plain_ends client request progress (Finding.Fails status) e plain = ends_refused 2 client request progress status e
+plain_ends client request progress (Finding.Needs wants) e plain =
+    ends_ready 2 client request progress (e ∙ ap (λ (w : List Want). Finding.Needs w) plain)
 
 -- a reconnect wants nothing
 reconnect_plain : (server : Server) (client file : ℕ) (own : Option Key) (file_id : ℕ)
@@ -311,20 +337,20 @@ reconnect_plain : (server : Server) (client file : ℕ) (own : Option Key) (file
 unfolding reconnect_finding
 reconnect_plain server client file own file_id =
     if_cases IsPlain (list_any (awaits client file own file_id) server.opens)
-    (Finding.Wants []) (Finding.Refused Status.ObjectNameNotFound) (λ e. refl) (λ e. tt)
+    (Finding.Needs []) (Finding.Fails Status.ObjectNameNotFound) (λ e. refl) (λ e. tt)
 
 -- also where its file is looked for
 again_plain : (server : Server) (client file : ℕ) (own : Option Key) (file_id : ℕ)
     → IsPlain (if has_file server file then reconnect_finding server client file own file_id
-    else Finding.Refused Status.ObjectNameNotFound)
+    else Finding.Fails Status.ObjectNameNotFound)
 again_plain server client file own file_id = if_cases IsPlain (has_file server file)
-    (reconnect_finding server client file own file_id) (Finding.Refused Status.ObjectNameNotFound)
+    (reconnect_finding server client file own file_id) (Finding.Fails Status.ObjectNameNotFound)
     (λ e. reconnect_plain server client file own file_id) (λ e. tt)
 
 -- a create, whether it reconnects or not
 any_create_ends : (client file : ℕ) (access : Access) (share : Share) (lease : Option LeaseOf) (durable : Bool)
     (again : Option ℕ) (progress : Progress)
-    → Ends 3 client (Request.Create file access share
+    → Ends 3 client (FileRequest.Create file access share
     (Some (record { lease = lease; durable = durable; reconnect = again }))) progress
 unfolding finding
 any_create_ends client file access share lease durable None progress =
@@ -334,7 +360,7 @@ any_create_ends client file access share lease durable (Some file_id) progress =
 
 -- a create, whether its contexts can be read or not
 contexts_end : (client file : ℕ) (access : Access) (share : Share) (contexts : Option CreateAsk) (progress : Progress)
-    → Ends 3 client (Request.Create file access share contexts) progress
+    → Ends 3 client (FileRequest.Create file access share contexts) progress
 unfolding finding
 contexts_end client file access share None progress = plain_ends client _ progress _ refl tt
 contexts_end client file access share (Some ask) progress =
@@ -343,8 +369,8 @@ contexts_end client file access share (Some ask) progress =
 -- where a write's open is there and nobody else caches anything, the write is ready
 finds_all : (client file_id number : ℕ) (patch : Patch) (server : Server) (one : Open)
     → connected_open server client file_id ≡ Some one → may_write one.access ≡ true → is_within_limit patch ≡ true
-    → finding server client (Request.Write file_id number patch)
-    ≡ Finding.Wants (all_wants server (key_of_open one) one.file)
+    → finding server client (FileRequest.Write file_id number patch)
+    ≡ Finding.Needs (all_wants server (key_of_open one) one.file)
 unfolding finding write_finding
 finds_all client file_id number patch server one e may fits =
     ap (λ (o : Option Open). by_open o (λ one. write_finding server one patch)) e ∙ rw (may, fits) refl
@@ -352,85 +378,97 @@ finds_all client file_id number patch server one e may fits =
 -- a write without access, or too long, is refused
 finds_refused : (client file_id number : ℕ) (patch : Patch) (server : Server) (one : Open)
     → connected_open server client file_id ≡ Some one → (may_write one.access && is_within_limit patch) ≡ false
-    → IsPlain (finding server client (Request.Write file_id number patch))
+    → IsPlain (finding server client (FileRequest.Write file_id number patch))
 unfolding finding write_finding
 finds_refused client file_id number patch server one e refused =
     subst (λ (o : Option Open). IsPlain (by_open o (λ one. write_finding server one patch))) (sym e)
     (refuses (may_write one.access) (is_within_limit patch) (all_wants server (key_of_open one) one.file) refused)
   where
     refuses : (may fits : Bool) (wants : List Want) → (may && fits) ≡ false
-        → IsPlain (if may then (if fits then Finding.Wants wants else Finding.Refused Status.InvalidParameter)
-        else Finding.Refused Status.AccessDenied)
+        → IsPlain (if may then (if fits then Finding.Needs wants else Finding.Fails Status.InvalidParameter)
+        else Finding.Fails Status.AccessDenied)
     refuses true true wants e = clash true refl e
     refuses true false wants e = tt
     refuses false fits wants e = tt
 
 -- a write by an open that is gone is refused
 finds_closed : (client file_id number : ℕ) (patch : Patch) (server : Server) → connected_open server client file_id ≡ None
-    → finding server client (Request.Write file_id number patch) ≡ Finding.Refused Status.FileClosed
+    → finding server client (FileRequest.Write file_id number patch) ≡ Finding.Fails Status.FileClosed
 unfolding finding
 finds_closed client file_id number patch server e =
     ap (λ (o : Option Open). by_open o (λ one. write_finding server one patch)) e
 
+-- a write that goes on waits for no lease that is breaking to something
+write_goes_on : (file_id number : ℕ) (patch : Patch) (wants : List Want) (progress : Progress)
+    → must_wait (FileRequest.Write file_id number patch) progress wants ≡ false
+    → NoneIs (λ lease. breaks_to_some lease) progress.server wants
+unfolding waits_for
+write_goes_on file_id number patch wants progress e = e
+
+-- a write is ready where all that it wants is breaking to nothing
+write_is_ready : (file_id number : ℕ) (patch : Patch) (server : Server) (wants : List Want)
+    → AllBreakToNone server wants → is_ready (FileRequest.Write file_id number patch) server.leases wants ≡ true
+unfolding is_ready
+write_is_ready file_id number patch server wants e = e
+
 -- a write that others cache against is ready after one round
 all_round : (client file_id number : ℕ) (patch : Patch) (progress : Progress) (one : Open)
     → connected_open progress.server client file_id ≡ Some one → may_write one.access ≡ true → is_within_limit patch ≡ true
-    → Ends 3 client (Request.Write file_id number patch) progress
+    → Ends 3 client (FileRequest.Write file_id number patch) progress
 unfolding all_wants
 all_round client file_id number patch progress one e may fits =
     let others : Open → Bool = is_other_on (key_of_open one) one.file in
     let wants : List Want = all_wants progress.server (key_of_open one) one.file in
     let next : Progress = wants_met wants progress in
-    ends_wants 2 client (Request.Write file_id number patch) progress wants
+    ends_wants 2 client (FileRequest.Write file_id number patch) progress wants
     (finds_all client file_id number patch progress.server one e may fits)
     (λ ready.
-    let done : IsRoundDone holds_any others progress.server next.server =
-    round_done holds_any others (λ state. nothing_cached) (Request.Write file_id number patch) progress refl (λ s. refl) ready in
-    ends_ready 1 client (Request.Write file_id number patch) next
+    let done : IsRoundBroken holds_any others (λ state. nothing_cached) progress.server next.server =
+    round_broken holds_any others (λ state. nothing_cached) progress refl (λ s. refl)
+    (write_goes_on file_id number patch wants next ready) in
+    ends_found 1 client (FileRequest.Write file_id number patch) next
+    (all_wants next.server (key_of_open one) one.file)
     (finds_all client file_id number patch next.server one
-    (done.goes_on.connected_left (λ x. x.file_id == file_id && x.client == client) ∙ e) may fits
-    ∙ ap (λ (w : List Want). Finding.Wants w)
-    (nothing_wanted holds_any others (λ state. nothing_cached) next.server done.none_left)))
+    (done.goes_on.connected_left (λ x. x.file_id == file_id && x.client == client) ∙ e) may fits)
+    (write_is_ready file_id number patch next.server (all_wants next.server (key_of_open one) one.file) done.to_none))
 
 -- a write
 write_ends : (client file_id number : ℕ) (patch : Patch) (progress : Progress) (found : Option Open)
     → connected_open progress.server client file_id ≡ found
-    → Ends 3 client (Request.Write file_id number patch) progress
+    → Ends 3 client (FileRequest.Write file_id number patch) progress
 write_ends client file_id number patch progress None e =
-    ends_refused 2 client (Request.Write file_id number patch) progress Status.FileClosed
+    ends_refused 2 client (FileRequest.Write file_id number patch) progress Status.FileClosed
     (finds_closed client file_id number patch progress.server e)
 write_ends client file_id number patch progress (Some one) e =
     either (may_write one.access && is_within_limit patch)
     (λ good. let both : (may_write one.access ≡ true) × (is_within_limit patch ≡ true) =
     and_parts (may_write one.access) (is_within_limit patch) good in
     all_round client file_id number patch progress one e both.0 both.1)
-    (λ bad. plain_ends client (Request.Write file_id number patch) progress _ refl
+    (λ bad. plain_ends client (FileRequest.Write file_id number patch) progress _ refl
     (finds_refused client file_id number patch progress.server one e bad))
 
 -- a read wants nothing
 read_plain : (found : Option Open) → IsPlain (by_open found read_finding)
 read_plain None = tt
-read_plain (Some one) = if_cases IsPlain (may_read one.access) (Finding.Wants []) (Finding.Refused Status.AccessDenied)
+read_plain (Some one) = if_cases IsPlain (may_read one.access) (Finding.Needs []) (Finding.Fails Status.AccessDenied)
     (λ e. refl) (λ e. tt)
 
 -- a close wants nothing
-close_plain : (found : Option Open) → IsPlain (by_open found (λ one. Finding.Wants []))
+close_plain : (found : Option Open) → IsPlain (by_open found (λ one. Finding.Needs []))
 close_plain None = tt
 close_plain (Some one) = refl
 
 -- every try ends in three rounds
-tries_settle : (client : ℕ) (request : Request) (progress : Progress) → Ends 3 client request progress
+pub tries_settle : (client : ℕ) (request : FileRequest) (progress : Progress) → Ends 3 client request progress
 unfolding finding
-tries_settle client (Request.Create file access share contexts) progress =
+tries_settle client (FileRequest.Create file access share contexts) progress =
     contexts_end client file access share contexts progress
-tries_settle client (Request.Read file_id) progress =
-    plain_ends client (Request.Read file_id) progress _ refl (read_plain (connected_open progress.server client file_id))
-tries_settle client (Request.Write file_id number patch) progress =
+tries_settle client (FileRequest.Read file_id) progress =
+    plain_ends client (FileRequest.Read file_id) progress _ refl (read_plain (connected_open progress.server client file_id))
+tries_settle client (FileRequest.Write file_id number patch) progress =
     write_ends client file_id number patch progress (connected_open progress.server client file_id) refl
-tries_settle client (Request.Close file_id) progress =
-    plain_ends client (Request.Close file_id) progress _ refl (close_plain (connected_open progress.server client file_id))
-tries_settle client (Request.Acknowledge acknowledged) progress =
-    plain_ends client (Request.Acknowledge acknowledged) progress _ refl refl
+tries_settle client (FileRequest.Close file_id) progress =
+    plain_ends client (FileRequest.Close file_id) progress _ refl (close_plain (connected_open progress.server client file_id))
 
 -- so it ends for a reason
 pub tries_end : TriesEnd

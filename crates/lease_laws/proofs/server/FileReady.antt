@@ -8,7 +8,7 @@ use Rattle.lease_state.specs.declared.access.Share.{Share}
 use Rattle.lease_state.specs.declared.status.Status.{Status}
 use Rattle.lease_model.specs.values.Keys.{Key}
 use Rattle.lease_model.specs.server.Progress.{Progress}
-use Rattle.lease_model.specs.messages.Requests.{Request, CreateAsk, LeaseOf}
+use Rattle.lease_model.specs.messages.Requests.{FileRequest, CreateAsk, LeaseOf}
 use Rattle.lease_laws.specs.server.Laws.{Among}
 use Rattle.lease_model.specs.server.State.{Server, Open, has_file, has_key}
 use Rattle.lease_model.specs.server.Wants.{Want}
@@ -36,8 +36,8 @@ ContextsReady server client file (Some ask) = (has_file server file ≡ true) ×
     ask.reconnect
 
 -- what is known of the file of a request that is ready
-abbrev pub FileReady : Server → ℕ → Request → Type 0
-FileReady server client (Request.Create file access share contexts) = ContextsReady server client file
+abbrev pub FileReady : Server → ℕ → FileRequest → Type 0
+FileReady server client (FileRequest.Create file access share contexts) = ContextsReady server client file
     contexts
 FileReady server client request = Unit {0}
 
@@ -58,12 +58,12 @@ awaits_own client file (Some key) file_id one e =
 
 -- a reconnect that is ready finds its open
 reconnect_awaited : (server : Server) (client file : ℕ) (own : Option Key) (file_id : ℕ) (wants : List Want)
-    → reconnect_finding server client file own file_id ≡ Finding.Wants wants → IsAwaited server client file_id
+    → reconnect_finding server client file own file_id ≡ Finding.Needs wants → IsAwaited server client file_id
 unfolding reconnect_finding
 reconnect_awaited server client file own file_id wants =
-    if_cases (λ found. found ≡ Finding.Wants wants → IsAwaited server client file_id)
+    if_cases (λ found. found ≡ Finding.Needs wants → IsAwaited server client file_id)
     (list_any (awaits client file own file_id) server.opens)
-    (Finding.Wants []) (Finding.Refused Status.ObjectNameNotFound)
+    (Finding.Needs []) (Finding.Fails Status.ObjectNameNotFound)
     (λ e same. let x = any_has (awaits client file own file_id) server.opens e in let y = awaits_own client
     file own file_id x.0 x.2 in
     record { one = x.0; is_there = x.1; has_id = y.0; is_own = y.1 })
@@ -72,7 +72,7 @@ reconnect_awaited server client file own file_id wants =
 -- so does a create with a reconnect
 asked_again : (server : Server) (client file : ℕ) (access : Access) (share : Share) (lease : Option LeaseOf)
     (again : Option ℕ) (wants : List Want)
-    → asked_finding server client file access share lease again ≡ Finding.Wants wants
+    → asked_finding server client file access share lease again ≡ Finding.Needs wants
     → AgainReady server client again
 asked_again server client file access share lease None wants e = tt
 asked_again server client file access share lease (Some file_id) wants e = reconnect_awaited server client
@@ -81,24 +81,23 @@ asked_again server client file access share lease (Some file_id) wants e = recon
 -- a create that is ready
 contexts_ready : (server : Server) (client file : ℕ) (access : Access) (share : Share)
     (contexts : Option CreateAsk) (wants : List Want)
-    → finding server client (Request.Create file access share contexts) ≡ Finding.Wants wants
+    → finding server client (FileRequest.Create file access share contexts) ≡ Finding.Needs wants
     → ContextsReady server client file contexts
 unfolding finding
 contexts_ready server client file access share None wants e = tt
 contexts_ready server client file access share (Some ask) wants e =
-    if_cases (λ found. found ≡ Finding.Wants wants → ContextsReady server client file (Some ask))
+    if_cases (λ found. found ≡ Finding.Needs wants → ContextsReady server client file (Some ask))
     (has_file server file)
     (asked_finding server client file access share ask.lease ask.reconnect)
-    (Finding.Refused Status.ObjectNameNotFound)
+    (Finding.Fails Status.ObjectNameNotFound)
     (λ t same. (t, asked_again server client file access share ask.lease ask.reconnect wants same))
     (λ t never. absurd (cc)) e
 
 -- any request that is ready
-pub ready-file : (client : ℕ) (request : Request) (progress : Progress) → IsFoundReady client request progress
+pub ready-file : (client : ℕ) (request : FileRequest) (progress : Progress) → IsFoundReady client request progress
     → FileReady progress.server client request
-ready-file client (Request.Create file access share contexts) progress r = contexts_ready progress.server
+ready-file client (FileRequest.Create file access share contexts) progress r = contexts_ready progress.server
     client file access share contexts r.wants r.found
-ready-file client (Request.Read file_id) progress r = tt
-ready-file client (Request.Write file_id number patch) progress r = tt
-ready-file client (Request.Close file_id) progress r = tt
-ready-file client (Request.Acknowledge given) progress r = tt
+ready-file client (FileRequest.Read file_id) progress r = tt
+ready-file client (FileRequest.Write file_id number patch) progress r = tt
+ready-file client (FileRequest.Close file_id) progress r = tt

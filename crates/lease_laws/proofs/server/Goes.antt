@@ -17,7 +17,7 @@ use Rattle.lease_model.specs.values.Limits.{last_file_id}
 use Rattle.lease_model.specs.server.Progress.{Progress, opens_dropped, with_opens, lease_lowered, break_begun, replied, refused}
 use Rattle.lease_model.specs.server.Ready.{is_ready}
 use Rattle.lease_model.specs.messages.Replies.{Reply}
-use Rattle.lease_model.specs.messages.Requests.{Request, CreateAsk, LeaseOf}
+use Rattle.lease_model.specs.messages.Requests.{FileRequest, CreateAsk, LeaseOf}
 use Rattle.lease_laws.specs.server.Laws.{Among, AreInOrder, IsSound}
 use Rattle.lease_model.specs.server.State.{Server, Open, Lease, has_file, has_lease, is_breaking}
 use Rattle.lease_model.specs.server.Wants.{Want}
@@ -44,18 +44,18 @@ pub record IsOld (before : Server) (one : Open) : Type 0 where
   pub same_id : one.file_id ≡ was.file_id
   pub same_file : one.file ≡ was.file
   pub same_client : one.client ≡ was.client
-  pub up : one.connected ≡ true → (was.connected ≡ true) ⊎ (before.connected one.client ≡ true)
+  pub up : one.connected ≡ true → (was.connected ≡ true) ⊎ (before.present one.client ≡ true)
 
 -- a new open, of a connected client, on a file of the server
 pub record IsNew (before : Server) (one : Open) : Type 0 where
   pub is_new : before.last_id < one.file_id
-  pub up : before.connected one.client ≡ true
+  pub up : before.present one.client ≡ true
   pub on_file : has_file before one.file ≡ true
 
 -- The files and the connections stay, FileIds rise, and each open was there or is new.
 pub record GoesOn (before : Server) (after : Server) : Type 0 where
   pub files : after.files ≡ before.files
-  pub ups : (client : ℕ) → after.connected client ≡ before.connected client
+  pub ups : (client : ℕ) → after.present client ≡ before.present client
   pub ids : before.last_id ≤ after.last_id
   pub from : (one : Open) → Among one after.opens → IsOld before one ⊎ IsNew before one
 
@@ -94,7 +94,7 @@ old_of_old a b one g o p = record {
   same_file = o.same_file ∙ p.same_file;
   same_client = o.same_client ∙ p.same_client;
   up = λ e. ⊎_elim
-      (λ u. ⊎_elim (λ v. inl v) (λ v. inr (ap (λ c. a.connected c) o.same_client ∙ v)) (p.up u))
+      (λ u. ⊎_elim (λ v. inl v) (λ v. inr (ap (λ c. a.present c) o.same_client ∙ v)) (p.up u))
       (λ u. inr (sym (g.ups one.client) ∙ u)) (o.up e);
 }
 
@@ -102,7 +102,7 @@ old_of_old a b one g o p = record {
 new_of_old : (a b : Server) (one : Open) → (o : IsOld b one) → IsNew a o.was → IsNew a one
 new_of_old a b one o p = record {
   is_new = subst (λ n. a.last_id < n) (sym o.same_id) p.is_new;
-  up = ap (λ c. a.connected c) o.same_client ∙ p.up;
+  up = ap (λ c. a.present c) o.same_client ∙ p.up;
   on_file = ap (λ f. has_file a f) o.same_file ∙ p.on_file;
 }
 
@@ -195,11 +195,11 @@ wants_met-goes (want ∷ wants) progress = goes-twice progress.server (want_met 
     (want_met-goes want progress) (wants_met-goes wants (want_met want progress))
 
 -- a round lets opens go on
-after_finding-goes : (again : Progress → Tried) (request : Request) (progress : Progress) (found : Finding)
+after_finding-goes : (again : Progress → Tried) (request : FileRequest) (progress : Progress) (found : Finding)
     → ((next : Progress) → Goes next (again next).progress)
     → Goes progress (after_finding again request progress found).progress
-after_finding-goes again request progress (Finding.Refused status) more = goes-same progress.server
-after_finding-goes again request progress (Finding.Wants wants) more =
+after_finding-goes again request progress (Finding.Fails status) more = goes-same progress.server
+after_finding-goes again request progress (Finding.Needs wants) more =
     let met = wants_met wants progress in
     if_cases (λ t. Goes progress t.progress) (is_ready request progress.server.leases wants)
     (ended progress Outcome.Ready) (after_breaks again request wants met)
@@ -211,7 +211,7 @@ after_finding-goes again request progress (Finding.Wants wants) more =
     (more met)))
 
 -- a try
-pub tried_for-goes : (rounds client : ℕ) (request : Request) (progress : Progress)
+pub tried_for-goes : (rounds client : ℕ) (request : FileRequest) (progress : Progress)
     → Goes progress (tried_for rounds client request progress).progress
 unfolding tried_for
 tried_for-goes zero client request progress = goes-same progress.server
@@ -221,14 +221,14 @@ tried_for-goes (suc rounds) client request progress = after_finding-goes (tried_
 
 -- an open of a list with one more is old or new
 added : (new : Open) (progress : Progress) (one : Open) → new.file_id ≡ progress.server.last_id + 1
-    → progress.server.connected new.client ≡ true → has_file progress.server new.file ≡ true
+    → progress.server.present new.client ≡ true → has_file progress.server new.file ≡ true
     → Among one (progress.server.opens ++ new ∷ []) → IsOld progress.server one ⊎ IsNew progress.server one
 added new progress one id up on a = ⊎_elim
     (λ h. inl (still_there progress.server one h))
     (λ h. ⊎_elim (λ same. inr (record {
       is_new = let e : one.file_id ≡ progress.server.last_id + 1 = ap (λ o. o.file_id) same
           ∙ id in omega (arith, e);
-      up = ap (λ o. progress.server.connected o.client) same ∙ up;
+      up = ap (λ o. progress.server.present o.client) same ∙ up;
       on_file = ap (λ o. has_file progress.server o.file) same ∙ on;
     })) (λ never. absurd never) h)
     (among_append one progress.server.opens (new ∷ []) a)
@@ -236,7 +236,7 @@ added new progress one id up on a = ⊎_elim
 -- a grant lets opens go on
 granted_with-goes : (client file : ℕ) (access : Access) (share : Share) (asked : Option LeaseOf)
     (durable : Bool) (lease : Lease) (progress : Progress)
-    → progress.server.connected client ≡ true → has_file progress.server file ≡ true
+    → progress.server.present client ≡ true → has_file progress.server file ≡ true
     → Goes progress (granted_with client file access share asked durable lease progress)
 unfolding granted_with
 granted_with-goes client file access share None durable lease progress up on = record {
@@ -257,7 +257,7 @@ granted_with-goes client file access share (Some asked) durable lease progress u
 -- a grant, if FileIds are left, lets opens go on
 granted-goes : (client file : ℕ) (access : Access) (share : Share) (asked : Option LeaseOf) (durable : Bool)
     (progress : Progress)
-    → progress.server.connected client ≡ true → has_file progress.server file ≡ true
+    → progress.server.present client ≡ true → has_file progress.server file ≡ true
     → Goes progress (granted client file access share asked durable progress)
 unfolding granted
 granted-goes client file access share asked durable progress up on =
@@ -271,7 +271,7 @@ granted-goes client file access share asked durable progress up on =
 
 -- an open that is connected again is one of its client
 again_old : (server : Server) (client file_id : ℕ) (was : Open) (b : Bool) → (was.file_id == file_id) ≡ b
-    → IsSound server → IsAwaited server client file_id → server.connected client ≡ true
+    → IsSound server → IsAwaited server client file_id → server.present client ≡ true
     → Among was server.opens
     → IsOld server (cond b (record was { connected = true }) was)
 again_old server client file_id was true e s w up a = record {
@@ -280,17 +280,17 @@ again_old server client file_id was true e s w up a = record {
   same_id = refl;
   same_file = refl;
   same_client = refl;
-  up = λ u. inr (ap (λ o. server.connected o.client)
+  up = λ u. inr (ap (λ o. server.present o.client)
       (one_id server.opens was w.one s.in_order a w.is_there
       ((Decides-eqb was.file_id file_id).0 e ∙ sym w.has_id))
-      ∙ ap (λ c. server.connected c) w.is_own ∙ up);
+      ∙ ap (λ c. server.present c) w.is_own ∙ up);
 }
 again_old server client file_id was false e s w up a = still_there server was a
 
 -- a reconnect lets opens go on
 reconnected-goes : (client file : ℕ) (asked : Option LeaseOf) (file_id : ℕ) (progress : Progress)
     → IsSound progress.server
-    → IsAwaited progress.server client file_id → progress.server.connected client ≡ true
+    → IsAwaited progress.server client file_id → progress.server.present client ≡ true
     → Goes progress (reconnected client file asked file_id progress)
 unfolding reconnected
 reconnected-goes client file asked file_id progress s w up = record {
@@ -321,7 +321,7 @@ unfolding closed
 closed-goes client file_id progress = dropped-goes (λ one. one.file_id == file_id) progress
 
 -- a refusal lets opens go on
-pub refused-goes : (client : ℕ) (request : Request) (status : Status) (progress : Progress)
+pub refused-goes : (client : ℕ) (request : FileRequest) (status : Status) (progress : Progress)
     → Goes progress (refused client request status progress)
 unfolding refused
 refused-goes client request status progress = goes-same progress.server
@@ -329,7 +329,7 @@ refused-goes client request status progress = goes-same progress.server
 -- a create that is ready lets opens go on
 created-goes : (client file : ℕ) (access : Access) (share : Share) (asked : Option LeaseOf) (durable : Bool)
     (again : Option ℕ) (progress : Progress)
-    → IsSound progress.server → progress.server.connected client ≡ true → has_file progress.server file ≡ true
+    → IsSound progress.server → progress.server.present client ≡ true → has_file progress.server file ≡ true
     → AgainReady progress.server client again
     → Goes progress (created client file access share asked durable again progress)
 created-goes client file access share asked durable None progress s up on again = granted-goes client file
@@ -340,7 +340,7 @@ created-goes client file access share asked durable (Some file_id) progress s up
 -- a create that is ready, by its contexts, lets opens go on
 on_contexts-goes : (client file : ℕ) (access : Access) (share : Share) (contexts : Option CreateAsk)
     (progress : Progress)
-    → IsSound progress.server → progress.server.connected client ≡ true
+    → IsSound progress.server → progress.server.present client ≡ true
     → ContextsReady progress.server client file contexts
     → Goes progress (on_contexts contexts (λ ask. created client file access share ask.lease ask.durable
     ask.reconnect) progress)
@@ -355,28 +355,27 @@ on_open-goes None done progress each = goes-same progress.server
 on_open-goes (Some one) done progress each = each one.file
 
 -- the answer to a request that is ready lets opens go on
-answered-goes : (client : ℕ) (request : Request) (progress : Progress) → IsSound progress.server
-    → progress.server.connected client ≡ true
+answered-goes : (client : ℕ) (request : FileRequest) (progress : Progress) → IsSound progress.server
+    → progress.server.present client ≡ true
     → FileReady progress.server client request → Goes progress (answered client request progress)
 unfolding answered
-answered-goes client (Request.Create file access share contexts) progress s up ready = on_contexts-goes client
+answered-goes client (FileRequest.Create file access share contexts) progress s up ready = on_contexts-goes client
     file access share contexts progress s up ready
-answered-goes client (Request.Read file_id) progress s up ready = on_open-goes
+answered-goes client (FileRequest.Read file_id) progress s up ready = on_open-goes
     (connected_open progress.server client file_id)
     (λ file. read_done client file file_id) progress (λ file. goes-same progress.server)
-answered-goes client (Request.Write file_id number patch) progress s up ready = on_open-goes
+answered-goes client (FileRequest.Write file_id number patch) progress s up ready = on_open-goes
     (connected_open progress.server client file_id)
     (λ file. changed client file file_id number patch) progress
     (λ file. changed-goes client file file_id number patch progress)
-answered-goes client (Request.Close file_id) progress s up ready = on_open-goes
+answered-goes client (FileRequest.Close file_id) progress s up ready = on_open-goes
     (connected_open progress.server client file_id)
     (λ file. closed client file_id) progress (λ file. closed-goes client file_id progress)
-answered-goes client (Request.Acknowledge acknowledged) progress s up ready = goes-same progress.server
 
 -- the end of a try
-pub concluded-goes : (client : ℕ) (request : Request) (progress : Progress) (outcome : Outcome)
+pub concluded-goes : (client : ℕ) (request : FileRequest) (progress : Progress) (outcome : Outcome)
     → IsSound progress.server
-    → progress.server.connected client ≡ true
+    → progress.server.present client ≡ true
     → (outcome ≡ Outcome.Ready → FileReady progress.server client request)
     → Goes progress (concluded client request progress outcome)
 concluded-goes client request progress (Outcome.Refused status) s up ready = refused-goes client request

@@ -3,11 +3,12 @@ use Rattle.std.proofs.Common.{◌≡◌, ◌⊎◌, inl, inr, ⊎_elim, refl, sy
 use Rattle.std.specs.Prelude.{◌&&◌, Option, Some, None}
 use Rattle.std.specs.List.{list_any}
 use Rattle.std.proofs.lemmas.Bool.Decides.{Decides-eqb}
+use Rattle.lease_state.specs.Access.{conflict}
 use Rattle.lease_state.specs.State.{State, granted_form_of, nothing_cached}
 use Rattle.lease_state.specs.declared.access.Access.{Access}
 use Rattle.lease_state.specs.declared.access.Share.{Share}
 use Rattle.lease_state.specs.declared.status.Status.{Status}
-use Rattle.lease_model.specs.server.Allowed.{allowed, is_other_on, conflicts}
+use Rattle.lease_model.specs.server.Allowed.{allowed, is_other_on}
 use Rattle.lease_model.specs.server.Grant.{offered, lease_granted, lease_after, new_open, granted_with, granted}
 use Rattle.lease_model.specs.values.Keys.{Key}
 use Rattle.lease_model.specs.values.LeaseStates.{is_within, without_write}
@@ -102,9 +103,9 @@ keep_may opens leases expired last_id key s = record {
 -- the new open conflicts with what the create conflicts with
 quiet_new : (server : Server) (client file : ℕ) (access : Access) (share : Share) (asked : Option LeaseOf)
     (durable : Bool) (lease : Lease) (other : Open)
-    → conflicts access share other ≡ false
-    → conflicts (new_open server client file access share asked durable lease).access
-    (new_open server client file access share asked durable lease).share other ≡ false
+    → conflict access share other.access other.share ≡ false
+    → conflict (new_open server client file access share asked durable lease).access
+    (new_open server client file access share asked durable lease).share other.access other.share ≡ false
 quiet_new server client file access share asked durable lease other e = e
 
 -- the new open of a create with a key may be opened

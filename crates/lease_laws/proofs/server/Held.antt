@@ -12,11 +12,11 @@ use Rattle.lease_state.specs.declared.patch.Patch.{Patch}
 use Rattle.lease_model.specs.server.Grant.{granted, granted_with, reconnected, lease_after}
 use Rattle.lease_model.specs.values.Keys.{Key}
 use Rattle.lease_model.specs.values.Limits.{last_file_id}
-use Rattle.lease_model.specs.server.Passes.{Pass, is_behind, pass_kept, pass_answered, after_try, tried_again, pass_over, one_pass, passes_for}
+use Rattle.lease_model.specs.server.Passes.{Pass, is_behind, left_waiting, pass_answered, after_try, tried_again, pass_over, one_pass, passes_for}
 use Rattle.lease_model.specs.server.Progress.{Progress, opens_dropped, with_opens, lease_lowered, break_begun, held_left, replied, refused}
 use Rattle.lease_model.specs.server.Ready.{is_ready}
 use Rattle.lease_model.specs.messages.Replies.{Reply}
-use Rattle.lease_model.specs.messages.Requests.{Request, CreateAsk, LeaseOf}
+use Rattle.lease_model.specs.messages.Requests.{FileRequest, CreateAsk, LeaseOf}
 use Rattle.lease_model.specs.server.State.{Open, Lease, Held, has_lease, is_breaking}
 use Rattle.lease_model.specs.values.Tables.{put}
 use Rattle.lease_model.specs.server.Wants.{Want}
@@ -74,11 +74,11 @@ wants_met-held (want ∷ wants) progress = wants_met-held wants (want_met want p
     ∙ want_met-held want progress
 
 -- a round leaves the held requests as they are
-after_finding-held : (again : Progress → Tried) (request : Request) (progress : Progress) (found : Finding)
+after_finding-held : (again : Progress → Tried) (request : FileRequest) (progress : Progress) (found : Finding)
     → ((next : Progress) → SameHeld next (again next).progress)
     → SameHeld progress (after_finding again request progress found).progress
-after_finding-held again request progress (Finding.Refused status) more = refl
-after_finding-held again request progress (Finding.Wants wants) more =
+after_finding-held again request progress (Finding.Fails status) more = refl
+after_finding-held again request progress (Finding.Needs wants) more =
     let met = wants_met wants progress in
     if_cases (λ t. SameHeld progress t.progress) (is_ready request progress.server.leases wants)
     (ended progress Outcome.Ready) (after_breaks again request wants met)
@@ -89,7 +89,7 @@ after_finding-held again request progress (Finding.Wants wants) more =
     (λ w. more met ∙ wants_met-held wants progress))
 
 -- a try holds and lets go nothing
-pub tried_for-held : (rounds client : ℕ) (request : Request) (progress : Progress)
+pub tried_for-held : (rounds client : ℕ) (request : FileRequest) (progress : Progress)
     → SameHeld progress (tried_for rounds client request progress).progress
 unfolding tried_for
 tried_for-held zero client request progress = refl
@@ -98,7 +98,7 @@ tried_for-held (suc rounds) client request progress = after_finding-held (tried_
     (finding progress.server client request) (λ next. tried_for-held rounds client request next)
 
 -- a refusal leaves the held requests as they are
-refused-held : (client : ℕ) (request : Request) (status : Status) (progress : Progress)
+refused-held : (client : ℕ) (request : FileRequest) (status : Status) (progress : Progress)
     → SameHeld progress (refused client request status progress)
 unfolding refused
 refused-held client request status progress = refl
@@ -166,26 +166,25 @@ on_open-held None done progress each = refl
 on_open-held (Some one) done progress each = each one.file
 
 -- the answer to a request that is ready leaves the held requests as they are
-answered-held : (client : ℕ) (request : Request) (progress : Progress)
+answered-held : (client : ℕ) (request : FileRequest) (progress : Progress)
     → SameHeld progress (answered client request progress)
 unfolding answered
-answered-held client (Request.Create file access share contexts) progress = on_contexts-held contexts
+answered-held client (FileRequest.Create file access share contexts) progress = on_contexts-held contexts
     (λ ask. created client file access share ask.lease ask.durable ask.reconnect) progress
     (λ ask. created-held client file access share ask.lease ask.durable ask.reconnect progress)
-answered-held client (Request.Read file_id) progress = on_open-held
+answered-held client (FileRequest.Read file_id) progress = on_open-held
     (connected_open progress.server client file_id)
     (λ file. read_done client file file_id) progress (λ file. refl)
-answered-held client (Request.Write file_id number patch) progress = on_open-held
+answered-held client (FileRequest.Write file_id number patch) progress = on_open-held
     (connected_open progress.server client file_id)
     (λ file. changed client file file_id number patch) progress
     (λ file. changed-held client file file_id number patch progress)
-answered-held client (Request.Close file_id) progress = on_open-held
+answered-held client (FileRequest.Close file_id) progress = on_open-held
     (connected_open progress.server client file_id)
     (λ file. closed client file_id) progress (λ file. closed-held client file_id progress)
-answered-held client (Request.Acknowledge acknowledged) progress = refl
 
 -- the end of a try holds and lets go nothing
-pub concluded-held : (client : ℕ) (request : Request) (progress : Progress) (outcome : Outcome)
+pub concluded-held : (client : ℕ) (request : FileRequest) (progress : Progress) (outcome : Outcome)
     → SameHeld progress (concluded client request progress outcome)
 concluded-held client request progress (Outcome.Refused status) = refused-held client request status progress
 concluded-held client request progress Outcome.Waits = refl
@@ -200,9 +199,9 @@ held_left-here file left progress = rw ((Decides-eqb file file).1 refl) refl
 -- During a pass the file holds the requests passed over and those that wait, no more than there were;
 -- and one less once one was answered.
 pub record InPass (file : ℕ) (count : ℕ) (waiting : List Held) (pass : Pass) : Type 0 where
-  pub is_held : pass.progress.server.held file ≡ pass.kept ++ waiting
-  pub is_counted : length pass.kept + length waiting ≤ count
-  pub is_fewer : pass.has_answered ≡ true → length pass.kept + length waiting < count
+  pub is_held : pass.progress.server.held file ≡ pass.passed ++ waiting
+  pub is_counted : length pass.passed + length waiting ≤ count
+  pub is_fewer : pass.has_answered ≡ true → length pass.passed + length waiting < count
 
 -- one more
 length_cons : (one : Held) (waiting : List Held) → length (one ∷ waiting) ≡ length waiting + 1
@@ -222,14 +221,14 @@ nothing_more : (kept count left : ℕ) → kept + length {A = Held} [] < count �
 nothing_more kept count left less same = omega (arith, less, same)
 
 -- to pass over a held request keeps count of the pass
-pub pass_kept-in : (file count : ℕ) (one : Held) (waiting : List Held) (pass : Pass) (progress : Progress)
+pub left_waiting-in : (file count : ℕ) (one : Held) (waiting : List Held) (pass : Pass) (progress : Progress)
     → InPass file count (one ∷ waiting) pass → SameHeld pass.progress progress
-    → InPass file count waiting (pass_kept one pass progress)
-pass_kept-in file count one waiting pass progress i same =
-    let longer : length (pass.kept ++ one ∷ []) + length waiting ≡ length pass.kept + length (one ∷ waiting) =
-    length_moved pass.kept one waiting in
+    → InPass file count waiting (left_waiting one pass progress)
+left_waiting-in file count one waiting pass progress i same =
+    let longer : length (pass.passed ++ one ∷ []) + length waiting ≡ length pass.passed + length (one ∷ waiting) =
+    length_moved pass.passed one waiting in
     record {
-      is_held = ap (λ held. held file) same ∙ i.is_held ∙ sym (append_assoc pass.kept (one ∷ []) waiting);
+      is_held = ap (λ held. held file) same ∙ i.is_held ∙ sym (append_assoc pass.passed (one ∷ []) waiting);
       is_counted = omega (arith, longer, i.is_counted);
       is_fewer = λ e. let less = i.is_fewer e in omega (arith, longer, less);
     }
@@ -242,8 +241,8 @@ pass_answered-in file count one waiting pass done i =
     let shorter : length (one ∷ waiting) ≡ length waiting + 1 = length_cons one waiting in
     record {
       is_held = ap (λ held. held file) (concluded-held one.client one.request
-          (held_left file (pass.kept ++ waiting) done.progress) done.outcome)
-          ∙ held_left-here file (pass.kept ++ waiting) done.progress;
+          (held_left file (pass.passed ++ waiting) done.progress) done.outcome)
+          ∙ held_left-here file (pass.passed ++ waiting) done.progress;
       is_counted = omega (arith, shorter, i.is_counted);
       is_fewer = λ e. omega (arith, shorter, i.is_counted);
     }
@@ -253,7 +252,7 @@ after_try-in : (file count : ℕ) (one : Held) (waiting : List Held) (pass : Pas
     (outcome : Outcome)
     → InPass file count (one ∷ waiting) pass → SameHeld pass.progress progress
     → InPass file count waiting (after_try file one waiting pass progress outcome)
-after_try-in file count one waiting pass progress Outcome.Waits i same = pass_kept-in file count one waiting
+after_try-in file count one waiting pass progress Outcome.Waits i same = left_waiting-in file count one waiting
     pass progress i same
 after_try-in file count one waiting pass progress (Outcome.Refused status) i same = pass_answered-in file
     count one waiting pass
@@ -267,10 +266,10 @@ tried_again-in : (file count : ℕ) (one : Held) (waiting : List Held) (pass : P
     → InPass file count (one ∷ waiting) pass → InPass file count waiting (tried_again file one waiting pass)
 unfolding tried_again
 tried_again-in file count one waiting pass i =
-    if_cases (InPass file count waiting) (is_behind one.client pass.kept) (pass_kept one pass pass.progress)
+    if_cases (InPass file count waiting) (is_behind one.client pass.passed) (left_waiting one pass pass.progress)
     (after_try file one waiting pass (tried one.client one.request pass.progress).progress
     (tried one.client one.request pass.progress).outcome)
-    (λ e. pass_kept-in file count one waiting pass pass.progress i refl)
+    (λ e. left_waiting-in file count one waiting pass pass.progress i refl)
     (λ e. after_try-in file count one waiting pass (tried one.client one.request pass.progress).progress
     (tried one.client one.request pass.progress).outcome i
     (tried_for-held 3 one.client one.request pass.progress))
@@ -288,7 +287,7 @@ pub one_pass-fewer : (file : ℕ) (progress : Progress) → (one_pass file progr
     → length ((one_pass file progress).progress.server.held file) < length (progress.server.held file)
 one_pass-fewer file progress e =
     let i = pass_over-in file (length (progress.server.held file)) (progress.server.held file)
-    (record { kept = []; progress = progress; has_answered = false })
+    (record { passed = []; progress = progress; has_answered = false })
     (record {
       is_held = refl;
       is_counted = all_counted (progress.server.held file);
@@ -297,9 +296,9 @@ one_pass-fewer file progress e =
     }) in
     let less = i.is_fewer e in
     let same : length ((one_pass file progress).progress.server.held file) ≡ length
-    (one_pass file progress).kept =
-    ap length (i.is_held ∙ append-nil (one_pass file progress).kept) in
-    nothing_more (length (one_pass file progress).kept) (length (progress.server.held file)) _ less same
+    (one_pass file progress).passed =
+    ap length (i.is_held ∙ append-nil (one_pass file progress).passed) in
+    nothing_more (length (one_pass file progress).passed) (length (progress.server.held file)) _ less same
 
 -- a choice between two that are one
 cond_same : {X : Type 0} (b : Bool) (x y z : X) → (b ≡ true → x ≡ y) → cond b x z ≡ cond b y z

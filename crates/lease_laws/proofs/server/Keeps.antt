@@ -15,30 +15,31 @@ use Rattle.lease_model.specs.values.Keys.{Key}
 use Rattle.lease_model.specs.values.Limits.{last_file_id}
 use Rattle.lease_model.specs.values.Lists.{without}
 use Rattle.lease_model.specs.server.Progress.{Progress, opens_dropped, with_opens, lease_lowered, break_begun, replied, refused}
-use Rattle.lease_model.specs.server.Ready.{is_ready}
+use Rattle.lease_model.specs.server.Ready.{breaks_to_some, is_ready}
 use Rattle.lease_model.specs.messages.Replies.{Reply}
-use Rattle.lease_model.specs.messages.Requests.{Request, CreateAsk, LeaseOf}
-use Rattle.lease_laws.specs.server.Laws.{Among, AreInOrder, IsSound, IsBlocked, HasToWait}
-use Rattle.lease_model.specs.server.State.{Server, Open, has_key, has_lease, is_breaking}
+use Rattle.lease_model.specs.messages.Requests.{FileRequest, CreateAsk, LeaseOf}
+use Rattle.lease_laws.specs.server.Laws.{Among, AreInOrder, IsSound, IsBlockedBy, HasToWait}
+use Rattle.lease_model.specs.server.State.{Server, Open, Lease, has_key, has_lease, is_breaking}
 use Rattle.lease_laws.specs.server.Outs.{IsAlone}
 use Rattle.lease_laws.specs.server.Waiting.{IsAbout}
 use Rattle.lease_model.specs.server.Wants.{Want}
 use Rattle.lease_model.specs.server.Findings.{Finding, finding, connected_open}
 use Rattle.lease_model.specs.server.Naming.{own_key, key_of, key_of_open}
 use Rattle.lease_laws.proofs.server.Answers.{breaking_present}
+use Rattle.lease_laws.proofs.server.Breaking.{some_breaks}
 use Rattle.lease_laws.proofs.server.Goes.{one_id}
 use Rattle.lease_laws.proofs.server.Keys.{put_key-cases}
 use Rattle.lease_laws.proofs.server.Lists.{if_cases, clash, and_parts, not_parts, not_true, among_filtered, among_before, find_has}
 use Rattle.lease_laws.proofs.server.Met.{find_kept, lease_broken-opens}
 use Rattle.lease_laws.proofs.server.Steps.{left_here}
 
--- On the files of a kind, connected opens of breaking keys stay, and the keys stay breaking; and the
--- open of a FileId that a client has stays it.
+-- On the files of a kind, connected opens of breaking keys stay, and the leases of these keys stay as they
+-- are; and the open of a FileId that a client has stays it.
 pub record Keeps (Guard : ℕ → Type 0) (before : Server) (after : Server) : Type 0 where
   pub stands : (key : Key) (one : Open) → Among one before.opens → has_key key one ≡ true
       → one.connected ≡ true
       → is_breaking (before.leases key) ≡ true → Guard one.file
-      → (Among one after.opens) × (is_breaking (after.leases key) ≡ true)
+      → (Among one after.opens) × (after.leases key ≡ before.leases key)
   pub finds : (client file_id : ℕ) (one : Open) → connected_open before client file_id ≡ Some one
       → Guard one.file
       → connected_open after client file_id ≡ Some one
@@ -46,7 +47,7 @@ pub record Keeps (Guard : ℕ → Type 0) (before : Server) (after : Server) : T
 -- nothing happens
 pub keeps-same : (Guard : ℕ → Type 0) (server : Server) → Keeps Guard server server
 keeps-same Guard server = record {
-  stands = λ key one a k up b g. (a, b);
+  stands = λ key one a k up b g. (a, refl);
   finds = λ client file_id one e g.
       e;
 }
@@ -54,7 +55,10 @@ keeps-same Guard server = record {
 -- two steps
 pub keeps-twice : (Guard : ℕ → Type 0) (a b c : Server) → Keeps Guard a b → Keeps Guard b c → Keeps Guard a c
 keeps-twice Guard a b c h j = record {
-  stands = λ key one m k up w g. let x = h.stands key one m k up w g in j.stands key one x.0 k up x.1 g;
+  stands = λ key one m k up w g.
+      let x = h.stands key one m k up w g in
+      let y = j.stands key one x.0 k up (ap (λ l. is_breaking l) x.1 ∙ w) g in
+      (y.0, y.1 ∙ x.1);
   finds = λ client file_id one e g. j.finds client file_id one (h.finds client file_id one e g) g;
 }
 
@@ -70,18 +74,20 @@ keeps-weaker Guard before after h = record {
   finds = λ client file_id one e g. h.finds client file_id one e tt;
 }
 
--- what is blocked stays so
-blocked_keeps : (Guard : ℕ → Type 0) (before after : Server) (own : Option Key) (file : ℕ)
+-- what is blocked stays so, where only a breaking lease is in the way
+blocked_keeps : (test : Lease → Bool) (Guard : ℕ → Type 0) (before after : Server) (own : Option Key) (file : ℕ)
+    → ((lease : Lease) → test lease ≡ true → is_breaking lease ≡ true)
     → Keeps Guard before after → IsSound before
-    → Guard file → IsBlocked before own file → IsBlocked after own file
-blocked_keeps Guard before after own file h s g b =
+    → Guard file → IsBlockedBy test before own file → IsBlockedBy test after own file
+blocked_keeps test Guard before after own file only h s g b =
+    let breaks = only (before.leases b.key) b.is_in_the_way in
     let up = breaking_present before.opens before.leases before.expired before.last_id b.key b.one s
-    b.is_breaking b.is_there b.has_the_key in
-    let x = h.stands b.key b.one b.is_there b.has_the_key up b.is_breaking
+    breaks b.is_there b.has_the_key in
+    let x = h.stands b.key b.one b.is_there b.has_the_key up breaks
     (subst Guard (sym b.is_on_file) g) in
     record {
       key = b.key;
-      is_breaking = x.1;
+      is_in_the_way = ap test x.1 ∙ b.is_in_the_way;
       one = b.one;
       is_there = x.0;
       is_on_file = b.is_on_file;
@@ -104,30 +110,31 @@ connected_has server client file_id one e =
 contexts_keep : (Guard : ℕ → Type 0) (before after : Server) (client at file : ℕ) (access : Access)
     (share : Share) (contexts : Option CreateAsk)
     → Keeps Guard before after → IsSound before → at ≡ file → Guard file
-    → HasToWait before client (Request.Create at access share contexts)
-    → HasToWait after client (Request.Create at access share contexts)
+    → HasToWait before client (FileRequest.Create at access share contexts)
+    → HasToWait after client (FileRequest.Create at access share contexts)
 contexts_keep Guard before after client at file access share None h s e g w = absurd w
 contexts_keep Guard before after client at file access share (Some ask) h s e g w =
-    blocked_keeps Guard before after (own_key client ask.lease) at h s (subst Guard (sym e) g) w
+    blocked_keeps (λ lease. is_breaking lease) Guard before after (own_key client ask.lease) at (λ lease b. b) h s
+    (subst Guard (sym e) g) w
 
 -- what has to wait for a break on a file goes on having to
-pub waits_keep : (Guard : ℕ → Type 0) (before after : Server) (client file : ℕ) (request : Request)
+pub waits_keep : (Guard : ℕ → Type 0) (before after : Server) (client file : ℕ) (request : FileRequest)
     → Keeps Guard before after → IsSound before
     → IsAbout before file request → Guard file → HasToWait before client request
     → HasToWait after client request
-waits_keep Guard before after client file (Request.Create at access share contexts) h s about g w =
+waits_keep Guard before after client file (FileRequest.Create at access share contexts) h s about g w =
     contexts_keep Guard before after client at file access share contexts h s about g w
-waits_keep Guard before after client file (Request.Read file_id) h s about g w = absurd w
-waits_keep Guard before after client file (Request.Write file_id number patch) h s about g w =
+waits_keep Guard before after client file (FileRequest.Read file_id) h s about g w = absurd w
+waits_keep Guard before after client file (FileRequest.Write file_id number patch) h s about g w =
     let x = connected_has before client file_id w.one w.is_open in
     let here : Guard (w.one).file = subst Guard (sym (about.is_on_file w.one x.0 x.1)) g in
     record {
       one = w.one;
       is_open = h.finds client file_id w.one w.is_open here;
-      is_blocked = blocked_keeps Guard before after (key_of_open w.one) (w.one).file h s here w.is_blocked;
+      is_blocked = blocked_keeps breaks_to_some Guard before after (key_of_open w.one) (w.one).file
+          (λ lease. some_breaks lease.broken_to) h s here w.is_blocked;
     }
-waits_keep Guard before after client file (Request.Close file_id) h s about g w = absurd w
-waits_keep Guard before after client file (Request.Acknowledge given) h s about g w = absurd w
+waits_keep Guard before after client file (FileRequest.Close file_id) h s about g w = absurd w
 
 -- for calls under way
 abbrev pub Kept : (ℕ → Type 0) → Progress → Progress → Type 0
@@ -147,8 +154,7 @@ left_dropped-kept key progress =
           let there = among_filtered (λ x. not (is_left_open key x)) one progress.server.opens a
           (safe one up) in (
             there,
-            ap (λ l. is_breaking l) (left_here progress.server.leases
-                (without (is_left_open key) progress.server.opens) k one there h) ∙ b,
+            left_here progress.server.leases (without (is_left_open key) progress.server.opens) k one there h,
           );
       finds = λ client file_id one e g.
           find_kept (λ x. x.file_id == file_id && x.client == client && x.connected)
@@ -156,27 +162,30 @@ left_dropped-kept key progress =
           (λ x t. safe x (and_parts (x.file_id == file_id && x.client == client) x.connected t).1) ∙ e;
     }
 
--- a lease that is breaking stays so when others are broken
+-- a lease that is breaking stays as it is when others are broken
 lease_broken-stays : (key other : Key) (lowered : State) (progress : Progress)
     → is_breaking (progress.server.leases other) ≡ true
-    → is_breaking ((lease_broken key lowered progress).server.leases other) ≡ true
+    → (lease_broken key lowered progress).server.leases other ≡ progress.server.leases other
 unfolding lease_broken break_begun lease_lowered
 lease_broken-stays key other lowered progress b =
-    if_cases (λ p. is_breaking (p.server.leases other) ≡ true)
+    let Same : Lease → Type 0 = λ l. l ≡ progress.server.leases other in
+    let untouched : is_breaking (progress.server.leases key) ≡ false → key ≡ other → ⊥ = λ settled same.
+    clash (is_breaking (progress.server.leases key))
+    (ap (λ x. is_breaking (progress.server.leases x)) same ∙ b) settled in
+    if_cases (λ p. p.server.leases other ≡ progress.server.leases other)
     (has_lease progress.server key && not (is_breaking (progress.server.leases key)))
     (if needs_acknowledgment (progress.server.leases key).state then break_begun key lowered progress else
     lease_lowered key lowered progress) progress
     (λ t. let settled = not_parts (is_breaking (progress.server.leases key))
     (and_parts (has_lease progress.server key) (not (is_breaking (progress.server.leases key))) t).1 in
-    if_cases (λ p. is_breaking (p.server.leases other) ≡ true)
+    if_cases (λ p. p.server.leases other ≡ progress.server.leases other)
     (needs_acknowledgment (progress.server.leases key).state)
     (break_begun key lowered progress) (lease_lowered key lowered progress)
-    (λ n. put_key-cases (λ l. is_breaking l ≡ true) progress.server.leases key _ other (λ same. refl)
-    (λ e. b))
-    (λ n. put_key-cases (λ l. is_breaking l ≡ true) progress.server.leases key _ other
-    (λ same. clash (is_breaking (progress.server.leases key))
-    (ap (λ x. is_breaking (progress.server.leases x)) (sym same) ∙ b) settled) (λ e. b)))
-    (λ t. b)
+    (λ n. put_key-cases Same progress.server.leases key _ other (λ same. absurd (untouched settled (sym same)))
+    (λ e. refl))
+    (λ n. put_key-cases Same progress.server.leases key _ other (λ same. absurd (untouched settled (sym same)))
+    (λ e. refl)))
+    (λ t. refl)
 
 -- to break a lease lets wait what has to wait
 lease_broken-kept : (key : Key) (lowered : State) (progress : Progress)
@@ -209,11 +218,11 @@ wants_met-kept (want ∷ wants) progress = keeps-twice Anywhere progress.server 
     (want_met-kept want progress) (wants_met-kept wants (want_met want progress))
 
 -- a round lets wait what has to wait
-after_finding-kept : (again : Progress → Tried) (request : Request) (progress : Progress) (found : Finding)
+after_finding-kept : (again : Progress → Tried) (request : FileRequest) (progress : Progress) (found : Finding)
     → ((next : Progress) → Kept Anywhere next (again next).progress)
     → Kept Anywhere progress (after_finding again request progress found).progress
-after_finding-kept again request progress (Finding.Refused status) more = keeps-same Anywhere progress.server
-after_finding-kept again request progress (Finding.Wants wants) more =
+after_finding-kept again request progress (Finding.Fails status) more = keeps-same Anywhere progress.server
+after_finding-kept again request progress (Finding.Needs wants) more =
     let met = wants_met wants progress in
     if_cases (λ t. Kept Anywhere progress t.progress) (is_ready request progress.server.leases wants)
     (ended progress Outcome.Ready) (after_breaks again request wants met)
@@ -225,7 +234,7 @@ after_finding-kept again request progress (Finding.Wants wants) more =
     (wants_met-kept wants progress) (more met)))
 
 -- a try
-pub tried_for-kept : (rounds client : ℕ) (request : Request) (progress : Progress)
+pub tried_for-kept : (rounds client : ℕ) (request : FileRequest) (progress : Progress)
     → Kept Anywhere progress (tried_for rounds client request progress).progress
 unfolding tried_for
 tried_for-kept zero client request progress = keeps-same Anywhere progress.server
@@ -246,11 +255,11 @@ find_append test (y ∷ xs) ys x e =
 -- a grant leaves a breaking lease as it is
 granted-stays : (server : Server) (key : Key) (file : ℕ) (want : State)
     → is_breaking (server.leases key) ≡ true
-    → is_breaking (lease_granted server key file want) ≡ true
+    → lease_granted server key file want ≡ server.leases key
 unfolding lease_granted
-granted-stays server key file want b = if_cases (λ l. is_breaking l ≡ true) (is_breaking (server.leases key))
+granted-stays server key file want b = if_cases (λ l. l ≡ server.leases key) (is_breaking (server.leases key))
     (server.leases key) _
-    (λ e. b) (λ e. clash (is_breaking (server.leases key)) b e)
+    (λ e. refl) (λ e. clash (is_breaking (server.leases key)) b e)
 
 -- a grant lets wait what has to wait
 granted_with-kept : (client file : ℕ) (access : Access) (share : Share) (asked : Option LeaseOf)
@@ -259,16 +268,17 @@ granted_with-kept : (client file : ℕ) (access : Access) (share : Share) (asked
     (lease_after progress.server client file asked) progress)
 unfolding granted_with
 granted_with-kept client file access share None durable progress = record {
-  stands = λ k one a h up b g. (among_before one progress.server.opens _ a, b);
+  stands = λ k one a h up b g. (among_before one progress.server.opens _ a, refl);
   finds = λ c file_id one e g. find_append (λ x. x.file_id == file_id && x.client == c && x.connected)
       progress.server.opens _ one e;
 }
 granted_with-kept client file access share (Some asked) durable progress = record {
   stands = λ k one a h up b g. (
     among_before one progress.server.opens _ a,
-    put_key-cases (λ l. is_breaking l ≡ true) progress.server.leases (key_of client asked.key) _ k
+    put_key-cases (λ l. l ≡ progress.server.leases k) progress.server.leases (key_of client asked.key) _ k
         (λ same. granted-stays progress.server (key_of client asked.key) file asked.state
-        (ap (λ x. is_breaking (progress.server.leases x)) (sym same) ∙ b)) (λ e. b),
+        (ap (λ x. is_breaking (progress.server.leases x)) (sym same) ∙ b)
+        ∙ ap (λ x. progress.server.leases x) (sym same)) (λ e. refl),
   );
   finds = λ c file_id one e g. find_append (λ x. x.file_id == file_id && x.client == c && x.connected)
       progress.server.opens _ one e;
@@ -349,7 +359,7 @@ reconnected-kept : (client file : ℕ) (asked : Option LeaseOf) (file_id : ℕ) 
     → Kept Anywhere progress (reconnected client file asked file_id progress)
 unfolding reconnected
 reconnected-kept client file asked file_id progress s = record {
-  stands = λ k one a h up b g. (among_again file_id one progress.server.opens up a, b);
+  stands = λ k one a h up b g. (among_again file_id one progress.server.opens up a, refl);
   finds = λ c id one e g. find_again file_id c id one progress.server.opens s.in_order e;
 }
 
@@ -358,14 +368,14 @@ changed-kept : (client file file_id number : ℕ) (patch : Patch) (progress : Pr
     → Kept Anywhere progress (changed client file file_id number patch progress)
 unfolding changed
 changed-kept client file file_id number patch progress =
-    record { stands = λ key one a k up b g. (a, b); finds = λ c id one e g. e }
+    record { stands = λ key one a k up b g. (a, refl); finds = λ c id one e g. e }
 
 -- a refusal lets wait what has to wait
-refused-kept : (client : ℕ) (request : Request) (status : Status) (progress : Progress)
+refused-kept : (client : ℕ) (request : FileRequest) (status : Status) (progress : Progress)
     → Kept Anywhere progress (refused client request status progress)
 unfolding refused
 refused-kept client request status progress =
-    record { stands = λ key one a k up b g. (a, b); finds = λ c id one e g. e }
+    record { stands = λ key one a k up b g. (a, refl); finds = λ c id one e g. e }
 
 -- any file but this one
 abbrev pub Elsewhere : ℕ → ℕ → Type 0
@@ -387,8 +397,8 @@ closed-kept client file_id gone progress s e =
           let there = among_filtered (λ y. not (y.file_id == file_id)) one progress.server.opens a
           (safe one.file_id (other one a away)) in (
             there,
-            ap (λ l. is_breaking l) (left_here progress.server.leases
-                (without (λ y. y.file_id == file_id) progress.server.opens) k one there h) ∙ b,
+            left_here progress.server.leases (without (λ y. y.file_id == file_id) progress.server.opens) k one
+                there h,
           );
       finds = λ c id one found away.
           let y = connected_has progress.server c id one found in
@@ -426,33 +436,31 @@ on_open-kept Guard None done progress each = keeps-same Guard progress.server
 on_open-kept Guard (Some one) done progress each = each one refl
 
 -- to answer a request about a file keeps what has to wait on other files
-answered-kept : (client file : ℕ) (request : Request) (progress : Progress) → IsSound progress.server
+answered-kept : (client file : ℕ) (request : FileRequest) (progress : Progress) → IsSound progress.server
     → IsAbout progress.server file request
     → Kept (Elsewhere file) progress (answered client request progress)
 unfolding answered
-answered-kept client file (Request.Create at access share contexts) progress s about = keeps-weaker
+answered-kept client file (FileRequest.Create at access share contexts) progress s about = keeps-weaker
     (Elsewhere file) progress.server _
     (on_contexts-kept client at access share contexts progress s)
-answered-kept client file (Request.Read file_id) progress s about = on_open-kept (Elsewhere file)
+answered-kept client file (FileRequest.Read file_id) progress s about = on_open-kept (Elsewhere file)
     (connected_open progress.server client file_id)
     (λ at. read_done client at file_id) progress (λ x e. keeps-same (Elsewhere file) progress.server)
-answered-kept client file (Request.Write file_id number patch) progress s about = on_open-kept
+answered-kept client file (FileRequest.Write file_id number patch) progress s about = on_open-kept
     (Elsewhere file) (connected_open progress.server client file_id)
     (λ at. changed client at file_id number patch) progress
     (λ x e. keeps-weaker (Elsewhere file) progress.server
     (changed client x.file file_id number patch progress).server
     (changed-kept client x.file file_id number patch progress))
-answered-kept client file (Request.Close file_id) progress s about = on_open-kept (Elsewhere file)
+answered-kept client file (FileRequest.Close file_id) progress s about = on_open-kept (Elsewhere file)
     (connected_open progress.server client file_id)
     (λ at. closed client file_id) progress
     (λ x e. let y = connected_has progress.server client file_id x e in
     subst (λ f. Kept (Elsewhere f) progress (closed client file_id progress)) (about.is_on_file x y.0 y.1)
     (closed-kept client file_id x progress s e))
-answered-kept client file (Request.Acknowledge given) progress s about = keeps-same (Elsewhere file)
-    progress.server
 
 -- the end of a try of a request about a file
-pub concluded-kept : (client file : ℕ) (request : Request) (progress : Progress) (outcome : Outcome)
+pub concluded-kept : (client file : ℕ) (request : FileRequest) (progress : Progress) (outcome : Outcome)
     → IsSound progress.server
     → IsAbout progress.server file request
     → Kept (Elsewhere file) progress (concluded client request progress outcome)
@@ -465,24 +473,23 @@ concluded-kept client file request progress Outcome.Ready s about = answered-kep
     s about
 
 -- an answer that closes nothing lets wait what has to wait
-answered-open : (client : ℕ) (request : Request) (progress : Progress) → IsSound progress.server
+answered-open : (client : ℕ) (request : FileRequest) (progress : Progress) → IsSound progress.server
     → IsAlone request
     → Kept Anywhere progress (answered client request progress)
 unfolding answered
-answered-open client (Request.Create at access share contexts) progress s alone = on_contexts-kept client at
+answered-open client (FileRequest.Create at access share contexts) progress s alone = on_contexts-kept client at
     access share contexts progress s
-answered-open client (Request.Read file_id) progress s alone = on_open-kept Anywhere
+answered-open client (FileRequest.Read file_id) progress s alone = on_open-kept Anywhere
     (connected_open progress.server client file_id)
     (λ at. read_done client at file_id) progress (λ x e. keeps-same Anywhere progress.server)
-answered-open client (Request.Write file_id number patch) progress s alone = on_open-kept Anywhere
+answered-open client (FileRequest.Write file_id number patch) progress s alone = on_open-kept Anywhere
     (connected_open progress.server client file_id)
     (λ at. changed client at file_id number patch) progress
     (λ x e. changed-kept client x.file file_id number patch progress)
-answered-open client (Request.Close file_id) progress s alone = absurd alone
-answered-open client (Request.Acknowledge given) progress s alone = absurd alone
+answered-open client (FileRequest.Close file_id) progress s alone = absurd alone
 
 -- the end of a try that closes nothing
-pub concluded-open : (client : ℕ) (request : Request) (progress : Progress) (outcome : Outcome)
+pub concluded-open : (client : ℕ) (request : FileRequest) (progress : Progress) (outcome : Outcome)
     → IsSound progress.server
     → IsAlone request → Kept Anywhere progress (concluded client request progress outcome)
 concluded-open client request progress (Outcome.Refused status) s alone = refused-kept client request status

@@ -1,12 +1,11 @@
 -- The small steps that change a lease or add an open keep a server's laws.
 use Rattle.std.proofs.Common.{◌≡◌, ◌⊎◌, inl, inr, ⊎_elim, refl, sym, ap, ◌∙◌, subst, ℕ, ◌+◌, ◌<◌, Bool, true, false, not, List, [], ◌∷◌, ◌++◌, arith}
-use Rattle.std.specs.Prelude.{◌&&◌}
+use Rattle.std.specs.Prelude.{◌||◌}
 use Rattle.std.specs.List.{list_any}
-use Rattle.lease_model.specs.server.Allowed.{conflicts}
+use Rattle.lease_state.specs.Access.{conflict, is_within, uses_of, allowed_by}
 use Rattle.lease_model.specs.values.Keys.{Key}
 use Rattle.lease_laws.specs.server.Laws.{Among, AreInOrder, IsLawful, AreSound}
 use Rattle.lease_model.specs.server.State.{Open, Lease, no_lease, has_key, is_breaking}
-use Rattle.lease_model.specs.values.Sharing.{permits}
 use Rattle.lease_model.specs.values.Tables.{put_key}
 use Rattle.lease_laws.proofs.server.Keys.{put_key-cases}
 use Rattle.lease_laws.proofs.server.Lists.{clash, among_append, among_before, any_has, none_has, has_none, not_false}
@@ -59,18 +58,18 @@ put_sound opens leases expired last_id key new s there fresh may = record {
       (λ e. s.timed_out k out);
 }
 
--- and goes both ways
-and_back : (a b : Bool) → (a && b) ≡ (b && a)
-and_back true true = refl
-and_back true false = refl
-and_back false true = refl
-and_back false false = refl
+-- or goes both ways
+or_back : (a b : Bool) → (a || b) ≡ (b || a)
+or_back true true = refl
+or_back true false = refl
+or_back false true = refl
+or_back false false = refl
 
 -- conflicts go both ways
-pub conflict_back : (one other : Open) → conflicts one.access one.share other ≡ conflicts other.access
-    other.share one
-unfolding conflicts
-conflict_back one other = ap not (and_back (permits one.share other.access) (permits other.share one.access))
+pub conflict_back : (one other : Open)
+    → conflict one.access one.share other.access other.share ≡ conflict other.access other.share one.access one.share
+conflict_back one other = or_back (not (is_within (uses_of one.access) (allowed_by other.share)))
+    (not (is_within (uses_of other.access) (allowed_by one.share)))
 
 -- one more behind all keeps the order
 in_order-append : (opens : List Open) (new : Open) → AreInOrder opens
@@ -89,7 +88,7 @@ in_order-append (one ∷ opens) new own last = (
 pub record MayOpen (opens : List Open) (leases : Key → Lease) (new : Open) : Type 0 where
   pub is_connected : new.connected ≡ true
   pub is_peaceful : (other : Open) → Among other opens → other.file ≡ new.file
-      → conflicts new.access new.share other ≡ false
+      → conflict new.access new.share other.access other.share ≡ false
   pub is_at_home : (key : Key) (other : Open) → Among other opens → has_key key new ≡ true
       → has_key key other ≡ true → other.file ≡ new.file
   pub is_welcome : (key : Key) (other : Open) → (leases key).state.write ≡ true → Among other opens
@@ -132,11 +131,11 @@ open_sound opens leases expired last_id new s id may =
           ⊎_elim
           (λ p. ⊎_elim
           (λ q. s.no_conflict one other p q f n)
-          (λ q. conflict_back one other ∙ ap (λ o. conflicts o.access o.share one) q
+          (λ q. conflict_back one other ∙ ap (λ o. conflict o.access o.share one.access one.share) q
           ∙ may.is_peaceful one p (sym f ∙ ap (λ o. o.file) q))
           (split other b))
           (λ p. ⊎_elim
-          (λ q. ap (λ o. conflicts o.access o.share other) p
+          (λ q. ap (λ o. conflict o.access o.share other.access other.share) p
           ∙ may.is_peaceful other q (f ∙ ap (λ o. o.file) p))
           (λ q. absurd (n (ap (λ o. o.file_id) (q ∙ sym p))))
           (split other b))

@@ -1,7 +1,7 @@
 -- What is on a list: after an append, a filter and a map; and what `list_any` says of it.
 use Rattle.std.proofs.Common.{◌≡◌, ◌⊎◌, inl, inr, ⊎_elim, refl, sym, ap, ◌∙◌, Bool, true, false, not, cond, List, [], ◌∷◌, ◌++◌, map, true≢false}
 use Rattle.std.specs.Prelude.{◌||◌, ◌&&◌, filter, Some, find}
-use Rattle.std.specs.List.{list_any}
+use Rattle.std.specs.List.{list_any, list_all}
 use Rattle.lease_laws.specs.server.Laws.{Among}
 
 -- to choose by a test keeps what holds of both
@@ -135,3 +135,17 @@ find_has test x (y ∷ xs) h =
     if_cases (λ o. o ≡ Some x → (Among x (y ∷ xs)) × (test x ≡ true)) (test y) (Some y) (find test xs)
     (λ e k. let same : x ≡ y = cc in (inl same, ap test same ∙ e))
     (λ e k. let rest = find_has test x xs k in (inr rest.0, rest.1)) h
+
+-- where the test is true of each on the list, it is true of all
+pub each_all : {X : Type 0} (test : X → Bool) (xs : List X) → ((x : X) → Among x xs → test x ≡ true)
+    → list_all test xs ≡ true
+each_all test [] each = refl
+each_all test (x ∷ xs) each = and_both (test x) (list_all test xs) (each x (inl refl))
+    (each_all test xs (λ y a. each y (inr a)))
+
+-- where the test is true of all, it is true of each on the list
+pub all_each : {X : Type 0} (test : X → Bool) (x : X) (xs : List X) → list_all test xs ≡ true → Among x xs
+    → test x ≡ true
+all_each test x [] all a = absurd a
+all_each test x (y ∷ xs) all a = let parts = and_parts (test y) (list_all test xs) all in
+    ⊎_elim (λ same. ap test same ∙ parts.0) (λ later. all_each test x xs parts.1 later) a

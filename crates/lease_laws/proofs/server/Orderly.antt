@@ -4,7 +4,7 @@ use Rattle.std.specs.Prelude.{Option, Some, None, find}
 use Rattle.lease_model.specs.server.Answers.{concluded}
 use Rattle.lease_model.specs.server.Attempt.{Outcome, Tried, tried}
 use Rattle.lease_model.specs.server.Progress.{Progress, held_left}
-use Rattle.lease_model.specs.messages.Requests.{Request, CreateAsk}
+use Rattle.lease_model.specs.messages.Requests.{FileRequest, CreateAsk}
 use Rattle.lease_laws.specs.server.Laws.{Among, IsSound, HasToWait}
 use Rattle.lease_model.specs.server.State.{Server, Held, has_file}
 use Rattle.lease_laws.specs.server.Waiting.{IsAbout, IsOpenOn, IsOrderly, AllWait}
@@ -20,7 +20,7 @@ use Rattle.lease_laws.proofs.server.Tries.{IsGoodTry, tried_for-good}
 
 -- what a held request is
 pub record IsHeldWell (server : Server) (file : ℕ) (one : Held) : Type 0 where
-  pub up : server.connected one.client ≡ true
+  pub up : server.present one.client ≡ true
   pub on_file : has_file server file ≡ true
   pub about : IsAbout server file one.request
 
@@ -46,14 +46,13 @@ open_goes before after file file_id g o = record {
 }
 
 -- what a request is about stays
-pub about_goes : (before after : Server) (file : ℕ) (request : Request) → GoesOn before after
+pub about_goes : (before after : Server) (file : ℕ) (request : FileRequest) → GoesOn before after
     → IsAbout before file request → IsAbout after file request
-about_goes before after file (Request.Create at access share contexts) g about = about
-about_goes before after file (Request.Read file_id) g about = open_goes before after file file_id g about
-about_goes before after file (Request.Write file_id number patch) g about = open_goes before after file
+about_goes before after file (FileRequest.Create at access share contexts) g about = about
+about_goes before after file (FileRequest.Read file_id) g about = open_goes before after file file_id g about
+about_goes before after file (FileRequest.Write file_id number patch) g about = open_goes before after file
     file_id g about
-about_goes before after file (Request.Close file_id) g about = open_goes before after file file_id g about
-about_goes before after file (Request.Acknowledge given) g about = about
+about_goes before after file (FileRequest.Close file_id) g about = open_goes before after file file_id g about
 
 -- opens that go on, and requests that were held well, stay in order
 pub orderly_goes : (before after : Server) → IsOrderly before → GoesOn before after
@@ -61,7 +60,7 @@ pub orderly_goes : (before after : Server) → IsOrderly before → GoesOn befor
 orderly_goes before after o g well = record {
   opens_up = λ one a up. ⊎_elim
       (λ old. ⊎_elim
-      (λ u. g.ups one.client ∙ ap (λ c. before.connected c) old.same_client
+      (λ u. g.ups one.client ∙ ap (λ c. before.present c) old.same_client
       ∙ o.opens_up old.was old.was_there u)
       (λ u. g.ups one.client ∙ u) (old.up up))
       (λ new. g.ups one.client ∙ new.up) (g.from one a);
@@ -85,7 +84,7 @@ same_well before after o same file one a = held_well before.server file one o
     (subst (λ held. Among one (held file)) same a)
 
 -- all that is known of a try
-pub record IsTry (client : ℕ) (request : Request) (before : Progress) (done : Tried) : Type 0 where
+pub record IsTry (client : ℕ) (request : FileRequest) (before : Progress) (done : Tried) : Type 0 where
   pub good : IsGoodTry client request done
   pub waits : done.outcome ≡ Outcome.Waits → HasToWait done.progress.server client request
   pub held : SameHeld before done.progress
@@ -93,7 +92,7 @@ pub record IsTry (client : ℕ) (request : Request) (before : Progress) (done : 
   pub keeps : Kept Anywhere before done.progress
 
 -- any try
-pub any_try : (client : ℕ) (request : Request) (before : Progress) → IsSound before.server
+pub any_try : (client : ℕ) (request : FileRequest) (before : Progress) → IsSound before.server
     → IsTry client request before (tried client request before)
 any_try client request before s = record {
   good = tried_for-good 3 client request before s;
@@ -104,7 +103,7 @@ any_try client request before s = record {
 }
 
 -- a try keeps the laws and the order
-pub fine_try : (client : ℕ) (request : Request) (before : Progress) (done : Tried) → IsFine before.server
+pub fine_try : (client : ℕ) (request : FileRequest) (before : Progress) (done : Tried) → IsFine before.server
     → IsTry client request before done → IsFine done.progress.server
 fine_try client request before done f t = record {
   sound = t.good.sound;
@@ -113,9 +112,9 @@ fine_try client request before done f t = record {
 }
 
 -- the end of a try of a connected client
-pub fine_concluded : (client : ℕ) (request : Request) (progress : Progress) (outcome : Outcome)
+pub fine_concluded : (client : ℕ) (request : FileRequest) (progress : Progress) (outcome : Outcome)
     → IsFine progress.server
-    → progress.server.connected client ≡ true
+    → progress.server.present client ≡ true
     → (outcome ≡ Outcome.Ready → RequestFree progress.server client request)
     → (outcome ≡ Outcome.Ready → FileReady progress.server client request)
     → IsFine (concluded client request progress outcome).server
@@ -156,12 +155,11 @@ contexts_frame client at (Some ask) file left progress ready =
     (ready.0, again_frame client ask.reconnect file left progress ready.1)
 
 -- what is held has nothing to do with what is ready
-pub held_left-ready : (client : ℕ) (request : Request) (file : ℕ) (left : List Held) (progress : Progress)
+pub held_left-ready : (client : ℕ) (request : FileRequest) (file : ℕ) (left : List Held) (progress : Progress)
     → FileReady progress.server client request
     → FileReady (held_left file left progress).server client request
-held_left-ready client (Request.Create at access share contexts) file left progress ready = contexts_frame
+held_left-ready client (FileRequest.Create at access share contexts) file left progress ready = contexts_frame
     client at contexts file left progress ready
-held_left-ready client (Request.Read file_id) file left progress ready = tt
-held_left-ready client (Request.Write file_id number patch) file left progress ready = tt
-held_left-ready client (Request.Close file_id) file left progress ready = tt
-held_left-ready client (Request.Acknowledge given) file left progress ready = tt
+held_left-ready client (FileRequest.Read file_id) file left progress ready = tt
+held_left-ready client (FileRequest.Write file_id number patch) file left progress ready = tt
+held_left-ready client (FileRequest.Close file_id) file left progress ready = tt

@@ -1,13 +1,13 @@
 -- The breaks for a request stand before its answer; and once a write is ready, no other key on its
--- file caches anything.
-use Rattle.std.proofs.Common.{◌≡◌, refl, sym, ap, ◌∙◌, subst, ℕ, Bool, true, false, not, List, [], ◌++◌, append-nil, ◌==◌}
-use Rattle.std.specs.Prelude.{◌||◌, ◌&&◌, Result, Ok, Err, Some}
+-- file caches anything but what it is giving up.
+use Rattle.std.proofs.Common.{◌≡◌, inl, inr, refl, sym, ap, ◌∙◌, subst, ℕ, Bool, true, false, not, List, [], ◌++◌, append-nil, ◌==◌}
+use Rattle.std.specs.Prelude.{◌||◌, ◌&&◌, Result, Ok, Err, Option, Some, None}
 use Rattle.std.proofs.lemmas.Bool.Decides.{Decides-eqb}
-use Rattle.lease_state.specs.State.{nothing_cached}
+use Rattle.lease_state.specs.State.{State, nothing_cached}
 use Rattle.lease_state.specs.declared.status.Status.{Status}
 use Rattle.lease_model.specs.server.Allowed.{is_other_on}
 use Rattle.lease_model.specs.server.Attempt.{Outcome, tried}
-use Rattle.lease_model.specs.server.Calls.{receive, arrived, arrived_on, after_first_try, held_of, file_asked}
+use Rattle.lease_model.specs.server.Calls.{receive, arrived, file_request_arrived, arrived_on, after_first_try, held_of, file_asked}
 use Rattle.lease_state.specs.declared.patch.Patch.{Patch}
 use Rattle.lease_model.specs.values.Patches.{is_within_limit}
 use Rattle.lease_model.specs.values.Keys.{Key}
@@ -15,9 +15,9 @@ use Rattle.lease_model.specs.values.LeaseStates.{holds_any}
 use Rattle.lease_model.specs.values.Lists.{is_empty}
 use Rattle.lease_model.specs.server.Passes.{is_behind}
 use Rattle.lease_model.specs.server.Progress.{Progress, begun, request_held, refused}
-use Rattle.lease_model.specs.server.Ready.{is_ready}
+use Rattle.lease_model.specs.server.Ready.{is_ready, leaves_nothing, breaks_to_none}
 use Rattle.lease_model.specs.messages.Replies.{Out}
-use Rattle.lease_model.specs.messages.Requests.{Request}
+use Rattle.lease_model.specs.messages.Requests.{FileRequest, Request}
 use Rattle.lease_laws.specs.server.Laws.{IsSound}
 use Rattle.lease_laws.specs.server.Outs.{IsBreak, IsNoBreak, GoOn, AreBreaksFirst, IsAlone, CachesAlone}
 use Rattle.lease_model.specs.server.State.{Server, Open, Lease, has_own_key}
@@ -26,13 +26,14 @@ use Rattle.lease_model.specs.server.Wants.{Want, all_wants}
 use Rattle.lease_model.specs.server.Findings.{Finding, finding, by_open, write_finding, connected_open}
 use Rattle.lease_model.specs.server.Naming.{key_of_open, lease_of}
 use Rattle.lease_laws.proofs.server.Keys.{lease_by-key}
-use Rattle.lease_laws.proofs.server.Lists.{if_cases, clash, and_both, not_true}
+use Rattle.lease_laws.proofs.server.EnoughRounds.{AllBreakToNone}
+use Rattle.lease_laws.proofs.server.KeyOrder.{wants_where-has}
+use Rattle.lease_laws.proofs.server.Lists.{if_cases, either, clash, and_both, not_parts, all_each}
 use Rattle.lease_laws.proofs.server.OutCalls.{tried-breaks, concluded-answers, request_held-outs}
 use Rattle.lease_laws.proofs.server.OutLists.{answers_go_on}
 use Rattle.lease_laws.proofs.server.OutSteps.{refused-answered}
 use Rattle.lease_laws.proofs.server.States.{rights}
 use Rattle.lease_laws.proofs.server.Tries.{tried_for-good}
-use Rattle.lease_laws.proofs.server.Wants.{wants_where-none}
 
 -- breaks, and then an answer
 breaks_then : (middle after : List Out) → GoOn IsBreak [] middle → GoOn IsNoBreak middle after
@@ -60,7 +61,7 @@ no_breaks : GoOn IsBreak [] []
 no_breaks = record { more = []; are_more = refl; each = tt }
 
 -- what follows a first try gives out breaks first
-first_try-breaks : (client file : ℕ) (request : Request) (progress : Progress) (outcome : Outcome)
+first_try-breaks : (client file : ℕ) (request : FileRequest) (progress : Progress) (outcome : Outcome)
     → GoOn IsBreak [] progress.outs
     → AreBreaksFirst (after_first_try client file request progress outcome).outs
 first_try-breaks client file request progress Outcome.Waits b =
@@ -72,7 +73,7 @@ first_try-breaks client file request progress Outcome.Ready b =
     breaks_then progress.outs _ b (concluded-answers client request progress Outcome.Ready)
 
 -- a request on a file gives out breaks first
-arrived_on-breaks : (client : ℕ) (request : Request) (server : Server) (asked : Result ℕ Status)
+arrived_on-breaks : (client : ℕ) (request : FileRequest) (server : Server) (asked : Result ℕ Status)
     → AreBreaksFirst (arrived_on client request (begun server) asked).outs
 arrived_on-breaks client request server (Err status) = breaks_then []
     (refused client request status (begun server)).outs no_breaks
@@ -90,26 +91,25 @@ arrived_on-breaks client request server (Ok file) =
     (tried-breaks client request (begun server)))
 
 -- a request that comes gives out breaks first
-arrived-breaks : (client : ℕ) (request : Request) (server : Server) → IsAlone request
-    → AreBreaksFirst (arrived client request (begun server)).outs
-unfolding arrived
-arrived-breaks client (Request.Acknowledge given) server alone = absurd alone
-arrived-breaks client (Request.Close file_id) server alone = absurd alone
-arrived-breaks client (Request.Create file access share contexts) server alone =
-    arrived_on-breaks client (Request.Create file access share contexts) server
-    (file_asked server client (Request.Create file access share contexts))
-arrived-breaks client (Request.Read file_id) server alone =
-    arrived_on-breaks client (Request.Read file_id) server (file_asked server client (Request.Read file_id))
-arrived-breaks client (Request.Write file_id number patch) server alone =
-    arrived_on-breaks client (Request.Write file_id number patch) server
-    (file_asked server client (Request.Write file_id number patch))
+arrived-breaks : (client : ℕ) (request : FileRequest) (server : Server) → IsAlone request
+    → AreBreaksFirst (file_request_arrived client request (begun server)).outs
+arrived-breaks client (FileRequest.Close file_id) server alone = absurd alone
+arrived-breaks client (FileRequest.Create file access share contexts) server alone =
+    arrived_on-breaks client (FileRequest.Create file access share contexts) server
+    (file_asked server client (FileRequest.Create file access share contexts))
+arrived-breaks client (FileRequest.Read file_id) server alone =
+    arrived_on-breaks client (FileRequest.Read file_id) server (file_asked server client (FileRequest.Read file_id))
+arrived-breaks client (FileRequest.Write file_id number patch) server alone =
+    arrived_on-breaks client (FileRequest.Write file_id number patch) server
+    (file_asked server client (FileRequest.Write file_id number patch))
 
 -- a request after which none is tried again gives out breaks, and then its answer
-pub receive-breaks : (server : Server) (client : ℕ) (request : Request) → IsAlone request
-    → AreBreaksFirst (receive server client request).outs
-unfolding receive
+pub receive-breaks : (server : Server) (client : ℕ) (request : FileRequest) → IsAlone request
+    → AreBreaksFirst (receive server client (Request.OnFile request)).outs
+unfolding receive arrived
 receive-breaks server client request alone =
-    if_cases (λ p. AreBreaksFirst p.outs) (server.connected client) (arrived client request (begun server))
+    if_cases (λ p. AreBreaksFirst p.outs) (server.present client)
+    (file_request_arrived client request (begun server))
     (begun server)
     (λ e. arrived-breaks client request server alone) (λ e. breaks_only [] [] no_breaks refl)
 
@@ -124,52 +124,62 @@ holds_none false true false e = absurd (cc)
 holds_none false false true e = absurd (cc)
 holds_none false false false e = refl
 
--- where a write wants nothing, no other key on its file caches anything
-all_wants-none : (server : Server) (one : Open)
-    → is_empty (all_wants server (key_of_open one) one.file) ≡ true → CachesAlone server one
+-- a state without rights is none
+pub state_none : (state : State) → holds_any state ≡ false → state ≡ nothing_cached
+state_none state e = holds_none state.read state.write state.handle e
+
+-- a break to nothing
+to_none : (broken_to : Option State) → leaves_nothing broken_to ≡ true → broken_to ≡ Some nothing_cached
+to_none None e = clash false e refl
+to_none (Some lowered) e = ap (λ s. Some s) (state_none lowered (not_parts (holds_any lowered) e))
+
+-- where all that a write wants is breaking to nothing, each other key on its file is given up
+all_wants-given : (server : Server) (one : Open)
+    → AllBreakToNone server (all_wants server (key_of_open one) one.file) → CachesAlone server one
 unfolding all_wants is_other_on
-all_wants-none server one none key other a f strange k =
-    holds_none (server.leases key).state.read (server.leases key).state.write (server.leases key).state.handle
-    (not_true (holds_any (server.leases key).state) (λ held.
-    clash (is_other_on (key_of_open one) one.file other && holds_any (lease_of server other).state)
+all_wants-given server one ready key other a f strange k =
+    let test : Open → Bool = λ x. is_other_on (key_of_open one) one.file x && holds_any (lease_of server x).state in
+    either (holds_any (server.leases key).state)
+    (λ held. inr (to_none (server.leases key).broken_to
+    (all_each (λ want. breaks_to_none (server.leases want.key)) _ (all_wants server (key_of_open one) one.file) ready
+    (wants_where-has server test (λ state. nothing_cached) key other a
     (and_both (is_other_on (key_of_open one) one.file other) (holds_any (lease_of server other).state)
     (and_both (other.file == one.file) (not (has_own_key (key_of_open one) other))
     ((Decides-eqb other.file one.file).1 f) (ap not strange))
-    (ap (λ l. holds_any l.state) (lease_by-key server key other.client other.lease_key k) ∙ held))
-    (wants_where-none server (λ x. is_other_on (key_of_open one) one.file x && holds_any
-    (lease_of server x).state) (λ state. nothing_cached) none key other a k)))
+    (ap (λ l. holds_any l.state) (lease_by-key server key other.client other.lease_key k) ∙ held)) k))))
+    (λ none. inl (state_none (server.leases key).state none))
 
--- a finding that leaves nothing wanted
-abbrev AloneWhenEmpty : Server → Open → Finding → Type 0
-AloneWhenEmpty server one (Finding.Refused status) = Unit {0}
-AloneWhenEmpty server one (Finding.Wants wants) = is_empty wants ≡ true → CachesAlone server one
+-- a finding whose wants are all breaking to nothing
+abbrev AloneWhenReady : Server → Open → Finding → Type 0
+AloneWhenReady server one (Finding.Fails status) = Unit {0}
+AloneWhenReady server one (Finding.Needs wants) = AllBreakToNone server wants → CachesAlone server one
 
--- a write that wants nothing is alone
+-- a write that finds such is alone
 write_finding-alone : (server : Server) (one : Open) (patch : Patch)
-    → AloneWhenEmpty server one (write_finding server one patch)
+    → AloneWhenReady server one (write_finding server one patch)
 unfolding write_finding
 write_finding-alone server one patch =
-    if_cases (AloneWhenEmpty server one) (may_write one.access) _ _
-    (λ e. if_cases (AloneWhenEmpty server one) (is_within_limit patch) _ _
-    (λ i. all_wants-none server one) (λ i. tt))
+    if_cases (AloneWhenReady server one) (may_write one.access) _ _
+    (λ e. if_cases (AloneWhenReady server one) (is_within_limit patch) _ _
+    (λ i. all_wants-given server one) (λ i. tt))
     (λ e. tt)
 
 -- so it is by what is found
 found_alone : (server : Server) (one : Open) (found : Finding) (wants : List Want)
-    → AloneWhenEmpty server one found
-    → found ≡ Finding.Wants wants → is_empty wants ≡ true → CachesAlone server one
-found_alone server one found wants alone e none = (subst (AloneWhenEmpty server one) e alone) none
+    → AloneWhenReady server one found
+    → found ≡ Finding.Needs wants → AllBreakToNone server wants → CachesAlone server one
+found_alone server one found wants alone e none = (subst (AloneWhenReady server one) e alone) none
 
--- a write is ready only where it wants nothing
-write_ready-empty : (file_id number : ℕ) (patch : Patch) (leases : Key → Lease) (wants : List Want)
-    → is_ready (Request.Write file_id number patch) leases wants ≡ true → is_empty wants ≡ true
+-- a write is ready only where all that it wants is breaking to nothing
+write_ready-given : (file_id number : ℕ) (patch : Patch) (server : Server) (wants : List Want)
+    → is_ready (FileRequest.Write file_id number patch) server.leases wants ≡ true → AllBreakToNone server wants
 unfolding is_ready
-write_ready-empty file_id number patch leases wants e = e
+write_ready-given file_id number patch server wants e = e
 
 -- what a write finds, by its open
 write_found : (server : Server) (client file_id number : ℕ) (patch : Patch) (one : Open)
     → connected_open server client file_id ≡ Some one
-    → finding server client (Request.Write file_id number patch) ≡ write_finding server one patch
+    → finding server client (FileRequest.Write file_id number patch) ≡ write_finding server one patch
 unfolding finding
 write_found server client file_id number patch one e = ap (λ o. by_open o (λ x. write_finding server x patch))
     e
@@ -177,14 +187,14 @@ write_found server client file_id number patch one e = ap (λ o. by_open o (λ x
 -- a write that is ready
 pub write_ready-alone : (client file_id number : ℕ) (patch : Patch) (progress : Progress) (one : Open)
     → IsSound progress.server
-    → (tried client (Request.Write file_id number patch) progress).outcome ≡ Outcome.Ready
-    → connected_open (tried client (Request.Write file_id number patch) progress).progress.server client
+    → (tried client (FileRequest.Write file_id number patch) progress).outcome ≡ Outcome.Ready
+    → connected_open (tried client (FileRequest.Write file_id number patch) progress).progress.server client
     file_id ≡ Some one
-    → CachesAlone (tried client (Request.Write file_id number patch) progress).progress.server one
+    → CachesAlone (tried client (FileRequest.Write file_id number patch) progress).progress.server one
 write_ready-alone client file_id number patch progress one s ready open_is =
-    let end = (tried client (Request.Write file_id number patch) progress).progress in
-    let found = (tried_for-good 3 client (Request.Write file_id number patch) progress s).found_ready ready in
+    let end = (tried client (FileRequest.Write file_id number patch) progress).progress in
+    let found = (tried_for-good 3 client (FileRequest.Write file_id number patch) progress s).found_ready ready in
     found_alone end.server one (write_finding end.server one patch) found.wants
     (write_finding-alone end.server one patch)
     (sym (write_found end.server client file_id number patch one open_is) ∙ found.found)
-    (write_ready-empty file_id number patch end.server.leases found.wants found.ready)
+    (write_ready-given file_id number patch end.server found.wants found.ready)

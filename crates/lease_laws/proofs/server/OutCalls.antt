@@ -6,13 +6,13 @@ use Rattle.lease_state.specs.declared.status.Status.{Status}
 use Rattle.lease_model.specs.server.Acknowledge.{acknowledged}
 use Rattle.lease_model.specs.server.Answers.{concluded}
 use Rattle.lease_model.specs.server.Attempt.{Outcome, Tried, tried}
-use Rattle.lease_model.specs.server.Calls.{Call, called, join, joined, receive, arrived, arrived_on, after_first_try, held_of, file_asked, cut, is_lost, opens_disconnected, client_forgotten, key_expired, expire, scavenge, is_kept_open}
+use Rattle.lease_model.specs.server.Calls.{file_request_arrived, Call, called, join, joined, receive, arrived, arrived_on, after_first_try, held_of, file_asked, cut, is_lost, opens_disconnected, client_forgotten, key_expired, expire, scavenge, is_left_behind}
 use Rattle.lease_model.specs.values.Keys.{Key}
 use Rattle.lease_model.specs.values.Lists.{numbers_to}
-use Rattle.lease_model.specs.server.Passes.{Pass, is_behind, pass_kept, pass_answered, after_try, tried_again, pass_over, one_pass, passes_for, passes, passes_over, all_passes}
+use Rattle.lease_model.specs.server.Passes.{Pass, is_behind, left_waiting, pass_answered, after_try, tried_again, pass_over, one_pass, passes_for, passes, passes_over, all_passes}
 use Rattle.lease_model.specs.server.Progress.{Progress, begun, opens_dropped, request_held, held_left, refused}
 use Rattle.lease_model.specs.messages.Replies.{Out}
-use Rattle.lease_model.specs.messages.Requests.{Request}
+use Rattle.lease_model.specs.messages.Requests.{FileRequest, Request}
 use Rattle.lease_laws.specs.server.Outs.{IsBreak, IsNoBreak, GoOn}
 use Rattle.lease_model.specs.server.State.{Server, Held, has_key, is_breaking}
 use Rattle.lease_laws.proofs.server.Lists.{if_cases}
@@ -62,14 +62,14 @@ unfolding joined
 joined-outs client progress = append-nil progress.outs
 
 -- a try
-tried-fair : (client : ℕ) (request : Request) (progress : Progress) → Fair progress
+tried-fair : (client : ℕ) (request : FileRequest) (progress : Progress) → Fair progress
     → Fair (tried client request progress).progress
 tried-fair client request progress fair = breaks_fair progress.outs
     (tried client request progress).progress.outs fair
     (tried_for-broken 3 client request progress)
 
 -- the end of a try keeps the outs fair
-concluded-fair : (client : ℕ) (request : Request) (progress : Progress) (outcome : Outcome) → Fair progress
+concluded-fair : (client : ℕ) (request : FileRequest) (progress : Progress) (outcome : Outcome) → Fair progress
     → Fair (concluded client request progress outcome)
 concluded-fair client request progress outcome fair = answers_fair progress.outs
     (concluded client request progress outcome).outs fair
@@ -80,9 +80,9 @@ pass_answered-fair : (file : ℕ) (one : Held) (waiting : List Held) (pass : Pas
     → Fair done.progress
     → Fair (pass_answered file one waiting pass done).progress
 pass_answered-fair file one waiting pass done fair = concluded-fair one.client one.request
-    (held_left file (pass.kept ++ waiting) done.progress) done.outcome
-    (silent_fair done.progress.outs (held_left file (pass.kept ++ waiting) done.progress).outs
-    (held_left-outs file (pass.kept ++ waiting) done.progress) fair)
+    (held_left file (pass.passed ++ waiting) done.progress) done.outcome
+    (silent_fair done.progress.outs (held_left file (pass.passed ++ waiting) done.progress).outs
+    (held_left-outs file (pass.passed ++ waiting) done.progress) fair)
 
 -- what follows a try in a pass keeps the outs fair
 after_try-fair : (file : ℕ) (one : Held) (waiting : List Held) (pass : Pass) (progress : Progress)
@@ -100,7 +100,7 @@ tried_again-fair : (file : ℕ) (one : Held) (waiting : List Held) (pass : Pass)
     → Fair (tried_again file one waiting pass).progress
 unfolding tried_again
 tried_again-fair file one waiting pass fair =
-    if_cases (λ p. Fair p.progress) (is_behind one.client pass.kept) (pass_kept one pass pass.progress)
+    if_cases (λ p. Fair p.progress) (is_behind one.client pass.passed) (left_waiting one pass pass.progress)
     (after_try file one waiting pass (tried one.client one.request pass.progress).progress
     (tried one.client one.request pass.progress).outcome)
     (λ e. fair)
@@ -123,7 +123,7 @@ unfolding passes_for
 passes_for-fair zero file progress fair = fair
 passes_for-fair (suc count) file progress fair =
     let next = pass_over-fair file (progress.server.held file)
-    (record { kept = []; progress = progress; has_answered = false }) fair in
+    (record { passed = []; progress = progress; has_answered = false }) fair in
     if_cases Fair (one_pass file progress).has_answered
     (passes_for count file (one_pass file progress).progress) (one_pass file progress).progress
     (λ e. passes_for-fair count file (one_pass file progress).progress next) (λ e. next)
@@ -141,7 +141,7 @@ unfolding all_passes
 all_passes-fair progress fair = passes_over-fair (numbers_to progress.server.files) progress fair
 
 -- what follows a first try keeps the outs fair
-after_first_try-fair : (client file : ℕ) (request : Request) (progress : Progress) (outcome : Outcome)
+after_first_try-fair : (client file : ℕ) (request : FileRequest) (progress : Progress) (outcome : Outcome)
     → Fair progress
     → Fair (after_first_try client file request progress outcome)
 after_first_try-fair client file request progress Outcome.Waits fair =
@@ -153,7 +153,7 @@ after_first_try-fair client file request progress Outcome.Ready fair = concluded
     Outcome.Ready fair
 
 -- a request on a file keeps the outs fair
-arrived_on-fair : (client : ℕ) (request : Request) (progress : Progress) (asked : Result ℕ Status)
+arrived_on-fair : (client : ℕ) (request : FileRequest) (progress : Progress) (asked : Result ℕ Status)
     → Fair progress → Fair (arrived_on client request progress asked)
 arrived_on-fair client request progress (Err status) fair = answers_fair progress.outs
     (refused client request status progress).outs fair
@@ -169,6 +169,24 @@ arrived_on-fair client request progress (Ok file) fair = if_cases Fair
     (tried client request progress).outcome
     (tried-fair client request progress fair))
 
+-- a request about a file keeps the outs fair
+file_request-fair : (client : ℕ) (request : FileRequest) (progress : Progress) → Fair progress
+    → Fair (file_request_arrived client request progress)
+file_request-fair client (FileRequest.Close file_id) progress fair = all_passes-fair
+    (arrived_on client (FileRequest.Close file_id) progress
+    (file_asked progress.server client (FileRequest.Close file_id)))
+    (arrived_on-fair client (FileRequest.Close file_id) progress
+    (file_asked progress.server client (FileRequest.Close file_id)) fair)
+file_request-fair client (FileRequest.Create file access share contexts) progress fair =
+    arrived_on-fair client (FileRequest.Create file access share contexts) progress
+    (file_asked progress.server client (FileRequest.Create file access share contexts)) fair
+file_request-fair client (FileRequest.Read file_id) progress fair =
+    arrived_on-fair client (FileRequest.Read file_id) progress
+    (file_asked progress.server client (FileRequest.Read file_id)) fair
+file_request-fair client (FileRequest.Write file_id number patch) progress fair =
+    arrived_on-fair client (FileRequest.Write file_id number patch) progress
+    (file_asked progress.server client (FileRequest.Write file_id number patch)) fair
+
 -- a request that comes keeps the outs fair
 arrived-fair : (client : ℕ) (request : Request) (progress : Progress) → Fair progress
     → Fair (arrived client request progress)
@@ -177,20 +195,7 @@ arrived-fair client (Request.Acknowledge given) progress fair = all_passes-fair
     (acknowledged client given progress)
     (answers_fair progress.outs (acknowledged client given progress).outs fair
     (acknowledged-answered client given progress))
-arrived-fair client (Request.Close file_id) progress fair = all_passes-fair
-    (arrived_on client (Request.Close file_id) progress
-    (file_asked progress.server client (Request.Close file_id)))
-    (arrived_on-fair client (Request.Close file_id) progress
-    (file_asked progress.server client (Request.Close file_id)) fair)
-arrived-fair client (Request.Create file access share contexts) progress fair =
-    arrived_on-fair client (Request.Create file access share contexts) progress
-    (file_asked progress.server client (Request.Create file access share contexts)) fair
-arrived-fair client (Request.Read file_id) progress fair =
-    arrived_on-fair client (Request.Read file_id) progress
-    (file_asked progress.server client (Request.Read file_id)) fair
-arrived-fair client (Request.Write file_id number patch) progress fair =
-    arrived_on-fair client (Request.Write file_id number patch) progress
-    (file_asked progress.server client (Request.Write file_id number patch)) fair
+arrived-fair client (Request.OnFile request) progress fair = file_request-fair client request progress fair
 
 -- a call that may not apply
 fair_cases : (b : Bool) (x y : Progress) → Fair x → Fair y → Fair (cond b x y)
@@ -199,14 +204,14 @@ fair_cases b x y fx fy = if_cases Fair b x y (λ e. fx) (λ e. fy)
 -- a join keeps the outs fair
 join-fair : (server : Server) (client : ℕ) → Fair (join server client)
 unfolding join
-join-fair server client = fair_cases (server.connected client) (begun server) (joined client (begun server))
+join-fair server client = fair_cases (server.present client) (begun server) (joined client (begun server))
     none_fair
     (silent_fair [] (joined client (begun server)).outs (joined-outs client (begun server)) none_fair)
 
 -- a request received keeps the outs fair
 receive-fair : (server : Server) (client : ℕ) (request : Request) → Fair (receive server client request)
 unfolding receive
-receive-fair server client request = fair_cases (server.connected client)
+receive-fair server client request = fair_cases (server.present client)
     (arrived client request (begun server)) (begun server)
     (arrived-fair client request (begun server) none_fair) none_fair
 
@@ -216,7 +221,7 @@ unfolding cut
 cut-fair server client =
     let dropped = opens_dropped (is_lost server client) (begun server) in
     let apart = opens_disconnected client dropped in
-    fair_cases (server.connected client) (all_passes (client_forgotten client apart)) (begun server)
+    fair_cases (server.present client) (all_passes (client_forgotten client apart)) (begun server)
     (all_passes-fair (client_forgotten client apart)
     (silent_fair apart.outs (client_forgotten client apart).outs (client_forgotten-outs client apart)
     (silent_fair dropped.outs apart.outs (opens_disconnected-outs client dropped)
@@ -238,10 +243,10 @@ expire-fair server key =
 scavenge-fair : (server : Server) (file_id : ℕ) → Fair (scavenge server file_id)
 unfolding scavenge
 scavenge-fair server file_id =
-    let dropped = opens_dropped (is_kept_open file_id) (begun server) in
-    fair_cases (list_any (is_kept_open file_id) server.opens) (all_passes dropped) (begun server)
+    let dropped = opens_dropped (is_left_behind file_id) (begun server) in
+    fair_cases (list_any (is_left_behind file_id) server.opens) (all_passes dropped) (begun server)
     (all_passes-fair dropped (silent_fair [] dropped.outs
-    (opens_dropped-outs (is_kept_open file_id) (begun server)) none_fair))
+    (opens_dropped-outs (is_left_behind file_id) (begun server)) none_fair))
     none_fair
 
 -- the outs of a call are fair
@@ -253,13 +258,13 @@ called-fair server (Call.Expire key) = expire-fair server key
 called-fair server (Call.Scavenge file_id) = scavenge-fair server file_id
 
 -- what a try gives out are breaks
-pub tried-breaks : (client : ℕ) (request : Request) (progress : Progress)
+pub tried-breaks : (client : ℕ) (request : FileRequest) (progress : Progress)
     → GoOn IsBreak progress.outs (tried client request progress).progress.outs
 tried-breaks client request progress = go_on-weaker IsGoodBreak IsBreak (λ out good. good.0) progress.outs
     (tried client request progress).progress.outs (tried_for-broken 3 client request progress)
 
 -- what the end of a try gives out is no break
-pub concluded-answers : (client : ℕ) (request : Request) (progress : Progress) (outcome : Outcome)
+pub concluded-answers : (client : ℕ) (request : FileRequest) (progress : Progress) (outcome : Outcome)
     → GoOn IsNoBreak progress.outs (concluded client request progress outcome).outs
 concluded-answers client request progress outcome = answers_go_on progress.outs
     (concluded client request progress outcome).outs

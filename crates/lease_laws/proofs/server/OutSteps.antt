@@ -16,7 +16,7 @@ use Rattle.lease_model.specs.values.Limits.{last_file_id}
 use Rattle.lease_model.specs.server.Progress.{Progress, opens_dropped, lease_lowered, break_begun, break_notice, replied, refused, refusal_of}
 use Rattle.lease_model.specs.server.Ready.{is_ready}
 use Rattle.lease_model.specs.messages.Replies.{Reply, Out}
-use Rattle.lease_model.specs.messages.Requests.{Request, CreateAsk, LeaseOf}
+use Rattle.lease_model.specs.messages.Requests.{FileRequest, CreateAsk, LeaseOf}
 use Rattle.lease_laws.specs.server.Outs.{EachOut, IsNoBreak, GoOn}
 use Rattle.lease_model.specs.server.State.{Open, Lease, has_lease, is_breaking}
 use Rattle.lease_model.specs.server.Wants.{Want}
@@ -92,12 +92,12 @@ wants_met-broken (want ∷ wants) progress = go_on-twice IsGoodBreak progress.ou
     (want_met-broken want progress) (wants_met-broken wants (want_met want progress))
 
 -- a round gives out breaks alone
-after_finding-broken : (again : Progress → Tried) (request : Request) (progress : Progress) (found : Finding)
+after_finding-broken : (again : Progress → Tried) (request : FileRequest) (progress : Progress) (found : Finding)
     → ((next : Progress) → Broken next (again next).progress)
     → Broken progress (after_finding again request progress found).progress
-after_finding-broken again request progress (Finding.Refused status) more = go_on-same IsGoodBreak
+after_finding-broken again request progress (Finding.Fails status) more = go_on-same IsGoodBreak
     progress.outs
-after_finding-broken again request progress (Finding.Wants wants) more =
+after_finding-broken again request progress (Finding.Needs wants) more =
     let met = wants_met wants progress in
     if_cases (λ t. Broken progress t.progress) (is_ready request progress.server.leases wants)
     (ended progress Outcome.Ready) (after_breaks again request wants met)
@@ -109,7 +109,7 @@ after_finding-broken again request progress (Finding.Wants wants) more =
     (wants_met-broken wants progress) (more met)))
 
 -- a try
-pub tried_for-broken : (rounds client : ℕ) (request : Request) (progress : Progress)
+pub tried_for-broken : (rounds client : ℕ) (request : FileRequest) (progress : Progress)
     → Broken progress (tried_for rounds client request progress).progress
 unfolding tried_for
 tried_for-broken zero client request progress = go_on-same IsGoodBreak progress.outs
@@ -145,15 +145,14 @@ replied-answered client reply progress p = answered_by progress.outs (Out.Sent c
     (plain_no_break client reply p) (plain_fair client reply p)
 
 -- a refusal is a plain reply
-refusal_of-plain : (request : Request) (status : Status) → IsPlain (refusal_of request status)
-refusal_of-plain (Request.Create file access share contexts) status = tt
-refusal_of-plain (Request.Read file_id) status = tt
-refusal_of-plain (Request.Write file_id number patch) status = tt
-refusal_of-plain (Request.Close file_id) status = tt
-refusal_of-plain (Request.Acknowledge acknowledged) status = tt
+refusal_of-plain : (request : FileRequest) (status : Status) → IsPlain (refusal_of request status)
+refusal_of-plain (FileRequest.Create file access share contexts) status = tt
+refusal_of-plain (FileRequest.Read file_id) status = tt
+refusal_of-plain (FileRequest.Write file_id number patch) status = tt
+refusal_of-plain (FileRequest.Close file_id) status = tt
 
 -- a refusal gives out an answer without a break
-pub refused-answered : (client : ℕ) (request : Request) (status : Status) (progress : Progress)
+pub refused-answered : (client : ℕ) (request : FileRequest) (status : Status) (progress : Progress)
     → Answered progress (refused client request status progress)
 unfolding refused
 refused-answered client request status progress = replied-answered client (refusal_of request status) progress
@@ -238,27 +237,26 @@ on_open-answered None done progress each = answered_nothing progress.outs
 on_open-answered (Some one) done progress each = each one.file
 
 -- the answer to a request that is ready gives out an answer without a break
-answered-answered : (client : ℕ) (request : Request) (progress : Progress)
+answered-answered : (client : ℕ) (request : FileRequest) (progress : Progress)
     → Answered progress (answered client request progress)
 unfolding answered
-answered-answered client (Request.Create file access share contexts) progress = on_contexts-answered contexts
+answered-answered client (FileRequest.Create file access share contexts) progress = on_contexts-answered contexts
     (λ ask. created client file access share ask.lease ask.durable ask.reconnect) progress
     (λ ask. created-answered client file access share ask.lease ask.durable ask.reconnect progress)
-answered-answered client (Request.Read file_id) progress = on_open-answered
+answered-answered client (FileRequest.Read file_id) progress = on_open-answered
     (connected_open progress.server client file_id)
     (λ file. read_done client file file_id) progress
     (λ file. replied-answered client (Reply.ReadDone file_id (progress.server.contents file)) progress tt)
-answered-answered client (Request.Write file_id number patch) progress = on_open-answered
+answered-answered client (FileRequest.Write file_id number patch) progress = on_open-answered
     (connected_open progress.server client file_id)
     (λ file. changed client file file_id number patch) progress
     (λ file. changed-answered client file file_id number patch progress)
-answered-answered client (Request.Close file_id) progress = on_open-answered
+answered-answered client (FileRequest.Close file_id) progress = on_open-answered
     (connected_open progress.server client file_id)
     (λ file. closed client file_id) progress (λ file. closed-answered client file_id progress)
-answered-answered client (Request.Acknowledge acknowledged) progress = answered_nothing progress.outs
 
 -- the end of a try
-pub concluded-answered : (client : ℕ) (request : Request) (progress : Progress) (outcome : Outcome)
+pub concluded-answered : (client : ℕ) (request : FileRequest) (progress : Progress) (outcome : Outcome)
     → Answered progress (concluded client request progress outcome)
 concluded-answered client request progress (Outcome.Refused status) = refused-answered client request status
     progress

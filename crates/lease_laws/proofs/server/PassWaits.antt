@@ -6,7 +6,7 @@ use Rattle.std.proofs.lemmas.Bool.Decides.{Decides-eqb}
 use Rattle.lease_model.specs.server.Answers.{concluded}
 use Rattle.lease_model.specs.server.Attempt.{Outcome, Tried, tried}
 use Rattle.lease_model.specs.values.Lists.{numbers_to}
-use Rattle.lease_model.specs.server.Passes.{Pass, is_behind, pass_kept, pass_answered, after_try, tried_again, pass_over, one_pass, passes_for, passes, passes_over, all_passes}
+use Rattle.lease_model.specs.server.Passes.{Pass, is_behind, left_waiting, pass_answered, after_try, tried_again, pass_over, one_pass, passes_for, passes, passes_over, all_passes}
 use Rattle.lease_model.specs.server.Progress.{Progress, held_left}
 use Rattle.lease_laws.specs.server.Laws.{Among, HasToWait}
 use Rattle.lease_model.specs.server.State.{Server, Held, has_file}
@@ -14,7 +14,7 @@ use Rattle.lease_laws.specs.server.Waiting.{AllWait}
 use Rattle.lease_model.specs.values.Tables.{put}
 use Rattle.lease_laws.proofs.server.FileReady.{ready-file}
 use Rattle.lease_laws.proofs.server.Goes.{file_frame, Goes, still_there, concluded-goes, goes-same}
-use Rattle.lease_laws.proofs.server.Held.{one_pass-fewer, SameHeld, InPass, pass_kept-in, pass_answered-in, concluded-held, all_counted}
+use Rattle.lease_laws.proofs.server.Held.{one_pass-fewer, SameHeld, InPass, left_waiting-in, pass_answered-in, concluded-held, all_counted}
 use Rattle.lease_laws.proofs.server.Keeps.{Kept, Anywhere, Elsewhere, waits_keep, concluded-kept, keeps-same}
 use Rattle.lease_laws.proofs.server.Lists.{if_cases, either, clash, and_parts, among_append, among_before, among_behind, find_has}
 use Rattle.lease_laws.proofs.server.Orderly.{IsHeldWell, held_well, IsFine, IsTry, any_try, fine_try, fine_concluded, orderly_goes, all_wait-keep, held_left-ready, about_goes}
@@ -39,7 +39,7 @@ held_left-kept : (file : ℕ) (left : List Held) (progress : Progress)
     → Kept Anywhere progress (held_left file left progress)
 unfolding held_left
 held_left-kept file left progress = record {
-  stands = λ key one a k up b g. (a, b);
+  stands = λ key one a k up b g. (a, refl);
   finds = λ c id one e g.
       e;
 }
@@ -90,7 +90,7 @@ pub record PassWaits (start : Progress) (file : ℕ) (count : ℕ) (waiting : Li
     pub files : pass.progress.server.files ≡ start.server.files
     pub in_pass : InPass file count waiting pass
     pub kept_wait : pass.has_answered ≡ false → (client : ℕ) (one : Held)
-        → find (λ other. other.client == client) pass.kept ≡ Some one
+        → find (λ other. other.client == client) pass.passed ≡ Some one
         → HasToWait pass.progress.server client one.request
     pub others : (other : ℕ) → other ≢ file → AllWait start.server other → AllWait pass.progress.server other
 
@@ -123,25 +123,25 @@ kept_waits : (start : Progress) (file count : ℕ) (one : Held) (waiting : List 
     → PassWaits start file count (one ∷ waiting) pass → IsFine progress.server
     → SameHeld pass.progress progress → Goes pass.progress progress
     → Kept Anywhere pass.progress progress
-    → ((list_any (λ other. other.client == one.client) pass.kept ≡ false)
+    → ((list_any (λ other. other.client == one.client) pass.passed ≡ false)
     → HasToWait progress.server one.client one.request)
-    → PassWaits start file count waiting (pass_kept one pass progress)
+    → PassWaits start file count waiting (left_waiting one pass progress)
 kept_waits start file count one waiting pass progress p f same goes keeps new = record {
   fine = f;
   files = goes.files ∙ p.files;
-  in_pass = pass_kept-in file count one waiting pass progress p.in_pass same;
+  in_pass = left_waiting-in file count one waiting pass progress p.in_pass same;
   kept_wait = λ none client x first. ⊎_elim
-      (λ old. let there = find_has (λ other. other.client == client) x pass.kept old in
+      (λ old. let there = find_has (λ other. other.client == client) x pass.passed old in
       let held : Among x (pass.progress.server.held file) = subst (λ list. Among x list)
       (sym p.in_pass.is_held)
-      (among_before x pass.kept (one ∷ waiting) there.0) in
+      (among_before x pass.passed (one ∷ waiting) there.0) in
       waits_keep Anywhere pass.progress.server progress.server client file x.request keeps p.fine.sound
       (p.fine.orderly.held_about file x held) tt (p.kept_wait none client x old))
       (λ last. let same_client : one.client ≡ client = (Decides-eqb one.client client).0 last.1 in
       subst (λ h. HasToWait progress.server client h.request) (sym last.2)
       (subst (λ c. HasToWait progress.server c one.request) same_client
-      (new (subst (λ c. list_any (λ other. other.client == c) pass.kept ≡ false) (sym same_client) last.0))))
-      (find_more (λ other. other.client == client) pass.kept one x first);
+      (new (subst (λ c. list_any (λ other. other.client == c) pass.passed ≡ false) (sym same_client) last.0))))
+      (find_more (λ other. other.client == client) pass.passed one x first);
   others = λ other away all. all_wait-keep Anywhere pass.progress.server progress.server other keeps p.fine tt
       (ap (λ held. held other) same) (p.others other away all);
 }
@@ -152,25 +152,25 @@ answered_waits : (start : Progress) (file count : ℕ) (one : Held) (waiting : L
     → PassWaits start file count (one ∷ waiting) pass → IsTry one.client one.request pass.progress done
     → PassWaits start file count waiting (pass_answered file one waiting pass done)
 answered_waits start file count one waiting pass done p t =
-    let left = held_left file (pass.kept ++ waiting) done.progress in
+    let left = held_left file (pass.passed ++ waiting) done.progress in
     let after = concluded one.client one.request left done.outcome in
     let tried_fine = fine_try one.client one.request pass.progress done p.fine t in
-    let held : done.progress.server.held file ≡ pass.kept ++ one ∷ waiting = ap (λ h. h file) t.held
+    let held : done.progress.server.held file ≡ pass.passed ++ one ∷ waiting = ap (λ h. h file) t.held
     ∙ p.in_pass.is_held in
     let well = held_well pass.progress.server file one p.fine.orderly
     (subst (λ list. Among one list) (sym p.in_pass.is_held)
-    (among_behind one pass.kept (one ∷ waiting) (inl refl))) in
-    let left_fine = held_left-fine file one pass.kept waiting done.progress tried_fine held in
-    let left_goes = held_left-goes file (pass.kept ++ waiting) done.progress in
-    let up : left.server.connected one.client ≡ true = left_goes.ups one.client ∙ t.goes.ups one.client
+    (among_behind one pass.passed (one ∷ waiting) (inl refl))) in
+    let left_fine = held_left-fine file one pass.passed waiting done.progress tried_fine held in
+    let left_goes = held_left-goes file (pass.passed ++ waiting) done.progress in
+    let up : left.server.present one.client ≡ true = left_goes.ups one.client ∙ t.goes.ups one.client
     ∙ well.up in
     let about = about_goes done.progress.server left.server file one.request left_goes
     (about_goes pass.progress.server done.progress.server file one.request t.goes well.about) in
     let free = λ (ready : done.outcome ≡ Outcome.Ready). held_left-free one.client one.request file
-    (pass.kept ++ waiting) done.progress
+    (pass.passed ++ waiting) done.progress
     (ready-free one.client one.request done.progress (t.good.found_ready ready)) in
     let on_file = λ (ready : done.outcome ≡ Outcome.Ready). held_left-ready one.client one.request file
-    (pass.kept ++ waiting) done.progress
+    (pass.passed ++ waiting) done.progress
     (ready-file one.client one.request done.progress (t.good.found_ready ready)) in
     let after_goes = concluded-goes one.client one.request left done.outcome left_fine.sound up on_file in
     record {
@@ -183,8 +183,8 @@ answered_waits start file count one waiting pass done p t =
           (concluded-kept one.client file one.request left done.outcome left_fine.sound about)
           left_fine away (ap (λ h. h other) (concluded-held one.client one.request left done.outcome))
           (all_wait-keep Anywhere done.progress.server left.server other
-          (held_left-kept file (pass.kept ++ waiting) done.progress) tried_fine tt
-          (held_left-other file (pass.kept ++ waiting) done.progress other away)
+          (held_left-kept file (pass.passed ++ waiting) done.progress) tried_fine tt
+          (held_left-other file (pass.passed ++ waiting) done.progress other away)
           (all_wait-keep Anywhere pass.progress.server done.progress.server other t.keeps p.fine tt
           (ap (λ h. h other) t.held) (p.others other away all)));
     }
@@ -212,13 +212,13 @@ tried_again-waits : (start : Progress) (file count : ℕ) (one : Held) (waiting 
     → PassWaits start file count waiting (tried_again file one waiting pass)
 unfolding tried_again
 tried_again-waits start file count one waiting pass p =
-    if_cases (PassWaits start file count waiting) (is_behind one.client pass.kept)
-    (pass_kept one pass pass.progress)
+    if_cases (PassWaits start file count waiting) (is_behind one.client pass.passed)
+    (left_waiting one pass pass.progress)
     (after_try file one waiting pass (tried one.client one.request pass.progress).progress
     (tried one.client one.request pass.progress).outcome)
     (λ behind. kept_waits start file count one waiting pass pass.progress p p.fine refl
     (goes-same pass.progress.server) (keeps-same Anywhere pass.progress.server)
-    (λ first. clash (is_behind one.client pass.kept) behind first))
+    (λ first. clash (is_behind one.client pass.passed) behind first))
     (λ e. after_try-waits start file count one waiting pass
     (tried one.client one.request pass.progress).progress
     (tried one.client one.request pass.progress).outcome p
@@ -249,7 +249,7 @@ one_pass-waits : (file : ℕ) (progress : Progress) → IsFine progress.server
     → PassWaits progress file (length (progress.server.held file)) [] (one_pass file progress)
 one_pass-waits file progress f = pass_over-waits progress file (length (progress.server.held file))
     (progress.server.held file)
-    (record { kept = []; progress = progress; has_answered = false })
+    (record { passed = []; progress = progress; has_answered = false })
     (record {
       fine = f;
       files = refl;
@@ -288,7 +288,7 @@ passes_for-waits (suc count) file progress less f =
       files = p.files;
       here = λ client one first. p.kept_wait none client one
           (subst (λ list. find (λ other. other.client == client) list ≡ Some one)
-          (p.in_pass.is_held ∙ append-nil (one_pass file progress).kept) first);
+          (p.in_pass.is_held ∙ append-nil (one_pass file progress).passed) first);
       others = p.others;
     })
 

@@ -5,9 +5,9 @@ use Rattle.lease_state.specs.declared.access.Share.{Share}
 use Rattle.std.proofs.Common.{ℕ, ◌+◌, zero, suc, false, List, [], ◌∷◌, ◌++◌, length}
 use Rattle.lease_model.specs.server.Attempt.{Outcome, Tried, tried}
 use Rattle.lease_model.specs.values.Lists.{numbers_to}
-use Rattle.lease_model.specs.server.Passes.{Pass, is_behind, pass_kept, pass_answered, after_try, tried_again, pass_over, one_pass, passes_for, passes, passes_over, all_passes}
+use Rattle.lease_model.specs.server.Passes.{Pass, is_behind, left_waiting, pass_answered, after_try, tried_again, pass_over, one_pass, passes_for, passes, passes_over, all_passes}
 use Rattle.lease_model.specs.server.Progress.{Progress, held_left}
-use Rattle.lease_model.specs.messages.Requests.{Request, CreateAsk, LeaseOf}
+use Rattle.lease_model.specs.messages.Requests.{FileRequest, CreateAsk, LeaseOf}
 use Rattle.lease_laws.specs.server.Laws.{IsSound}
 use Rattle.lease_model.specs.server.State.{Held}
 use Rattle.lease_laws.proofs.server.Answers.{concluded-sound}
@@ -36,25 +36,24 @@ contexts_free client file access share (Some ask) at left progress free = create
     ask.lease ask.reconnect at left progress free
 
 -- what requests are held has nothing to do with what a create needs
-pub held_left-free : (client : ℕ) (request : Request) (file : ℕ) (left : List Held) (progress : Progress)
+pub held_left-free : (client : ℕ) (request : FileRequest) (file : ℕ) (left : List Held) (progress : Progress)
     → RequestFree progress.server client request
     → RequestFree (held_left file left progress).server client request
 unfolding held_left
-held_left-free client (Request.Create file access share contexts) at left progress free = contexts_free client
+held_left-free client (FileRequest.Create file access share contexts) at left progress free = contexts_free client
     file access share contexts at left progress free
-held_left-free client (Request.Read file_id) file left progress free = tt
-held_left-free client (Request.Write file_id number patch) file left progress free = tt
-held_left-free client (Request.Close file_id) file left progress free = tt
-held_left-free client (Request.Acknowledge acknowledged) file left progress free = tt
+held_left-free client (FileRequest.Read file_id) file left progress free = tt
+held_left-free client (FileRequest.Write file_id number patch) file left progress free = tt
+held_left-free client (FileRequest.Close file_id) file left progress free = tt
 
 -- a held request is answered
 pass_answered-sound : (file : ℕ) (one : Held) (waiting : List Held) (pass : Pass) (done : Tried)
     → IsGoodTry one.client one.request done
     → IsSound (pass_answered file one waiting pass done).progress.server
 pass_answered-sound file one waiting pass done good = concluded-sound one.client one.request
-    (held_left file (pass.kept ++ waiting) done.progress) done.outcome
-    (held_left-sound file (pass.kept ++ waiting) done.progress good.sound)
-    (λ ready. held_left-free one.client one.request file (pass.kept ++ waiting) done.progress
+    (held_left file (pass.passed ++ waiting) done.progress) done.outcome
+    (held_left-sound file (pass.passed ++ waiting) done.progress good.sound)
+    (λ ready. held_left-free one.client one.request file (pass.passed ++ waiting) done.progress
     (ready-free one.client one.request done.progress (good.found_ready ready)))
 
 -- what follows a try in a pass keeps the laws
@@ -74,8 +73,8 @@ tried_again-sound : (file : ℕ) (one : Held) (waiting : List Held) (pass : Pass
     → IsSound (tried_again file one waiting pass).progress.server
 unfolding tried_again
 tried_again-sound file one waiting pass s =
-    if_cases (λ p. IsSound p.progress.server) (is_behind one.client pass.kept)
-    (pass_kept one pass pass.progress)
+    if_cases (λ p. IsSound p.progress.server) (is_behind one.client pass.passed)
+    (left_waiting one pass pass.progress)
     (after_try file one waiting pass (tried one.client one.request pass.progress).progress
     (tried one.client one.request pass.progress).outcome)
     (λ e. s)
@@ -99,7 +98,7 @@ unfolding passes_for
 passes_for-sound zero file progress s = s
 passes_for-sound (suc count) file progress s =
     let next = pass_over-sound file (progress.server.held file)
-    (record { kept = []; progress = progress; has_answered = false }) s in
+    (record { passed = []; progress = progress; has_answered = false }) s in
     if_cases (λ p. IsSound p.server) (one_pass file progress).has_answered
     (passes_for count file (one_pass file progress).progress) (one_pass file progress).progress
     (λ e. passes_for-sound count file (one_pass file progress).progress next)

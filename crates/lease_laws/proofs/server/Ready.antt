@@ -4,16 +4,17 @@ use Rattle.std.proofs.Common.{◌≡◌, sym, ap, ◌∙◌, ℕ, true, false, n
 use Rattle.std.specs.Prelude.{◌&&◌, Option, Some, None}
 use Rattle.std.specs.List.{list_any}
 use Rattle.std.proofs.lemmas.Bool.Decides.{Decides-eqb}
+use Rattle.lease_state.specs.Access.{conflict}
 use Rattle.lease_state.specs.declared.access.Access.{Access}
 use Rattle.lease_state.specs.declared.access.Share.{Share}
 use Rattle.lease_state.specs.declared.status.Status.{Status}
-use Rattle.lease_model.specs.server.Allowed.{is_other_on, conflicts, conflicts_on}
+use Rattle.lease_model.specs.server.Allowed.{is_other_on, conflicts_on}
 use Rattle.lease_model.specs.values.Keys.{Key}
 use Rattle.lease_model.specs.values.LeaseStates.{without_write}
 use Rattle.lease_model.specs.values.Lists.{is_empty}
 use Rattle.lease_model.specs.server.Progress.{Progress}
 use Rattle.lease_model.specs.server.Ready.{is_ready}
-use Rattle.lease_model.specs.messages.Requests.{Request, CreateAsk, LeaseOf}
+use Rattle.lease_model.specs.messages.Requests.{FileRequest, CreateAsk, LeaseOf}
 use Rattle.lease_laws.specs.server.Laws.{Among}
 use Rattle.lease_model.specs.server.State.{Server, Open, Lease, has_key, has_own_key, has_file}
 use Rattle.lease_model.specs.server.Wants.{Want, handle_wants, write_wants}
@@ -28,7 +29,7 @@ use Rattle.lease_laws.proofs.server.Wants.{wants_where-none}
 pub record IsFree (opens : List Open) (leases : Key → Lease) (own : Option Key) (file : ℕ) (access : Access)
     (share : Share) : Type 0 where
   pub at_home : (one : Open) → Among one opens → has_own_key own one ≡ true → one.file ≡ file
-  pub peaceful : (one : Open) → Among one opens → one.file ≡ file → conflicts access share one ≡ false
+  pub peaceful : (one : Open) → Among one opens → one.file ≡ file → conflict access share one.access one.share ≡ false
   pub unwritten : (key : Key) (one : Open) → Among one opens → one.file ≡ file → has_own_key own one ≡ false
       → has_key key one ≡ true → (leases key).state.write ≡ false
 
@@ -49,11 +50,11 @@ home_at server (Some key) file e one a k = (Decides-eqb one.file file).0 (not_fa
 -- no open on the file conflicts
 peaceful_at : (server : Server) (file : ℕ) (access : Access) (share : Share)
     → list_any (conflicts_on file access share) server.opens ≡ false
-    → (one : Open) → Among one server.opens → one.file ≡ file → conflicts access share one ≡ false
+    → (one : Open) → Among one server.opens → one.file ≡ file → conflict access share one.access one.share ≡ false
 unfolding conflicts_on
-peaceful_at server file access share e one a f = not_true (conflicts access share one) (λ c.
-    clash (one.file == file && conflicts access share one)
-    (and_both (one.file == file) (conflicts access share one) (same_file one file f) c)
+peaceful_at server file access share e one a f = not_true (conflict access share one.access one.share) (λ c.
+    clash (one.file == file && conflict access share one.access one.share)
+    (and_both (one.file == file) (conflict access share one.access one.share) (same_file one file f) c)
     (none_has (conflicts_on file access share) one server.opens e a))
 
 -- no other key on the file holds W
@@ -71,8 +72,8 @@ unwritten_at server own file none key one a f other k = not_true (server.leases 
 
 -- a finding that leaves nothing wanted
 abbrev pub FreeWhenEmpty : Server → Option Key → ℕ → Access → Share → Finding → Type 0
-FreeWhenEmpty server own file access share (Finding.Refused status) = Unit {0}
-FreeWhenEmpty server own file access share (Finding.Wants wants) =
+FreeWhenEmpty server own file access share (Finding.Fails status) = Unit {0}
+FreeWhenEmpty server own file access share (Finding.Needs wants) =
     is_empty wants ≡ true → IsFree server.opens server.leases own file access share
 
 -- a create that wants nothing is free
@@ -106,31 +107,30 @@ ContextsFree server client file access share (Some ask) = CreateFree server clie
     ask.reconnect
 
 -- by the request
-abbrev pub RequestFree : Server → ℕ → Request → Type 0
-RequestFree server client (Request.Create file access share contexts) = ContextsFree server client file access
+abbrev pub RequestFree : Server → ℕ → FileRequest → Type 0
+RequestFree server client (FileRequest.Create file access share contexts) = ContextsFree server client file access
     share contexts
-RequestFree server client (Request.Read file_id) = Unit {0}
-RequestFree server client (Request.Write file_id number patch) = Unit {0}
-RequestFree server client (Request.Close file_id) = Unit {0}
-RequestFree server client (Request.Acknowledge acknowledged) = Unit {0}
+RequestFree server client (FileRequest.Read file_id) = Unit {0}
+RequestFree server client (FileRequest.Write file_id number patch) = Unit {0}
+RequestFree server client (FileRequest.Close file_id) = Unit {0}
 
 -- one list of wants found is one list
-pub wants_same : (one other : List Want) → Finding.Wants one ≡ Finding.Wants other → one ≡ other
+pub wants_same : (one other : List Want) → Finding.Needs one ≡ Finding.Needs other → one ≡ other
 wants_same one other e = cc
 
 -- what is found with nothing wanted is free
 found_free : (server : Server) (own : Option Key) (file : ℕ) (access : Access) (share : Share)
     (found : Finding) (wants : List Want)
-    → FreeWhenEmpty server own file access share found → found ≡ Finding.Wants wants → is_empty wants ≡ true
+    → FreeWhenEmpty server own file access share found → found ≡ Finding.Needs wants → is_empty wants ≡ true
     → IsFree server.opens server.leases own file access share
-found_free server own file access share (Finding.Refused status) wants free e none = absurd (cc)
-found_free server own file access share (Finding.Wants others) wants free e none =
+found_free server own file access share (Finding.Fails status) wants free e none = absurd (cc)
+found_free server own file access share (Finding.Needs others) wants free e none =
     free (ap is_empty (wants_same others wants e) ∙ none)
 
 -- so is a create, with a reconnect or without
 asked_free : (server : Server) (client file : ℕ) (access : Access) (share : Share) (lease : Option LeaseOf)
     (again : Option ℕ) (wants : List Want)
-    → asked_finding server client file access share lease again ≡ Finding.Wants wants → is_empty wants ≡ true
+    → asked_finding server client file access share lease again ≡ Finding.Needs wants → is_empty wants ≡ true
     → CreateFree server client file access share lease again
 asked_free server client file access share lease None wants e none =
     found_free server (own_key client lease) file access share
@@ -141,33 +141,32 @@ asked_free server client file access share lease (Some file_id) wants e none = t
 -- what a create needs, by its contexts
 contexts_free : (server : Server) (client file : ℕ) (access : Access) (share : Share)
     (contexts : Option CreateAsk) (wants : List Want)
-    → finding server client (Request.Create file access share contexts) ≡ Finding.Wants wants
+    → finding server client (FileRequest.Create file access share contexts) ≡ Finding.Needs wants
     → is_empty wants ≡ true
     → ContextsFree server client file access share contexts
 unfolding finding
 contexts_free server client file access share None wants e none = tt
 contexts_free server client file access share (Some ask) wants e none =
-    if_cases (λ found. found ≡ Finding.Wants wants
+    if_cases (λ found. found ≡ Finding.Needs wants
     → CreateFree server client file access share ask.lease ask.reconnect)
     (has_file server file) (asked_finding server client file access share ask.lease ask.reconnect)
-    (Finding.Refused Status.ObjectNameNotFound)
+    (Finding.Fails Status.ObjectNameNotFound)
     (λ t same. asked_free server client file access share ask.lease ask.reconnect wants same none)
     (λ t same. absurd (cc)) e
 
 -- a create is ready only where it wants nothing
 create_ready-empty : (file : ℕ) (access : Access) (share : Share) (contexts : Option CreateAsk)
     (leases : Key → Lease) (wants : List Want)
-    → is_ready (Request.Create file access share contexts) leases wants ≡ true → is_empty wants ≡ true
+    → is_ready (FileRequest.Create file access share contexts) leases wants ≡ true → is_empty wants ≡ true
 unfolding is_ready
 create_ready-empty file access share contexts leases wants e = e
 
 -- what is known of a request once it is ready
-pub ready-free : (client : ℕ) (request : Request) (progress : Progress) → IsFoundReady client request progress
+pub ready-free : (client : ℕ) (request : FileRequest) (progress : Progress) → IsFoundReady client request progress
     → RequestFree progress.server client request
-ready-free client (Request.Create file access share contexts) progress r = contexts_free progress.server
+ready-free client (FileRequest.Create file access share contexts) progress r = contexts_free progress.server
     client file access share contexts
     r.wants r.found (create_ready-empty file access share contexts progress.server.leases r.wants r.ready)
-ready-free client (Request.Read file_id) progress r = tt
-ready-free client (Request.Write file_id number patch) progress r = tt
-ready-free client (Request.Close file_id) progress r = tt
-ready-free client (Request.Acknowledge acknowledged) progress r = tt
+ready-free client (FileRequest.Read file_id) progress r = tt
+ready-free client (FileRequest.Write file_id number patch) progress r = tt
+ready-free client (FileRequest.Close file_id) progress r = tt

@@ -3,7 +3,7 @@
 use Rattle.std.proofs.Common.{◌≡◌, refl, sym, ap, ap₂, ◌∙◌, subst, ℕ, ◌≤◌, ◌<◌, Bool, true, false, List, [], ◌∷◌, map}
 use Rattle.std.specs.Prelude.{if◌then◌else◌, ◌||◌, filter}
 use Rattle.std.specs.List.{list_any}
-use Rattle.lease_model.specs.server.Allowed.{conflicts}
+use Rattle.lease_state.specs.Access.{conflict}
 use Rattle.lease_model.specs.values.Keys.{Key}
 use Rattle.lease_laws.specs.server.Laws.{Among, AreInOrder, IsLawful, IsLasting, AreSound}
 use Rattle.lease_model.specs.server.State.{Open, Lease, no_lease, has_key, is_breaking}
@@ -82,9 +82,8 @@ any_key-connection up key [] = refl
 any_key-connection up key (one ∷ opens) = ap (λ b. has_key key one || b) (any_key-connection up key opens)
 
 -- whether opens conflict has nothing to do with their connections
-conflict_frame : (up : Open → Bool) (one other : Open) → conflicts one.access one.share other ≡ false
-    → conflicts one.access one.share (with_connection up other) ≡ false
-unfolding conflicts
+conflict_frame : (up : Open → Bool) (one other : Open) → conflict one.access one.share other.access other.share ≡ false
+    → conflict one.access one.share (with_connection up other).access (with_connection up other).share ≡ false
 conflict_frame up one other e = e
 
 -- opens are connected, or lose their connection where they outlive it
@@ -105,7 +104,7 @@ connection_sound up opens leases expired last_id s lasting =
           key_was key other y.0 y.2 ∙ s.one_writer key x.0 y.0 w x.1 (sym (key_was key one x.0 x.2) ∙ k)
           y.1 (sym (ap (λ o. o.file) y.2) ∙ f ∙ ap (λ o. o.file) x.2);
       no_conflict = λ one other a b f n. let x = was one a in let y = was other b in
-          ap₂ (λ o p. conflicts o.access o.share p) x.2 y.2
+          ap₂ (λ o p. conflict o.access o.share p.access p.share) x.2 y.2
           ∙ conflict_frame up x.0 y.0 (s.no_conflict x.0 y.0 x.1 y.1
           (sym (ap (λ o. o.file) y.2) ∙ f ∙ ap (λ o. o.file) x.2)
           (λ e. n (ap (λ o. o.file_id) y.2 ∙ e ∙ sym (ap (λ o. o.file_id) x.2))));

@@ -3,7 +3,7 @@ use Rattle.std.proofs.Common.{◌≡◌, refl, ℕ, zero, suc, true, List}
 use Rattle.lease_model.specs.server.Attempt.{Outcome, Tried, ended, must_wait, after_breaks, after_finding, tried_for, wants_met}
 use Rattle.lease_model.specs.server.Progress.{Progress}
 use Rattle.lease_model.specs.server.Ready.{is_ready}
-use Rattle.lease_model.specs.messages.Requests.{Request}
+use Rattle.lease_model.specs.messages.Requests.{FileRequest}
 use Rattle.lease_laws.specs.server.Laws.{IsSound}
 use Rattle.lease_model.specs.server.Wants.{Want}
 use Rattle.lease_model.specs.server.Findings.{Finding, finding}
@@ -12,26 +12,26 @@ use Rattle.lease_laws.proofs.server.Lists.{if_cases}
 use Rattle.lease_laws.proofs.server.Wants.{FindingFits, finding-fits}
 
 -- a look at the request finds wants that leave it ready
-pub record IsFoundReady (client : ℕ) (request : Request) (progress : Progress) : Type 0 where
+pub record IsFoundReady (client : ℕ) (request : FileRequest) (progress : Progress) : Type 0 where
   pub wants : List Want
-  pub found : finding progress.server client request ≡ Finding.Wants wants
+  pub found : finding progress.server client request ≡ Finding.Needs wants
   pub ready : is_ready request progress.server.leases wants ≡ true
 
 -- what is known of a try
-pub record IsGoodTry (client : ℕ) (request : Request) (tried : Tried) : Type 0 where
+pub record IsGoodTry (client : ℕ) (request : FileRequest) (tried : Tried) : Type 0 where
   pub sound : IsSound tried.progress.server
   pub found_ready : tried.outcome ≡ Outcome.Ready → IsFoundReady client request tried.progress
 
 -- a round of a good try
-after_finding-good : (again : Progress → Tried) (client : ℕ) (request : Request) (progress : Progress)
+after_finding-good : (again : Progress → Tried) (client : ℕ) (request : FileRequest) (progress : Progress)
     (found : Finding)
     → finding progress.server client request ≡ found → FindingFits progress.server found
     → IsSound progress.server
     → ((next : Progress) → IsSound next.server → IsGoodTry client request (again next))
     → IsGoodTry client request (after_finding again request progress found)
-after_finding-good again client request progress (Finding.Refused status) e fits s good =
+after_finding-good again client request progress (Finding.Fails status) e fits s good =
     record { sound = s; found_ready = λ r. absurd (cc) }
-after_finding-good again client request progress (Finding.Wants wants) e fits s good =
+after_finding-good again client request progress (Finding.Needs wants) e fits s good =
     if_cases (IsGoodTry client request) (is_ready request progress.server.leases wants)
     (ended progress Outcome.Ready) (after_breaks again request wants (wants_met wants progress))
     (λ r. record { sound = s; found_ready = λ same. record { wants = wants; found = e; ready = r } })
@@ -42,7 +42,7 @@ after_finding-good again client request progress (Finding.Wants wants) e fits s 
     (λ w. good (wants_met wants progress) next))
 
 -- a try of so many rounds
-pub tried_for-good : (rounds client : ℕ) (request : Request) (progress : Progress) → IsSound progress.server
+pub tried_for-good : (rounds client : ℕ) (request : FileRequest) (progress : Progress) → IsSound progress.server
     → IsGoodTry client request (tried_for rounds client request progress)
 unfolding tried_for
 tried_for-good zero client request progress s = record { sound = s; found_ready = λ same. absurd (cc) }

@@ -3,12 +3,12 @@
 use Rattle.std.proofs.Common.{◌≡◌, inl, refl, sym, ap, ◌∙◌, subst, ℕ, Bool, true, false, not, cond, List, map, arith, true≢false, ◌==◌}
 use Rattle.std.specs.Prelude.{Some}
 use Rattle.std.specs.List.{list_any}
-use Rattle.lease_model.specs.server.Calls.{Call, called, join, joined, cut, is_lost, disconnected, opens_disconnected, client_forgotten, key_expired, expire, scavenge, is_kept_open}
+use Rattle.lease_model.specs.server.Calls.{Call, called, join, joined, cut, is_lost, disconnected, opens_disconnected, client_forgotten, key_expired, expire, scavenge, is_left_behind}
 use Rattle.lease_model.specs.values.Keys.{Key}
 use Rattle.lease_model.specs.values.Lists.{without}
 use Rattle.lease_model.specs.server.Passes.{all_passes}
 use Rattle.lease_model.specs.server.Progress.{Progress, begun, opens_dropped}
-use Rattle.lease_model.specs.messages.Requests.{Request}
+use Rattle.lease_model.specs.messages.Requests.{FileRequest}
 use Rattle.lease_laws.specs.server.Laws.{Among, IsSound, IsBlocked}
 use Rattle.lease_model.specs.server.State.{Server, Open, Held, new_server, has_key, has_file, is_breaking}
 use Rattle.lease_laws.specs.server.Waiting.{WaitsWell, IsAbout, IsOpenOn, IsOrderly}
@@ -35,25 +35,24 @@ unfolding joined
 joined-open client file file_id progress o = record { was_given = o.was_given; is_on_file = o.is_on_file }
 
 -- a join: what a request is about stays
-joined-about : (client file : ℕ) (request : Request) (progress : Progress)
+joined-about : (client file : ℕ) (request : FileRequest) (progress : Progress)
     → IsAbout progress.server file request → IsAbout (joined client progress).server file request
-joined-about client file (Request.Create at access share contexts) progress about = about
-joined-about client file (Request.Read file_id) progress about = joined-open client file file_id progress
+joined-about client file (FileRequest.Create at access share contexts) progress about = about
+joined-about client file (FileRequest.Read file_id) progress about = joined-open client file file_id progress
     about
-joined-about client file (Request.Write file_id number patch) progress about = joined-open client file file_id
+joined-about client file (FileRequest.Write file_id number patch) progress about = joined-open client file file_id
     progress about
-joined-about client file (Request.Close file_id) progress about = joined-open client file file_id progress
+joined-about client file (FileRequest.Close file_id) progress about = joined-open client file file_id progress
     about
-joined-about client file (Request.Acknowledge given) progress about = about
 
 -- a join that applies keeps the order
 joined-orderly : (client : ℕ) (progress : Progress) → IsOrderly progress.server
     → IsOrderly (joined client progress).server
 unfolding joined
 joined-orderly client progress o = record {
-  opens_up = λ one a up. put_true progress.server.connected client one.client (o.opens_up one a up);
+  opens_up = λ one a up. put_true progress.server.present client one.client (o.opens_up one a up);
   open_files = o.open_files;
-  held_up = λ file one a. put_true progress.server.connected client one.client (o.held_up file one a);
+  held_up = λ file one a. put_true progress.server.present client one.client (o.held_up file one a);
   held_files = o.held_files;
   held_about = λ file one a. joined-about client file one.request progress (o.held_about file one a);
 }
@@ -61,7 +60,7 @@ joined-orderly client progress o = record {
 -- a join that applies lets wait what has to wait
 joined-kept : (client : ℕ) (progress : Progress) → Kept Anywhere progress (joined client progress)
 unfolding joined
-joined-kept client progress = record { stands = λ key one a k up b g. (a, b); finds = λ c id one e g. e }
+joined-kept client progress = record { stands = λ key one a k up b g. (a, refl); finds = λ c id one e g. e }
 
 -- a join that applies leaves the held requests as they are
 joined-held : (client : ℕ) (progress : Progress) → SameHeld progress (joined client progress)
@@ -71,7 +70,7 @@ joined-held client progress = refl
 -- a join leaves each first held request waiting
 join-waits : (server : Server) (client : ℕ) → EveryoneWaits server → EveryoneWaits (join server client).server
 unfolding join
-join-waits server client e = everyone_cases (server.connected client) (begun server)
+join-waits server client e = everyone_cases (server.present client) (begun server)
     (joined client (begun server))
     (λ t. e)
     (λ t. everyone_keeps (begun server) (joined client (begun server)) e
@@ -121,10 +120,10 @@ expire-waits server key e =
 scavenge-waits : (server : Server) (file_id : ℕ) → EveryoneWaits server
     → EveryoneWaits (scavenge server file_id).server
 unfolding scavenge
-scavenge-waits server file_id e = everyone_cases (list_any (is_kept_open file_id) server.opens)
-    (all_passes (opens_dropped (is_kept_open file_id) (begun server))) (begun server)
-    (λ t. all_passes-wait (opens_dropped (is_kept_open file_id) (begun server))
-    (dropped-fine (is_kept_open file_id) (begun server) e.fine))
+scavenge-waits server file_id e = everyone_cases (list_any (is_left_behind file_id) server.opens)
+    (all_passes (opens_dropped (is_left_behind file_id) (begun server))) (begun server)
+    (λ t. all_passes-wait (opens_dropped (is_left_behind file_id) (begun server))
+    (dropped-fine (is_left_behind file_id) (begun server) e.fine))
     (λ t. e)
 
 -- an open of another client isn't disconnected
@@ -182,16 +181,15 @@ cut_about_open client file file_id progress o = record {
 }
 
 -- a cut: what a request is about stays
-cut_about : (client file : ℕ) (request : Request) (progress : Progress) → IsAbout progress.server file request
+cut_about : (client file : ℕ) (request : FileRequest) (progress : Progress) → IsAbout progress.server file request
     → IsAbout (client_forgotten client (opens_disconnected client progress)).server file request
-cut_about client file (Request.Create at access share contexts) progress about = about
-cut_about client file (Request.Read file_id) progress about = cut_about_open client file file_id progress
+cut_about client file (FileRequest.Create at access share contexts) progress about = about
+cut_about client file (FileRequest.Read file_id) progress about = cut_about_open client file file_id progress
     about
-cut_about client file (Request.Write file_id number patch) progress about = cut_about_open client file file_id
+cut_about client file (FileRequest.Write file_id number patch) progress about = cut_about_open client file file_id
     progress about
-cut_about client file (Request.Close file_id) progress about = cut_about_open client file file_id progress
+cut_about client file (FileRequest.Close file_id) progress about = cut_about_open client file file_id progress
     about
-cut_about client file (Request.Acknowledge given) progress about = about
 
 -- a cut keeps the order
 cut_orderly : (client : ℕ) (progress : Progress) → IsOrderly progress.server
@@ -205,12 +203,12 @@ cut_orderly client progress o =
     record {
       opens_up = λ one a up. let x = cut_opens progress.server client one a in
           let was = x.up up in
-          put_other progress.server.connected client one.client (ap (λ c. c == client) x.same_client ∙ was.1)
-          ∙ ap (λ c. progress.server.connected c) x.same_client ∙ o.opens_up x.was x.was_there was.0;
+          put_other progress.server.present client one.client (ap (λ c. c == client) x.same_client ∙ was.1)
+          ∙ ap (λ c. progress.server.present c) x.same_client ∙ o.opens_up x.was x.was_there was.0;
       open_files = λ one a. let x = cut_opens progress.server client one a in
           ap (λ f. has_file progress.server f) x.same_file ∙ o.open_files x.was x.was_there;
       held_up = λ file one a. let x = left file one a in
-          put_other progress.server.connected client one.client (not_parts (one.client == client) x.1)
+          put_other progress.server.present client one.client (not_parts (one.client == client) x.1)
           ∙ o.held_up file one x.0;
       held_files = λ file one a. o.held_files file one (left file one a).0;
       held_about = λ file one a. cut_about client file one.request progress
@@ -223,7 +221,7 @@ unfolding cut
 cut-waits server client e =
     let dropped = opens_dropped (is_lost server client) (begun server) in
     let f = dropped-fine (is_lost server client) (begun server) e.fine in
-    everyone_cases (server.connected client)
+    everyone_cases (server.present client)
     (all_passes (client_forgotten client (opens_disconnected client dropped))) (begun server)
     (λ t. all_passes-wait (client_forgotten client (opens_disconnected client dropped)) (record {
       sound = client_forgotten-sound client (opens_disconnected client dropped)

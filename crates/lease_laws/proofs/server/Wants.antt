@@ -12,7 +12,7 @@ use Rattle.lease_model.specs.values.Patches.{is_within_limit}
 use Rattle.lease_model.specs.values.Keys.{Key, key_eq, key_before}
 use Rattle.lease_model.specs.values.LeaseStates.{holds_any, without_write, without_handle}
 use Rattle.lease_model.specs.values.Lists.{is_empty}
-use Rattle.lease_model.specs.messages.Requests.{Request, CreateAsk, LeaseOf}
+use Rattle.lease_model.specs.messages.Requests.{FileRequest, CreateAsk, LeaseOf}
 use Rattle.lease_laws.specs.server.Laws.{Among, IsSound}
 use Rattle.lease_model.specs.server.State.{Server, Open, no_lease, has_key, is_key, has_file}
 use Rattle.lease_model.specs.values.Sharing.{may_read, may_write}
@@ -188,8 +188,8 @@ all_wants-fit server own file s = wants_where-fit server
 
 -- all that a finding wants fits
 abbrev pub FindingFits : Server → Finding → Type 0
-FindingFits server (Finding.Refused status) = Unit {0}
-FindingFits server (Finding.Wants wants) = AllFit server wants
+FindingFits server (Finding.Fails status) = Unit {0}
+FindingFits server (Finding.Needs wants) = AllFit server wants
 
 -- what a create finds fits
 pub create_finding-fits : (server : Server) (own : Option Key) (file : ℕ) (access : Access) (share : Share)
@@ -208,8 +208,8 @@ pub reconnect_finding-fits : (server : Server) (client file : ℕ) (own : Option
     → FindingFits server (reconnect_finding server client file own file_id)
 unfolding reconnect_finding
 reconnect_finding-fits server client file own file_id =
-    if_cases (FindingFits server) (list_any (awaits client file own file_id) server.opens) (Finding.Wants [])
-    (Finding.Refused Status.ObjectNameNotFound)
+    if_cases (FindingFits server) (list_any (awaits client file own file_id) server.opens) (Finding.Needs [])
+    (Finding.Fails Status.ObjectNameNotFound)
     (λ e want a. absurd a) (λ e. tt)
 
 -- what a write finds fits
@@ -247,22 +247,21 @@ by_contexts-fits server (Some ask) found fits = fits ask
 
 -- what a read finds fits
 read_finding-fits : (server : Server) (one : Open) → FindingFits server (read_finding one)
-read_finding-fits server one = if_cases (FindingFits server) (may_read one.access) (Finding.Wants [])
-    (Finding.Refused Status.AccessDenied)
+read_finding-fits server one = if_cases (FindingFits server) (may_read one.access) (Finding.Needs [])
+    (Finding.Fails Status.AccessDenied)
     (λ e want a. absurd a) (λ e. tt)
 
 -- all that a look at a request wants fits
-pub finding-fits : (server : Server) (client : ℕ) (request : Request) → IsSound server
+pub finding-fits : (server : Server) (client : ℕ) (request : FileRequest) → IsSound server
     → FindingFits server (finding server client request)
 unfolding finding
-finding-fits server client (Request.Create file access share contexts) s = by_contexts-fits server contexts _
+finding-fits server client (FileRequest.Create file access share contexts) s = by_contexts-fits server contexts _
     (λ ask. if_cases (FindingFits server) (has_file server file) _ _
     (λ e. asked_finding-fits server client file access share ask.lease ask.reconnect s) (λ e. tt))
-finding-fits server client (Request.Read file_id) s = by_open-fits server
+finding-fits server client (FileRequest.Read file_id) s = by_open-fits server
     (connected_open server client file_id) _ (read_finding-fits server)
-finding-fits server client (Request.Write file_id number patch) s = by_open-fits server
+finding-fits server client (FileRequest.Write file_id number patch) s = by_open-fits server
     (connected_open server client file_id) _
     (λ one. write_finding-fits server one patch s)
-finding-fits server client (Request.Close file_id) s = by_open-fits server
+finding-fits server client (FileRequest.Close file_id) s = by_open-fits server
     (connected_open server client file_id) _ (λ one want a. absurd a)
-finding-fits server client (Request.Acknowledge acknowledged) s = λ want a. absurd a

@@ -1,6 +1,7 @@
 -- What is true of every client machine, whatever commands and messages come to it, in any order.
 use Rattle.std.specs.Prelude.{◌≡◌, ◌≢◌, ℕ, Bool, true, false, None, List, [], ◌∷◌, ◌++◌, ◌&&◌, nat_lt, nat_le, ◌≤◌, ◌<◌}
 use Rattle.std.specs.List.{list_all, list_any}
+use Rattle.lease_model.specs.client.Commanded.{is_asking}
 use Rattle.lease_model.specs.client.Calls.{ClientCall, client_called}
 use Rattle.lease_model.specs.client.Commands.{Note}
 use Rattle.lease_model.specs.client.Taken.{is_numbered}
@@ -10,12 +11,13 @@ use Rattle.lease_model.specs.client.State.{Client, Entry, LiveEntry, Pending, Ph
 abbrev pub are_buffered : List Pending → Bool
 are_buffered writes = list_all (λ write. write.buffered) writes
 
--- A live entry has a base only where its belief holds R, and unsent writes only where it holds W;
--- these are buffered ones.
+-- A live entry has a base only where its belief holds R, and unsent writes only where it holds W; these
+-- are buffered ones. It asks for more only with a handle.
 pub record IsSoundLive (live : LiveEntry) : Type 0 where
   pub base_under_reads : live.belief.read ≡ false → live.base ≡ None
   pub unsent_under_writes : live.belief.write ≡ false → live.unsent ≡ []
   pub unsent_buffered : are_buffered live.unsent ≡ true
+  pub asking_with_handles : is_asking live ≡ true → 1 ≤ live.handles
 
 -- An entry is opening, live or reconnecting only while the client is connected, and offline only
 -- while it isn't. What it keeps over a lost connection are buffered writes, and beside them it has
@@ -25,9 +27,9 @@ IsSoundPhase connected sent Phase.Closed = connected ≡ false → sent ≡ []
 IsSoundPhase connected sent (Phase.Opening access share) = connected ≡ true
 IsSoundPhase connected sent (Phase.Live live) = (connected ≡ true) × IsSoundLive live
 IsSoundPhase connected sent (Phase.Offline parted) =
-    (connected ≡ false) × (sent ≡ []) × (are_buffered parted.kept ≡ true)
+    (connected ≡ false) × (sent ≡ []) × (are_buffered parted.writes ≡ true)
 IsSoundPhase connected sent (Phase.Reconnecting parted) =
-    (connected ≡ true) × (sent ≡ []) × (are_buffered parted.kept ≡ true)
+    (connected ≡ true) × (sent ≡ []) × (are_buffered parted.writes ≡ true)
 
 abbrev pub IsSoundEntry : Bool → Entry → Type 0
 IsSoundEntry connected entry = IsSoundPhase connected entry.sent entry.phase
@@ -37,8 +39,8 @@ abbrev pub unsent_in : Phase → List Pending
 unsent_in Phase.Closed = []
 unsent_in (Phase.Opening access share) = []
 unsent_in (Phase.Live live) = live.unsent
-unsent_in (Phase.Offline parted) = parted.kept
-unsent_in (Phase.Reconnecting parted) = parted.kept
+unsent_in (Phase.Offline parted) = parted.writes
+unsent_in (Phase.Reconnecting parted) = parted.writes
 
 -- the unanswered writes of an entry, the sent ones first
 abbrev pub unanswered_in : Entry → List Pending
@@ -63,7 +65,7 @@ pub record HaveOwnNumbers (last : ℕ) (writes : ℕ → List Pending) : Type 0 
 
 -- The laws of a client.
 pub record IsSoundClient (client : Client) : Type 0 where
-  pub entries : (file : ℕ) → IsSoundEntry client.connected (client.entries file)
+  pub entries : (file : ℕ) → IsSoundEntry client.is_online (client.entries file)
   pub numbers : HaveOwnNumbers client.last_number (λ file. unanswered_in (client.entries file))
 
 -- The laws hold of a new client,

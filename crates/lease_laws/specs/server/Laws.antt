@@ -1,11 +1,12 @@
 -- The laws of every server: they hold of the first one, and every call keeps them.
 use Rattle.std.specs.Prelude.{◌≡◌, ℕ, ◌≤◌, ◌<◌, ◌≢◌, ◌⊎◌, Bool, true, false, Option, Some, List, [], ◌∷◌, ⊤}
 use Rattle.std.specs.List.{list_any}
+use Rattle.lease_state.specs.Access.{conflict}
 use Rattle.lease_state.specs.State.{State, granted_form_of, needs_acknowledgment}
-use Rattle.lease_model.specs.server.Allowed.{conflicts}
+use Rattle.lease_model.specs.server.Ready.{breaks_to_some}
 use Rattle.lease_model.specs.values.Keys.{Key}
 use Rattle.lease_model.specs.values.LeaseStates.{is_within, same_state}
-use Rattle.lease_model.specs.messages.Requests.{Request}
+use Rattle.lease_model.specs.messages.Requests.{FileRequest}
 use Rattle.lease_model.specs.server.State.{Server, Open, Lease, no_lease, is_breaking, has_key, has_own_key}
 use Rattle.lease_model.specs.server.Naming.{own_key, key_of_open}
 use Rattle.lease_model.specs.server.Findings.{connected_open}
@@ -60,7 +61,7 @@ pub record AreSound (opens : List Open) (leases : Key → Lease) (expired : Key 
         → Among one opens → has_key key one ≡ true
         → Among other opens → other.file ≡ one.file → has_key key other ≡ true
     pub no_conflict : (one other : Open) → Among one opens → Among other opens
-        → other.file ≡ one.file → other.file_id ≢ one.file_id → conflicts one.access one.share other ≡ false
+        → other.file ≡ one.file → other.file_id ≢ one.file_id → conflict one.access one.share other.access other.share ≡ false
     pub disconnected : (one : Open) → Among one opens → one.connected ≡ false → IsLasting leases one
     pub lawful : (key : Key) → IsLawful (leases key)
     pub one_file : (key : Key) (one other : Open) → Among one opens → has_key key one ≡ true
@@ -73,26 +74,33 @@ pub record AreSound (opens : List Open) (leases : Key → Lease) (expired : Key 
 abbrev pub IsSound : Server → Type 0
 IsSound server = AreSound server.opens server.leases server.expired server.last_id
 
--- On the file an open has another key than the one, and its lease is breaking.
-pub record IsBlocked (server : Server) (own : Option Key) (file : ℕ) : Type 0 where
+-- On the file an open has another key than the one, and its lease passes the test.
+pub record IsBlockedBy (test : Lease → Bool) (server : Server) (own : Option Key) (file : ℕ) : Type 0 where
   pub key : Key
-  pub is_breaking : is_breaking (server.leases key) ≡ true
+  pub is_in_the_way : test (server.leases key) ≡ true
   pub one : Open
   pub is_there : Among one server.opens
   pub is_on_file : one.file ≡ file
   pub has_the_key : has_key key one ≡ true
   pub is_other : has_own_key own one ≡ false
 
--- the same for a request by an open of its client
+-- another key on the file is breaking, or is breaking to something
+abbrev pub IsBlocked : Server → Option Key → ℕ → Type 0
+IsBlocked = IsBlockedBy (λ lease. is_breaking lease)
+
+abbrev pub IsWriteBlocked : Server → Option Key → ℕ → Type 0
+IsWriteBlocked = IsBlockedBy (λ lease. breaks_to_some lease)
+
+-- the same for a write by an open of its client
 pub record IsOpenBlocked (server : Server) (client : ℕ) (file_id : ℕ) : Type 0 where
   pub one : Open
   pub is_open : connected_open server client file_id ≡ Some one
-  pub is_blocked : IsBlocked server (key_of_open one) one.file
+  pub is_blocked : IsWriteBlocked server (key_of_open one) one.file
 
--- A request that has to wait is blocked: on its file another key is breaking. (It may be one that the
--- request no longer needs broken, once disconnected opens of the key were closed.)
-abbrev pub HasToWait : Server → ℕ → Request → Type 0
-HasToWait server client (Request.Create file access share (Some ask)) = IsBlocked server
+-- A request that has to wait is blocked: on its file another key is breaking, for a write to something. (It
+-- may be one that the request no longer needs broken, once disconnected opens of the key were closed.)
+abbrev pub HasToWait : Server → ℕ → FileRequest → Type 0
+HasToWait server client (FileRequest.Create file access share (Some ask)) = IsBlocked server
     (own_key client ask.lease) file
-HasToWait server client (Request.Write file_id number patch) = IsOpenBlocked server client file_id
+HasToWait server client (FileRequest.Write file_id number patch) = IsOpenBlocked server client file_id
 HasToWait server client request = ⊥

@@ -1,11 +1,11 @@
 -- The laws of what a call of the server gives out.
-use Rattle.std.specs.Prelude.{◌≡◌, ℕ, true, false, Option, Some, None, List, [], ◌∷◌, ◌++◌, ⊤}
+use Rattle.std.specs.Prelude.{◌≡◌, ◌⊎◌, ℕ, true, false, Option, Some, None, List, [], ◌∷◌, ◌++◌, ⊤}
 use Rattle.lease_state.specs.State.{nothing_cached, needs_acknowledgment}
 use Rattle.lease_model.specs.values.Keys.{Key}
 use Rattle.lease_model.specs.messages.Replies.{Reply, Out}
-use Rattle.lease_model.specs.messages.Requests.{Request}
+use Rattle.lease_model.specs.messages.Requests.{FileRequest}
 use Rattle.lease_laws.specs.server.Laws.{Among}
-use Rattle.lease_model.specs.server.State.{Server, Open, has_key, has_own_key}
+use Rattle.lease_model.specs.server.State.{Server, Open, Lease, has_key, has_own_key}
 use Rattle.lease_model.specs.server.Naming.{key_of_open}
 
 -- what holds of each out
@@ -62,13 +62,16 @@ pub record AreBreaksFirst (outs : List Out) : Type 0 where
   pub is_answer : EachOut IsNoBreak answer
 
 -- a request after which no held request is tried again
-abbrev pub IsAlone : Request → Type 0
-IsAlone (Request.Close file_id) = ⊥
-IsAlone (Request.Acknowledge acknowledged) = ⊥
+abbrev pub IsAlone : FileRequest → Type 0
+IsAlone (FileRequest.Close file_id) = ⊥
 IsAlone request = ⊤
 
--- no open on the file of this one has another key that caches anything
+-- the lease holds nothing, or is breaking to nothing
+abbrev pub IsGivenUp : Lease → Type 0
+IsGivenUp lease = (lease.state ≡ nothing_cached) ⊎ (lease.broken_to ≡ Some nothing_cached)
+
+-- each other key with an open on the file of this one holds nothing, or is breaking to nothing
 abbrev pub CachesAlone : Server → Open → Type 0
 CachesAlone server one = (key : Key) (other : Open) → Among other server.opens → other.file ≡ one.file
     → has_own_key (key_of_open one) other ≡ false → has_key key other ≡ true
-    → (server.leases key).state ≡ nothing_cached
+    → IsGivenUp (server.leases key)

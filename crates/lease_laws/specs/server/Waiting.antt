@@ -1,6 +1,6 @@
 -- The laws of waiting: who is connected, where requests are held, and that each waits for a break.
 use Rattle.std.specs.Prelude.{◌≡◌, ℕ, ◌≤◌, true, Some, find, ◌==◌}
-use Rattle.lease_model.specs.messages.Requests.{Request}
+use Rattle.lease_model.specs.messages.Requests.{FileRequest}
 use Rattle.lease_laws.specs.server.Laws.{Among, HasToWait}
 use Rattle.lease_model.specs.server.State.{Server, Open, Held, has_file}
 
@@ -10,12 +10,11 @@ pub record IsOpenOn (server : Server) (file : ℕ) (file_id : ℕ) : Type 0 wher
   pub is_on_file : (one : Open) → Among one server.opens → one.file_id ≡ file_id → one.file ≡ file
 
 -- the request is about the file
-abbrev pub IsAbout : Server → ℕ → Request → Type 0
-IsAbout server file (Request.Create other access share contexts) = other ≡ file
-IsAbout server file (Request.Read file_id) = IsOpenOn server file file_id
-IsAbout server file (Request.Write file_id number patch) = IsOpenOn server file file_id
-IsAbout server file (Request.Close file_id) = IsOpenOn server file file_id
-IsAbout server file (Request.Acknowledge acknowledged) = ⊥
+abbrev pub IsAbout : Server → ℕ → FileRequest → Type 0
+IsAbout server file (FileRequest.Create other access share contexts) = other ≡ file
+IsAbout server file (FileRequest.Read file_id) = IsOpenOn server file file_id
+IsAbout server file (FileRequest.Write file_id number patch) = IsOpenOn server file file_id
+IsAbout server file (FileRequest.Close file_id) = IsOpenOn server file file_id
 
 -- Where opens and held requests are.
 --   opens_up: the client of a connected open is connected
@@ -25,9 +24,9 @@ IsAbout server file (Request.Acknowledge acknowledged) = ⊥
 --   held_about: a request is held on the file that it is about
 pub record IsOrderly (server : Server) : Type 0 where
   pub opens_up : (one : Open) → Among one server.opens → one.connected ≡ true
-      → server.connected one.client ≡ true
+      → server.present one.client ≡ true
   pub open_files : (one : Open) → Among one server.opens → has_file server one.file ≡ true
-  pub held_up : (file : ℕ) (one : Held) → Among one (server.held file) → server.connected one.client ≡ true
+  pub held_up : (file : ℕ) (one : Held) → Among one (server.held file) → server.present one.client ≡ true
   pub held_files : (file : ℕ) (one : Held) → Among one (server.held file) → has_file server file ≡ true
   pub held_about : (file : ℕ) (one : Held) → Among one (server.held file) → IsAbout server file one.request
 
