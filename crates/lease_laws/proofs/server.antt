@@ -31,4 +31,5 @@ pub mod States
 pub mod Steps
 pub mod Tries
 pub mod WaitCalls
+pub mod Wanted
 pub mod Wants

@@ -2,3 +2,4 @@ pub mod Enough
 pub mod Laws
 pub mod Outs
 pub mod Waiting
+pub mod Wanted

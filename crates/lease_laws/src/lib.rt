@@ -13,5 +13,5 @@ pub use client_laws::clients_are_sound;
 pub use enough_laws::rounds_and_passes_end;
 pub use from_bytes::bytes_laws;
 pub use past_laws::{contents_of_runs, writes_of_runs};
-pub use server_laws::{laws_of_servers, outs_of_calls, waiting_of_servers, waits_of_tries};
+pub use server_laws::{laws_of_servers, outs_of_calls, waiting_of_servers, waits_of_tries, wants_are_exact};
 pub use verdict_law::verdict_decides;

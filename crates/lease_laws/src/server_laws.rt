@@ -10,6 +10,7 @@ ghost use Rattle.lease_laws.specs.server.Laws.{Among, IsSound, IsBlocked, HasToW
 ghost use Rattle.lease_laws.specs.server.Outs.{EachOut, IsFlaggedRightly, ArePaired, IsBreak, IsNoBreak, GoOn, AreBreaksFirst, IsAlone, CachesAlone};
 ghost use Rattle.lease_model.specs.server.State.{Server, Open, new_server, has_key};
 ghost use Rattle.lease_laws.specs.server.Waiting.{WaitsWell};
+ghost use Rattle.lease_laws.specs.server.Wanted.{WantsAreExact};
 ghost use Rattle.lease_model.specs.server.Findings.{connected_open};
 
 /// The laws of every server hold of the first one, and every call keeps them.
@@ -53,4 +54,10 @@ pub fn waits_of_tries()
     ensures { (client : ℕ) (request : FileRequest) (progress : Progress) → IsSound progress.server
         → (tried client request progress).outcome ≡ Outcome.Waits
         → HasToWait (tried client request progress).progress.server client request }
+{}
+
+/// What is wanted of a test on opens: the keys of those that pass, each once, strictly in order of client,
+/// then of the key's bytes, each with the state that it is to be lowered to. Does nothing.
+pub fn wants_are_exact()
+    ensures { WantsAreExact }
 {}

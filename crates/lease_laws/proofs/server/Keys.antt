@@ -10,7 +10,7 @@ use Rattle.lease_model.specs.values.Tables.{put_key}
 use Rattle.lease_model.specs.server.Naming.{key_of, lease_by}
 
 -- keys of one client and the same bytes are one
-key_of_parts : (one other : Key) → one.client ≡ other.client → one.bytes ≡ other.bytes → one ≡ other
+pub key_of_parts : (one other : Key) → one.client ≡ other.client → one.bytes ≡ other.bytes → one ≡ other
 key_of_parts one other e f = ap₂ (λ client bytes. key_of client bytes) e f
 
 -- equal keys are one key
