@@ -1,5 +1,5 @@
 -- States of a lease (MS-SMB2 2.2.13.2).
-use Rattle.std.specs.Prelude.{ℕ, ◌+◌, Bool, false, if◌then◌else◌, ◌||◌, ◌==◌}
+use Rattle.std.specs.Prelude.{ℕ, ◌+◌, Bool, false, not, if◌then◌else◌, ◌&&◌, ◌||◌, ◌==◌}
 use Rattle.std.specs.Int.RustNames.{bit_and}
 use Rattle.lease_state.specs.declared.state.LeaseState.{LeaseState}
 
@@ -36,3 +36,8 @@ granted_form_of s = if s.read then s else nothing_cached
 -- 3.3.4.7: a break is acknowledged exactly where the state that it breaks holds more than reads
 abbrev pub needs_acknowledgment : State → Bool
 needs_acknowledgment s = s.write || s.handle
+
+-- all that the one caches the other caches too
+abbrev pub is_state_within : State → State → Bool
+is_state_within one other =
+    (not one.read || other.read) && (not one.write || other.write) && (not one.handle || other.handle)

@@ -7,7 +7,7 @@ use std::marker::Model;
 use thiserror::Error;
 
 /// The most bytes that a file holds (own).
-pub const FILE_LIMIT: usize = 65_536;
+pub const FILE_LIMIT: usize = 1_048_576;
 
 /// Why bytes didn't become a content, or a content took no patch (own).
 #[derive(Clone, Copy, Debug, PartialEq, Eq, Hash, Error)]
@@ -49,8 +49,11 @@ impl Model for Content {
 }
 
 impl Content {
-    /// The content of these bytes, which stay where they are: no memory is taken. `TooLong`
-    /// where there are more than `FILE_LIMIT`; it never answers `Memory`.
+    /// The content of these bytes, which stay where they are: no memory is taken.
+    ///
+    /// # Errors
+    ///
+    /// `TooLong` where there are more than `FILE_LIMIT`, and never `Memory`.
     pub fn new(bytes: Vec<u8>) -> Result<Content, ContentFault>
         ensures too_long { (result ≡ Err ContentFault.TooLong) ↔ (FILE_LIMIT < length bytes.items) }
         ensures held { length bytes.items ≤ FILE_LIMIT → IsOkAnd result (λ content. content ≡ bytes.items) }
@@ -70,9 +73,12 @@ impl Content {
     }
 
     /// Puts the patch's bytes at its offset, and zeros into a gap before them; an empty patch
-    /// changes nothing. `TooLong` where the patch ends past `FILE_LIMIT`, even an empty one;
-    /// `Memory` only where the content has to grow and there is none left. After either the
-    /// content is as it was.
+    /// changes nothing.
+    ///
+    /// # Errors
+    ///
+    /// `TooLong` where the patch ends past `FILE_LIMIT`, even an empty one; `Memory` only where the
+    /// content has to grow and there is none left. After either the content is as it was.
     pub fn apply(&mut self, change: &Patch) -> Result<(), ContentFault>
         ensures too_long { (result ≡ Err ContentFault.TooLong) ↔ (FILE_LIMIT < end_of change.now) }
         ensures patched { OnOk result (self.new ≡ patch self.old change.now) }
@@ -96,8 +102,11 @@ impl Content {
         Ok(())
     }
 
-    /// An equal content in memory of its own, from the allocator of this one; `Memory` where
-    /// there is none left.
+    /// An equal content in memory of its own, from the allocator of this one.
+    ///
+    /// # Errors
+    ///
+    /// `Memory` where there is none left.
     pub fn try_copy(&self) -> Result<Content, Memory>
         ensures { IfOk result (λ copy. copy ≡ self.now) }
     {
@@ -135,10 +144,11 @@ mod tests {
     #[test]
     fn patches_a_content(rt: HostRuntime) -> Result<(), Fail> {
         let alloc = rt.alloc();
-        let cases: [(u32, &[u8], Result<(), ContentFault>, &[u8]); 9] = [
+        let cases: [(u32, &[u8], Result<(), ContentFault>, &[u8]); 10] = [
             (4, b"Y", Ok(()), b"abc\0Y"),
-            (65_536, b"", Ok(()), b"abc"),
-            (65_537, b"", Err(ContentFault::TooLong), b"abc"),
+            (65_537, b"", Ok(()), b"abc"),
+            (1_048_576, b"", Ok(()), b"abc"),
+            (1_048_577, b"", Err(ContentFault::TooLong), b"abc"),
             (4_294_967_295, b"Y", Err(ContentFault::TooLong), b"abc"),
             (0, b"", Ok(()), b"abc"),
             (0, b"X", Ok(()), b"Xbc"),
@@ -163,23 +173,34 @@ mod tests {
         let alloc = rt.alloc();
         let mut empty = content(alloc, b"")?;
         assert_eq!(rt;
-            empty.apply(&patch(alloc, 65_536, b"X")?),
+            empty.apply(&patch(alloc, 1_048_576, b"X")?),
             Err(ContentFault::TooLong)
         );
         assert_eq!(rt; empty.bytes().len(), 0);
-        assert_eq!(rt; empty.apply(&patch(alloc, 65_535, b"X")?), Ok(()));
-        assert_eq!(rt; empty.bytes().len(), 65_536);
+        assert_eq!(rt; empty.apply(&patch(alloc, 1_048_575, b"X")?), Ok(()));
+        assert_eq!(rt; empty.bytes().len(), 1_048_576);
         assert_eq!(rt; empty.bytes().first(), Some(&0));
         assert_eq!(rt; empty.bytes().last(), Some(&b'X'));
         Ok(())
     }
 
     #[test]
+    fn keeps_a_long_content_as_it_grows(rt: HostRuntime) -> Result<(), Fail> {
+        let alloc = rt.alloc();
+        let mut long = Content::new(vec![in alloc; 7; 70_000]?)?;
+        assert_eq!(rt; long.apply(&patch(alloc, 70_001, b"XY")?), Ok(()));
+        assert_eq!(rt; long.bytes().len(), 70_003);
+        assert!(rt; long.bytes()[..70_000].iter().all(|byte| *byte == 7));
+        assert_eq!(rt; &long.bytes()[70_000..], b"\0XY".as_slice());
+        Ok(())
+    }
+
+    #[test]
     fn takes_no_longer_content(rt: HostRuntime) -> Result<(), Fail> {
         let alloc = rt.alloc();
-        let most = Content::new(vec![in alloc; 7; 65_536]?)?;
+        let most = Content::new(vec![in alloc; 7; 1_048_576]?)?;
         assert_eq!(rt; most.try_copy()?.bytes(), most.bytes());
-        let more = Content::new(vec![in alloc; 7; 65_537]?);
+        let more = Content::new(vec![in alloc; 7; 1_048_577]?);
         assert_eq!(rt; more.map(|_| ()), Err(ContentFault::TooLong));
         Ok(())
     }

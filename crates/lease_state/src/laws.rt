@@ -17,15 +17,3 @@ pub fn patch_laws()
     ensures list { RepeatedPatchesAgree }
     ensures one { RepeatedPatchAgrees }
 {}
-
-#[cfg(test)]
-mod tests {
-    use super::*;
-
-    #[test]
-    fn laws_take_nothing() {
-        state_laws();
-        access_laws();
-        patch_laws();
-    }
-}

@@ -1,4 +1,18 @@
-//! The values that a server and a client of SMB 2.1 leases share.
+//! The values that a server and a client of SMB 2.1 leases share: lease states and keys, numbers of
+//! clients, files and opens, access and share, statuses, contents and patches of files, and the
+//! requests and replies that are made of them. Nothing here reads or writes a stream; `lease_wire`
+//! has the bytes of messages.
+//!
+//! ```
+//! let mut file = Content::new(Vec::from_slice(alloc, b"abc")?)?;
+//! let bytes = Bytes::new(Vec::from_slice(alloc, b"Y")?);
+//! file.apply(&Patch { offset: 4, bytes })?;
+//! assert_eq!(file.bytes(), b"abc\0Y");
+//!
+//! let wanted = LeaseState::from_wire(6);
+//! assert!(wanted.needs_ack() && wanted.granted_form().is_none());
+//! assert!(LeaseState::READ_CACHING.is_within(LeaseState::from_wire(3)));
+//! ```
 #![tactic(auto)]
 
 mod access;
@@ -26,3 +40,24 @@ pub use reply::Reply;
 pub use request::Request;
 pub use state::LeaseState;
 pub use status::Status;
+
+#[cfg(test)]
+mod tests {
+    use super::*;
+    use std::test::Fail;
+
+    // The example at the top of this file.
+    #[test]
+    fn the_example_holds(rt: HostRuntime) -> Result<(), Fail> {
+        let alloc = rt.alloc();
+        let mut file = Content::new(Vec::from_slice(alloc, b"abc")?)?;
+        let bytes = Bytes::new(Vec::from_slice(alloc, b"Y")?);
+        file.apply(&Patch { offset: 4, bytes })?;
+        assert_eq!(rt; file.bytes(), b"abc\0Y".as_slice());
+
+        let wanted = LeaseState::from_wire(6);
+        assert!(rt; wanted.needs_ack() && wanted.granted_form().is_none());
+        assert!(rt; LeaseState::READ_CACHING.is_within(LeaseState::from_wire(3)));
+        Ok(())
+    }
+}

@@ -11,7 +11,11 @@ pub struct Patch {
 }
 
 impl Patch {
-    /// An equal patch in memory of its own; `Memory` where there is none left.
+    /// An equal patch in memory of its own.
+    ///
+    /// # Errors
+    ///
+    /// `Memory` where there is none left.
     pub fn try_copy(&self) -> Result<Patch, Memory>
         ensures { IfOk result (λ copy. copy ≡ self.now) }
     {

@@ -1,16 +1,20 @@
-ghost use Rattle.std.specs.Prelude.{⊤, ◌≡◌, ◌==◌, [], ◌∷◌, codes};
+ghost use Rattle.std.specs.Prelude.{⊤, ◌≡◌, ◌↔◌, ◌==◌, [], ◌∷◌, codes, IsTrue};
+ghost use Rattle.std.specs.Hash as fed;
 ghost use Rattle.std.specs.Int.RustNames.{bit_and};
-ghost use Rattle.std.specs.Cmp.Rules.{comparing};
+ghost use Rattle.std.specs.Cmp.Rules.{comparing, hashing};
 ghost use Rattle.std.specs.Ordering.{on};
 ghost use Rattle.std.proofs.Common.{rules};
-ghost use Rattle.lease_state.specs.State.{state_of, state_of_bits, bits_of_state, granted_form_of, needs_acknowledgment};
+ghost use Rattle.lease_state.specs.State.{state_of, state_of_bits, bits_of_state, nothing_cached, granted_form_of, needs_acknowledgment, is_state_within};
 
 use bitflags::{Flag, Flags, bitflag_items};
+use std::hash::{Hash, Hasher};
 
 /// A lease state (MS-SMB2 2.2.13.2): the set of what a client may cache of a file.
 ///
-/// A value may carry bits past the three that have a name, where it was made with
-/// `from_bits_retain`. Each call passes over them, and so does `==`.
+/// A value that was made with `from_bits_retain` may carry bits past the three that have a name.
+/// The calls that are listed here (`from_wire` to `needs_ack`), `==` and `Hash` pass over them, and
+/// so does `contains` of a named bit. The other calls of the trait `Flags`, such as `bits` and
+/// `is_empty`, see them: ask `is_none` and `is_within` in their place.
 #[derive(Clone, Copy, Debug)]
 pub struct LeaseState(u8);
 
@@ -58,7 +62,20 @@ impl Eq for LeaseState {
     ghost laws = { Prim.search (comparing, rules) };
 }
 
+impl Hash for LeaseState {
+    ghost hash_input = { λ s. fed.u8 (bit_and s.0 7) };
+
+    ghost respects_eq = { Prim.search (hashing, rules) };
+
+    fn hash<H: Hasher>(&self, state: &mut H) {
+        (self.0 & 7).hash(state);
+    }
+}
+
 impl LeaseState {
+    /// The state that caches nothing.
+    pub const NONE: LeaseState = LeaseState(0);
+
     /// The state that the wire's 4-byte field names (2.2.13.2). Bits past 7 are dropped.
     pub fn from_wire(bits: u32) -> LeaseState
         ensures state { state_of result ≡ state_of_bits bits }
@@ -79,11 +96,48 @@ impl LeaseState {
     pub fn granted_form(self) -> LeaseState
         ensures { state_of result ≡ granted_form_of (state_of self) }
     {
-        if self.contains(LeaseState::READ_CACHING) {
+        if self.caches_reads() {
             self
         } else {
-            LeaseState(0)
+            LeaseState::NONE
         }
+    }
+
+    /// Whether reads may be cached.
+    pub fn caches_reads(self) -> bool
+        ensures { result ≡ (state_of self).read }
+    {
+        self.contains(LeaseState::READ_CACHING)
+    }
+
+    /// Whether writes may be cached.
+    pub fn caches_writes(self) -> bool
+        ensures { result ≡ (state_of self).write }
+    {
+        self.contains(LeaseState::WRITE_CACHING)
+    }
+
+    /// Whether handles may be cached.
+    pub fn caches_handles(self) -> bool
+        ensures { result ≡ (state_of self).handle }
+    {
+        self.contains(LeaseState::HANDLE_CACHING)
+    }
+
+    /// Whether nothing may be cached.
+    pub fn is_none(self) -> bool
+        ensures { IsTrue result ↔ (state_of self ≡ nothing_cached) }
+    {
+        !(self.caches_reads() || self.caches_writes() || self.caches_handles())
+    }
+
+    /// Whether all that the state caches is cached in `other` too.
+    pub fn is_within(self, other: LeaseState) -> bool
+        ensures { result ≡ is_state_within (state_of self) (state_of other) }
+    {
+        (!self.caches_reads() || other.caches_reads())
+            && (!self.caches_writes() || other.caches_writes())
+            && (!self.caches_handles() || other.caches_handles())
     }
 
     /// Whether a break of the state is to be acknowledged (3.3.4.7): true exactly where it holds
@@ -91,13 +145,14 @@ impl LeaseState {
     pub fn needs_ack(self) -> bool
         ensures { result ≡ needs_acknowledgment (state_of self) }
     {
-        self.contains(LeaseState::WRITE_CACHING) || self.contains(LeaseState::HANDLE_CACHING)
+        self.caches_writes() || self.caches_handles()
     }
 }
 
 #[cfg(test)]
 mod tests {
     use super::*;
+    use std::hash::DefaultHasher;
 
     #[test]
     fn reads_and_writes_the_wire_field(rt: HostRuntime) {
@@ -144,5 +199,37 @@ mod tests {
         assert!(rt; !state.needs_ack());
         assert_eq!(rt; state.granted_form(), LeaseState::READ_CACHING);
         assert_ne!(rt; state, LeaseState::from_wire(3));
+        assert!(rt; state.is_within(LeaseState::READ_CACHING));
+        let high = LeaseState::from_bits_retain(0xF8);
+        assert!(rt; high.is_none() && !high.is_empty());
+        assert_eq!(rt; high, LeaseState::NONE);
+        assert_eq!(rt; hash_of(&high), hash_of(&LeaseState::NONE));
+        assert_ne!(rt; hash_of(&high), hash_of(&state));
+    }
+
+    fn hash_of(state: &LeaseState) -> u64 {
+        let mut hasher = DefaultHasher::new();
+        state.hash(&mut hasher);
+        hasher.finish()
+    }
+
+    #[test]
+    fn states_lie_within_others(rt: HostRuntime) {
+        for (one, other, within) in [
+            (0, 0, true),
+            (0, 7, true),
+            (3, 7, true),
+            (3, 3, true),
+            (3, 5, false),
+            (7, 3, false),
+            (4, 2, false),
+            (1, 0, false),
+        ] {
+            let (one, other) = (LeaseState::from_wire(one), LeaseState::from_wire(other));
+            assert_eq!(rt; one.is_within(other), within, "{one:?} in {other:?}");
+        }
+        let all = LeaseState::from_wire(7);
+        assert!(rt; all.caches_reads() && all.caches_writes() && all.caches_handles());
+        assert!(rt; !all.is_none() && LeaseState::NONE.is_none());
     }
 }

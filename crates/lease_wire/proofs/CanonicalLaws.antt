@@ -5,8 +5,8 @@ use Rattle.lease_wire.specs.Chain.{ContextView, IsContext, LeadsOn, next_of}
 use Rattle.lease_wire.specs.Names.{LeaseView, CreateView, HoldsValue, lease_name, durable_name, reconnect_name}
 use Rattle.lease_wire.specs.Canonical.{canonical_text, context_bytes, lease_body, durable_body, reconnect_body, IsDirected}
 use Rattle.lease_wire.specs.Create.{WrittenHoldsValue, WrittenReadsBack}
-use Rattle.lease_wire.specs.declared.direction.Direction.{Direction}
-use Rattle.lease_wire.specs.declared.direction.Direction.TheVariants.{Request, Reply}
+use Rattle.lease_wire.specs.declared.create.Direction.{Direction}
+use Rattle.lease_wire.specs.declared.create.Direction.TheVariants.{Request, Reply}
 use Rattle.lease_wire.proofs.WrittenContexts.{written, Calm, is_written, leads_on, leads_nowhere, lease_is, length-lease_body, durable_is, length-durable_body, reconnect_is}
 use Rattle.lease_wire.proofs.ReadingLaws.{value_is_read}
 

@@ -4,7 +4,7 @@ use Rattle.std.proofs.lemmas.Bool.Decides.{nat_tests, eqb_tells}
 use Rattle.lease_wire.specs.Reading.{header_fault, size_of, has_bad_next, has_bad_name, has_bad_data}
 use Rattle.lease_wire.specs.declared.fault.WireFault.{WireFault}
 use Rattle.lease_wire.specs.declared.fault.WireFault.TheVariants.{Short}
-use Rattle.lease_wire.specs.declared.header.Header.{Header}
+use Rattle.lease_wire.specs.declared.chain.Header.{Header}
 
 -- the fields of a header that fails no test
 pub record HeaderFits (left : ℕ) (h : Header) : Type 0 where

@@ -1,5 +1,5 @@
 -- The items that a reader gives are those of the text.
-use Rattle.std.proofs.Common.{◌≡◌, ◌≢◌, ◌≤◌, ℕ, zero, suc, ◌+◌, List, [], ◌∷◌, ◌++◌, map, length, take, drop, Option, Some, None, Ok, Err, refl, arith, zero-add, add-zero, sym, ◌∙◌, subst, ◌⊎◌, inl, inr, length-append}
+use Rattle.std.proofs.Common.{◌≡◌, ◌≢◌, ◌≤◌, ℕ, zero, suc, ◌+◌, ◌*◌, List, [], ◌∷◌, ◌++◌, map, length, take, drop, Option, Some, None, Ok, Err, refl, arith, zero-add, add-zero, sym, ◌∙◌, subst, ◌⊎◌, inl, inr, length-append}
 use Rattle.std.specs.List.{concat}
 use Rattle.std.proofs.lemmas.List.{take-append-drop, append-nil, append_assoc}
 use Rattle.lease_wire.specs.Chain.{ContextView, AreLinked, AreLaidOut, next_of}
@@ -105,3 +105,27 @@ items_are (byte ∷ bytes) = elim (items_read (length (byte ∷ bytes)) 0 (byte 
     },
   )
 ]
+
+-- ---- how many items there are
+-- each context takes sixteen bytes at least, and a fault may take none
+module _ (start : ℕ) (bytes : List ℕ)
+    (further : length (drop (next_of bytes) bytes) + 16 ≤ length bytes
+    → 16 * length (items_behind (start + next_of bytes) 0 (drop (next_of bytes) bytes)) ≤ length (drop (next_of bytes) bytes) + 16) where
+  few_by_next : layout_fault start bytes ≡ None → ((next_of bytes ≡ 0) ⊎ (next_of bytes ≢ 0)) → 16 * length (items_behind start 0 bytes) ≤ length bytes + 16
+  few_by_next none (inl last) = rw (items_behind-last start bytes none last) (omega arith)
+  few_by_next none (inr more) =
+      let leading = leading_is start bytes none more in
+      let less : length (drop (next_of bytes) bytes) + 16 ≤ length bytes = leading.less in
+      let behind = further less in
+      rw (items_behind-more start bytes none more) (omega arith)
+
+  few_by_fault : (answer : Option WireFault) → layout_fault start bytes ≡ answer → 16 * length (items_behind start 0 bytes) ≤ length bytes + 16
+  few_by_fault (Some fault) is = rw (items_behind-fault start bytes fault is) (omega arith)
+  few_by_fault None none = few_by_next none (last_or_more bytes)
+
+few_items : (room start : ℕ) (bytes : List ℕ) → length bytes ≤ room → 16 * length (items_behind start 0 bytes) ≤ length bytes + 16
+few_items zero start bytes within = few_by_fault start bytes (λ less. absurd (omega arith)) (layout_fault start bytes) refl
+few_items (suc room) start bytes within = few_by_fault start bytes (λ less. few_items room _ _ (omega arith)) (layout_fault start bytes) refl
+
+pub length-items_behind : (start : ℕ) (bytes : List ℕ) → 16 * length (items_behind start 0 bytes) ≤ length bytes + 16
+length-items_behind start bytes = few_items (length bytes) start bytes (omega arith)

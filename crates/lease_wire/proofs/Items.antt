@@ -6,7 +6,7 @@ use Rattle.lease_wire.specs.Reading.{items_behind, item_before, layout_fault, he
 use Rattle.lease_wire.specs.declared.fault.WireFault.{WireFault}
 use Rattle.lease_wire.specs.declared.fault.WireFault.TheVariants.{Short}
 use Rattle.lease_wire.specs.Field.{bytes_at}
-use Rattle.lease_wire.specs.declared.header.Header.{Header}
+use Rattle.lease_wire.specs.declared.chain.Header.{Header}
 use Rattle.lease_wire.proofs.HeaderFacts.{short_fault, next_inside}
 
 -- passing over bytes is beginning behind them

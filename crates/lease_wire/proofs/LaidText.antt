@@ -10,7 +10,7 @@ use Rattle.lease_wire.specs.Reading.{items_behind, layout_fault, context_at}
 use Rattle.lease_wire.specs.Names.{CreateView, HaveValue, meaning_of}
 use Rattle.lease_wire.specs.Faults.{first_fault, meaning_fault}
 use Rattle.lease_wire.specs.Gathering.{gathered, with_meaning}
-use Rattle.lease_wire.specs.declared.direction.Direction.{Direction}
+use Rattle.lease_wire.specs.declared.create.Direction.{Direction}
 use Rattle.lease_wire.specs.declared.fault.WireFault.{WireFault}
 use Rattle.lease_wire.proofs.Items.{items_behind-fault, items_behind-last, items_behind-more}
 use Rattle.lease_wire.proofs.Pieces.{ends_last, ends_on, front_reads, next_of-front}
@@ -49,9 +49,9 @@ added direction before v w context behind have whole =
         → Adds direction before context (with_meaning v context.place (meaning_of direction context)) → Added direction before v context
     by_result (Ok value) is has = record { value = value; adds = is; have = rw is at has }
     by_result (Err fault) is has =
-        let told = faults direction before v have context context.place (meaning_of direction context) in
+        let values_of_kind = faults direction before v have context context.place (meaning_of direction context) in
         let none = passes direction before v have context w behind whole context.place (meaning_of direction context) refl in
-        let clash : ◌≡◌ {A = Option WireFault} (Some fault) None = rw is at told ∙ none in
+        let clash : ◌≡◌ {A = Option WireFault} (Some fault) None = rw is at values_of_kind ∙ none in
         cc
 
 pub laid_reads : (direction : Direction) (start : ℕ) (pieces : List (List ℕ)) (contexts before : List ContextView) (v w : CreateView)
@@ -91,9 +91,9 @@ module _ (direction : Direction) (contexts : List ContextView) (w : CreateView) 
   stops_at_name : layout_fault place rest ≡ None → with_meaning w (context_at place rest).place (meaning_of direction (context_at place rest)) ≡ Err fault
   unfolding context_at
   stops_at_name none =
-      let told = faults direction contexts w have (context_at place rest) place (meaning_of direction (context_at place rest)) in
+      let values_of_kind = faults direction contexts w have (context_at place rest) place (meaning_of direction (context_at place rest)) in
       let stopped : meaning_fault direction contexts place (meaning_of direction (context_at place rest)) ≡ Some fault = rw none at first in
-      by_result (with_meaning w place (meaning_of direction (context_at place rest))) refl (told ∙ stopped)
+      by_result (with_meaning w place (meaning_of direction (context_at place rest))) refl (values_of_kind ∙ stopped)
     where
       by_result : (answer : Result CreateView WireFault) → with_meaning w place (meaning_of direction (context_at place rest)) ≡ answer
           → fault_in (with_meaning w place (meaning_of direction (context_at place rest))) ≡ Some fault → with_meaning w place (meaning_of direction (context_at place rest)) ≡ Err fault

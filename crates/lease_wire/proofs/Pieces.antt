@@ -177,8 +177,8 @@ leading_is start bytes none more =
     let long : length piece ≡ next_of bytes = length-take-le (next_of bytes) bytes next.2 in
     let header : 16 ≤ length piece = omega arith in
     let same : next_of (piece ++ others) ≡ next_of piece = next_of-front piece others header in
-    let told : next_of piece ≡ length piece = sym same ∙ ap next_of whole ∙ sym long in
-    let on : LeadsOn piece = record { next = told; aligned = rw long next.1 } in
+    let values_of_kind : next_of piece ≡ length piece = sym same ∙ ap next_of whole ∙ sym long in
+    let on : LeadsOn piece = record { next = values_of_kind; aligned = rw long next.1 } in
     let ends = ends_on piece others header on in
     let is = front_is start piece others header (rw whole none) ends.size in
     record {

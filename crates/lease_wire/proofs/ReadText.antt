@@ -9,7 +9,7 @@ use Rattle.lease_wire.specs.Reading.{items_behind, layout_fault, context_at}
 use Rattle.lease_wire.specs.Names.{CreateView, HaveValue, meaning_of}
 use Rattle.lease_wire.specs.Faults.{first_fault}
 use Rattle.lease_wire.specs.Gathering.{gathered, carried, with_meaning}
-use Rattle.lease_wire.specs.declared.direction.Direction.{Direction}
+use Rattle.lease_wire.specs.declared.create.Direction.{Direction}
 use Rattle.lease_wire.specs.declared.fault.WireFault.{WireFault}
 use Rattle.lease_wire.proofs.Items.{items_behind-fault, items_behind-last, items_behind-more}
 use Rattle.lease_wire.proofs.Pieces.{LeadingIs, whole_is, leading_is}
@@ -157,9 +157,9 @@ module _ (direction : Direction) (start : ℕ) (bytes : List ℕ) (before : List
   faulty_name : layout_fault start bytes ≡ None → with_meaning v (context_at start bytes).place (meaning_of direction (context_at start bytes)) ≡ Err fault → FaultyFrom direction start bytes before fault
   unfolding context_at
   faulty_name none broken =
-      let told = faults direction before v have (context_at start bytes) start (meaning_of direction (context_at start bytes)) in
+      let values_of_kind = faults direction before v have (context_at start bytes) start (meaning_of direction (context_at start bytes)) in
       let stopped : fault_in (with_meaning v start (meaning_of direction (context_at start bytes))) ≡ Some fault = rw broken refl in
-      faulty_here direction start bytes before v fault have (rw none (sym told ∙ stopped))
+      faulty_here direction start bytes before v fault have (rw none (sym values_of_kind ∙ stopped))
 
   faulty_by_next : layout_fault start bytes ≡ None → ((next_of bytes ≡ 0) ⊎ (next_of bytes ≢ 0)) → FaultyFrom direction start bytes before fault
   unfolding gathered

@@ -7,15 +7,15 @@ use Rattle.lease_wire.specs.Reading.{Item, items_of}
 use Rattle.lease_wire.specs.Names.{Meaning, CreateView, LeaseView, HaveValue, HoldsValue, meaning_of, lease_view, lease_meaning, durable_meaning, reconnect_meaning, lease_name, durable_name, reconnect_name}
 use Rattle.lease_wire.specs.Names.Meaning.{Unknown, WrongLength, Lease, Durable, Reconnect}
 use Rattle.lease_wire.specs.Faults.{IsFaultOf}
-use Rattle.lease_wire.specs.Gathering.{gathered, value_of, nothing_told, with_meaning, with_lease, with_durable, with_reconnect}
+use Rattle.lease_wire.specs.Gathering.{gathered, value_of, no_values, with_meaning, with_lease, with_durable, with_reconnect}
 use Rattle.lease_wire.specs.Canonical.{IsDirected}
 use Rattle.lease_wire.specs.Create.{IsReadingOf, ValueIsRead}
-use Rattle.lease_wire.specs.Found.{found_of, lease_of}
-use Rattle.lease_wire.specs.declared.found.Found.{Found}
-use Rattle.lease_wire.specs.declared.meaning.Lease as code
+use Rattle.lease_wire.specs.Views.{values_of, lease_of}
+use Rattle.lease_wire.specs.declared.create.reading.ContextValues.{ContextValues}
+use Rattle.lease_wire.specs.declared.create.meaning.Lease as code
 use Rattle.std.specs.Option.{option_map}
-use Rattle.lease_wire.specs.declared.direction.Direction.{Direction}
-use Rattle.lease_wire.specs.declared.direction.Direction.TheVariants.{Request, Reply}
+use Rattle.lease_wire.specs.declared.create.Direction.{Direction}
+use Rattle.lease_wire.specs.declared.create.Direction.TheVariants.{Request, Reply}
 use Rattle.lease_wire.specs.declared.fault.WireFault.{WireFault}
 use Rattle.lease_wire.proofs.LaidText.{laid_reads, linked_reads, stops}
 use Rattle.lease_wire.proofs.ReadText.{text_laid, text_faulty, carried_ok}
@@ -24,26 +24,26 @@ use Rattle.lease_wire.proofs.Values.{value_of_nothing, one_value}
 value_held : (direction : Direction) (text : List ℕ) (v : CreateView) → value_of direction text ≡ Ok v → HoldsValue direction text v
 unfolding gathered
 value_held direction [] v e =
-    let same : nothing_told ≡ v = cc in
+    let same : no_values ≡ v = cc in
     let P : CreateView → Type 0 = HaveValue direction [] in
     ([], refl, subst P same (value_of_nothing direction))
 value_held direction (byte ∷ bytes) v e =
-    let laid = text_laid (length (byte ∷ bytes)) direction 0 (byte ∷ bytes) [] nothing_told v (omega arith) (value_of_nothing direction) e in
+    let laid = text_laid (length (byte ∷ bytes)) direction 0 (byte ∷ bytes) [] no_values v (omega arith) (value_of_nothing direction) e in
     (laid.contexts, (laid.pieces, laid.whole, laid.laid), laid.value)
 
 held_value : (direction : Direction) (text : List ℕ) (v : CreateView) → HoldsValue direction text v → value_of direction text ≡ Ok v
 unfolding gathered
 held_value direction [] v (contexts, none, value) =
-    let same : nothing_told ≡ v = one_value direction [] nothing_told v (value_of_nothing direction) (rw none at value) in
+    let same : no_values ≡ v = one_value direction [] no_values v (value_of_nothing direction) (rw none at value) in
     rw same refl
 held_value direction (byte ∷ bytes) v (contexts, (pieces, whole, laid), value) =
-    rw whole at (laid_reads direction 0 pieces contexts [] nothing_told v laid (value_of_nothing direction) value)
+    rw whole at (laid_reads direction 0 pieces contexts [] no_values v laid (value_of_nothing direction) value)
 
 fault_had : (direction : Direction) (text : List ℕ) (fault : WireFault) → value_of direction text ≡ Err fault → IsFaultOf direction text fault
 unfolding gathered
 fault_had direction [] fault e = cc
 fault_had direction (byte ∷ bytes) fault e =
-    let faulty = text_faulty (length (byte ∷ bytes)) direction 0 (byte ∷ bytes) [] nothing_told fault (omega arith) (value_of_nothing direction) e in (
+    let faulty = text_faulty (length (byte ∷ bytes)) direction 0 (byte ∷ bytes) [] no_values fault (omega arith) (value_of_nothing direction) e in (
       λ none. cc,
       (
         faulty.pieces,
@@ -61,7 +61,7 @@ fault_had direction (byte ∷ bytes) fault e =
 had_fault : (direction : Direction) (text : List ℕ) (fault : WireFault) → IsFaultOf direction text fault → value_of direction text ≡ Err fault
 had_fault direction [] fault (some, faulty) = absurd (some refl)
 had_fault direction (byte ∷ bytes) fault (some, (pieces, contexts, rest, is)) =
-    let passed = linked_reads direction 0 pieces contexts [] rest nothing_told is.named.0 is.linked (value_of_nothing direction) is.named.1 in
+    let passed = linked_reads direction 0 pieces contexts [] rest no_values is.named.0 is.linked (value_of_nothing direction) is.named.1 in
     rw (is.whole, zero-add (length (concat pieces))) at passed ∙ stops direction contexts is.named.0 (length (concat pieces)) rest fault is.named.1 is.first
 
 pub value_is_read : ValueIsRead
@@ -144,27 +144,27 @@ gathered_directed direction (Ok context ∷ items) v w is e =
     let next : IsDirected direction step.0 = subst P step.1 (with_directed direction v context.place (meaning_of direction context) is (meaning_directed direction context)) in
     gathered_directed direction items step.0 w next step.2
 
-nothing_directed : (direction : Direction) → IsDirected direction nothing_told
+nothing_directed : (direction : Direction) → IsDirected direction no_values
 nothing_directed Request = tt
 nothing_directed Reply = refl
 
 pub value_directed : (direction : Direction) (text : List ℕ) (v : CreateView) → value_of direction text ≡ Ok v → IsDirected direction v
-value_directed direction text v e = gathered_directed direction (items_of text) nothing_told v (nothing_directed direction) e
+value_directed direction text v e = gathered_directed direction (items_of text) no_values v (nothing_directed direction) e
 
--- the lease that a request's reader found tells of no break in progress
-pub asked_is_calm : (text : List ℕ) (found : Found) → Ok (found_of found) ≡ value_of Request text → IfSome found.lease (λ lease. lease.breaking ≡ false)
-asked_is_calm text found e = calm found.lease (value_directed Request text (found_of found) (sym e))
+-- the lease that a request's reader values tells of no break in progress
+pub asked_is_calm : (text : List ℕ) (values : ContextValues) → Ok (values_of values) ≡ value_of Request text → IfSome values.lease (λ lease. lease.breaking ≡ false)
+asked_is_calm text values e = calm values.lease (value_directed Request text (values_of values) (sym e))
   where
     calm : (held : Option code.Lease) → IfSome (option_map lease_of held) (λ lease. lease.breaking ≡ false) → IfSome held (λ lease. lease.breaking ≡ false)
     calm None is = tt
     calm (Some lease) is = is
 
--- a response's reader found no reconnect
-pub answered_value : (text : List ℕ) (found : Found) (v : CreateView) → Ok (found_of found) ≡ value_of Reply text
-    → option_map lease_of found.lease ≡ v.lease → v.durable ≡ found.durable → v.reconnect ≡ None → Ok v ≡ value_of Reply text
-answered_value text found v e lease durable reconnect =
-    let none : (found_of found).reconnect ≡ None = value_directed Reply text (found_of found) (sym e) in
-    let same : v ≡ found_of found = same_view _ _ _ _ _ _ (sym lease) durable (reconnect ∙ sym none) in
+-- a response's reader values no reconnect
+pub answered_value : (text : List ℕ) (values : ContextValues) (v : CreateView) → Ok (values_of values) ≡ value_of Reply text
+    → option_map lease_of values.lease ≡ v.lease → v.durable ≡ values.durable → v.reconnect ≡ None → Ok v ≡ value_of Reply text
+answered_value text values v e lease durable reconnect =
+    let none : (values_of values).reconnect ≡ None = value_directed Reply text (values_of values) (sym e) in
+    let same : v ≡ values_of values = same_view _ _ _ _ _ _ (sym lease) durable (reconnect ∙ sym none) in
     ap Ok same ∙ e
   where
     same_view : (a b : Option LeaseView) (c d : Bool) (e f : Option ℕ) → a ≡ b → c ≡ d → e ≡ f

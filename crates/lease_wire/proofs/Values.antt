@@ -4,22 +4,22 @@ use Rattle.std.specs.List.{cons_option}
 use Rattle.std.proofs.lemmas.List.{append-nil}
 use Rattle.std.proofs.lemmas.List.Elements.{filter_map-append}
 use Rattle.lease_wire.specs.Chain.{ContextView}
-use Rattle.lease_wire.specs.Names.{Meaning, LeaseView, CreateView, HaveValue, meaning_of, told, lease_in, durable_in, reconnect_in, wrong_length_in}
+use Rattle.lease_wire.specs.Names.{Meaning, LeaseView, CreateView, HaveValue, meaning_of, values_of_kind, lease_in, durable_in, reconnect_in, wrong_length_in}
 use Rattle.lease_wire.specs.Names.Meaning.{Unknown, WrongLength, Lease, Durable, Reconnect}
 use Rattle.lease_wire.specs.Faults.{meaning_fault, twice_if}
-use Rattle.lease_wire.specs.Gathering.{with_meaning, with_lease, with_durable, with_reconnect, nothing_told}
-use Rattle.lease_wire.specs.declared.direction.Direction.{Direction}
+use Rattle.lease_wire.specs.Gathering.{with_meaning, with_lease, with_durable, with_reconnect, no_values}
+use Rattle.lease_wire.specs.declared.create.Direction.{Direction}
 use Rattle.lease_wire.specs.declared.fault.WireFault.{WireFault}
 use Rattle.lease_wire.specs.declared.fault.WireFault.TheVariants.{Twice}
 
-pub value_of_nothing : (direction : Direction) → HaveValue direction [] nothing_told
+pub value_of_nothing : (direction : Direction) → HaveValue direction [] no_values
 value_of_nothing direction = record { lengths = refl; lease = refl; durable = refl; reconnect = refl }
 
--- what is told behind one more context
-told-more : {X : Type 0} (direction : Direction) (part : Meaning → Option X) (before : List ContextView) (context : ContextView) (meaning : Meaning) (behind : List ContextView)
+-- what is said behind one more context
+values_of_kind-more : {X : Type 0} (direction : Direction) (part : Meaning → Option X) (before : List ContextView) (context : ContextView) (meaning : Meaning) (behind : List ContextView)
     → meaning_of direction context ≡ meaning
-    → told direction part (before ++ context ∷ behind) ≡ told direction part before ++ cons_option (part meaning) (told direction part behind)
-told-more direction part before context meaning behind is = rw (filter_map-append, is) refl
+    → values_of_kind direction part (before ++ context ∷ behind) ≡ values_of_kind direction part before ++ cons_option (part meaning) (values_of_kind direction part behind)
+values_of_kind-more direction part before context meaning behind is = rw (filter_map-append, is) refl
 
 abbrev pub fault_in : Result CreateView WireFault → Option WireFault
 fault_in (Ok v) = None
@@ -72,12 +72,12 @@ one_value direction contexts v w first second =
 
 module _ (direction : Direction) (before : List ContextView) (v : CreateView) (have : HaveValue direction before v) (context : ContextView) where
   same : {X : Type 0} (part : Meaning → Option X) (meaning : Meaning) → meaning_of direction context ≡ meaning → part meaning ≡ None
-      → told direction part (before ++ context ∷ []) ≡ told direction part before
-  same part meaning is none = told-more direction part before context meaning [] is ∙ rw none (append-nil (told direction part before))
+      → values_of_kind direction part (before ++ context ∷ []) ≡ values_of_kind direction part before
+  same part meaning is none = values_of_kind-more direction part before context meaning [] is ∙ rw none (append-nil (values_of_kind direction part before))
 
-  other : {X : Type 0} (part : Meaning → Option X) (meaning : Meaning) (y : X) → meaning_of direction context ≡ meaning → part meaning ≡ Some y → told direction part before ≡ []
-      → told direction part (before ++ context ∷ []) ≡ y ∷ []
-  other part meaning y is some none = told-more direction part before context meaning [] is ∙ rw (some, none) refl
+  other : {X : Type 0} (part : Meaning → Option X) (meaning : Meaning) (y : X) → meaning_of direction context ≡ meaning → part meaning ≡ Some y → values_of_kind direction part before ≡ []
+      → values_of_kind direction part (before ++ context ∷ []) ≡ y ∷ []
+  other part meaning y is some none = values_of_kind-more direction part before context meaning [] is ∙ rw (some, none) refl
 
   adds_lease : (lease : LeaseView) (held : Option LeaseView) → v.lease ≡ held → meaning_of direction context ≡ Lease lease → Adds direction before context (with_lease v context.place lease held)
   adds_lease lease (Some held) is_held is = tt
@@ -132,27 +132,27 @@ module _ (direction : Direction) (before : List ContextView) (v : CreateView) (h
   pub faults : (place : ℕ) (meaning : Meaning) → fault_in (with_meaning v place meaning) ≡ meaning_fault direction before place meaning
   faults place Unknown = refl
   faults place WrongLength = refl
-  faults place (Lease lease) = twice-list (told direction lease_in before) v.lease place have.lease (λ held. with_lease v place lease held) refl (λ y. refl)
-  faults place Durable = twice-bool (told direction durable_in before) v.durable place have.durable (λ held. with_durable v place held) refl refl
-  faults place (Reconnect file_id) = twice-list (told direction reconnect_in before) v.reconnect place have.reconnect (λ held. with_reconnect v place file_id held) refl (λ y. refl)
+  faults place (Lease lease) = twice-list (values_of_kind direction lease_in before) v.lease place have.lease (λ held. with_lease v place lease held) refl (λ y. refl)
+  faults place Durable = twice-bool (values_of_kind direction durable_in before) v.durable place have.durable (λ held. with_durable v place held) refl refl
+  faults place (Reconnect file_id) = twice-list (values_of_kind direction reconnect_in before) v.reconnect place have.reconnect (λ held. with_reconnect v place file_id held) refl (λ y. refl)
 
   -- where a value is had with this context and others behind it, the context breaks no rule
   pub passes : (w : CreateView) (behind : List ContextView) → HaveValue direction (before ++ context ∷ behind) w → (place : ℕ) (meaning : Meaning) → meaning_of direction context ≡ meaning
       → meaning_fault direction before place meaning ≡ None
   passes w behind whole place Unknown is = refl
   passes w behind whole place WrongLength is =
-      let some = told-more direction wrong_length_in before context WrongLength behind is in
+      let some = values_of_kind-more direction wrong_length_in before context WrongLength behind is in
       let none = sym some ∙ whole.lengths in
-      absurd (not_empty (told direction wrong_length_in before) true _ none)
+      absurd (not_empty (values_of_kind direction wrong_length_in before) true _ none)
   passes w behind whole place (Lease lease) is =
-      let some = told-more direction lease_in before context (Lease lease) behind is in
-      let none = alone (told direction lease_in before) lease _ w.lease (sym some ∙ whole.lease) in
+      let some = values_of_kind-more direction lease_in before context (Lease lease) behind is in
+      let none = alone (values_of_kind direction lease_in before) lease _ w.lease (sym some ∙ whole.lease) in
       rw none refl
   passes w behind whole place Durable is =
-      let some = told-more direction durable_in before context Durable behind is in
-      let none = alone_if (told direction durable_in before) true _ w.durable (sym some ∙ whole.durable) in
+      let some = values_of_kind-more direction durable_in before context Durable behind is in
+      let none = alone_if (values_of_kind direction durable_in before) true _ w.durable (sym some ∙ whole.durable) in
       rw none refl
   passes w behind whole place (Reconnect file_id) is =
-      let some = told-more direction reconnect_in before context (Reconnect file_id) behind is in
-      let none = alone (told direction reconnect_in before) file_id _ w.reconnect (sym some ∙ whole.reconnect) in
+      let some = values_of_kind-more direction reconnect_in before context (Reconnect file_id) behind is in
+      let none = alone (values_of_kind direction reconnect_in before) file_id _ w.reconnect (sym some ∙ whole.reconnect) in
       rw none refl

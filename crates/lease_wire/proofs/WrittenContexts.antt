@@ -9,8 +9,8 @@ use Rattle.lease_wire.specs.Chain.{ContextView, IsPart, IsData, IsContext, Leads
 use Rattle.lease_wire.specs.Names.{Meaning, LeaseView, meaning_of, lease_name, durable_name, reconnect_name}
 use Rattle.lease_wire.specs.Names.Meaning.{Lease, Durable, Reconnect}
 use Rattle.lease_wire.specs.Canonical.{context_bytes, lease_body, durable_body, reconnect_body}
-use Rattle.lease_wire.specs.declared.direction.Direction.{Direction}
-use Rattle.lease_wire.specs.declared.direction.Direction.TheVariants.{Request, Reply}
+use Rattle.lease_wire.specs.declared.create.Direction.{Direction}
+use Rattle.lease_wire.specs.declared.create.Direction.TheVariants.{Request, Reply}
 use Rattle.lease_wire.proofs.Cells.{sixteen_cells}
 use Rattle.lease_wire.proofs.Fields.{state_of_bits-written}
 
@@ -70,9 +70,9 @@ abbrev pub Calm : Direction → LeaseView → Type 0
 Calm Request lease = lease.breaking ≡ false
 Calm Reply lease = Unit {0}
 
-same_lease : (direction : Direction) (key : List ℕ) (read : State) (lease : LeaseView) (told : Bool) → read ≡ lease.state → told ≡ lease.breaking
-    → ◌≡◌ {A = Meaning} (Lease (record { key = key; state = read; breaking = told })) (Lease (record lease { key = key }))
-same_lease direction key read lease told state breaking = rw (state, breaking) refl
+same_lease : (direction : Direction) (key : List ℕ) (read : State) (lease : LeaseView) (values_of_kind : Bool) → read ≡ lease.state → values_of_kind ≡ lease.breaking
+    → ◌≡◌ {A = Meaning} (Lease (record { key = key; state = read; breaking = values_of_kind })) (Lease (record lease { key = key }))
+same_lease direction key read lease values_of_kind state breaking = rw (state, breaking) refl
 
 breaking-written : (b : Bool) → (bit_and (little_number 4 (little_bytes 4 (if b then 2 else 0))) 2 == 2) ≡ b
 breaking-written true = refl

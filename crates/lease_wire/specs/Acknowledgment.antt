@@ -5,7 +5,7 @@ use Rattle.byteorder.specs.Endian.{little_bytes}
 use Rattle.lease_state.specs.State.{State, state_of, state_of_bits, bits_of_state}
 use Rattle.lease_wire.specs.Field.{number_at, bytes_at}
 use Rattle.lease_wire.specs.declared.acknowledgment.Acknowledgment.{Acknowledgment}
-use Rattle.lease_wire.specs.declared.response.BreakResponse.{BreakResponse}
+use Rattle.lease_wire.specs.declared.acknowledgment.BreakResponse.{BreakResponse}
 
 -- a lease key, and the state that goes with it
 pub record KeyAndState : Type 0 where

@@ -4,8 +4,8 @@ use Rattle.std.specs.Prelude.{◌≡◌, ℕ, ◌+◌, ◌<◌, ◌^◌, ◌++�
 use Rattle.byteorder.specs.Endian.{little_bytes}
 use Rattle.lease_state.specs.State.{bits_of_state}
 use Rattle.lease_wire.specs.Names.{LeaseView, CreateView, lease_name, durable_name, reconnect_name}
-use Rattle.lease_wire.specs.declared.direction.Direction.{Direction}
-use Rattle.lease_wire.specs.declared.direction.Direction.TheVariants.{Request, Reply}
+use Rattle.lease_wire.specs.declared.create.Direction.{Direction}
+use Rattle.lease_wire.specs.declared.create.Direction.TheVariants.{Request, Reply}
 
 -- a header with its name: NameOffset 16, NameLength 4, Reserved 0, DataOffset 24, and four bytes of
 -- padding behind the name

@@ -4,7 +4,7 @@ use Rattle.std.specs.Option.{option_copied}
 use Rattle.lease_wire.specs.Chain.{ContextView}
 use Rattle.lease_wire.specs.Reading.{Item, items_behind}
 use Rattle.lease_wire.specs.declared.chain.Context.{Context}
-use Rattle.lease_wire.specs.declared.chain.Contexts.{Contexts}
+use Rattle.lease_wire.specs.declared.chain.iterator.Contexts.{Contexts}
 use Rattle.lease_wire.specs.declared.fault.WireFault.{WireFault}
 
 abbrev pub view_of : Context → ContextView

@@ -10,7 +10,7 @@ use Rattle.lease_wire.specs.Gathering.{value_of}
 use Rattle.lease_wire.specs.Canonical.{IsWritable, canonical_text}
 use Rattle.lease_wire.specs.declared.create.CreateAsk.{CreateAsk}
 use Rattle.lease_wire.specs.declared.create.CreateAnswer.{CreateAnswer}
-use Rattle.lease_wire.specs.declared.direction.Direction.{Direction}
+use Rattle.lease_wire.specs.declared.create.Direction.{Direction}
 use Rattle.lease_wire.specs.declared.fault.WireFault.{WireFault}
 
 -- a request tells of no break in progress

@@ -3,14 +3,14 @@
 use Rattle.std.specs.Prelude.{◌≡◌, ◌≢◌, ℕ, List, [], ◌∷◌, ◌++◌, length, map, Option, Some, None, Ok, Err, ◌⊎◌}
 use Rattle.std.specs.List.{concat}
 use Rattle.lease_wire.specs.Chain.{ContextView, AreLinked, HoldsContexts}
-use Rattle.lease_wire.specs.Names.{Meaning, CreateView, HaveValue, meaning_of, told, lease_in, durable_in, reconnect_in}
+use Rattle.lease_wire.specs.Names.{Meaning, CreateView, HaveValue, meaning_of, values_of_kind, lease_in, durable_in, reconnect_in}
 use Rattle.lease_wire.specs.Names.Meaning.{Unknown, WrongLength, Lease, Durable, Reconnect}
-use Rattle.lease_wire.specs.Reading.{Item, layout_fault, context_at}
-use Rattle.lease_wire.specs.declared.direction.Direction.{Direction}
+use Rattle.lease_wire.specs.Reading.{Item, items_of, layout_fault, context_at}
+use Rattle.lease_wire.specs.declared.create.Direction.{Direction}
 use Rattle.lease_wire.specs.declared.fault.WireFault.{WireFault}
 use Rattle.lease_wire.specs.declared.fault.WireFault.TheVariants.{BadLength, Twice}
 
--- the fault of a context that is told of something already
+-- the fault of a context whose kind stood in an earlier one
 abbrev pub twice_if : {X : Type 0} → List X → ℕ → Option WireFault
 twice_if [] place = None
 twice_if (x ∷ xs) place = Some (Twice place)
@@ -19,9 +19,9 @@ twice_if (x ∷ xs) place = Some (Twice place)
 abbrev pub meaning_fault : Direction → List ContextView → ℕ → Meaning → Option WireFault
 meaning_fault direction before place Unknown = None
 meaning_fault direction before place WrongLength = Some (BadLength place)
-meaning_fault direction before place (Lease lease) = twice_if (told direction lease_in before) place
-meaning_fault direction before place Durable = twice_if (told direction durable_in before) place
-meaning_fault direction before place (Reconnect file_id) = twice_if (told direction reconnect_in before) place
+meaning_fault direction before place (Lease lease) = twice_if (values_of_kind direction lease_in before) place
+meaning_fault direction before place Durable = twice_if (values_of_kind direction durable_in before) place
+meaning_fault direction before place (Reconnect file_id) = twice_if (values_of_kind direction reconnect_in before) place
 
 -- the earlier of two tests' faults
 abbrev pub option_or : Option WireFault → Option WireFault → Option WireFault
@@ -67,3 +67,7 @@ abbrev pub AreItemsOf : List ℕ → List Item → Type 0
 AreItemsOf text items =
     GivesAll text items
     ⊎ ((fault : WireFault) × (pieces : List (List ℕ)) × (contexts : List ContextView) × (rest : List ℕ) × StopsAt text items fault pieces contexts rest)
+
+-- the function that callers compute with gives the items of every text
+abbrev pub ItemsAreRead : Type 0
+ItemsAreRead = (text : List ℕ) → AreItemsOf text (items_of text)

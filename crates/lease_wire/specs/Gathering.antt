@@ -3,12 +3,12 @@ use Rattle.std.specs.Prelude.{ℕ, Bool, true, false, List, [], ◌∷◌, Optio
 use Rattle.lease_wire.specs.Names.{Meaning, LeaseView, CreateView, meaning_of}
 use Rattle.lease_wire.specs.Names.Meaning.{Unknown, WrongLength, Lease, Durable, Reconnect}
 use Rattle.lease_wire.specs.Reading.{Item, items_of}
-use Rattle.lease_wire.specs.declared.direction.Direction.{Direction}
+use Rattle.lease_wire.specs.declared.create.Direction.{Direction}
 use Rattle.lease_wire.specs.declared.fault.WireFault.{WireFault}
 use Rattle.lease_wire.specs.declared.fault.WireFault.TheVariants.{BadLength, Twice}
 
-abbrev pub nothing_told : CreateView
-nothing_told = record { lease = None; durable = false; reconnect = None }
+abbrev pub no_values : CreateView
+no_values = record { lease = None; durable = false; reconnect = None }
 
 abbrev pub with_lease : CreateView → ℕ → LeaseView → Option LeaseView → Result CreateView WireFault
 with_lease v place lease None = Ok (record v { lease = Some lease })
@@ -44,4 +44,4 @@ gathered direction v (Ok context ∷ items) =
 
 -- what a text's contexts ask for or grant, or its fault
 abbrev pub value_of : Direction → List ℕ → Result CreateView WireFault
-value_of direction text = gathered direction nothing_told (items_of text)
+value_of direction text = gathered direction no_values (items_of text)

@@ -7,6 +7,7 @@ pub mod Names
 pub mod Faults
 pub mod Gathering
 pub mod Contexts
-pub mod Found
+pub mod Views
 pub mod Canonical
 pub mod Create
+pub mod WireFaults

@@ -7,8 +7,8 @@ use Rattle.std.specs.Int.RustNames.{bit_and}
 use Rattle.lease_state.specs.State.{State, state_of_bits}
 use Rattle.lease_wire.specs.Field.{number_at, bytes_at}
 use Rattle.lease_wire.specs.Chain.{ContextView, HoldsContexts}
-use Rattle.lease_wire.specs.declared.direction.Direction.{Direction}
-use Rattle.lease_wire.specs.declared.direction.Direction.TheVariants.{Request, Reply}
+use Rattle.lease_wire.specs.declared.create.Direction.{Direction}
+use Rattle.lease_wire.specs.declared.create.Direction.TheVariants.{Request, Reply}
 
 -- a lease context: its key, its state, and whether a break of the lease is in progress, which only
 -- a response tells
@@ -92,16 +92,16 @@ wrong_length_in WrongLength = Some true
 wrong_length_in _ = None
 
 -- all that contexts say of one kind, in their order
-abbrev pub told : {X : Type 0} → Direction → (Meaning → Option X) → List ContextView → List X
-told direction part contexts = filter_map (λ context. part (meaning_of direction context)) contexts
+abbrev pub values_of_kind : {X : Type 0} → Direction → (Meaning → Option X) → List ContextView → List X
+values_of_kind direction part contexts = filter_map (λ context. part (meaning_of direction context)) contexts
 
 -- The contexts break no rule of names, and their value is this: none that is known has a wrong
 -- length, and each kind stands once or not at all (own).
 pub record HaveValue (direction : Direction) (contexts : List ContextView) (v : CreateView) : Type 0 where
-  pub lengths : told direction wrong_length_in contexts ≡ []
-  pub lease : told direction lease_in contexts ≡ option_to_list v.lease
-  pub durable : told direction durable_in contexts ≡ (if v.durable then true ∷ [] else [])
-  pub reconnect : told direction reconnect_in contexts ≡ option_to_list v.reconnect
+  pub lengths : values_of_kind direction wrong_length_in contexts ≡ []
+  pub lease : values_of_kind direction lease_in contexts ≡ option_to_list v.lease
+  pub durable : values_of_kind direction durable_in contexts ≡ (if v.durable then true ∷ [] else [])
+  pub reconnect : values_of_kind direction reconnect_in contexts ≡ option_to_list v.reconnect
 
 -- the text is laid out as contexts of this value
 abbrev pub HoldsValue : Direction → List ℕ → CreateView → Type 0

@@ -6,7 +6,7 @@ use Rattle.lease_wire.specs.Field.{bytes_at}
 use Rattle.lease_wire.specs.Chain.{ContextView, next_of, name_offset_of, name_length_of, data_offset_of, data_length_of}
 use Rattle.lease_wire.specs.declared.fault.WireFault.{WireFault}
 use Rattle.lease_wire.specs.declared.fault.WireFault.TheVariants.{Short, BadNext, BadName, BadData}
-use Rattle.lease_wire.specs.declared.header.Header.{Header}
+use Rattle.lease_wire.specs.declared.chain.Header.{Header}
 
 -- the fields of the header that the bytes begin with
 abbrev pub header_of : List ℕ → Header

@@ -1,69 +1,163 @@
-ghost use Rattle.std.specs.Prelude.{◌≡◌, ◌+◌, ◌^◌, ◌<◌, ◌≤◌, length, Result};
-ghost use Rattle.std.specs.Option.{ForSome};
-ghost use Rattle.std.specs.Iterator.{YieldsFirstBy, item_count};
+ghost use Rattle.std.specs.Prelude.{[], ◌∷◌, ◌≡◌, ◌≢◌, ◌+◌, ◌^◌, ◌<◌, ◌≤◌, length, IfOk, MatchResult};
+ghost use Rattle.lease_wire.specs.Field.{bytes_at};
+ghost use Rattle.lease_wire.specs.Chain.{next_of};
+ghost use Rattle.lease_wire.specs.Reading.{items_of, items_behind, items_after};
+ghost use Rattle.lease_wire.specs.Contexts.{view_of, items_left};
+ghost use Rattle.lease_wire.specs.Faults.{AreItemsOf};
 
 use crate::fault::WireFault;
-use crate::first::read_context;
+use byteorder::{ByteOrder, LittleEndian};
+
+mod iterator;
+
+pub use iterator::Contexts;
 
 /// A create context where it stands in the text that it was read from.
 #[derive(Clone, Copy, Debug, PartialEq, Eq)]
 pub struct Context<'a> {
     /// Where the context begins, in bytes from the start of the text.
     pub place: usize,
+    /// The context's name, of any length, as `RqLs`.
     pub name: &'a [u8],
     /// The context's data.
     pub body: &'a [u8],
 }
 
-/// The create contexts of a text, in their order, as [`contexts`] reads them.
-#[derive(Clone, Copy, Debug)]
-pub struct Contexts<'a> {
-    place: usize,
-    // The text from `place` on where a context is due there.
-    rest: Option<&'a [u8]>,
-    ghost fits: { ForSome rest (λ bytes. place + length bytes.now < 2 ^ 64) },
+/// The create contexts of a text (MS-SMB2 2.2.13.2, 2.2.14.2), in their order: an iterator that
+/// borrows names and data from the text and takes no memory. A text of no bytes has no context.
+///
+/// # Errors
+///
+/// The iterator gives a fault where the layout breaks (`Short`, `BadNext`, `BadName` or `BadData`),
+/// and ends after its one fault.
+pub fn contexts(bytes: &[u8]) -> Contexts<'_>
+    ensures items { AreItemsOf bytes.now (items_left result) }
+    ensures value { items_left result ≡ items_of bytes.now }
+{
+    Contexts::from_start(bytes)
 }
 
-impl<'a> Contexts<'a> {
-    ghost use Rattle.lease_wire.specs.Reading.{items_of};
-    ghost use Rattle.lease_wire.specs.Contexts.{items_left};
+ghost use Rattle.lease_wire.specs.Faults.{ItemsAreRead};
 
-    /// The contexts of a text from its start on: none of the empty text.
-    pub(crate) fn from_start(bytes: &'a [u8]) -> Contexts<'a>
-        ensures { items_left result ≡ items_of bytes.now }
+/// The law of contexts: the function by which contracts name a text's contexts gives those of its
+/// layout, and the first fault of it, for every text. Does nothing.
+pub fn contexts_laws()
+    ensures { ItemsAreRead }
+{}
+
+/// The fields of a create context's header (MS-SMB2 2.2.13.2), in bytes. Offsets count from the
+/// context's start.
+#[derive(Clone, Copy)]
+pub(crate) struct Header {
+    pub(crate) next: usize,
+    pub(crate) name_offset: usize,
+    pub(crate) name_length: usize,
+    pub(crate) data_offset: usize,
+    pub(crate) data_length: usize,
+}
+
+impl Header {
+    ghost use Rattle.lease_wire.specs.Reading.{header_of, header_fault, size_of, has_bad_next, has_bad_name, has_bad_data, HasFieldsInRange};
+
+    /// The header that the bytes begin with.
+    #[tactic(auto, unfolding(crate::specs::Chain::next_of, crate::specs::Chain::name_offset_of, crate::specs::Chain::name_length_of, crate::specs::Chain::data_offset_of, crate::specs::Chain::data_length_of))]
+    pub(crate) fn read(bytes: &[u8]) -> Header
+        requires { 16 ≤ length bytes.now }
+        ensures fields { result ≡ header_of bytes.now }
+        ensures fit { HasFieldsInRange result }
     {
-        Contexts {
-            place: 0,
-            rest: if bytes.is_empty() { None } else { Some(bytes) },
+        Header {
+            next: LittleEndian::read_u32(bytes) as usize,
+            name_offset: usize::from(LittleEndian::read_u16(&bytes[4..])),
+            name_length: usize::from(LittleEndian::read_u16(&bytes[6..])),
+            data_offset: usize::from(LittleEndian::read_u16(&bytes[10..])),
+            data_length: LittleEndian::read_u32(&bytes[12..]) as usize,
+        }
+    }
+
+    // How long the context is, where so many bytes are left.
+    fn size(&self, left: usize) -> usize
+        ensures { result ≡ size_of left self.now }
+    {
+        if self.next == 0 { left } else { self.next }
+    }
+
+    fn is_next_bad(&self, left: usize) -> bool
+        ensures { result ≡ has_bad_next left self.now }
+    {
+        self.next != 0 && (self.next < 16 || (self.next % 8 != 0 || left < self.next))
+    }
+
+    fn is_name_bad(&self, left: usize) -> bool
+        requires { HasFieldsInRange self.now }
+        ensures { result ≡ has_bad_name left self.now }
+    {
+        self.name_offset < 16 || self.size(left) < self.name_offset + self.name_length
+    }
+
+    fn is_data_bad(&self, left: usize) -> bool
+        requires { HasFieldsInRange self.now }
+        ensures { result ≡ has_bad_data left self.now }
+    {
+        self.data_length != 0
+            && (self.data_offset < 16 || self.size(left) < self.data_offset + self.data_length)
+    }
+
+    /// The first test that the header fails, at a place with so many bytes left of the text.
+    #[tactic(auto, unfolding(crate::specs::Reading::header_fault))]
+    pub(crate) fn fault(&self, place: usize, left: usize) -> Option<WireFault>
+        requires fit { HasFieldsInRange self.now }
+        requires whole { 16 ≤ left }
+        ensures { result ≡ header_fault place left self.now }
+    {
+        if self.is_next_bad(left) {
+            Some(WireFault::BadNext(place))
+        } else if self.is_name_bad(left) {
+            Some(WireFault::BadName(place))
+        } else if self.is_data_bad(left) {
+            Some(WireFault::BadData(place))
+        } else {
+            None
         }
     }
 }
 
-impl<'a> Iterator for Contexts<'a> {
-    type Item = Result<Context<'a>, WireFault>;
-
-    ghost use Rattle.lease_wire.specs.Contexts.{items_left, item_view};
-
-    ghost next_gives = { YieldsFirstBy item_view items_left };
-
-    ghost remaining = { item_count items_left };
-
-    fn next(&mut self) -> Option<Result<Context<'a>, WireFault>> {
-        let bytes = self.rest?;
-        match read_context(self.place, bytes) {
-            Err(fault) => {
-                self.rest = None;
-                Some(Err(fault))
-            }
-            Ok((context, 0)) => {
-                self.rest = None;
-                Some(Ok(context))
-            }
-            Ok((context, next)) => {
-                self.place += next;
-                self.rest = Some(&bytes[next..]);
-                Some(Ok(context))
-            }
-        }
+// The part of the bytes from an offset, so many bytes long; no bytes at all where it has none.
+fn part(bytes: &[u8], offset: usize, count: usize) -> &[u8]
+    requires fits { offset + count < 2 ^ 64 }
+    requires within { count ≢ 0 → offset + count ≤ length bytes.now }
+    ensures { result.now ≡ bytes_at offset count bytes.now }
+{
+    if count == 0 {
+        &[]
+    } else {
+        &bytes[offset..offset + count]
     }
+}
+
+/// The context that the bytes begin with, at a place of the text, and its Next; or the first test
+/// that it fails.
+#[tactic(auto, unfolding(crate::specs::Reading::layout_fault, crate::specs::Reading::context_at))]
+pub(crate) fn read_context<'a>(
+    place: usize,
+    bytes: &'a [u8],
+) -> Result<(Context<'a>, usize), WireFault>
+    ensures items { MatchResult result
+        (λ r. items_behind place 0 bytes.now ≡ Ok (view_of r.0) ∷ items_after place r.1 bytes.now)
+        (λ fault. items_behind place 0 bytes.now ≡ Err fault ∷ []) }
+    ensures next { IfOk result (λ r. r.1 ≤ length bytes.now) }
+{
+    if bytes.len() < 16 {
+        return Err(WireFault::Short(place));
+    }
+    let header = Header::read(bytes);
+    if let Some(fault) = header.fault(place, bytes.len()) {
+        return Err(fault);
+    }
+    let context = Context {
+        place,
+        name: part(bytes, header.name_offset, header.name_length),
+        body: part(bytes, header.data_offset, header.data_length),
+    };
+    Ok((context, header.next))
 }

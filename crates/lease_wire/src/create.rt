@@ -1,5 +1,12 @@
 use lease_state::{FileId, LeaseKey, LeaseState};
 
+mod meaning;
+mod reading;
+mod writing;
+
+pub use reading::{read_create, read_create_reply, reading_laws};
+pub use writing::{canonical_laws, write_create_ask, write_create_reply};
+
 /// What the create contexts of a CREATE request ask for (MS-SMB2 2.2.13.2).
 #[derive(Clone, Copy, Debug, PartialEq, Eq)]
 pub struct CreateAsk {
@@ -19,4 +26,12 @@ pub struct CreateAnswer {
     pub lease: Option<(LeaseKey, LeaseState, bool)>,
     /// `DHnQ`: the open is durable.
     pub durable: bool,
+}
+
+/// Whether create contexts are those of a CREATE request or of its response: contracts of the
+/// readers and writers name it (own).
+#[derive(Clone, Copy, Debug, PartialEq, Eq)]
+pub enum Direction {
+    Request,
+    Reply,
 }

@@ -1,29 +1,86 @@
-use thiserror::Error;
+use std::fmt;
 
 /// Why bytes are refused. Each fault has the place, counted in bytes from 0, where the create
 /// context begins that it was found in; in a break message that is 0. As text a fault is its
 /// number, its name and its place, as `3 BadNext at 56`.
-#[derive(Clone, Copy, Debug, PartialEq, Eq, Error)]
+#[derive(Clone, Copy, Debug, PartialEq, Eq)]
 pub enum WireFault {
     /// There are fewer bytes than the fixed part takes.
-    #[error("1 Short at {0}")]
     Short(usize),
     /// StructureSize is not that of the message.
-    #[error("2 WrongSize at {0}")]
     WrongSize(usize),
     /// Next leads to no further context.
-    #[error("3 BadNext at {0}")]
     BadNext(usize),
     /// The name is not within its context.
-    #[error("4 BadName at {0}")]
     BadName(usize),
     /// The data are not within their context.
-    #[error("5 BadData at {0}")]
     BadData(usize),
     /// The data of a context that is known have another length than its structure.
-    #[error("6 BadLength at {0}")]
     BadLength(usize),
     /// A context that is known has the name of an earlier one (own).
-    #[error("7 Twice at {0}")]
     Twice(usize),
 }
+
+impl WireFault {
+    ghost use Rattle.std.specs.Prelude.{◌≡◌};
+    ghost use Rattle.lease_wire.specs.WireFaults.{fault_number, fault_name, fault_place};
+
+    /// The number of the fault's kind, from 1 to 7.
+    pub fn number(self) -> u8
+        ensures { result ≡ fault_number self }
+    {
+        match self {
+            WireFault::Short(_) => 1,
+            WireFault::WrongSize(_) => 2,
+            WireFault::BadNext(_) => 3,
+            WireFault::BadName(_) => 4,
+            WireFault::BadData(_) => 5,
+            WireFault::BadLength(_) => 6,
+            WireFault::Twice(_) => 7,
+        }
+    }
+
+    /// The name of the fault's kind, as `BadNext`.
+    pub fn name(self) -> &'static str
+        ensures { result.now ≡ fault_name self }
+    {
+        match self {
+            WireFault::Short(_) => "Short",
+            WireFault::WrongSize(_) => "WrongSize",
+            WireFault::BadNext(_) => "BadNext",
+            WireFault::BadName(_) => "BadName",
+            WireFault::BadData(_) => "BadData",
+            WireFault::BadLength(_) => "BadLength",
+            WireFault::Twice(_) => "Twice",
+        }
+    }
+
+    /// Where the context begins that the fault was found in, in bytes.
+    pub fn place(self) -> usize
+        ensures { result ≡ fault_place self }
+    {
+        match self {
+            WireFault::Short(place)
+            | WireFault::WrongSize(place)
+            | WireFault::BadNext(place)
+            | WireFault::BadName(place)
+            | WireFault::BadData(place)
+            | WireFault::BadLength(place)
+            | WireFault::Twice(place) => place,
+        }
+    }
+}
+
+impl fmt::Display for WireFault {
+    ghost use Rattle.std.specs.Prelude.{Some};
+    ghost use Rattle.lease_wire.specs.WireFaults.{fault_text};
+
+    ghost output = { λ fault. Some (fault_text fault) };
+
+    fn fmt<W: fmt::Write>(&self, f: &mut fmt::Formatter<W>) -> fmt::Result {
+        let (number, name, place) = (self.number(), self.name(), self.place());
+        write!(f, "{number} {name} at {place}")
+    }
+}
+
+impl std::error::Error for WireFault {}

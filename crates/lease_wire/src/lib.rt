@@ -1,32 +1,20 @@
-//! Lease break messages of SMB 2.1, read and written.
+//! Lease break messages and create contexts of SMB 2.1, read and written.
 #![tactic(auto)]
 
 mod acknowledgment;
 mod chain;
 mod create;
-mod direction;
 mod fault;
 mod field;
-mod first;
-mod found;
-mod header;
-mod key_and_state;
-mod meaning;
 mod notification;
-mod reading;
-mod response;
 #[cfg(test)]
 mod tests;
-mod walk;
-mod writing;
 
-pub use acknowledgment::{Acknowledgment, acknowledgment_laws};
-pub use chain::{Context, Contexts};
-pub use create::{CreateAnswer, CreateAsk};
-pub use direction::Direction;
+pub use acknowledgment::{Acknowledgment, BreakResponse, acknowledgment_laws};
+pub use chain::{Context, Contexts, contexts, contexts_laws};
+pub use create::{
+    CreateAnswer, CreateAsk, Direction, canonical_laws, read_create, read_create_reply,
+    reading_laws, write_create_ask, write_create_reply,
+};
 pub use fault::WireFault;
 pub use notification::{Notification, notification_laws};
-pub use reading::{read_create, read_create_reply, reading_laws};
-pub use response::BreakResponse;
-pub use walk::contexts;
-pub use writing::{canonical_laws, write_create_ask, write_create_reply};

@@ -1,10 +1,23 @@
-ghost use Rattle.std.specs.Prelude.{◌≡◌, ◌≢◌, ◌<◌, ◌≤◌, ◌↔◌, length, take, drop, IsOk, IfOk, IsErrOf};
-ghost use Rattle.lease_wire.specs.Field.{number_at};
+ghost use Rattle.std.specs.Prelude.{◌≡◌, length, take, drop, IfOk};
+ghost use Rattle.std.specs.Result.{result_err};
+ghost use Rattle.lease_wire.specs.WireFaults.{message_fault};
 
 use crate::fault::WireFault;
 use crate::field::{key_at, state_at};
 use byteorder::{ByteOrder, LittleEndian};
 use lease_state::{LeaseKey, LeaseState};
+
+// Where the fields stand that carry a value.
+const FLAGS_OFFSET: usize = 4;
+
+const KEY_OFFSET: usize = 8;
+
+const CURRENT_STATE_OFFSET: usize = 24;
+
+const NEW_STATE_OFFSET: usize = 28;
+
+// SMB2_NOTIFY_BREAK_LEASE_FLAG_ACK_REQUIRED
+const ACK_REQUIRED: u32 = 1;
 
 /// A lease break notification (MS-SMB2 2.2.23.2), which tells a client that its lease goes down.
 #[derive(Clone, Copy, Debug, PartialEq, Eq)]
@@ -25,45 +38,43 @@ impl Notification {
     pub const SIZE: usize = 44;
 
     /// The message as its 44 bytes. Free fields are 0.
-    pub fn encode(&self) -> [u8; 44]
+    pub fn encode(&self) -> [u8; Notification::SIZE]
         ensures text { result ≡ notification_bytes (notice_of self.now) }
         ensures layout { IsNotification result (notice_of self.now) }
     {
-        let mut message = [0u8; 44];
-        LittleEndian::write_u16(&mut message[0..], 44);
-        LittleEndian::write_u32(&mut message[4..], u32::from(self.ack_required));
-        LittleEndian::write_u32(&mut message[24..], self.current.to_wire());
-        LittleEndian::write_u32(&mut message[28..], self.new.to_wire());
-        message[8..24].copy_from_slice(&self.key.0);
+        let mut message = [0u8; Notification::SIZE];
+        LittleEndian::write_u16(&mut message[0..], Notification::SIZE as u16);
+        LittleEndian::write_u32(&mut message[FLAGS_OFFSET..], u32::from(self.ack_required));
+        LittleEndian::write_u32(&mut message[CURRENT_STATE_OFFSET..], self.current.to_wire());
+        LittleEndian::write_u32(&mut message[NEW_STATE_OFFSET..], self.new.to_wire());
+        message[KEY_OFFSET..KEY_OFFSET + 16].copy_from_slice(&self.key.0);
         message
     }
 
-    /// Reads a notification from the front of `bytes`: the value, and the bytes after its 44.
+    /// Reads a notification from the front of `bytes`: the value, and the bytes after its 44. Other
+    /// fields that carry no value of the message, and state bits past 7, are passed over.
     ///
-    /// Refused as `Short` where there are fewer bytes, else as `WrongSize` where StructureSize is
-    /// not 44. Other fields that carry no value of the message, and state bits past 7, are passed
-    /// over.
+    /// # Errors
+    ///
+    /// `Short` where there are fewer bytes, else `WrongSize` where StructureSize is not 44.
     pub fn decode(bytes: &[u8]) -> Result<(Notification, &[u8]), WireFault>
-        ensures short { IsErrOf result (WireFault.Short 0) ↔ (length bytes.now < 44) }
-        ensures wrong_size { IsErrOf result (WireFault.WrongSize 0)
-            ↔ ((44 ≤ length bytes.now) × (number_at 0 2 bytes.now ≢ 44)) }
-        ensures read { IsOk result ↔ ((44 ≤ length bytes.now) × (number_at 0 2 bytes.now ≡ 44)) }
+        ensures refused { result_err result ≡ message_fault 44 bytes.now }
         ensures value { IfOk result (λ r. IsNotification (take 44 bytes.now) (notice_of r.0)) }
         ensures rest { IfOk result (λ r. r.1.now ≡ drop 44 bytes.now) }
     {
-        if bytes.len() < 44 {
+        if bytes.len() < Notification::SIZE {
             return Err(WireFault::Short(0));
         }
-        let (message, rest) = bytes.split_at(44);
-        if LittleEndian::read_u16(message) != 44 {
+        let (message, rest) = bytes.split_at(Notification::SIZE);
+        if usize::from(LittleEndian::read_u16(message)) != Notification::SIZE {
             return Err(WireFault::WrongSize(0));
         }
-        let flags = LittleEndian::read_u32(&message[4..]);
+        let flags = LittleEndian::read_u32(&message[FLAGS_OFFSET..]);
         let notification = Notification {
-            ack_required: flags & 1 == 1,
-            key: key_at(message, 8),
-            current: state_at(message, 24),
-            new: state_at(message, 28),
+            ack_required: flags & ACK_REQUIRED == ACK_REQUIRED,
+            key: key_at(message, KEY_OFFSET),
+            current: state_at(message, CURRENT_STATE_OFFSET),
+            new: state_at(message, NEW_STATE_OFFSET),
         };
         Ok((notification, rest))
     }

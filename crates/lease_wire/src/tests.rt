@@ -1,7 +1,6 @@
 use crate::{
-    Acknowledgment, BreakResponse, CreateAnswer, CreateAsk, Direction, Notification, WireFault,
-    acknowledgment_laws, canonical_laws, contexts, notification_laws, read_create,
-    read_create_reply, reading_laws, write_create_ask, write_create_reply,
+    Acknowledgment, BreakResponse, Context, CreateAnswer, CreateAsk, Notification, WireFault,
+    contexts, read_create, read_create_reply, write_create_ask, write_create_reply,
 };
 use lease_state::{FileId, LeaseKey, LeaseState};
 use std::test::Fail;
@@ -71,22 +70,30 @@ fn writes_a_response(rt: HostRuntime) -> Result<(), Fail> {
 }
 
 #[test]
-fn borrows_the_parts_of_contexts(rt: HostRuntime) {
-    let wanted = [(0, b"RqLs", 32), (56, b"DHnQ", 16)];
-    for (item, (place, name, length)) in contexts(ASK.as_slice()).zip(wanted.iter().copied()) {
-        let Ok(context) = item else {
-            assert!(&rt; false, "no context at {place}");
-            return;
-        };
-        assert_eq!(&rt; context.place, place);
-        assert!(&rt; context.name == name.as_slice());
-        assert_eq!(&rt; context.body.len(), length);
+fn borrows_the_parts_of_contexts(rt: HostRuntime) -> Result<(), Fail> {
+    let mut all: Vec<Context> = Vec::new(rt.alloc());
+    for item in contexts(ASK.as_slice()) {
+        all.push(item?)?;
     }
+    let lease = Context {
+        place: 0,
+        name: b"RqLs",
+        body: &ASK[24..56],
+    };
+    let durable = Context {
+        place: 56,
+        name: b"DHnQ",
+        body: &ASK[80..],
+    };
+    assert_eq!(&rt; all.as_slice(), [lease, durable].as_slice());
+    assert_eq!(&rt; contexts(b"").next(), None);
     let mut cut = contexts(&ASK[..60]);
-    assert!(&rt; cut.next().is_some_and(|item| item.is_ok()));
+    assert_eq!(&rt; cut.size_hint(), (0, Some(4)));
+    assert_eq!(&rt; cut.next(), Some(Ok(lease)));
     assert_eq!(&rt; cut.next(), Some(Err(WireFault::Short(56))));
+    assert_eq!(&rt; (cut.next(), cut.size_hint()), (None, (0, Some(0))));
     assert_eq!(&rt; cut.next(), None);
-    assert_eq!(&rt; cut.next(), None);
+    Ok(())
 }
 
 #[test]
@@ -109,10 +116,78 @@ fn writes_break_messages(rt: HostRuntime) {
 }
 
 #[test]
-fn states_laws(rt: HostRuntime) {
-    notification_laws();
-    acknowledgment_laws();
-    reading_laws();
-    canonical_laws();
-    assert!(&rt; Direction::Request != Direction::Reply);
+fn writes_a_request_for_a_lease(rt: HostRuntime) -> Result<(), Fail> {
+    let ask = CreateAsk {
+        lease: Some((KEY, LeaseState::from_wire(7))),
+        durable: false,
+        reconnect: None,
+    };
+    let mut out = Vec::new(rt.alloc());
+    write_create_ask(&ask, &mut out)?;
+    let text = b"\0\0\0\0\x10\0\x04\0\0\0\x18\0\x20\0\0\0RqLs\0\0\0\0\
+\0\x01\x02\x03\x04\x05\x06\x07\x08\x09\x0a\x0b\x0c\x0d\x0e\x0f\x07\0\0\0\0\0\0\0\0\0\0\0\0\0\0\0";
+    assert_eq!(&rt; out.as_slice(), text.as_slice());
+    Ok(())
+}
+
+#[test]
+fn reads_back_each_kind_of_request(rt: HostRuntime) -> Result<(), Fail> {
+    let mut out = Vec::new(rt.alloc());
+    for kinds in 0..8u8 {
+        let (leased, durable, reconnects) = (kinds & 1 == 1, kinds & 2 == 2, kinds & 4 == 4);
+        let ask = CreateAsk {
+            lease: leased.then_some((KEY, LeaseState::from_wire(5))),
+            durable,
+            reconnect: reconnects.then_some(FileId(258)),
+        };
+        out.clear();
+        write_create_ask(&ask, &mut out)?;
+        let length = 56 * usize::from(leased)
+            + 40 * usize::from(durable)
+            + 40 * usize::from(reconnects);
+        assert_eq!(&rt; out.len(), length, "of {ask:?}");
+        assert_eq!(&rt; read_create(out.as_slice()), Ok(ask));
+    }
+    Ok(())
+}
+
+#[test]
+fn reads_back_each_kind_of_response(rt: HostRuntime) -> Result<(), Fail> {
+    let mut out = Vec::new(rt.alloc());
+    for kinds in 0..4u8 {
+        let (leased, durable) = (kinds & 1 == 1, kinds & 2 == 2);
+        let answer = CreateAnswer {
+            lease: leased.then_some((KEY, LeaseState::from_wire(1), false)),
+            durable,
+        };
+        out.clear();
+        write_create_reply(&answer, &mut out)?;
+        let length = 56 * usize::from(leased) + 32 * usize::from(durable);
+        assert_eq!(&rt; out.len(), length, "of {answer:?}");
+        assert_eq!(&rt; read_create_reply(out.as_slice()), Ok(answer));
+    }
+    Ok(())
+}
+
+#[test]
+fn faults_tell_number_name_and_place(rt: HostRuntime) -> Result<(), Fail> {
+    let faults = [
+        (WireFault::Short(0), "1 Short at 0"),
+        (WireFault::WrongSize(0), "2 WrongSize at 0"),
+        (WireFault::BadNext(56), "3 BadNext at 56"),
+        (WireFault::BadName(8), "4 BadName at 8"),
+        (WireFault::BadData(80), "5 BadData at 80"),
+        (WireFault::BadLength(40), "6 BadLength at 40"),
+        (WireFault::Twice(112), "7 Twice at 112"),
+    ];
+    for (fault, text) in faults {
+        let told = format!(in rt.alloc(); "{fault}")?;
+        assert_eq!(&rt; told.as_str(), text);
+    }
+    let fault = WireFault::BadNext(56);
+    assert_eq!(&rt;
+        (fault.number(), fault.name(), fault.place()),
+        (3, "BadNext", 56)
+    );
+    Ok(())
 }

@@ -1,0 +1,97 @@
+ghost use Rattle.std.specs.Prelude.{◌≡◌, ◌≢◌, length};
+ghost use Rattle.lease_wire.specs.Contexts.{view_of};
+ghost use Rattle.lease_wire.specs.Names as names;
+ghost use Rattle.lease_wire.specs.Names.{lease_view};
+
+use crate::chain::Context;
+use crate::create::Direction;
+use crate::field::{key_at, state_at};
+use byteorder::{ByteOrder, LittleEndian};
+use lease_state::{FileId, LeaseKey, LeaseState};
+
+/// A lease context's value.
+#[derive(Clone, Copy)]
+pub(crate) struct Lease {
+    pub(crate) key: LeaseKey,
+    pub(crate) state: LeaseState,
+    /// SMB2_LEASE_FLAG_BREAK_IN_PROGRESS, which only a response tells.
+    pub(crate) breaking: bool,
+}
+
+/// What a context means by its name and its length.
+#[derive(Clone, Copy)]
+pub(crate) enum Meaning {
+    /// It is passed over.
+    Unknown,
+    /// Its name is known, and its data have another length than their structure.
+    WrongLength,
+    Lease(Lease),
+    Durable,
+    Reconnect(FileId),
+}
+
+ghost use Rattle.lease_wire.specs.Views.{lease_of, meaning_view};
+
+fn read_lease(direction: Direction, body: &[u8]) -> Lease
+    requires { length body.now ≡ 32 }
+    ensures { lease_of result ≡ lease_view direction body.now }
+{
+    let flags = LittleEndian::read_u32(&body[20..]);
+    Lease {
+        key: key_at(body, 0),
+        state: state_at(body, 16),
+        breaking: match direction {
+            Direction::Request => false,
+            Direction::Reply => flags & 2 == 2,
+        },
+    }
+}
+
+fn durable_meaning(direction: Direction, body: &[u8]) -> Meaning
+    ensures { meaning_view result ≡ names.durable_meaning direction body.now }
+{
+    let size = match direction {
+        Direction::Request => 16,
+        Direction::Reply => 8,
+    };
+    if body.len() == size {
+        Meaning::Durable
+    } else {
+        Meaning::WrongLength
+    }
+}
+
+fn reconnect_meaning(direction: Direction, body: &[u8]) -> Meaning
+    ensures { meaning_view result ≡ names.reconnect_meaning direction body.now }
+{
+    match direction {
+        Direction::Reply => Meaning::Unknown,
+        Direction::Request if body.len() == 16 => {
+            Meaning::Reconnect(FileId(LittleEndian::read_u64(body)))
+        }
+        Direction::Request => Meaning::WrongLength,
+    }
+}
+
+fn lease_meaning(direction: Direction, body: &[u8]) -> Meaning
+    ensures { meaning_view result ≡ names.lease_meaning direction body.now }
+{
+    if body.len() == 32 {
+        Meaning::Lease(read_lease(direction, body))
+    } else {
+        Meaning::Unknown
+    }
+}
+
+/// What the context means in a request or a response.
+#[tactic(auto, unfolding(crate::specs::Names::meaning_of))]
+pub(crate) fn meaning_of(direction: Direction, context: &Context) -> Meaning
+    ensures { meaning_view result ≡ names.meaning_of direction (view_of context.now) }
+{
+    match context.name {
+        [b'R', b'q', b'L', b's'] => lease_meaning(direction, context.body),
+        [b'D', b'H', b'n', b'Q'] => durable_meaning(direction, context.body),
+        [b'D', b'H', b'n', b'C'] => reconnect_meaning(direction, context.body),
+        _ => Meaning::Unknown,
+    }
+}
