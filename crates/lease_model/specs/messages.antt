@@ -1,3 +1,4 @@
 pub mod FromBytes
 pub mod Replies
 pub mod Requests
+pub mod ToBytes
