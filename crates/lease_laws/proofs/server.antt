@@ -27,7 +27,9 @@ pub mod Passes
 pub mod Progress
 pub mod Ready
 pub mod Rounds
+pub mod SmallSteps
 pub mod States
+pub mod StepCalls
 pub mod Steps
 pub mod Tries
 pub mod WaitCalls

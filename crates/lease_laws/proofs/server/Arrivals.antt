@@ -274,7 +274,7 @@ unfolding refused
 refused-fine client request status progress f = f
 
 -- a request on a file keeps the laws and the order
-arrived_on-fine : (client : ℕ) (request : FileRequest) (progress : Progress) (asked : Result ℕ Status)
+pub arrived_on-fine : (client : ℕ) (request : FileRequest) (progress : Progress) (asked : Result ℕ Status)
     → IsFine progress.server
     → ((file : ℕ) → asked ≡ Ok file → IsHeldWell progress.server file (held_of client request))
     → IsFine (arrived_on client request progress asked).server
@@ -308,7 +308,7 @@ arrived_on-waits client request progress (Ok file) e alone well =
     (any_try client request progress e.fine.sound))
 
 -- a request that comes may be held on its file
-asked_well : (client : ℕ) (request : FileRequest) (progress : Progress) → IsFine progress.server
+pub asked_well : (client : ℕ) (request : FileRequest) (progress : Progress) → IsFine progress.server
     → progress.server.present client ≡ true
     → (file : ℕ) → file_asked progress.server client request ≡ Ok file
     → IsHeldWell progress.server file (held_of client request)
@@ -332,7 +332,7 @@ judged-held key state (Some lowered) progress = if_cases (SameHeld progress) (is
     (λ e. ended-held key state progress) (λ e. refl)
 
 -- an acknowledgment leaves the held requests as they are
-acknowledged-held : (client : ℕ) (given : Option LeaseOf) (progress : Progress)
+pub acknowledged-held : (client : ℕ) (given : Option LeaseOf) (progress : Progress)
     → SameHeld progress (acknowledged client given progress)
 unfolding acknowledged
 acknowledged-held client None progress = refl

@@ -13,7 +13,8 @@ use Rattle.lease_model.specs.server.Wants.{Want}
 use Rattle.lease_laws.proofs.server.Keys.{put_key-cases}
 use Rattle.lease_laws.proofs.server.Lists.{if_cases, clash, and_both, and_parts, not_parts, not_true, not_false, among_filter, any_has, has_any, true_or, or_of_true, or_true}
 use Rattle.lease_laws.proofs.server.Progress.{MayBreak, opens_dropped-sound, lease_lowered-sound, break_begun-sound}
-use Rattle.lease_laws.proofs.server.States.{IsLowered, write_of_part, handle_of_part}
+use Rattle.lease_laws.specs.server.SmallSteps.{IsLowered}
+use Rattle.lease_laws.proofs.server.States.{write_of_part, handle_of_part}
 use Rattle.lease_laws.proofs.server.Wants.{Fits, AllFit}
 
 -- While wants are met, a lease that is there and not breaking is what it was, or needed no

@@ -22,7 +22,7 @@ use Rattle.lease_model.specs.server.Naming.{key_of, own_key}
 use Rattle.lease_laws.proofs.server.Keys.{is_key-refl, is_key-one}
 use Rattle.lease_laws.proofs.server.Leases.{MayBecome, MayOpen, put_sound, open_sound}
 use Rattle.lease_laws.proofs.server.Lists.{if_cases, either, clash, and_both, not_true, not_false, none_has, has_any, among_append, among_behind}
-use Rattle.lease_laws.proofs.server.Ready.{IsFree}
+use Rattle.lease_laws.specs.server.SmallSteps.{IsFree}
 use Rattle.lease_laws.proofs.server.States.{settled-lawful, granted_form_of-again, without_write-form, handle_of_part}
 
 -- what is allowed is a granted form

@@ -150,12 +150,12 @@ all_wants-given server one ready key other a f strange k =
     (λ none. inl (state_none (server.leases key).state none))
 
 -- a finding whose wants are all breaking to nothing
-abbrev AloneWhenReady : Server → Open → Finding → Type 0
+abbrev pub AloneWhenReady : Server → Open → Finding → Type 0
 AloneWhenReady server one (Finding.Fails status) = Unit {0}
 AloneWhenReady server one (Finding.Needs wants) = AllBreakToNone server wants → CachesAlone server one
 
 -- a write that finds such is alone
-write_finding-alone : (server : Server) (one : Open) (patch : Patch)
+pub write_finding-alone : (server : Server) (one : Open) (patch : Patch)
     → AloneWhenReady server one (write_finding server one patch)
 unfolding write_finding
 write_finding-alone server one patch =
@@ -165,13 +165,13 @@ write_finding-alone server one patch =
     (λ e. tt)
 
 -- so it is by what is found
-found_alone : (server : Server) (one : Open) (found : Finding) (wants : List Want)
+pub found_alone : (server : Server) (one : Open) (found : Finding) (wants : List Want)
     → AloneWhenReady server one found
     → found ≡ Finding.Needs wants → AllBreakToNone server wants → CachesAlone server one
 found_alone server one found wants alone e none = (subst (AloneWhenReady server one) e alone) none
 
 -- a write is ready only where all that it wants is breaking to nothing
-write_ready-given : (file_id number : ℕ) (patch : Patch) (server : Server) (wants : List Want)
+pub write_ready-given : (file_id number : ℕ) (patch : Patch) (server : Server) (wants : List Want)
     → is_ready (FileRequest.Write file_id number patch) server.leases wants ≡ true → AllBreakToNone server wants
 unfolding is_ready
 write_ready-given file_id number patch server wants e = e

@@ -207,7 +207,7 @@ after_try-waits start file count one waiting pass progress Outcome.Ready p t = a
     (record { progress = progress; outcome = Outcome.Ready }) p t
 
 -- a held request tried again leaves each first held request waiting
-tried_again-waits : (start : Progress) (file count : ℕ) (one : Held) (waiting : List Held) (pass : Pass)
+pub tried_again-waits : (start : Progress) (file count : ℕ) (one : Held) (waiting : List Held) (pass : Pass)
     → PassWaits start file count (one ∷ waiting) pass
     → PassWaits start file count waiting (tried_again file one waiting pass)
 unfolding tried_again
@@ -244,27 +244,33 @@ pub record FileWaits (start : Progress) (file : ℕ) (after : Progress) : Type 0
 below_one : (file n : ℕ) → file ≤ suc n → file ≢ suc n → file ≤ n
 below_one file n high away = omega (arith, high, away)
 
+-- a pass begins
+pub pass_begun : (file : ℕ) (progress : Progress) → IsFine progress.server
+    → PassWaits progress file (length (progress.server.held file)) (progress.server.held file)
+    (record { passed = []; progress = progress; has_answered = false })
+pass_begun file progress f = record {
+  fine = f;
+  files = refl;
+  in_pass = record {
+    is_held = refl;
+    is_counted = all_counted (progress.server.held file);
+    is_fewer =
+        λ never. absurd (true≢false (sym never));
+  };
+  kept_wait = λ e client one never. absurd (cc);
+  others = λ other away all. all;
+}
+
 -- a pass over a file leaves each first held request waiting
-one_pass-waits : (file : ℕ) (progress : Progress) → IsFine progress.server
+pub one_pass-waits : (file : ℕ) (progress : Progress) → IsFine progress.server
     → PassWaits progress file (length (progress.server.held file)) [] (one_pass file progress)
 one_pass-waits file progress f = pass_over-waits progress file (length (progress.server.held file))
     (progress.server.held file)
     (record { passed = []; progress = progress; has_answered = false })
-    (record {
-      fine = f;
-      files = refl;
-      in_pass = record {
-        is_held = refl;
-        is_counted = all_counted (progress.server.held file);
-        is_fewer =
-            λ never. absurd (true≢false (sym never));
-      };
-      kept_wait = λ e client one never. absurd (cc);
-      others = λ other away all. all;
-    })
+    (pass_begun file progress f)
 
 -- passes over a file leaves each first held request waiting
-passes_for-waits : (count file : ℕ) (progress : Progress) → length (progress.server.held file) < count
+pub passes_for-waits : (count file : ℕ) (progress : Progress) → length (progress.server.held file) < count
     → IsFine progress.server
     → FileWaits progress file (passes_for count file progress)
 unfolding passes_for

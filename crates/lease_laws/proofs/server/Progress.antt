@@ -8,7 +8,8 @@ use Rattle.lease_laws.specs.server.Laws.{Among, IsSound}
 use Rattle.lease_model.specs.server.State.{Server, Open, Held, has_key, has_lease}
 use Rattle.lease_laws.proofs.server.Leases.{put_sound}
 use Rattle.lease_laws.proofs.server.Lists.{clash}
-use Rattle.lease_laws.proofs.server.States.{IsLowered, settled-lawful, breaking-lawful}
+use Rattle.lease_laws.specs.server.SmallSteps.{IsLowered}
+use Rattle.lease_laws.proofs.server.States.{settled-lawful, breaking-lawful}
 use Rattle.lease_laws.proofs.server.Steps.{drop_sound}
 
 -- to drop opens keeps the laws

@@ -16,6 +16,7 @@ use Rattle.lease_model.specs.server.Progress.{Progress}
 use Rattle.lease_model.specs.server.Ready.{is_ready}
 use Rattle.lease_model.specs.messages.Requests.{FileRequest, CreateAsk, LeaseOf}
 use Rattle.lease_laws.specs.server.Laws.{Among}
+use Rattle.lease_laws.specs.server.SmallSteps.{IsFree}
 use Rattle.lease_model.specs.server.State.{Server, Open, Lease, has_key, has_own_key, has_file}
 use Rattle.lease_model.specs.server.Wants.{Want, handle_wants, write_wants}
 use Rattle.lease_model.specs.server.Findings.{Finding, finding, create_finding, asked_finding, is_leased_elsewhere}
@@ -24,14 +25,6 @@ use Rattle.lease_laws.proofs.server.Keys.{lease_by-key}
 use Rattle.lease_laws.proofs.server.Lists.{if_cases, clash, and_both, not_true, not_false, none_has}
 use Rattle.lease_laws.proofs.server.Tries.{IsFoundReady}
 use Rattle.lease_laws.proofs.server.Wants.{wants_where-none}
-
--- The key is at home on the file, no open there conflicts, and no other key there holds W.
-pub record IsFree (opens : List Open) (leases : Key → Lease) (own : Option Key) (file : ℕ) (access : Access)
-    (share : Share) : Type 0 where
-  pub at_home : (one : Open) → Among one opens → has_own_key own one ≡ true → one.file ≡ file
-  pub peaceful : (one : Open) → Among one opens → one.file ≡ file → conflict access share one.access one.share ≡ false
-  pub unwritten : (key : Key) (one : Open) → Among one opens → one.file ≡ file → has_own_key own one ≡ false
-      → has_key key one ≡ true → (leases key).state.write ≡ false
 
 -- files that are one are equal
 same_file : (one : Open) (file : ℕ) → one.file ≡ file → (one.file == file) ≡ true
@@ -139,7 +132,7 @@ asked_free server client file access share lease None wants e none =
 asked_free server client file access share lease (Some file_id) wants e none = tt
 
 -- what a create needs, by its contexts
-contexts_free : (server : Server) (client file : ℕ) (access : Access) (share : Share)
+pub contexts_free : (server : Server) (client file : ℕ) (access : Access) (share : Share)
     (contexts : Option CreateAsk) (wants : List Want)
     → finding server client (FileRequest.Create file access share contexts) ≡ Finding.Needs wants
     → is_empty wants ≡ true
@@ -155,7 +148,7 @@ contexts_free server client file access share (Some ask) wants e none =
     (λ t same. absurd (cc)) e
 
 -- a create is ready only where it wants nothing
-create_ready-empty : (file : ℕ) (access : Access) (share : Share) (contexts : Option CreateAsk)
+pub create_ready-empty : (file : ℕ) (access : Access) (share : Share) (contexts : Option CreateAsk)
     (leases : Key → Lease) (wants : List Want)
     → is_ready (FileRequest.Create file access share contexts) leases wants ≡ true → is_empty wants ≡ true
 unfolding is_ready

@@ -2,17 +2,11 @@
 use Rattle.std.proofs.Common.{◌≡◌, refl, sym, ap, subst, Bool, true, false, true≢false, arith}
 use Rattle.std.specs.Prelude.{◌||◌, Some, None}
 use Rattle.lease_state.specs.State.{State, granted_form_of, nothing_cached, needs_acknowledgment}
-use Rattle.lease_model.specs.values.LeaseStates.{is_within, same_state, without_write, without_handle}
+use Rattle.lease_laws.specs.server.SmallSteps.{IsLowered}
+use Rattle.lease_model.specs.values.LeaseStates.{holds_any, is_within, same_state, without_write, without_handle}
 use Rattle.lease_laws.specs.server.Laws.{IsBrokenTo, IsLawful}
 use Rattle.lease_model.specs.server.State.{no_lease}
 use Rattle.lease_laws.proofs.server.Lists.{if_cases}
-
--- A state that a lease may be lowered to: a granted form, a part of the lease's state, and less than
--- it where the lease holds more than reads.
-pub record IsLowered (state : State) (lowered : State) : Type 0 where
-  pub is_part : is_within lowered state ≡ true
-  pub is_granted_form : granted_form_of lowered ≡ lowered
-  pub is_less : needs_acknowledgment state ≡ true → same_state lowered state ≡ false
 
 -- a state by its letters
 abbrev pub rights : Bool → Bool → Bool → State
@@ -73,10 +67,14 @@ less_without_handle false true true e = refl
 less_without_handle false false true e = refl
 less_without_handle r w false e = absurd (true≢false (sym e))
 
--- nothing is less than what needs an acknowledgment
-less_nothing : (r w h : Bool) → (w || h) ≡ true → same_state nothing_cached (rights r w h) ≡ false
-less_nothing true w h e = refl
-less_nothing false true h e = refl
+-- nothing is less than what holds something
+less_nothing : (r w h : Bool) → (r || w || h) ≡ true → same_state nothing_cached (rights r w h) ≡ false
+less_nothing true true true e = refl
+less_nothing true true false e = refl
+less_nothing true false true e = refl
+less_nothing true false false e = refl
+less_nothing false true true e = refl
+less_nothing false true false e = refl
 less_nothing false false true e = refl
 less_nothing false false false e = absurd (true≢false (sym e))
 
@@ -86,7 +84,7 @@ pub without_write-lowered : (state : State) → granted_form_of state ≡ state 
 without_write-lowered state form holds = record {
   is_part = part_without_write state.read state.write state.handle;
   is_granted_form = without_write-form state form;
-  is_less = λ e. less_without_write state.read state.write state.handle holds;
+  is_less = less_without_write state.read state.write state.handle holds;
 }
 
 -- H taken away
@@ -95,15 +93,15 @@ pub without_handle-lowered : (state : State) → granted_form_of state ≡ state
 without_handle-lowered state form holds = record {
   is_part = part_without_handle state.read state.write state.handle;
   is_granted_form = without_handle-form state form;
-  is_less = λ e. less_without_handle state.read state.write state.handle holds;
+  is_less = less_without_handle state.read state.write state.handle holds;
 }
 
 -- all taken away
-pub nothing-lowered : (state : State) → IsLowered state nothing_cached
-nothing-lowered state = record {
+pub nothing-lowered : (state : State) → holds_any state ≡ true → IsLowered state nothing_cached
+nothing-lowered state holds = record {
   is_part = refl;
   is_granted_form = refl;
-  is_less = λ e. less_nothing state.read state.write state.handle e;
+  is_less = less_nothing state.read state.write state.handle holds;
 }
 
 -- a part that holds W, by its letters
@@ -159,7 +157,7 @@ breaking-lawful state lowered form needs low = record {
   is_granted_form = form;
   is_broken_so = λ other e. subst (λ s. IsBrokenTo state s) (some_same lowered other e) (record {
     is_part = low.is_part;
-    is_less = low.is_less needs;
+    is_less = low.is_less;
     is_granted_form = low.is_granted_form;
     is_acknowledged = needs;
   });

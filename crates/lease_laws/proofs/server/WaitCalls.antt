@@ -82,7 +82,7 @@ join-waits server client e = everyone_cases (server.present client) (begun serve
     (joined-kept client (begun server)) (joined-held client (begun server)))
 
 -- to drop opens keeps the laws and the order
-dropped-fine : (test : Open → Bool) (progress : Progress) → IsFine progress.server
+pub dropped-fine : (test : Open → Bool) (progress : Progress) → IsFine progress.server
     → IsFine (opens_dropped test progress).server
 dropped-fine test progress f = fine_goes progress (opens_dropped test progress) f
     (opens_dropped-sound test progress f.sound) (dropped-goes test progress) (dropped_held test progress)
@@ -103,17 +103,23 @@ expired-held : (key : Key) (progress : Progress) → SameHeld progress (key_expi
 unfolding key_expired
 expired-held key progress = refl
 
--- a timer that runs out leaves each first held request waiting
+-- a timer that runs out keeps the laws and the order
+pub expired-fine : (server : Server) (key : Key) → IsFine server
+    → IsFine (key_expired key (opens_dropped (has_key key) (begun server))).server
+expired-fine server key fine =
+    let dropped = opens_dropped (has_key key) (begun server) in
+    let f = dropped-fine (has_key key) (begun server) fine in
+    fine_goes dropped (key_expired key dropped) f
+    (key_expired-sound key dropped f.sound (dropped_lease key (begun server)))
+    (expired-goes key dropped) (expired-held key dropped)
+
+-- and leaves each first held request waiting
 expire-waits : (server : Server) (key : Key) → EveryoneWaits server → EveryoneWaits (expire server key).server
 unfolding expire
 expire-waits server key e =
-    let dropped = opens_dropped (has_key key) (begun server) in
-    let f = dropped-fine (has_key key) (begun server) e.fine in
-    everyone_cases (is_breaking (server.leases key)) (all_passes (key_expired key dropped)) (begun server)
-    (λ t. all_passes-wait (key_expired key dropped)
-    (fine_goes dropped (key_expired key dropped) f
-    (key_expired-sound key dropped f.sound (dropped_lease key (begun server)))
-    (expired-goes key dropped) (expired-held key dropped)))
+    let start = key_expired key (opens_dropped (has_key key) (begun server)) in
+    everyone_cases (is_breaking (server.leases key)) (all_passes start) (begun server)
+    (λ t. all_passes-wait start (expired-fine server key e.fine))
     (λ t. e)
 
 -- a scavenge leaves each first held request waiting
@@ -215,21 +221,29 @@ cut_orderly client progress o =
           (o.held_about file one (left file one a).0);
     }
 
--- a cut leaves each first held request waiting
-cut-waits : (server : Server) (client : ℕ) → EveryoneWaits server → EveryoneWaits (cut server client).server
-unfolding cut
-cut-waits server client e =
+-- a cut keeps the laws and the order
+pub cut-fine : (server : Server) (client : ℕ) → IsFine server
+    → IsFine (client_forgotten client (opens_disconnected client
+    (opens_dropped (is_lost server client) (begun server)))).server
+cut-fine server client fine =
     let dropped = opens_dropped (is_lost server client) (begun server) in
-    let f = dropped-fine (is_lost server client) (begun server) e.fine in
-    everyone_cases (server.present client)
-    (all_passes (client_forgotten client (opens_disconnected client dropped))) (begun server)
-    (λ t. all_passes-wait (client_forgotten client (opens_disconnected client dropped)) (record {
+    let f = dropped-fine (is_lost server client) (begun server) fine in
+    record {
       sound = client_forgotten-sound client (opens_disconnected client dropped)
           (opens_disconnected-sound client dropped f.sound
           (λ one a c. lasting_left (is_lost server client) (begun server) one a
-          (left_lasting client server one e.fine.sound a c)));
+          (left_lasting client server one fine.sound a c)));
       orderly = cut_orderly client dropped f.orderly;
-    }))
+    }
+
+-- and leaves each first held request waiting
+cut-waits : (server : Server) (client : ℕ) → EveryoneWaits server → EveryoneWaits (cut server client).server
+unfolding cut
+cut-waits server client e =
+    let start = client_forgotten client (opens_disconnected client
+    (opens_dropped (is_lost server client) (begun server))) in
+    everyone_cases (server.present client) (all_passes start) (begun server)
+    (λ t. all_passes-wait start (cut-fine server client e.fine))
     (λ t. e)
 
 -- every call

@@ -22,7 +22,8 @@ use Rattle.lease_model.specs.server.KeyOrder.{key_added, open_key_added, keys_of
 use Rattle.lease_model.specs.server.Naming.{key_of, lease_of, own_key, key_of_open}
 use Rattle.lease_laws.proofs.server.Keys.{is_key-refl, lease_by-key}
 use Rattle.lease_laws.proofs.server.Lists.{if_cases, clash, and_parts, not_true, among_filter, among_filtered, among_map}
-use Rattle.lease_laws.proofs.server.States.{IsLowered, without_write-lowered, without_handle-lowered, nothing-lowered}
+use Rattle.lease_laws.specs.server.SmallSteps.{IsLowered}
+use Rattle.lease_laws.proofs.server.States.{without_write-lowered, without_handle-lowered, nothing-lowered}
 
 -- a key among the keys with one more is that one, or was among them
 key_added-has : (key new : Key) (keys : List Key) → Among key (key_added new keys) → (key ≡ new)
@@ -183,7 +184,7 @@ all_wants-fit server own file s = wants_where-fit server
     (λ one t form. let holds = (and_parts (is_other_on own file one) (holds_any (lease_of server one).state)
     t).1 in (
       (λ e. clash (holds_any (lease_of server one).state) holds (ap (λ l. holds_any l.state) e)),
-      nothing-lowered (lease_of server one).state,
+      nothing-lowered (lease_of server one).state holds,
     ))
 
 -- all that a finding wants fits

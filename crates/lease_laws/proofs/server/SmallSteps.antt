@@ -1,0 +1,397 @@
+-- Tries and their ends go by guarded small steps.
+use Rattle.std.proofs.Common.{◌≡◌, ◌⊎◌, inl, inr, ⊎_elim, refl, sym, ap, ◌∙◌, subst, ℕ, zero, suc, Bool, true, false, not, List, [], ◌∷◌, ◌++◌, true≢false}
+use Rattle.std.specs.Prelude.{⊤, if◌then◌else◌, ◌&&◌, Option, Some, None}
+use Rattle.std.specs.List.{list_any}
+use Rattle.lease_state.specs.State.{State, needs_acknowledgment}
+use Rattle.lease_state.specs.declared.access.Access.{Access}
+use Rattle.lease_state.specs.declared.access.Share.{Share}
+use Rattle.lease_state.specs.declared.patch.Patch.{Patch}
+use Rattle.lease_state.specs.declared.status.Status.{Status}
+use Rattle.lease_model.specs.messages.Requests.{FileRequest, CreateAsk, LeaseOf}
+use Rattle.lease_model.specs.server.Allowed.{conflicts_on}
+use Rattle.lease_model.specs.server.Attempt.{Outcome, Tried, ended, must_wait, after_breaks, after_finding, tried_for, tried, is_left_open, lease_broken, want_met, wants_met}
+use Rattle.lease_model.specs.server.Findings.{Finding, finding, create_finding, reconnect_finding, write_finding, asked_finding, read_finding, by_open, by_contexts, connected_open, is_leased_elsewhere, awaits}
+use Rattle.lease_model.specs.server.Naming.{own_key, key_of_open}
+use Rattle.lease_model.specs.server.Progress.{Progress, opens_dropped, with_opens, lease_lowered, break_begun}
+use Rattle.lease_model.specs.server.Ready.{is_ready}
+use Rattle.lease_model.specs.server.State.{Server, Open, Lease, has_key, has_lease, has_file, is_breaking}
+use Rattle.lease_model.specs.server.Wants.{Want, handle_wants, write_wants, all_wants}
+use Rattle.lease_model.specs.values.Keys.{Key, key_eq, key_before}
+use Rattle.lease_model.specs.values.Lists.{is_empty, without}
+use Rattle.lease_model.specs.values.Patches.{is_within_limit}
+use Rattle.lease_model.specs.values.Sharing.{may_read, may_write}
+use Rattle.lease_laws.specs.server.Enough.{EndsFor}
+use Rattle.lease_laws.specs.server.Laws.{Among, IsSound}
+use Rattle.lease_laws.specs.server.SmallSteps.{SmallStep, step_taken, steps_taken, IsGuarded, AreGuarded, GoesBySteps, IsLowered, MayLower, IsFree, IsAwaitedAt, MayCreate, HasOpen, MayChange, MayServe, IsGone, MayRefuse, MayEnd}
+use Rattle.lease_laws.specs.server.Outs.{CachesAlone}
+use Rattle.lease_laws.specs.server.Wanted.{AreInKeyOrder}
+use Rattle.lease_laws.proofs.server.Breaks.{left_present, wants_met-sound}
+use Rattle.lease_laws.proofs.server.EnoughTries.{tries_end}
+use Rattle.lease_laws.proofs.server.Keys.{put_key-cases, key_eq-same, key_eq-refl}
+use Rattle.lease_laws.proofs.server.Lists.{if_cases, clash, and_parts, not_parts, not_true, any_has, has_any, among_filter}
+use Rattle.lease_laws.proofs.server.OutAnswers.{found_alone, write_finding-alone, write_ready-given}
+use Rattle.lease_laws.proofs.server.Ready.{CreateFree, contexts_free, create_ready-empty}
+use Rattle.lease_laws.proofs.server.Steps.{left_here}
+use Rattle.lease_laws.proofs.server.Wanted.{wants_where-exact, key_before-self}
+use Rattle.lease_laws.proofs.server.Wants.{FindingFits, AllFit, finding-fits}
+
+-- ---- lists of steps
+
+-- no step
+pub steps_none : (progress : Progress) → GoesBySteps progress progress
+steps_none progress = record { steps = []; are_guarded = tt; lead = refl }
+
+-- one step
+pub step_one : (step : SmallStep) (progress : Progress) → IsGuarded step progress.server
+    → GoesBySteps progress (step_taken step progress)
+step_one step progress guard = record { steps = step ∷ []; are_guarded = (guard, tt); lead = refl }
+
+-- steps, and then others
+taken_append : (first later : List SmallStep) (progress : Progress)
+    → steps_taken (first ++ later) progress ≡ steps_taken later (steps_taken first progress)
+taken_append [] later progress = refl
+taken_append (step ∷ first) later progress = taken_append first later (step_taken step progress)
+
+-- they are guarded together
+guarded_append : (first later : List SmallStep) (progress : Progress) → AreGuarded first progress
+    → AreGuarded later (steps_taken first progress) → AreGuarded (first ++ later) progress
+guarded_append [] later progress g h = h
+guarded_append (step ∷ first) later progress g h =
+    (g.0, guarded_append first later (step_taken step progress) g.1 h)
+
+-- two calls under way, one after the other
+pub steps_then : (a b c : Progress) → GoesBySteps a b → GoesBySteps b c → GoesBySteps a c
+steps_then a b c h k = record {
+  steps = h.steps ++ k.steps;
+  are_guarded = guarded_append h.steps k.steps a h.are_guarded
+      (subst (λ p. AreGuarded k.steps p) h.lead k.are_guarded);
+  lead = k.lead ∙ ap (λ p. steps_taken k.steps p) h.lead ∙ sym (taken_append h.steps k.steps a);
+}
+
+-- ---- wants are met by steps
+
+-- where the want's key still has a lease, that can be so lowered
+abbrev Lowers : Server → Want → Type 0
+Lowers server want = has_lease server want.key ≡ true → IsLowered (server.leases want.key).state want.lowered
+
+-- dropped opens leave that so
+dropped-lowers : (test : Open → Bool) (progress : Progress) (want : Want) → Lowers progress.server want
+    → Lowers (opens_dropped test progress).server want
+unfolding opens_dropped with_opens
+dropped-lowers test progress want lowers there =
+    let x = any_has (has_key want.key) (without test progress.server.opens) there in
+    let was = among_filter (λ one. not (test one)) x.0 progress.server.opens x.1 in
+    subst (λ (l : Lease). IsLowered l.state want.lowered)
+    (sym (left_here progress.server.leases (without test progress.server.opens) want.key x.0 x.1 x.2))
+    (lowers (has_any (has_key want.key) x.0 progress.server.opens was.0 x.2))
+
+-- so does the break of another key
+broken-lowers : (key : Key) (lowered : State) (progress : Progress) (want : Want) → key_eq want.key key ≡ false
+    → Lowers progress.server want → Lowers (lease_broken key lowered progress).server want
+unfolding lease_broken break_begun lease_lowered
+broken-lowers key lowered progress want other lowers =
+    let Stays : Lease → Type 0 = λ l. has_lease progress.server want.key ≡ true → IsLowered l.state want.lowered in
+    if_cases (λ p. Lowers p.server want)
+    (has_lease progress.server key && not (is_breaking (progress.server.leases key)))
+    (if needs_acknowledgment (progress.server.leases key).state then break_begun key lowered progress
+    else lease_lowered key lowered progress) progress
+    (λ t. if_cases (λ p. Lowers p.server want) (needs_acknowledgment (progress.server.leases key).state)
+    (break_begun key lowered progress) (lease_lowered key lowered progress)
+    (λ n. put_key-cases Stays progress.server.leases key
+    (record { state = (progress.server.leases key).state; broken_to = Some lowered }) want.key
+    (λ same. clash (key_eq want.key key) (key_is want.key key same) other) (λ e. lowers))
+    (λ n. put_key-cases Stays progress.server.leases key (record { state = lowered; broken_to = None }) want.key
+    (λ same. clash (key_eq want.key key) (key_is want.key key same) other) (λ e. lowers)))
+    (λ t. lowers)
+  where
+    key_is : (one other : Key) → one ≡ other → key_eq one other ≡ true
+    key_is one other same = subst (λ x. key_eq one x ≡ true) same (key_eq-refl one)
+
+-- one want
+want_met-steps : (want : Want) (progress : Progress) → Lowers progress.server want
+    → GoesBySteps progress (want_met want progress)
+unfolding want_met lease_broken
+want_met-steps want progress lowers =
+    let dropped = opens_dropped (is_left_open want.key) progress in
+    steps_then progress dropped (lease_broken want.key want.lowered dropped)
+    (step_one (SmallStep.Drop want.key) progress tt)
+    (if_cases (GoesBySteps dropped)
+    (has_lease dropped.server want.key && not (is_breaking (dropped.server.leases want.key)))
+    (if needs_acknowledgment (dropped.server.leases want.key).state then break_begun want.key want.lowered dropped
+    else lease_lowered want.key want.lowered dropped) dropped
+    (λ t. let parts = and_parts (has_lease dropped.server want.key)
+    (not (is_breaking (dropped.server.leases want.key))) t in
+    let may : MayLower dropped.server want.key want.lowered = record {
+      is_there = parts.0;
+      are_connected = left_present want.key progress;
+      is_settled = not_parts (is_breaking (dropped.server.leases want.key)) parts.1;
+      is_lowered = dropped-lowers (is_left_open want.key) progress want lowers parts.0;
+    } in
+    if_cases (GoesBySteps dropped) (needs_acknowledgment (dropped.server.leases want.key).state)
+    (break_begun want.key want.lowered dropped) (lease_lowered want.key want.lowered dropped)
+    (λ n. step_one (SmallStep.Begin want.key want.lowered) dropped (may, n))
+    (λ n. step_one (SmallStep.Lower want.key want.lowered) dropped (may, n)))
+    (λ t. steps_none dropped))
+
+-- it leaves the others to be met
+want_met-lowers : (first other : Want) (progress : Progress) → key_eq other.key first.key ≡ false
+    → Lowers progress.server other → Lowers (want_met first progress).server other
+unfolding want_met
+want_met-lowers first other progress apart lowers = broken-lowers first.key first.lowered
+    (opens_dropped (is_left_open first.key) progress) other apart
+    (dropped-lowers (is_left_open first.key) progress other lowers)
+
+-- a key that stands before another isn't that one
+before_apart : (one other : Key) → key_before one other ≡ true → key_eq other one ≡ false
+before_apart one other before = not_true (key_eq other one) (λ same.
+    clash (key_before one one)
+    (ap (λ x. key_before one x) (sym (key_eq-same other one same)) ∙ before) (key_before-self one))
+
+-- wants that stand in order
+wants_met-steps : (wants : List Want) (progress : Progress) → AreInKeyOrder wants
+    → ((want : Want) → Among want wants → Lowers progress.server want)
+    → GoesBySteps progress (wants_met wants progress)
+unfolding wants_met
+wants_met-steps [] progress order lowers = steps_none progress
+wants_met-steps (want ∷ wants) progress order lowers =
+    steps_then progress (want_met want progress) (wants_met wants (want_met want progress))
+    (want_met-steps want progress (lowers want (inl refl)))
+    (wants_met-steps wants (want_met want progress) order.1
+    (λ other a. want_met-lowers want other progress (before_apart want.key other.key (order.0 other a))
+    (lowers other (inr a))))
+
+-- ---- what a look finds stands in order
+
+abbrev IsOrdered : Finding → Type 0
+IsOrdered (Finding.Fails status) = Unit {0}
+IsOrdered (Finding.Needs wants) = AreInKeyOrder wants
+
+-- what a create finds
+create-ordered : (server : Server) (own : Option Key) (file : ℕ) (access : Access) (share : Share)
+    → IsOrdered (create_finding server own file access share)
+unfolding create_finding handle_wants write_wants
+create-ordered server own file access share =
+    if_cases IsOrdered (is_leased_elsewhere server own file) _ _ (λ e. tt)
+    (λ e. if_cases IsOrdered (list_any (conflicts_on file access share) server.opens) _ _
+    (λ c. if_cases IsOrdered (is_empty (handle_wants server own file access share)) _ _
+    (λ n. tt) (λ n. (wants_where-exact server _ _).in_order))
+    (λ c. (wants_where-exact server _ _).in_order))
+
+-- with a reconnect or without
+asked-ordered : (server : Server) (client file : ℕ) (access : Access) (share : Share) (lease : Option LeaseOf)
+    (again : Option ℕ) → IsOrdered (asked_finding server client file access share lease again)
+unfolding reconnect_finding
+asked-ordered server client file access share lease None =
+    create-ordered server (own_key client lease) file access share
+asked-ordered server client file access share lease (Some file_id) =
+    if_cases IsOrdered (list_any (awaits client file (own_key client lease) file_id) server.opens)
+    (Finding.Needs []) (Finding.Fails Status.ObjectNameNotFound) (λ e. tt) (λ e. tt)
+
+-- by contexts
+contexts-ordered : (server : Server) (client file : ℕ) (access : Access) (share : Share) (contexts : Option CreateAsk)
+    → IsOrdered (finding server client (FileRequest.Create file access share contexts))
+unfolding finding
+contexts-ordered server client file access share None = tt
+contexts-ordered server client file access share (Some ask) =
+    if_cases IsOrdered (has_file server file) (asked_finding server client file access share ask.lease ask.reconnect)
+    (Finding.Fails Status.ObjectNameNotFound)
+    (λ e. asked-ordered server client file access share ask.lease ask.reconnect) (λ e. tt)
+
+-- by an open
+by_open-ordered : (one : Option Open) (found : Open → Finding) → ((x : Open) → IsOrdered (found x))
+    → IsOrdered (by_open one found)
+by_open-ordered None found each = tt
+by_open-ordered (Some one) found each = each one
+
+-- a write
+write-ordered : (server : Server) (patch : Patch) (one : Open) → IsOrdered (write_finding server one patch)
+unfolding write_finding all_wants
+write-ordered server patch one = if_cases IsOrdered (may_write one.access) _ _
+    (λ e. if_cases IsOrdered (is_within_limit patch) _ _
+    (λ i. (wants_where-exact server _ _).in_order) (λ i. tt)) (λ e. tt)
+
+-- a read
+read-ordered : (one : Open) → IsOrdered (read_finding one)
+read-ordered one = if_cases IsOrdered (may_read one.access) (Finding.Needs []) (Finding.Fails Status.AccessDenied)
+    (λ e. tt) (λ e. tt)
+
+-- any request
+finding-ordered : (server : Server) (client : ℕ) (request : FileRequest) → IsOrdered (finding server client request)
+unfolding finding
+finding-ordered server client (FileRequest.Create file access share contexts) =
+    contexts-ordered server client file access share contexts
+finding-ordered server client (FileRequest.Read file_id) =
+    by_open-ordered (connected_open server client file_id) read_finding read-ordered
+finding-ordered server client (FileRequest.Write file_id number patch) =
+    by_open-ordered (connected_open server client file_id) (λ one. write_finding server one patch)
+    (write-ordered server patch)
+finding-ordered server client (FileRequest.Close file_id) =
+    by_open-ordered (connected_open server client file_id) (λ one. Finding.Needs []) (λ one. tt)
+
+-- ---- tries
+
+-- a round
+after_finding-steps : (again : Progress → Tried) (request : FileRequest) (progress : Progress) (found : Finding)
+    → FindingFits progress.server found → IsOrdered found → IsSound progress.server
+    → ((next : Progress) → IsSound next.server → GoesBySteps next (again next).progress)
+    → GoesBySteps progress (after_finding again request progress found).progress
+after_finding-steps again request progress (Finding.Fails status) fits order s more = steps_none progress
+after_finding-steps again request progress (Finding.Needs wants) fits order s more =
+    let met = wants_met wants progress in
+    let go = wants_met-steps wants progress order (λ want a there. (fits want a).can_lower) in
+    if_cases (λ t. GoesBySteps progress t.progress) (is_ready request progress.server.leases wants)
+    (ended progress Outcome.Ready) (after_breaks again request wants met)
+    (λ r. steps_none progress)
+    (λ r. if_cases (λ t. GoesBySteps progress t.progress) (must_wait request met wants)
+    (ended met Outcome.Waits) (again met) (λ w. go)
+    (λ w. steps_then progress met (again met).progress go (more met (wants_met-sound wants progress s fits))))
+
+-- so many rounds
+tried_for-steps : (rounds client : ℕ) (request : FileRequest) (progress : Progress) → IsSound progress.server
+    → GoesBySteps progress (tried_for rounds client request progress).progress
+unfolding tried_for
+tried_for-steps zero client request progress s = steps_none progress
+tried_for-steps (suc rounds) client request progress s = after_finding-steps (tried_for rounds client request)
+    request progress (finding progress.server client request) (finding-fits progress.server client request s)
+    (finding-ordered progress.server client request) s
+    (λ next n. tried_for-steps rounds client request next n)
+
+-- a try
+pub tried-steps : (client : ℕ) (request : FileRequest) (progress : Progress) → IsSound progress.server
+    → GoesBySteps progress (tried client request progress).progress
+tried-steps client request progress s = tried_for-steps 3 client request progress s
+
+-- ---- the end of a try is guarded
+
+-- FILE_CLOSED is told only where there is no open
+gone_by : (server : Server) (client file_id : ℕ) (found : Open → Finding) (status : Status)
+    → ((x : Open) → found x ≡ Finding.Fails Status.FileClosed → ⊥)
+    → (one : Option Open) → connected_open server client file_id ≡ one
+    → by_open one found ≡ Finding.Fails status → IsGone server client file_id status
+gone_by server client file_id found status never None e same closed = e
+gone_by server client file_id found status never (Some one) e same closed =
+    absurd (never one (same ∙ ap (λ s. Finding.Fails s) closed))
+
+-- a refused request
+finding-refuses : (server : Server) (client : ℕ) (request : FileRequest) (status : Status)
+    → finding server client request ≡ Finding.Fails status → MayRefuse server client request status
+unfolding finding write_finding
+finding-refuses server client (FileRequest.Create file access share contexts) status same = tt
+finding-refuses server client (FileRequest.Read file_id) status same =
+    gone_by server client file_id read_finding status
+    (λ x. if_cases (λ f. f ≡ Finding.Fails Status.FileClosed → ⊥) (may_read x.access) (Finding.Needs [])
+    (Finding.Fails Status.AccessDenied) (λ e never. absurd (cc)) (λ e never. absurd (cc)))
+    (connected_open server client file_id) refl same
+finding-refuses server client (FileRequest.Write file_id number patch) status same =
+    gone_by server client file_id (λ one. write_finding server one patch) status
+    (λ x. if_cases (λ f. f ≡ Finding.Fails Status.FileClosed → ⊥) (may_write x.access) _ _
+    (λ e. if_cases (λ f. f ≡ Finding.Fails Status.FileClosed → ⊥) (is_within_limit patch) _ _
+    (λ i never. absurd (cc)) (λ i never. absurd (cc))) (λ e never. absurd (cc)))
+    (connected_open server client file_id) refl same
+finding-refuses server client (FileRequest.Close file_id) status same =
+    gone_by server client file_id (λ one. Finding.Needs []) status (λ x never. absurd (cc))
+    (connected_open server client file_id) refl same
+
+-- a request by an open that is found
+open_by : (server : Server) (client file_id : ℕ) (found : Open → Finding) (may : Open → Type 0) (wants : List Want)
+    → ((x : Open) → found x ≡ Finding.Needs wants → may x)
+    → (one : Option Open) → connected_open server client file_id ≡ one
+    → by_open one found ≡ Finding.Needs wants → HasOpen server client file_id may
+open_by server client file_id found may wants each None e same = absurd (cc)
+open_by server client file_id found may wants each (Some one) e same =
+    record { one = one; found = e; allowed = each one same }
+
+-- a reconnect finds its open
+reconnect_at : (server : Server) (client file : ℕ) (own : Option Key) (file_id : ℕ) (wants : List Want)
+    → reconnect_finding server client file own file_id ≡ Finding.Needs wants
+    → IsAwaitedAt server client file own file_id
+unfolding reconnect_finding
+reconnect_at server client file own file_id wants =
+    if_cases (λ found. found ≡ Finding.Needs wants → IsAwaitedAt server client file own file_id)
+    (list_any (awaits client file own file_id) server.opens)
+    (Finding.Needs []) (Finding.Fails Status.ObjectNameNotFound)
+    (λ e same. let x = any_has (awaits client file own file_id) server.opens e in
+    record { one = x.0; is_there = x.1; waits = x.2 })
+    (λ e never. absurd (cc))
+
+-- a create that is ready
+create_may : (server : Server) (client file : ℕ) (access : Access) (share : Share) (ask : CreateAsk)
+    (wants : List Want)
+    → finding server client (FileRequest.Create file access share (Some ask)) ≡ Finding.Needs wants
+    → is_empty wants ≡ true
+    → (has_file server file ≡ true) × MayCreate server client file access share ask.lease ask.reconnect
+unfolding finding
+create_may server client file access share ask wants same none =
+    if_cases (λ found. found ≡ Finding.Needs wants
+    → (has_file server file ≡ true) × MayCreate server client file access share ask.lease ask.reconnect)
+    (has_file server file) (asked_finding server client file access share ask.lease ask.reconnect)
+    (Finding.Fails Status.ObjectNameNotFound)
+    (λ there e. (there, free ask.lease ask.reconnect e
+    (contexts_free server client file access share (Some ask) wants same none)))
+    (λ gone never. absurd (cc)) same
+  where
+    free : (lease : Option LeaseOf) (again : Option ℕ)
+        → asked_finding server client file access share lease again ≡ Finding.Needs wants
+        → CreateFree server client file access share lease again
+        → MayCreate server client file access share lease again
+    free lease None e f = f
+    free lease (Some file_id) e f = reconnect_at server client file (own_key client lease) file_id wants e
+
+-- a write that finds all other keys given up may change the file
+write_allowed : (server : Server) (patch : Patch) (one : Open) (wants : List Want) → CachesAlone server one
+    → write_finding server one patch ≡ Finding.Needs wants → MayChange server patch one
+unfolding write_finding
+write_allowed server patch one wants alone =
+    if_cases (λ f. f ≡ Finding.Needs wants → MayChange server patch one) (may_write one.access) _ _
+    (λ may. if_cases (λ f. f ≡ Finding.Needs wants → MayChange server patch one) (is_within_limit patch) _ _
+    (λ fits e. record { may = may; fits = fits; alone = alone }) (λ long never. absurd (cc)))
+    (λ denied never. absurd (cc))
+
+-- so does one that is ready
+write_may : (server : Server) (file_id number : ℕ) (patch : Patch) (one : Open) (wants : List Want)
+    → is_ready (FileRequest.Write file_id number patch) server.leases wants ≡ true
+    → write_finding server one patch ≡ Finding.Needs wants → MayChange server patch one
+write_may server file_id number patch one wants ready same = write_allowed server patch one wants
+    (found_alone server one (write_finding server one patch) wants (write_finding-alone server one patch) same
+    (write_ready-given file_id number patch server wants ready)) same
+
+-- a request that is ready may be served
+finding-serves : (server : Server) (client : ℕ) (request : FileRequest) (wants : List Want)
+    → finding server client request ≡ Finding.Needs wants → is_ready request server.leases wants ≡ true
+    → MayServe server client request
+unfolding finding
+finding-serves server client (FileRequest.Create file access share None) wants never ready = absurd (cc)
+finding-serves server client (FileRequest.Create file access share (Some ask)) wants same ready =
+    create_may server client file access share ask wants same
+    (create_ready-empty file access share (Some ask) server.leases wants ready)
+finding-serves server client (FileRequest.Read file_id) wants same ready =
+    open_by server client file_id read_finding (λ one. may_read one.access ≡ true) wants
+    (λ one. if_cases (λ f. f ≡ Finding.Needs wants → may_read one.access ≡ true) (may_read one.access)
+    (Finding.Needs []) (Finding.Fails Status.AccessDenied) (λ may e. may) (λ denied never. absurd (cc)))
+    (connected_open server client file_id) refl same
+finding-serves server client (FileRequest.Write file_id number patch) wants same ready =
+    open_by server client file_id (λ one. write_finding server one patch) (MayChange server patch) wants
+    (λ one e. write_may server file_id number patch one wants ready e)
+    (connected_open server client file_id) refl same
+finding-serves server client (FileRequest.Close file_id) wants same ready =
+    open_by server client file_id (λ one. Finding.Needs []) (λ one. ⊤) wants (λ one e. tt)
+    (connected_open server client file_id) refl same
+
+-- what ends a try guards its end
+reason_guards : (client : ℕ) (request : FileRequest) (progress : Progress) (outcome : Outcome)
+    → (outcome ≡ Outcome.Waits → ⊥) → progress.server.present client ≡ true
+    → EndsFor client request progress outcome → MayEnd progress.server client request outcome
+reason_guards client request progress (Outcome.Refused status) never up ends =
+    (up, finding-refuses progress.server client request status ends)
+reason_guards client request progress Outcome.Waits never up ends = never refl
+reason_guards client request progress Outcome.Ready never up ends =
+    (up, finding-serves progress.server client request ends.0 ends.1 ends.2)
+
+-- the end of a try that doesn't wait is guarded
+pub tried-guarded : (client : ℕ) (request : FileRequest) (progress : Progress)
+    → ((tried client request progress).outcome ≡ Outcome.Waits → ⊥)
+    → (tried client request progress).progress.server.present client ≡ true
+    → MayEnd (tried client request progress).progress.server client request (tried client request progress).outcome
+tried-guarded client request progress never up = reason_guards client request
+    (tried client request progress).progress (tried client request progress).outcome never up
+    (tries_end client request progress)

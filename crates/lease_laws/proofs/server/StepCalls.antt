@@ -1,0 +1,261 @@
+-- Passes and calls go by guarded small steps.
+use Rattle.std.proofs.Common.{◌≡◌, ◌⊎◌, inl, inr, refl, sym, ap, ◌∙◌, subst, ℕ, ◌+◌, zero, suc, Bool, true, false, List, [], ◌∷◌, ◌++◌, length, arith}
+use Rattle.std.specs.Prelude.{if◌then◌else◌, Option, Some, None, Result, Ok, Err}
+use Rattle.std.specs.List.{list_any}
+use Rattle.lease_state.specs.declared.status.Status.{Status}
+use Rattle.lease_model.specs.messages.Requests.{FileRequest, Request, CreateAsk, LeaseOf}
+use Rattle.lease_model.specs.server.Acknowledge.{acknowledged}
+use Rattle.lease_model.specs.server.Answers.{concluded}
+use Rattle.lease_model.specs.server.Attempt.{Outcome, Tried, tried}
+use Rattle.lease_model.specs.server.Calls.{Call, called, join, joined, receive, arrived, arrived_on, file_request_arrived, after_first_try, held_of, file_asked, file_of_open, file_of_create, cut, is_lost, opens_disconnected, client_forgotten, key_expired, expire, scavenge, is_left_behind}
+use Rattle.lease_model.specs.server.Findings.{connected_open}
+use Rattle.lease_model.specs.server.Passes.{Pass, is_behind, left_waiting, after_try, tried_again, pass_over, one_pass, passes_for, passes, passes_over, all_passes}
+use Rattle.lease_model.specs.server.Progress.{Progress, begun, opens_dropped, request_held, held_left}
+use Rattle.lease_model.specs.server.State.{Server, Open, Held, has_file, has_key, is_breaking}
+use Rattle.lease_model.specs.values.Keys.{Key}
+use Rattle.lease_model.specs.values.Lists.{numbers_to}
+use Rattle.lease_laws.specs.server.Laws.{Among, IsSound}
+use Rattle.lease_laws.specs.server.SmallSteps.{SmallStep, GoesBySteps, MayEnd, MayRefuse, IsGone, call_begun}
+use Rattle.lease_laws.specs.server.Waiting.{WaitsWell}
+use Rattle.lease_laws.proofs.server.Answers.{acknowledged-sound}
+use Rattle.lease_laws.proofs.server.Arrivals.{arrived_on-fine, asked_well, acknowledged-held, fine_goes}
+use Rattle.lease_laws.proofs.server.Goes.{acknowledged-goes}
+use Rattle.lease_laws.proofs.server.Lists.{if_cases, clash, among_behind}
+use Rattle.lease_laws.proofs.server.Orderly.{IsFine, IsHeldWell, IsTry, any_try, held_well}
+use Rattle.lease_laws.proofs.server.PassWaits.{PassWaits, pass_begun, one_pass-waits, tried_again-waits, passes_for-waits}
+use Rattle.lease_laws.proofs.server.SmallSteps.{steps_none, step_one, steps_then, tried-steps, tried-guarded}
+use Rattle.lease_laws.proofs.server.WaitCalls.{cut-fine, expired-fine, dropped-fine}
+
+-- a held request's end is guarded
+abbrev MayEndAt : Progress → Held → Outcome → Type 0
+MayEndAt progress one outcome = MayEnd progress.server one.client one.request outcome
+
+-- ---- passes
+
+-- what follows the try of a held request
+after_try-steps : (start : Progress) (file count : ℕ) (one : Held) (waiting : List Held) (pass : Pass)
+    (progress : Progress) (outcome : Outcome)
+    → PassWaits start file count (one ∷ waiting) pass
+    → IsTry one.client one.request pass.progress (record { progress = progress; outcome = outcome })
+    → GoesBySteps pass.progress progress
+    → ((outcome ≡ Outcome.Waits → ⊥) → MayEndAt progress one outcome)
+    → GoesBySteps pass.progress (after_try file one waiting pass progress outcome).progress
+after_try-steps start file count one waiting pass progress Outcome.Waits p t go may = go
+after_try-steps start file count one waiting pass progress (Outcome.Refused status) p t go may =
+    steps_then pass.progress progress _ go
+    (step_one (SmallStep.AnswerHeld file pass.passed one waiting (Outcome.Refused status)) progress
+    (ap (λ h. h file) t.held ∙ p.in_pass.is_held, may (λ never. absurd (cc))))
+after_try-steps start file count one waiting pass progress Outcome.Ready p t go may =
+    steps_then pass.progress progress _ go
+    (step_one (SmallStep.AnswerHeld file pass.passed one waiting Outcome.Ready) progress
+    (ap (λ h. h file) t.held ∙ p.in_pass.is_held, may (λ never. absurd (cc))))
+
+-- a held request tried again
+tried_again-steps : (start : Progress) (file count : ℕ) (one : Held) (waiting : List Held) (pass : Pass)
+    → PassWaits start file count (one ∷ waiting) pass
+    → GoesBySteps pass.progress (tried_again file one waiting pass).progress
+unfolding tried_again
+tried_again-steps start file count one waiting pass p =
+    let done = tried one.client one.request pass.progress in
+    let t = any_try one.client one.request pass.progress p.fine.sound in
+    let well = held_well pass.progress.server file one p.fine.orderly
+    (subst (λ list. Among one list) (sym p.in_pass.is_held)
+    (among_behind one pass.passed (one ∷ waiting) (inl refl))) in
+    if_cases (λ q. GoesBySteps pass.progress q.progress) (is_behind one.client pass.passed)
+    (left_waiting one pass pass.progress) (after_try file one waiting pass done.progress done.outcome)
+    (λ e. steps_none pass.progress)
+    (λ e. after_try-steps start file count one waiting pass done.progress done.outcome p t
+    (tried-steps one.client one.request pass.progress p.fine.sound)
+    (λ ends. tried-guarded one.client one.request pass.progress ends (t.goes.ups one.client ∙ well.up)))
+
+-- a pass
+pass_over-steps : (start : Progress) (file count : ℕ) (waiting : List Held) (pass : Pass)
+    → PassWaits start file count waiting pass
+    → GoesBySteps pass.progress (pass_over file waiting pass).progress
+unfolding pass_over
+pass_over-steps start file count [] pass p = steps_none pass.progress
+pass_over-steps start file count (one ∷ waiting) pass p =
+    let next = tried_again file one waiting pass in
+    steps_then pass.progress next.progress (pass_over file waiting next).progress
+    (tried_again-steps start file count one waiting pass p)
+    (pass_over-steps start file count waiting next (tried_again-waits start file count one waiting pass p))
+
+-- so many passes over a file
+passes_for-steps : (count file : ℕ) (progress : Progress) → IsFine progress.server
+    → GoesBySteps progress (passes_for count file progress)
+unfolding passes_for
+passes_for-steps zero file progress f = steps_none progress
+passes_for-steps (suc count) file progress f =
+    let pass = one_pass file progress in
+    let go = pass_over-steps progress file (length (progress.server.held file)) (progress.server.held file)
+    (record { passed = []; progress = progress; has_answered = false }) (pass_begun file progress f) in
+    if_cases (GoesBySteps progress) pass.has_answered (passes_for count file pass.progress) pass.progress
+    (λ e. steps_then progress pass.progress (passes_for count file pass.progress) go
+    (passes_for-steps count file pass.progress (one_pass-waits file progress f).fine))
+    (λ e. go)
+
+-- passes over files
+passes_over-steps : (files : List ℕ) (progress : Progress) → IsFine progress.server
+    → GoesBySteps progress (passes_over files progress)
+unfolding passes_over
+passes_over-steps [] progress f = steps_none progress
+passes_over-steps (file ∷ files) progress f =
+    let next = passes file progress in
+    steps_then progress next (passes_over files next)
+    (passes_for-steps (length (progress.server.held file) + 1) file progress f)
+    (passes_over-steps files next
+    (passes_for-waits (length (progress.server.held file) + 1) file progress (omega arith) f).fine)
+
+-- passes over all files
+all_passes-steps : (progress : Progress) → IsFine progress.server → GoesBySteps progress (all_passes progress)
+unfolding all_passes
+all_passes-steps progress f = passes_over-steps (numbers_to progress.server.files) progress f
+
+-- ---- arrivals
+
+-- a request that has no file is refused as it should be
+closed_asked : (server : Server) (client file_id : ℕ) (status : Status) (one : Option Open)
+    → connected_open server client file_id ≡ one → file_of_open one ≡ Err status
+    → IsGone server client file_id status
+closed_asked server client file_id status None e same closed = e
+closed_asked server client file_id status (Some one) e never closed = absurd (cc)
+
+-- whatever it asks
+asked-refuses : (server : Server) (client : ℕ) (request : FileRequest) (status : Status)
+    → file_asked server client request ≡ Err status → MayRefuse server client request status
+unfolding file_asked
+asked-refuses server client (FileRequest.Create file access share contexts) status e = tt
+asked-refuses server client (FileRequest.Read file_id) status e =
+    closed_asked server client file_id status (connected_open server client file_id) refl e
+asked-refuses server client (FileRequest.Write file_id number patch) status e =
+    closed_asked server client file_id status (connected_open server client file_id) refl e
+asked-refuses server client (FileRequest.Close file_id) status e =
+    closed_asked server client file_id status (connected_open server client file_id) refl e
+
+-- what follows a first try
+first_try-steps : (client file : ℕ) (request : FileRequest) (before : Progress) (progress : Progress) (outcome : Outcome)
+    → before.server.present client ≡ true
+    → IsTry client request before (record { progress = progress; outcome = outcome })
+    → GoesBySteps before progress
+    → ((outcome ≡ Outcome.Waits → ⊥) → MayEndAt progress (held_of client request) outcome)
+    → GoesBySteps before (after_first_try client file request progress outcome)
+first_try-steps client file request before progress Outcome.Waits up t go may =
+    steps_then before progress (request_held file (held_of client request) progress) go
+    (step_one (SmallStep.Hold file (held_of client request)) progress
+    (t.goes.ups client ∙ up, inl (t.waits refl)))
+first_try-steps client file request before progress (Outcome.Refused status) up t go may =
+    steps_then before progress (concluded client request progress (Outcome.Refused status)) go
+    (step_one (SmallStep.Answer client request (Outcome.Refused status)) progress (may (λ never. absurd (cc))))
+first_try-steps client file request before progress Outcome.Ready up t go may =
+    steps_then before progress (concluded client request progress Outcome.Ready) go
+    (step_one (SmallStep.Answer client request Outcome.Ready) progress (may (λ never. absurd (cc))))
+
+-- a request that comes
+arrived_on-steps : (client : ℕ) (request : FileRequest) (progress : Progress) (asked : Result ℕ Status)
+    → IsFine progress.server → progress.server.present client ≡ true
+    → file_asked progress.server client request ≡ asked
+    → GoesBySteps progress (arrived_on client request progress asked)
+arrived_on-steps client request progress (Err status) f up e =
+    step_one (SmallStep.Answer client request (Outcome.Refused status)) progress
+    (up, asked-refuses progress.server client request status e)
+arrived_on-steps client request progress (Ok file) f up e =
+    let done = tried client request progress in
+    let t = any_try client request progress f.sound in
+    if_cases (GoesBySteps progress) (is_behind client (progress.server.held file))
+    (request_held file (held_of client request) progress)
+    (after_first_try client file request done.progress done.outcome)
+    (λ behind. step_one (SmallStep.Hold file (held_of client request)) progress (up, inr behind))
+    (λ first. first_try-steps client file request progress done.progress done.outcome up t
+    (tried-steps client request progress f.sound)
+    (λ ends. tried-guarded client request progress ends (t.goes.ups client ∙ up)))
+
+-- and finds its own file
+asked-steps : (client : ℕ) (request : FileRequest) (progress : Progress)
+    → IsFine progress.server → progress.server.present client ≡ true
+    → GoesBySteps progress (arrived_on client request progress (file_asked progress.server client request))
+asked-steps client request progress f up =
+    arrived_on-steps client request progress (file_asked progress.server client request) f up refl
+
+-- a request about a file
+file_request-steps : (client : ℕ) (request : FileRequest) (progress : Progress)
+    → IsFine progress.server → progress.server.present client ≡ true
+    → GoesBySteps progress (file_request_arrived client request progress)
+file_request-steps client (FileRequest.Create file access share contexts) progress f up =
+    asked-steps client (FileRequest.Create file access share contexts) progress f up
+file_request-steps client (FileRequest.Read file_id) progress f up =
+    asked-steps client (FileRequest.Read file_id) progress f up
+file_request-steps client (FileRequest.Write file_id number patch) progress f up =
+    asked-steps client (FileRequest.Write file_id number patch) progress f up
+file_request-steps client (FileRequest.Close file_id) progress f up =
+    let request = FileRequest.Close file_id in
+    let after = arrived_on client request progress (file_asked progress.server client request) in
+    steps_then progress after (all_passes after) (asked-steps client request progress f up)
+    (all_passes-steps after (arrived_on-fine client request progress (file_asked progress.server client request) f
+    (asked_well client request progress f up)))
+
+-- any request
+arrived-steps : (client : ℕ) (request : Request) (progress : Progress)
+    → IsFine progress.server → progress.server.present client ≡ true
+    → GoesBySteps progress (arrived client request progress)
+unfolding arrived
+arrived-steps client (Request.Acknowledge given) progress f up =
+    let after = acknowledged client given progress in
+    steps_then progress after (all_passes after)
+    (step_one (SmallStep.Acknowledge client given) progress up)
+    (all_passes-steps after (fine_goes progress after f (acknowledged-sound client given progress f.sound)
+    (acknowledged-goes client given progress) (acknowledged-held client given progress)))
+arrived-steps client (Request.OnFile request) progress f up = file_request-steps client request progress f up
+
+-- ---- calls
+
+-- a call that applies or doesn't
+either_steps : (b : Bool) (start : Progress) (after : Progress) (nothing : Progress)
+    → (b ≡ true → GoesBySteps start after) → GoesBySteps (if b then start else nothing) (if b then after else nothing)
+either_steps true start after nothing go = go refl
+either_steps false start after nothing go = steps_none nothing
+
+-- a request received
+receive-steps : (server : Server) (client : ℕ) (request : Request) → IsFine server
+    → GoesBySteps (begun server) (receive server client request)
+unfolding receive
+receive-steps server client request f = if_cases (GoesBySteps (begun server)) (server.present client)
+    (arrived client request (begun server)) (begun server)
+    (λ up. arrived-steps client request (begun server) f up) (λ away. steps_none (begun server))
+
+-- every call
+pub called-steps : (server : Server) (call : Call) → IsSound server → WaitsWell server
+    → GoesBySteps (call_begun server call) (called server call)
+unfolding cut expire scavenge
+called-steps server (Call.Join client) s w = steps_none (join server client)
+called-steps server (Call.Receive client request) s w =
+    receive-steps server client request (record { sound = s; orderly = w.is_orderly })
+called-steps server (Call.Cut client) s w =
+    let start = client_forgotten client (opens_disconnected client (opens_dropped (is_lost server client) (begun server))) in
+    either_steps (server.present client) start (all_passes start) (begun server)
+    (λ up. all_passes-steps start (cut-fine server client (record { sound = s; orderly = w.is_orderly })))
+called-steps server (Call.Expire key) s w =
+    let start = key_expired key (opens_dropped (has_key key) (begun server)) in
+    either_steps (is_breaking (server.leases key)) start (all_passes start) (begun server)
+    (λ up. all_passes-steps start (expired-fine server key (record { sound = s; orderly = w.is_orderly })))
+called-steps server (Call.Scavenge file_id) s w =
+    let start = opens_dropped (is_left_behind file_id) (begun server) in
+    either_steps (list_any (is_left_behind file_id) server.opens) start (all_passes start) (begun server)
+    (λ up. all_passes-steps start
+    (dropped-fine (is_left_behind file_id) (begun server) (record { sound = s; orderly = w.is_orderly })))
+
+-- ---- the first part of a call gives nothing out
+
+-- what a choice gives out
+either_silent : (b : Bool) (x y : Progress) → x.outs ≡ [] → y.outs ≡ [] → (if b then x else y).outs ≡ []
+either_silent true x y e f = e
+either_silent false x y e f = f
+
+pub call_begun-silent : (server : Server) (call : Call) → (call_begun server call).outs ≡ []
+unfolding join joined client_forgotten opens_disconnected opens_dropped key_expired
+call_begun-silent server (Call.Join client) =
+    either_silent (server.present client) (begun server) (joined client (begun server)) refl refl
+call_begun-silent server (Call.Receive client request) = refl
+call_begun-silent server (Call.Cut client) = either_silent (server.present client) _ (begun server) refl refl
+call_begun-silent server (Call.Expire key) = either_silent (is_breaking (server.leases key)) _ (begun server) refl refl
+call_begun-silent server (Call.Scavenge file_id) =
+    either_silent (list_any (is_left_behind file_id) server.opens) _ (begun server) refl refl
