@@ -30,6 +30,9 @@ pub mod Rounds
 pub mod SmallSteps
 pub mod States
 pub mod StepCalls
+pub mod StepKeeps
+pub mod StepLeases
+pub mod StepOuts
 pub mod Steps
 pub mod Tries
 pub mod WaitCalls

@@ -102,7 +102,7 @@ asked_file server client file (FileRequest.Close file_id) s o e = open_file serv
     (connected_open server client file_id) s o refl e
 
 -- to hold a request lets opens go on
-request_held-goes : (file : ℕ) (one : Held) (progress : Progress)
+pub request_held-goes : (file : ℕ) (one : Held) (progress : Progress)
     → Goes progress (request_held file one progress)
 unfolding request_held
 request_held-goes file one progress = record {

@@ -42,7 +42,7 @@ FileReady server client (FileRequest.Create file access share contexts) = Contex
 FileReady server client request = Unit {0}
 
 -- an open that waits for its client is its own
-awaits_own : (client file : ℕ) (own : Option Key) (file_id : ℕ) (one : Open)
+pub awaits_own : (client file : ℕ) (own : Option Key) (file_id : ℕ) (one : Open)
     → awaits client file own file_id one ≡ true
     → (one.file_id ≡ file_id) × (one.client ≡ client)
 unfolding awaits

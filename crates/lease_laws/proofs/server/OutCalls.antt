@@ -28,7 +28,7 @@ silent_fair : (before after : List Out) → after ≡ before → AreFair before 
 silent_fair before after same fair = subst AreFair (sym same) fair
 
 -- to take a request off the held ones gives nothing out
-held_left-outs : (file : ℕ) (left : List Held) (progress : Progress)
+pub held_left-outs : (file : ℕ) (left : List Held) (progress : Progress)
     → (held_left file left progress).outs ≡ progress.outs
 unfolding held_left
 held_left-outs file left progress = append-nil progress.outs

@@ -23,7 +23,7 @@ use Rattle.lease_laws.proofs.server.Progress.{held_left-sound}
 use Rattle.lease_laws.proofs.server.Ready.{ready-free}
 
 -- to take a request off the held ones lets opens go on
-held_left-goes : (file : ℕ) (left : List Held) (progress : Progress)
+pub held_left-goes : (file : ℕ) (left : List Held) (progress : Progress)
     → Goes progress (held_left file left progress)
 unfolding held_left
 held_left-goes file left progress = record {

@@ -18,13 +18,14 @@ use Rattle.lease_laws.specs.server.Laws.{Among, IsSound}
 use Rattle.lease_laws.specs.server.SmallSteps.{SmallStep, GoesBySteps, MayEnd, MayRefuse, IsGone, call_begun}
 use Rattle.lease_laws.specs.server.Waiting.{WaitsWell}
 use Rattle.lease_laws.proofs.server.Answers.{acknowledged-sound}
+use Rattle.lease_laws.proofs.server.Calls.{joined-sound}
 use Rattle.lease_laws.proofs.server.Arrivals.{arrived_on-fine, asked_well, acknowledged-held, fine_goes}
 use Rattle.lease_laws.proofs.server.Goes.{acknowledged-goes}
 use Rattle.lease_laws.proofs.server.Lists.{if_cases, clash, among_behind}
 use Rattle.lease_laws.proofs.server.Orderly.{IsFine, IsHeldWell, IsTry, any_try, held_well}
 use Rattle.lease_laws.proofs.server.PassWaits.{PassWaits, pass_begun, one_pass-waits, tried_again-waits, passes_for-waits}
 use Rattle.lease_laws.proofs.server.SmallSteps.{steps_none, step_one, steps_then, tried-steps, tried-guarded}
-use Rattle.lease_laws.proofs.server.WaitCalls.{cut-fine, expired-fine, dropped-fine}
+use Rattle.lease_laws.proofs.server.WaitCalls.{joined-orderly, cut-fine, expired-fine, dropped-fine}
 
 -- a held request's end is guarded
 abbrev MayEndAt : Progress → Held → Outcome → Type 0
@@ -259,3 +260,39 @@ call_begun-silent server (Call.Cut client) = either_silent (server.present clien
 call_begun-silent server (Call.Expire key) = either_silent (is_breaking (server.leases key)) _ (begun server) refl refl
 call_begun-silent server (Call.Scavenge file_id) =
     either_silent (list_any (is_left_behind file_id) server.opens) _ (begun server) refl refl
+
+-- ---- and leaves the laws, and who is connected
+
+pub record IsBegunWell (progress : Progress) : Type 0 where
+  pub sound : IsSound progress.server
+  pub up : (one : Open) → Among one progress.server.opens → one.connected ≡ true
+      → progress.server.present one.client ≡ true
+
+-- a server that is fine has begun well
+fine_begun : (progress : Progress) → IsFine progress.server → IsBegunWell progress
+fine_begun progress f = record { sound = f.sound; up = f.orderly.opens_up }
+
+-- a choice of two
+either_begun : (b : Bool) (x y : Progress) → IsFine x.server → IsFine y.server
+    → IsBegunWell (if b then x else y)
+either_begun true x y f g = fine_begun x f
+either_begun false x y f g = fine_begun y g
+
+pub call_begun-up : (server : Server) (call : Call) → IsSound server → WaitsWell server
+    → IsBegunWell (call_begun server call)
+unfolding join
+call_begun-up server (Call.Join client) s w =
+    let fine : IsFine server = record { sound = s; orderly = w.is_orderly } in
+    either_begun (server.present client) (begun server) (joined client (begun server)) fine
+    (record { sound = joined-sound client (begun server) s; orderly = joined-orderly client (begun server) w.is_orderly })
+call_begun-up server (Call.Receive client request) s w = record { sound = s; up = w.is_orderly.opens_up }
+call_begun-up server (Call.Cut client) s w =
+    let fine : IsFine server = record { sound = s; orderly = w.is_orderly } in
+    either_begun (server.present client) _ (begun server) (cut-fine server client fine) fine
+call_begun-up server (Call.Expire key) s w =
+    let fine : IsFine server = record { sound = s; orderly = w.is_orderly } in
+    either_begun (is_breaking (server.leases key)) _ (begun server) (expired-fine server key fine) fine
+call_begun-up server (Call.Scavenge file_id) s w =
+    let fine : IsFine server = record { sound = s; orderly = w.is_orderly } in
+    either_begun (list_any (is_left_behind file_id) server.opens) _ (begun server)
+    (dropped-fine (is_left_behind file_id) (begun server) fine) fine

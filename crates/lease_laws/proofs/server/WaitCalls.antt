@@ -46,7 +46,7 @@ joined-about client file (FileRequest.Close file_id) progress about = joined-ope
     about
 
 -- a join that applies keeps the order
-joined-orderly : (client : ℕ) (progress : Progress) → IsOrderly progress.server
+pub joined-orderly : (client : ℕ) (progress : Progress) → IsOrderly progress.server
     → IsOrderly (joined client progress).server
 unfolding joined
 joined-orderly client progress o = record {

@@ -1,0 +1,440 @@
+-- What guarded small steps make of leases.
+use Rattle.std.proofs.Common.{◌≡◌, ◌⊎◌, inl, inr, ⊎_elim, refl, sym, ap, ◌∙◌, subst, ℕ, Bool, true, false, not, List, [], ◌∷◌, ◌++◌, arith, append-nil, append_assoc, true≢false, ◌==◌}
+use Rattle.std.specs.Prelude.{◌&&◌, ◌||◌, is_some, Option, Some, None}
+use Rattle.std.specs.List.{list_any}
+use Rattle.std.proofs.lemmas.Bool.Decides.{Decides-eqb}
+use Rattle.lease_state.specs.State.{State, nothing_cached, granted_form_of}
+use Rattle.lease_state.specs.declared.access.Access.{Access}
+use Rattle.lease_state.specs.declared.access.Share.{Share}
+use Rattle.lease_state.specs.declared.status.Status.{Status}
+use Rattle.lease_model.specs.messages.Replies.{Reply, Out}
+use Rattle.lease_model.specs.messages.Requests.{FileRequest, CreateAsk, LeaseOf}
+use Rattle.lease_model.specs.server.Acknowledge.{acknowledged, judged, break_ended}
+use Rattle.lease_model.specs.server.Allowed.{is_other_on, allowed}
+use Rattle.lease_model.specs.server.Answers.{concluded, answered, created, closed, changed, read_done, on_open, on_contexts}
+use Rattle.lease_model.specs.server.Attempt.{Outcome, is_left_open}
+use Rattle.lease_model.specs.server.Findings.{connected_open}
+use Rattle.lease_model.specs.server.Grant.{granted, granted_with, lease_after, lease_granted, offered, reconnected}
+use Rattle.lease_model.specs.server.Naming.{key_of, own_key}
+use Rattle.lease_model.specs.server.Progress.{Progress, opens_dropped, with_opens, lease_lowered, break_begun, request_held, held_left, replied, refused, break_notice}
+use Rattle.lease_model.specs.server.State.{Server, Open, Lease, Held, no_lease, has_key, has_own_key, has_lease, is_breaking}
+use Rattle.lease_model.specs.values.Keys.{Key}
+use Rattle.lease_model.specs.values.LeaseStates.{is_within, without_write}
+use Rattle.lease_model.specs.values.Limits.{last_file_id}
+use Rattle.lease_model.specs.values.Lists.{without}
+use Rattle.lease_model.specs.values.Tables.{put}
+use Rattle.lease_laws.specs.server.Laws.{Among, IsSound}
+use Rattle.lease_laws.specs.server.Outs.{GoOn}
+use Rattle.lease_laws.specs.server.SmallSteps.{SmallStep, step_taken, steps_taken, IsGuarded, AreGuarded, IsFree, MayCreate, MayServe, MayEnd}
+use Rattle.lease_laws.specs.server.StepLaws.{IsRaised, IsEnded, StaysOrRises, BecomesBy, IsBreakTold}
+use Rattle.lease_laws.proofs.server.Keys.{put_key-cases}
+use Rattle.lease_laws.proofs.server.Lists.{if_cases, either, clash, and_parts, not_true, not_parts, any_has, among_append, among_before, among_behind}
+use Rattle.lease_laws.proofs.server.StepKeeps.{step-sound, end_serves}
+use Rattle.lease_laws.proofs.server.Progress.{held_left-sound}
+use Rattle.lease_laws.proofs.server.StepOuts.{step-tells}
+
+-- nothing becomes of a lease
+same_lease : (before after : Server) (key : Key) → after.leases key ≡ before.leases key
+    → StaysOrRises before after key
+same_lease before after key e = inl e
+
+-- ---- dropped opens
+
+-- a lease stays, or is gone with its last open
+dropped-lease : (test : Open → Bool) (progress : Progress) (key : Key)
+    → ((opens_dropped test progress).server.leases key ≡ progress.server.leases key)
+    ⊎ (has_lease (opens_dropped test progress).server key ≡ false)
+unfolding opens_dropped with_opens
+dropped-lease test progress key =
+    let left : List Open = without test progress.server.opens in
+    either (list_any (has_key key) left)
+    (λ there. inl (if_cases (λ l. l ≡ progress.server.leases key) (list_any (has_key key) left)
+    (progress.server.leases key) no_lease (λ e. refl) (λ e. clash (list_any (has_key key) left) there e)))
+    (λ gone. inr gone)
+
+-- ---- a grant
+
+-- a part of a state without W is a part of it without W
+part_without : (old whole : State) → old.write ≡ false → is_within old whole ≡ true
+    → is_within old (without_write whole) ≡ true
+part_without old whole w part = parts old.read old.write old.handle whole.read whole.write whole.handle w part
+  where
+    parts : (r w h s t u : Bool) → w ≡ false
+        → ((not r || s) && (not w || t) && (not h || u)) ≡ true → ((not r || s) && (not w || false) && (not h || u)) ≡ true
+    parts r w h s t u e part = grind arith
+
+-- an open of another key, on the file
+other_there : (key : Key) (file : ℕ) (one : Open) → is_other_on (Some key) file one ≡ true
+    → (one.file ≡ file) × (has_key key one ≡ false)
+unfolding is_other_on
+other_there key file one other =
+    let parts = and_parts (one.file == file) (not (has_own_key (Some key) one)) other in
+    ((Decides-eqb one.file file).0 parts.0, not_parts (has_key key one) parts.1)
+
+-- a key that holds W has an open
+written_there : (server : Server) (key : Key) → IsSound server → (server.leases key).state.write ≡ true
+    → has_lease server key ≡ true
+written_there server key s w = either (has_lease server key) (λ e. e)
+    (λ none. clash (server.leases key).state.write w (ap (λ l. l.state.write) (s.no_open key none)))
+
+-- a key that may be granted and holds W is alone on the file
+written_alone : (server : Server) (key : Key) (file : ℕ) (access : Access) (share : Share)
+    → IsSound server → IsFree server.opens server.leases (Some key) file access share
+    → (server.leases key).state.write ≡ true
+    → list_any (is_other_on (Some key) file) server.opens ≡ true → ⊥
+written_alone server key file access share s free w others =
+    let x = any_has (is_other_on (Some key) file) server.opens others in
+    let mine = any_has (has_key key) server.opens (written_there server key s w) in
+    let there = other_there key file x.0 x.2 in
+    clash (has_key key x.0)
+    (s.one_writer key mine.0 x.0 w mine.1 mine.2 x.1 (there.0 ∙ sym (free.at_home mine.0 mine.1 mine.2))) there.1
+
+-- where a key may be granted, what it holds is a part of what it is offered
+offered_more : (server : Server) (key : Key) (file : ℕ) (access : Access) (share : Share) (want : State)
+    → IsSound server → IsFree server.opens server.leases (Some key) file access share
+    → is_within (server.leases key).state (granted_form_of want) ≡ true
+    → is_within (server.leases key).state (offered server key file want) ≡ true
+unfolding offered allowed
+offered_more server key file access share want s free part =
+    let old : State = (server.leases key).state in
+    if_cases (λ x. is_within old x ≡ true) (server.expired key) nothing_cached _
+    (λ out. ap (λ l. is_within l.state nothing_cached) (s.timed_out key out))
+    (λ timely. if_cases (λ x. is_within old x ≡ true) (list_any (is_other_on (Some key) file) server.opens)
+    (without_write (granted_form_of want)) (granted_form_of want)
+    (λ others. part_without old (granted_form_of want)
+    (not_true old.write (λ w. written_alone server key file access share s free w others)) part)
+    (λ alone. part))
+
+-- a grant leaves the lease of its key, or raises it
+granted_rises : (server : Server) (key : Key) (file : ℕ) (access : Access) (share : Share) (want : State)
+    → IsSound server → IsFree server.opens server.leases (Some key) file access share
+    → (lease_granted server key file want ≡ server.leases key)
+    ⊎ IsRaised (server.leases key) (lease_granted server key file want)
+unfolding lease_granted
+granted_rises server key file access share want s free =
+    let Goal : Lease → Type 0 = λ l. (l ≡ server.leases key) ⊎ IsRaised (server.leases key) l in
+    if_cases Goal (is_breaking (server.leases key)) (server.leases key) _
+    (λ b. inl refl)
+    (λ settled. if_cases Goal (is_within (server.leases key).state (granted_form_of want))
+    (record { state = offered server key file want; broken_to = None }) (server.leases key)
+    (λ part. inr (record {
+      was_settled = settled;
+      is_settled = refl;
+      is_more = offered_more server key file access share want s free part;
+    }))
+    (λ part. inl refl))
+
+-- the lease of any key, once a create has made its open
+granted_with-lease : (client file : ℕ) (access : Access) (share : Share) (asked : Option LeaseOf) (durable : Bool)
+    (progress : Progress) (key : Key) → IsSound progress.server
+    → IsFree progress.server.opens progress.server.leases (own_key client asked) file access share
+    → StaysOrRises progress.server
+    (granted_with client file access share asked durable (lease_after progress.server client file asked) progress).server
+    key
+unfolding granted_with
+granted_with-lease client file access share None durable progress key s free = inl refl
+granted_with-lease client file access share (Some asked) durable progress key s free =
+    let own : Key = key_of client asked.key in
+    let new : Lease = lease_granted progress.server own file asked.state in
+    ⊎_elim (λ same. inl same) (λ raised. inr (inr raised))
+    (put_key-cases (λ l. (l ≡ progress.server.leases key) ⊎ IsRaised (progress.server.leases key) l)
+    progress.server.leases own new key
+    (λ same. subst (λ k. (new ≡ progress.server.leases k) ⊎ IsRaised (progress.server.leases k) new) (sym same)
+    (granted_rises progress.server own file access share asked.state s free))
+    (λ e. inl refl))
+
+-- a create that is ready
+created-lease : (client file : ℕ) (access : Access) (share : Share) (asked : Option LeaseOf) (durable : Bool)
+    (again : Option ℕ) (progress : Progress) (key : Key) → IsSound progress.server
+    → MayCreate progress.server client file access share asked again
+    → StaysOrRises progress.server (created client file access share asked durable again progress).server key
+unfolding granted reconnected
+created-lease client file access share asked durable None progress key s may =
+    if_cases (λ p. StaysOrRises progress.server p.server key) (progress.server.last_id == last_file_id)
+    (replied client (Reply.CreateFailed file Status.InsufficientResources) progress)
+    (granted_with client file access share asked durable (lease_after progress.server client file asked) progress)
+    (λ e. inl refl)
+    (λ e. granted_with-lease client file access share asked durable progress key s may)
+created-lease client file access share asked durable (Some file_id) progress key s may = inl refl
+
+-- ---- the end of a request
+
+-- by an open
+on_open-lease : (one : Option Open) (done : ℕ → Progress → Progress) (progress : Progress) (key : Key)
+    → ((file : ℕ) → StaysOrRises progress.server (done file progress).server key)
+    → StaysOrRises progress.server (on_open one done progress).server key
+on_open-lease None done progress key each = inl refl
+on_open-lease (Some one) done progress key each = each one.file
+
+-- a close
+closed-lease : (client file_id : ℕ) (progress : Progress) (key : Key)
+    → StaysOrRises progress.server (closed client file_id progress).server key
+unfolding closed
+closed-lease client file_id progress key = ⊎_elim (λ same. inl same) (λ gone. inr (inl gone))
+    (dropped-lease (λ one. one.file_id == file_id) progress key)
+
+-- any request that may end so
+concluded-lease : (client : ℕ) (request : FileRequest) (progress : Progress) (outcome : Outcome) (key : Key)
+    → IsSound progress.server
+    → (outcome ≡ Outcome.Ready → MayServe progress.server client request)
+    → StaysOrRises progress.server (concluded client request progress outcome).server key
+unfolding refused answered changed
+concluded-lease client request progress (Outcome.Refused status) key s may = inl refl
+concluded-lease client request progress Outcome.Waits key s may = inl refl
+concluded-lease client (FileRequest.Create file access share None) progress Outcome.Ready key s may =
+    absurd (may refl)
+concluded-lease client (FileRequest.Create file access share (Some ask)) progress Outcome.Ready key s may =
+    created-lease client file access share ask.lease ask.durable ask.reconnect progress key s (may refl).1
+concluded-lease client (FileRequest.Read file_id) progress Outcome.Ready key s may =
+    on_open-lease (connected_open progress.server client file_id) (λ file. read_done client file file_id) progress key
+    (λ file. inl refl)
+concluded-lease client (FileRequest.Write file_id number patch) progress Outcome.Ready key s may =
+    on_open-lease (connected_open progress.server client file_id)
+    (λ file. changed client file file_id number patch) progress key (λ file. inl refl)
+concluded-lease client (FileRequest.Close file_id) progress Outcome.Ready key s may =
+    on_open-lease (connected_open progress.server client file_id) (λ file. closed client file_id) progress key
+    (λ file. closed-lease client file_id progress key)
+
+-- ---- acknowledgments
+
+-- the granted form of a part is a part
+form_part : (state lowered : State) → is_within state lowered ≡ true → is_within (granted_form_of state) lowered ≡ true
+form_part state lowered part = if_cases (λ s. is_within s lowered ≡ true) state.read state nothing_cached
+    (λ e. part) (λ e. refl)
+
+-- a break that is ended
+ended-lease : (key : Key) (state lowered : State) (progress : Progress) (other : Key)
+    → (progress.server.leases key).broken_to ≡ Some lowered → is_within state lowered ≡ true
+    → ((break_ended key state progress).server.leases other ≡ progress.server.leases other)
+    ⊎ IsEnded (progress.server.leases other) ((break_ended key state progress).server.leases other)
+unfolding break_ended
+ended-lease key state lowered progress other broken part =
+    let new : Lease = record { state = granted_form_of state; broken_to = None } in
+    put_key-cases (λ l. (l ≡ progress.server.leases other) ⊎ IsEnded (progress.server.leases other) l)
+    progress.server.leases key new other
+    (λ same. inr (record {
+      lowered = lowered;
+      was_breaking = ap (λ k. (progress.server.leases k).broken_to) same ∙ broken;
+      is_settled = refl;
+      is_part = form_part state lowered part;
+    }))
+    (λ e. inl refl)
+
+-- however it is judged
+judged-lease : (key : Key) (state : State) (broken : Option State) (progress : Progress) (other : Key)
+    → (progress.server.leases key).broken_to ≡ broken
+    → ((judged key state broken progress).server.leases other ≡ progress.server.leases other)
+    ⊎ IsEnded (progress.server.leases other) ((judged key state broken progress).server.leases other)
+judged-lease key state None progress other e = inl refl
+judged-lease key state (Some lowered) progress other e =
+    if_cases (λ p. (p.server.leases other ≡ progress.server.leases other)
+    ⊎ IsEnded (progress.server.leases other) (p.server.leases other))
+    (is_within state lowered) (break_ended key state progress)
+    (replied key.client (Reply.AckFailed Status.RequestNotAccepted) progress)
+    (λ part. ended-lease key state lowered progress other e part) (λ part. inl refl)
+
+-- any acknowledgment
+acknowledged-lease : (client : ℕ) (given : Option LeaseOf) (progress : Progress) (other : Key)
+    → ((acknowledged client given progress).server.leases other ≡ progress.server.leases other)
+    ⊎ IsEnded (progress.server.leases other) ((acknowledged client given progress).server.leases other)
+unfolding acknowledged
+acknowledged-lease client None progress other = inl refl
+acknowledged-lease client (Some given) progress other =
+    if_cases (λ p. (p.server.leases other ≡ progress.server.leases other)
+    ⊎ IsEnded (progress.server.leases other) (p.server.leases other))
+    (has_lease progress.server (key_of client given.key))
+    (judged (key_of client given.key) given.state (progress.server.leases (key_of client given.key)).broken_to
+    progress)
+    (replied client (Reply.AckFailed Status.ObjectNameNotFound) progress)
+    (λ e. judged-lease (key_of client given.key) given.state
+    (progress.server.leases (key_of client given.key)).broken_to progress other refl)
+    (λ e. inl refl)
+
+-- ---- each step
+
+-- what is held has nothing to do with what may be served
+held_left-serves : (client : ℕ) (request : FileRequest) (file : ℕ) (left : List Held) (progress : Progress)
+    → MayServe progress.server client request → MayServe (held_left file left progress).server client request
+unfolding held_left
+held_left-serves client (FileRequest.Create at access share None) file left progress may = absurd may
+held_left-serves client (FileRequest.Create at access share (Some ask)) file left progress may =
+    (may.0, again ask.lease ask.reconnect may.1)
+  where
+    again : (lease : Option LeaseOf) (file_id : Option ℕ)
+        → MayCreate progress.server client at access share lease file_id
+        → MayCreate (record progress.server { held = put progress.server.held file left }) client at access share lease file_id
+    again lease None m = m
+    again lease (Some file_id) m = record { one = m.one; is_there = m.is_there; waits = m.waits }
+held_left-serves client (FileRequest.Read file_id) file left progress may =
+    record { one = may.one; found = may.found; allowed = may.allowed }
+held_left-serves client (FileRequest.Write file_id number patch) file left progress may = record {
+  one = may.one;
+  found = may.found;
+  allowed = record { may = may.allowed.may; fits = may.allowed.fits; alone = may.allowed.alone };
+}
+held_left-serves client (FileRequest.Close file_id) file left progress may =
+    record { one = may.one; found = may.found; allowed = tt }
+
+-- what each step makes of the lease of any key
+pub step-leases : (step : SmallStep) (progress : Progress) → IsSound progress.server
+    → IsGuarded step progress.server
+    → (key : Key) → BecomesBy step progress.server (step_taken step progress).server key
+unfolding lease_lowered break_begun request_held held_left
+step-leases (SmallStep.Answer client request outcome) progress s may key =
+    concluded-lease client request progress outcome key s (end_serves progress.server client request outcome may)
+step-leases (SmallStep.AnswerHeld file before one behind outcome) progress s may key =
+    let left = held_left file (before ++ behind) progress in
+    concluded-lease one.client one.request left outcome key (held_left-sound file (before ++ behind) progress s)
+    (λ ready. held_left-serves one.client one.request file (before ++ behind) progress
+    (end_serves progress.server one.client one.request outcome may.1 ready))
+step-leases (SmallStep.Acknowledge client given) progress s up key = acknowledged-lease client given progress key
+step-leases (SmallStep.Hold file one) progress s may key = refl
+step-leases (SmallStep.Drop other) progress s may key = dropped-lease (is_left_open other) progress key
+step-leases (SmallStep.Lower other lowered) progress s may key =
+    put_key-cases (λ l. (l ≡ progress.server.leases key)
+    ⊎ ((key ≡ other) × (l ≡ record { state = lowered; broken_to = None })))
+    progress.server.leases other (record { state = lowered; broken_to = None }) key
+    (λ same. inr (same, refl)) (λ e. inl refl)
+step-leases (SmallStep.Begin other lowered) progress s may key =
+    put_key-cases (λ l. (l ≡ progress.server.leases key)
+    ⊎ ((key ≡ other) × (l ≡ record { state = (progress.server.leases key).state; broken_to = Some lowered })))
+    progress.server.leases other
+    (record { state = (progress.server.leases other).state; broken_to = Some lowered }) key
+    (λ same. inr (same, ap (λ k. begun (progress.server.leases k).state) (sym same))) (λ e. inl refl)
+  where
+    begun : State → Lease
+    begun state = record { state = state; broken_to = Some lowered }
+
+-- ---- what is breaking was told
+
+-- told among fewer outs
+told_more : (key : Key) (lowered : State) (before after : List Out) (more : List Out) → after ≡ before ++ more
+    → IsBreakTold key lowered before → IsBreakTold key lowered after
+told_more key lowered before after more e told = record {
+  current = told.current;
+  is_told = subst (λ outs. Among (Out.Sent key.client (break_notice key told.current lowered)) outs) (sym e)
+      (among_before _ before more told.is_told);
+}
+
+-- what is breaking stayed so, where its lease stayed
+still_breaking : (before after : Lease) (lowered : State) → after ≡ before → after.broken_to ≡ Some lowered
+    → before.broken_to ≡ Some lowered
+still_breaking before after lowered same e = ap (λ l. l.broken_to) (sym same) ∙ e
+
+-- a lease that isn't breaking isn't breaking to anything
+not_settled : {X : Type 0} (lease : Lease) (lowered : State) → is_breaking lease ≡ false
+    → lease.broken_to ≡ Some lowered → X
+not_settled lease lowered settled e = clash (is_breaking lease) (ap (λ b. is_some b) e) settled
+
+-- a key without an open isn't breaking
+not_gone : {X : Type 0} (server : Server) (key : Key) (lowered : State) → IsSound server
+    → has_lease server key ≡ false → (server.leases key).broken_to ≡ Some lowered → X
+not_gone server key lowered s gone e =
+    not_settled (server.leases key) lowered (ap (λ l. is_breaking l) (s.no_open key gone)) e
+
+-- where a lease stays, is gone or rises, nothing new is breaking
+rises_breaking : (before after : Server) (key : Key) (lowered : State) → IsSound after
+    → StaysOrRises before after key → (after.leases key).broken_to ≡ Some lowered
+    → (before.leases key).broken_to ≡ Some lowered
+rises_breaking before after key lowered s what e = ⊎_elim
+    (λ same. still_breaking (before.leases key) (after.leases key) lowered same e)
+    (λ other. ⊎_elim (λ gone. not_gone after key lowered s gone e)
+    (λ raised. not_settled (after.leases key) lowered raised.is_settled e) other) what
+
+-- one break that has begun
+begun_told : (key : Key) (lowered : State) (progress : Progress) (to : State) (new : Lease)
+    → new ≡ record { state = (progress.server.leases key).state; broken_to = Some to }
+    → new.broken_to ≡ Some lowered
+    → IsBreakTold key lowered (progress.outs
+    ++ Out.Sent key.client (break_notice key (progress.server.leases key).state to) ∷ [])
+begun_told key lowered progress to new is e =
+    let same : to ≡ lowered = some_state to lowered (sym (ap (λ l. l.broken_to) is) ∙ e) in
+    record {
+      current = (progress.server.leases key).state;
+      is_told = among_behind _ progress.outs _
+          (inl (ap (λ s. Out.Sent key.client (break_notice key (progress.server.leases key).state s)) (sym same)));
+    }
+  where
+    some_state : (a b : State) → Some a ≡ Some b → a ≡ b
+    some_state a b e = cc
+
+-- what a step leaves breaking was breaking so, or was told by it
+step-told : (step : SmallStep) (progress : Progress) → IsSound progress.server
+    → IsGuarded step progress.server → (key : Key) (lowered : State)
+    → ((step_taken step progress).server.leases key).broken_to ≡ Some lowered
+    → ((progress.server.leases key).broken_to ≡ Some lowered)
+    ⊎ IsBreakTold key lowered (step_taken step progress).outs
+step-told (SmallStep.Answer client request outcome) progress s g key lowered e =
+    let step = SmallStep.Answer client request outcome in
+    inl (rises_breaking progress.server (step_taken step progress).server key lowered (step-sound step progress s g)
+    (step-leases step progress s g key) e)
+step-told (SmallStep.AnswerHeld file before one behind outcome) progress s g key lowered e =
+    let step = SmallStep.AnswerHeld file before one behind outcome in
+    inl (rises_breaking progress.server (step_taken step progress).server key lowered (step-sound step progress s g)
+    (step-leases step progress s g key) e)
+step-told (SmallStep.Acknowledge client given) progress s g key lowered e =
+    let step = SmallStep.Acknowledge client given in
+    inl (⊎_elim (λ same. still_breaking _ _ lowered same e)
+    (λ ended. not_settled ((step_taken step progress).server.leases key) lowered ended.is_settled e)
+    (step-leases step progress s g key))
+step-told (SmallStep.Hold file one) progress s g key lowered e =
+    inl (still_breaking _ _ lowered (step-leases (SmallStep.Hold file one) progress s g key) e)
+step-told (SmallStep.Drop other) progress s g key lowered e =
+    let step = SmallStep.Drop other in
+    inl (⊎_elim (λ same. still_breaking _ _ lowered same e)
+    (λ gone. not_gone (step_taken step progress).server key lowered (step-sound step progress s g) gone e)
+    (step-leases step progress s g key))
+step-told (SmallStep.Lower other to) progress s g key lowered e =
+    let step = SmallStep.Lower other to in
+    inl (⊎_elim (λ same. still_breaking _ _ lowered same e)
+    (λ new. not_settled ((step_taken step progress).server.leases key) lowered (ap (λ l. is_breaking l) new.1) e)
+    (step-leases step progress s g key))
+step-told (SmallStep.Begin other to) progress s g key lowered e =
+    let step = SmallStep.Begin other to in
+    ⊎_elim (λ same. inl (still_breaking _ _ lowered same e))
+    (λ new. inr (subst (λ outs. IsBreakTold key lowered outs) (sym (step-tells step progress))
+    (subst (λ k. IsBreakTold key lowered (progress.outs
+    ++ Out.Sent k.client (break_notice k (progress.server.leases k).state to) ∷ [])) new.0
+    (begun_told key lowered progress to ((step_taken step progress).server.leases key) new.1 e))))
+    (step-leases step progress s g key)
+
+-- a step's outs go on from those before it
+step_more : (step : SmallStep) (progress : Progress)
+    → (more : List Out) × ((step_taken step progress).outs ≡ progress.outs ++ more)
+step_more (SmallStep.Answer client request outcome) progress =
+    let t = step-tells (SmallStep.Answer client request outcome) progress in (t.more, t.are_more)
+step_more (SmallStep.AnswerHeld file before one behind outcome) progress =
+    let t = step-tells (SmallStep.AnswerHeld file before one behind outcome) progress in (t.more, t.are_more)
+step_more (SmallStep.Acknowledge client given) progress =
+    let t = step-tells (SmallStep.Acknowledge client given) progress in (t.more, t.are_more)
+step_more (SmallStep.Hold file one) progress =
+    let t = step-tells (SmallStep.Hold file one) progress in (t.more, t.are_more)
+step_more (SmallStep.Drop key) progress = let t = step-tells (SmallStep.Drop key) progress in (t.more, t.are_more)
+step_more (SmallStep.Lower key lowered) progress = (_, step-tells (SmallStep.Lower key lowered) progress)
+step_more (SmallStep.Begin key lowered) progress = (_, step-tells (SmallStep.Begin key lowered) progress)
+
+-- so do those of steps
+steps_more : (steps : List SmallStep) (progress : Progress)
+    → (more : List Out) × ((steps_taken steps progress).outs ≡ progress.outs ++ more)
+steps_more [] progress = ([], sym (append-nil progress.outs))
+steps_more (step ∷ steps) progress =
+    let one = step_more step progress in
+    let rest = steps_more steps (step_taken step progress) in
+    (one.0 ++ rest.0, rest.1 ∙ ap (λ outs. outs ++ rest.0) one.1 ∙ append_assoc progress.outs one.0 rest.0)
+
+-- Wherever steps have come, what is breaking was breaking so, or was told.
+pub steps-told : (steps : List SmallStep) (progress : Progress) → IsSound progress.server
+    → AreGuarded steps progress → (key : Key) (lowered : State)
+    → ((steps_taken steps progress).server.leases key).broken_to ≡ Some lowered
+    → ((progress.server.leases key).broken_to ≡ Some lowered)
+    ⊎ IsBreakTold key lowered (steps_taken steps progress).outs
+steps-told [] progress s g key lowered e = inl e
+steps-told (step ∷ steps) progress s g key lowered e =
+    let next = step_taken step progress in
+    let more = steps_more steps next in
+    ⊎_elim
+    (λ was. ⊎_elim (λ old. inl old)
+    (λ told. inr (told_more key lowered next.outs (steps_taken steps next).outs more.0 more.1 told))
+    (step-told step progress s g.0 key lowered was))
+    (λ told. inr told)
+    (steps-told steps next (step-sound step progress s g.0) g.1 key lowered e)

@@ -1,0 +1,311 @@
+-- What guarded small steps give out.
+use Rattle.std.proofs.Common.{◌≡◌, ◌⊎◌, inl, inr, ⊎_elim, refl, sym, ap, ◌∙◌, subst, ℕ, Bool, true, false, List, [], ◌∷◌, ◌++◌, append-nil, append_assoc, true≢false, ◌==◌}
+use Rattle.std.specs.Prelude.{⊤, ◌&&◌, bytes_eq, Option, Some, None}
+use Rattle.std.proofs.lemmas.Bool.Decides.{Decides-eqb}
+use Rattle.lease_state.specs.State.{State}
+use Rattle.lease_state.specs.declared.access.Access.{Access}
+use Rattle.lease_state.specs.declared.access.Share.{Share}
+use Rattle.lease_state.specs.declared.patch.Patch.{Patch}
+use Rattle.lease_state.specs.declared.status.Status.{Status}
+use Rattle.lease_model.specs.messages.Replies.{Reply, Out}
+use Rattle.lease_model.specs.messages.Requests.{FileRequest, CreateAsk, LeaseOf}
+use Rattle.lease_model.specs.server.Acknowledge.{acknowledged, judged, break_ended}
+use Rattle.lease_model.specs.server.Answers.{concluded, answered, created, closed, changed, read_done, on_open, on_contexts}
+use Rattle.lease_model.specs.server.Attempt.{Outcome, is_left_open}
+use Rattle.lease_model.specs.server.Calls.{Call, called}
+use Rattle.lease_model.specs.server.Findings.{connected_open}
+use Rattle.lease_model.specs.server.Grant.{granted, granted_with, lease_after, reconnected}
+use Rattle.lease_model.specs.server.Naming.{key_of}
+use Rattle.lease_model.specs.server.Progress.{Progress, opens_dropped, lease_lowered, break_begun, request_held, held_left, replied, refused, refusal_of}
+use Rattle.lease_model.specs.server.State.{Server, Open, Lease, Held, is_key, has_key, has_lease}
+use Rattle.lease_model.specs.values.Keys.{Key}
+use Rattle.lease_model.specs.values.LeaseStates.{is_within}
+use Rattle.lease_model.specs.values.Limits.{last_file_id}
+use Rattle.lease_model.specs.values.Patches.{is_within_limit}
+use Rattle.lease_laws.specs.server.Laws.{Among, IsSound}
+use Rattle.lease_laws.specs.server.Outs.{EachOut, IsNoBreak, GoOn}
+use Rattle.lease_laws.specs.server.SmallSteps.{SmallStep, step_taken, steps_taken, IsGuarded, AreGuarded, MayLower, MayServe, MayEnd, call_begun}
+use Rattle.lease_laws.specs.server.StepLaws.{TellsBreaks, IsToPresent, IsShort}
+use Rattle.lease_laws.specs.server.Waiting.{WaitsWell}
+use Rattle.lease_laws.proofs.server.Goes.{Goes, GoesOn}
+use Rattle.lease_laws.proofs.server.Lists.{if_cases, and_parts, any_has}
+use Rattle.lease_laws.proofs.server.OutCalls.{concluded-answers, request_held-outs, held_left-outs}
+use Rattle.lease_laws.proofs.server.OutLists.{each_append, each_weaker, go_on-same, go_on-twice, go_on-weaker, answers_go_on}
+use Rattle.lease_laws.proofs.server.OutSteps.{opens_dropped-outs, acknowledged-answered}
+use Rattle.lease_laws.proofs.server.StepCalls.{called-steps, call_begun-silent, call_begun-up}
+use Rattle.lease_laws.proofs.server.StepKeeps.{OpensUp, goes-up, step-sound, step-goes, end_up, end_serves}
+
+-- ---- the end of a request gives its client out, and the change that it asks for
+
+abbrev IsOfRequest : ℕ → FileRequest → Out → Type 0
+IsOfRequest client request (Out.Sent to reply) = to ≡ client
+IsOfRequest client request (Out.Opened file by) = by ≡ client
+IsOfRequest client request (Out.Changed file by number patch) =
+    (file_id : ℕ) × (request ≡ FileRequest.Write file_id number patch)
+
+-- outs that go on so
+abbrev GoesOut : ℕ → FileRequest → Progress → Progress → Type 0
+GoesOut client request before after = GoOn (IsOfRequest client request) before.outs after.outs
+
+-- one reply
+replied-out : (client : ℕ) (request : FileRequest) (reply : Reply) (progress : Progress)
+    → GoesOut client request progress (replied client reply progress)
+replied-out client request reply progress =
+    record { more = Out.Sent client reply ∷ []; are_more = refl; each = (refl, tt) }
+
+-- a close
+closed-out : (client file_id : ℕ) (request : FileRequest) (progress : Progress)
+    → GoesOut client request progress (closed client file_id progress)
+unfolding closed
+closed-out client file_id request progress = subst
+    (λ outs. GoOn (IsOfRequest client request) outs (closed client file_id progress).outs)
+    (opens_dropped-outs (λ one. one.file_id == file_id) progress)
+    (replied-out client request (Reply.Closed file_id) (opens_dropped (λ one. one.file_id == file_id) progress))
+
+-- a change
+changed-out : (client file file_id number : ℕ) (patch : Patch) (progress : Progress)
+    → GoesOut client (FileRequest.Write file_id number patch) progress
+    (changed client file file_id number patch progress)
+unfolding changed
+changed-out client file file_id number patch progress = record {
+  more = Out.Changed file client number patch ∷ Out.Sent client (Reply.WriteDone file_id number) ∷ [];
+  are_more = refl;
+  each = ((file_id, refl), (refl, tt));
+}
+
+-- a create
+created-out : (client file : ℕ) (access : Access) (share : Share) (asked : Option LeaseOf) (durable : Bool)
+    (again : Option ℕ) (request : FileRequest) (progress : Progress)
+    → GoesOut client request progress (created client file access share asked durable again progress)
+unfolding granted granted_with reconnected
+created-out client file access share asked durable None request progress =
+    if_cases (GoesOut client request progress) (progress.server.last_id == last_file_id)
+    (replied client (Reply.CreateFailed file Status.InsufficientResources) progress)
+    (granted_with client file access share asked durable (lease_after progress.server client file asked) progress)
+    (λ e. replied-out client request (Reply.CreateFailed file Status.InsufficientResources) progress)
+    (λ e. record { more = _; are_more = refl; each = (refl, (refl, tt)) })
+created-out client file access share asked durable (Some file_id) request progress =
+    record { more = _; are_more = refl; each = (refl, tt) }
+
+-- by an open
+on_open-out : (client : ℕ) (request : FileRequest) (one : Option Open) (done : ℕ → Progress → Progress)
+    (progress : Progress) → ((file : ℕ) → GoesOut client request progress (done file progress))
+    → GoesOut client request progress (on_open one done progress)
+on_open-out client request None done progress each = go_on-same (IsOfRequest client request) progress.outs
+on_open-out client request (Some one) done progress each = each one.file
+
+-- by contexts
+on_contexts-out : (client : ℕ) (request : FileRequest) (contexts : Option CreateAsk)
+    (done : CreateAsk → Progress → Progress) (progress : Progress)
+    → ((ask : CreateAsk) → GoesOut client request progress (done ask progress))
+    → GoesOut client request progress (on_contexts contexts done progress)
+on_contexts-out client request None done progress each = go_on-same (IsOfRequest client request) progress.outs
+on_contexts-out client request (Some ask) done progress each = each ask
+
+-- any request
+concluded-out : (client : ℕ) (request : FileRequest) (progress : Progress) (outcome : Outcome)
+    → GoesOut client request progress (concluded client request progress outcome)
+unfolding refused answered
+concluded-out client request progress (Outcome.Refused status) =
+    replied-out client request (refusal_of request status) progress
+concluded-out client request progress Outcome.Waits = go_on-same (IsOfRequest client request) progress.outs
+concluded-out client (FileRequest.Create file access share contexts) progress Outcome.Ready =
+    on_contexts-out client (FileRequest.Create file access share contexts) contexts _ progress
+    (λ ask. created-out client file access share ask.lease ask.durable ask.reconnect _ progress)
+concluded-out client (FileRequest.Read file_id) progress Outcome.Ready =
+    on_open-out client (FileRequest.Read file_id) (connected_open progress.server client file_id)
+    (λ file. read_done client file file_id) progress
+    (λ file. replied-out client (FileRequest.Read file_id)
+    (Reply.ReadDone file_id (progress.server.contents file)) progress)
+concluded-out client (FileRequest.Write file_id number patch) progress Outcome.Ready =
+    on_open-out client (FileRequest.Write file_id number patch) (connected_open progress.server client file_id)
+    (λ file. changed client file file_id number patch) progress
+    (λ file. changed-out client file file_id number patch progress)
+concluded-out client (FileRequest.Close file_id) progress Outcome.Ready =
+    on_open-out client (FileRequest.Close file_id) (connected_open progress.server client file_id)
+    (λ file. closed client file_id) progress
+    (λ file. closed-out client file_id (FileRequest.Close file_id) progress)
+
+-- an acknowledgment gives out one reply to its client
+abbrev IsSentTo : ℕ → Out → Type 0
+IsSentTo client (Out.Sent to reply) = to ≡ client
+IsSentTo client out = ⊥
+
+sent-out : (client : ℕ) (reply : Reply) (progress : Progress)
+    → GoOn (IsSentTo client) progress.outs (replied client reply progress).outs
+sent-out client reply progress =
+    record { more = Out.Sent client reply ∷ []; are_more = refl; each = (refl, tt) }
+
+-- however it is judged
+judged-out : (key : Key) (state : State) (broken : Option State) (progress : Progress)
+    → GoOn (IsSentTo key.client) progress.outs (judged key state broken progress).outs
+unfolding break_ended
+judged-out key state None progress = sent-out key.client (Reply.AckFailed Status.Unsuccessful) progress
+judged-out key state (Some lowered) progress =
+    if_cases (λ p. GoOn (IsSentTo key.client) progress.outs p.outs) (is_within state lowered)
+    (break_ended key state progress)
+    (replied key.client (Reply.AckFailed Status.RequestNotAccepted) progress)
+    (λ e. record { more = _; are_more = refl; each = (refl, tt) })
+    (λ e. sent-out key.client (Reply.AckFailed Status.RequestNotAccepted) progress)
+
+acknowledged-out : (client : ℕ) (given : Option LeaseOf) (progress : Progress)
+    → GoOn (IsSentTo client) progress.outs (acknowledged client given progress).outs
+unfolding acknowledged
+acknowledged-out client None progress = sent-out client (Reply.AckFailed Status.InvalidParameter) progress
+acknowledged-out client (Some given) progress =
+    if_cases (λ p. GoOn (IsSentTo client) progress.outs p.outs)
+    (has_lease progress.server (key_of client given.key))
+    (judged (key_of client given.key) given.state (progress.server.leases (key_of client given.key)).broken_to
+    progress)
+    (replied client (Reply.AckFailed Status.ObjectNameNotFound) progress)
+    (λ e. judged-out (key_of client given.key) given.state
+    (progress.server.leases (key_of client given.key)).broken_to progress)
+    (λ e. sent-out client (Reply.AckFailed Status.ObjectNameNotFound) progress)
+
+-- ---- each step's outs find their clients and are short
+
+abbrev IsFine : Server → Out → Type 0
+IsFine server out = IsToPresent server out × IsShort out
+
+-- what a request gives out
+of_request : (server : Server) (client : ℕ) (request : FileRequest) (outcome : Outcome)
+    → server.present client ≡ true → (outcome ≡ Outcome.Ready → MayServe server client request)
+    → outcome ≡ Outcome.Ready → (out : Out) → IsOfRequest client request out → IsFine server out
+of_request server client request outcome up serves ready (Out.Sent to reply) e =
+    (ap (λ c. server.present c) e ∙ up, tt)
+of_request server client request outcome up serves ready (Out.Opened file by) e = (tt, tt)
+of_request server client request outcome up serves ready (Out.Changed file by number patch) e =
+    (tt, fits request e.1 (serves ready))
+  where
+    fits : (asked : FileRequest) → asked ≡ FileRequest.Write e.0 number patch → MayServe server client asked
+        → is_within_limit patch ≡ true
+    fits asked same may = (subst (λ q. MayServe server client q) same may).allowed.fits
+
+-- a refusal is one reply
+refused_fine : (server : Server) (client : ℕ) (request : FileRequest) (status : Status) (progress : Progress)
+    → server.present client ≡ true
+    → GoOn (IsFine server) progress.outs (refused client request status progress).outs
+unfolding refused
+refused_fine server client request status progress up =
+    record { more = _; are_more = refl; each = ((up, tt), tt) }
+
+-- the end of a request
+concluded_fine : (server : Server) (client : ℕ) (request : FileRequest) (progress : Progress) (outcome : Outcome)
+    → MayEnd server client request outcome
+    → GoOn (IsFine server) progress.outs (concluded client request progress outcome).outs
+concluded_fine server client request progress (Outcome.Refused status) may =
+    refused_fine server client request status progress may.0
+concluded_fine server client request progress Outcome.Waits may = absurd may
+concluded_fine server client request progress Outcome.Ready may = go_on-weaker (IsOfRequest client request)
+    (IsFine server) (of_request server client request Outcome.Ready may.0 (λ e. may.1) refl) progress.outs
+    (concluded client request progress Outcome.Ready).outs (concluded-out client request progress Outcome.Ready)
+
+-- a Break goes to a client that is there
+break_fine : (server : Server) (key : Key) (lowered : State) → OpensUp server → MayLower server key lowered
+    → server.present key.client ≡ true
+break_fine server key lowered up may =
+    let x = any_has (has_key key) server.opens may.is_there in
+    own (x.0).client (x.0).lease_key x.2 (up x.0 x.1 (may.are_connected x.0 x.1 x.2))
+  where
+    own : (client : ℕ) (bytes : Option (List ℕ)) → is_key key client bytes ≡ true
+        → server.present client ≡ true → server.present key.client ≡ true
+    own client None k p = absurd (true≢false (sym k))
+    own client (Some bytes) k p = ap (λ c. server.present c)
+        ((Decides-eqb key.client client).0 (and_parts (key.client == client) (bytes_eq key.bytes bytes) k).0) ∙ p
+
+-- each step
+step_fine : (step : SmallStep) (progress : Progress) → OpensUp progress.server
+    → IsGuarded step progress.server
+    → GoOn (IsFine progress.server) progress.outs (step_taken step progress).outs
+unfolding lease_lowered break_begun
+step_fine (SmallStep.Answer client request outcome) progress up may =
+    concluded_fine progress.server client request progress outcome may
+step_fine (SmallStep.AnswerHeld file before one behind outcome) progress up may = subst
+    (λ outs. GoOn (IsFine progress.server) outs
+    (concluded one.client one.request (held_left file (before ++ behind) progress) outcome).outs)
+    (held_left-outs file (before ++ behind) progress)
+    (concluded_fine progress.server one.client one.request (held_left file (before ++ behind) progress) outcome may.1)
+step_fine (SmallStep.Acknowledge client given) progress up may = go_on-weaker (IsSentTo client)
+    (IsFine progress.server) (sent_fine client may) progress.outs
+    (acknowledged client given progress).outs (acknowledged-out client given progress)
+  where
+    sent_fine : (to : ℕ) → progress.server.present to ≡ true → (out : Out) → IsSentTo to out
+        → IsFine progress.server out
+    sent_fine to there (Out.Sent c reply) e = (ap (λ x. progress.server.present x) e ∙ there, tt)
+    sent_fine to there (Out.Opened file by) e = absurd e
+    sent_fine to there (Out.Changed file by number patch) e = absurd e
+step_fine (SmallStep.Hold file one) progress up may = subst
+    (λ outs. GoOn (IsFine progress.server) progress.outs outs) (sym (request_held-outs file one progress))
+    (go_on-same (IsFine progress.server) progress.outs)
+step_fine (SmallStep.Drop key) progress up may = subst
+    (λ outs. GoOn (IsFine progress.server) progress.outs outs) (sym (opens_dropped-outs (is_left_open key) progress))
+    (go_on-same (IsFine progress.server) progress.outs)
+step_fine (SmallStep.Lower key lowered) progress up may =
+    record { more = _; are_more = refl; each = ((break_fine progress.server key lowered up may.0, tt), tt) }
+step_fine (SmallStep.Begin key lowered) progress up may =
+    record { more = _; are_more = refl; each = ((break_fine progress.server key lowered up may.0, tt), tt) }
+
+-- ---- all steps, and calls
+
+-- the same clients are there, so the same is to them
+same_present : (before after : Server) → ((client : ℕ) → after.present client ≡ before.present client)
+    → (out : Out) → IsFine before out → IsFine after out
+same_present before after same (Out.Sent client reply) f = (same client ∙ f.0, tt)
+same_present before after same (Out.Opened file client) f = f
+same_present before after same (Out.Changed file client number patch) f = f
+
+steps_fine : (steps : List SmallStep) (progress : Progress) → IsSound progress.server → OpensUp progress.server
+    → AreGuarded steps progress → EachOut (IsFine progress.server) progress.outs
+    → EachOut (IsFine (steps_taken steps progress).server) (steps_taken steps progress).outs
+steps_fine [] progress s up guarded each = each
+steps_fine (step ∷ steps) progress s up guarded each =
+    let next = step_taken step progress in
+    let go = step-goes step progress s guarded.0 in
+    let more = step_fine step progress up guarded.0 in
+    steps_fine steps next (step-sound step progress s guarded.0)
+    (goes-up progress.server next.server go up) guarded.1
+    (each_weaker (IsFine progress.server) (IsFine next.server)
+    (same_present progress.server next.server go.ups) next.outs
+    (subst (EachOut (IsFine progress.server)) (sym more.are_more)
+    (each_append (IsFine progress.server) progress.outs more.more each more.each)))
+
+-- any call
+called_fine : (server : Server) (call : Call) → IsSound server → WaitsWell server
+    → EachOut (IsFine (called server call).server) (called server call).outs
+called_fine server call s w =
+    let start = call_begun server call in
+    let go = called-steps server call s w in
+    let first = call_begun-up server call s w in
+    subst (λ p. EachOut (IsFine p.server) p.outs) (sym go.lead)
+    (steps_fine go.steps start first.sound first.up go.are_guarded
+    (subst (EachOut (IsFine start.server)) (sym (call_begun-silent server call)) tt))
+
+pub replies-find : (server : Server) (call : Call) → IsSound server → WaitsWell server
+    → EachOut (IsToPresent (called server call).server) (called server call).outs
+replies-find server call s w = each_weaker (IsFine (called server call).server)
+    (IsToPresent (called server call).server) (λ out f. f.0) (called server call).outs (called_fine server call s w)
+
+pub changes-short : (server : Server) (call : Call) → IsSound server → WaitsWell server
+    → EachOut IsShort (called server call).outs
+changes-short server call s w = each_weaker (IsFine (called server call).server) IsShort (λ out f. f.1)
+    (called server call).outs (called_fine server call s w)
+
+-- ---- breaks
+
+-- each step tells its own
+pub step-tells : (step : SmallStep) (progress : Progress) → TellsBreaks step progress
+unfolding lease_lowered break_begun
+step-tells (SmallStep.Answer client request outcome) progress = concluded-answers client request progress outcome
+step-tells (SmallStep.AnswerHeld file before one behind outcome) progress = subst
+    (λ outs. GoOn IsNoBreak outs
+    (concluded one.client one.request (held_left file (before ++ behind) progress) outcome).outs)
+    (held_left-outs file (before ++ behind) progress)
+    (concluded-answers one.client one.request (held_left file (before ++ behind) progress) outcome)
+step-tells (SmallStep.Acknowledge client given) progress = answers_go_on progress.outs
+    (acknowledged client given progress).outs (acknowledged-answered client given progress)
+step-tells (SmallStep.Hold file one) progress = subst (λ outs. GoOn IsNoBreak progress.outs outs)
+    (sym (request_held-outs file one progress)) (go_on-same IsNoBreak progress.outs)
+step-tells (SmallStep.Drop key) progress = subst (λ outs. GoOn IsNoBreak progress.outs outs)
+    (sym (opens_dropped-outs (is_left_open key) progress)) (go_on-same IsNoBreak progress.outs)
+step-tells (SmallStep.Lower key lowered) progress = refl
+step-tells (SmallStep.Begin key lowered) progress = refl

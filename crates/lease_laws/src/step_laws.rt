@@ -1,0 +1,29 @@
+ghost use Rattle.lease_laws.specs.server.SmallSteps.{CallsGoBySteps, CallsBeginInSilence};
+ghost use Rattle.lease_laws.specs.server.StepLaws.{LeasesOfSteps, BreaksOfSteps, BreaksAreTold, RepliesFindTheirClients, ChangesAreShort, StepsKeepTheLaws};
+
+/// Every call of a server goes by small steps, each of which is taken only where its guard holds: a
+/// write, say, changes its file only where each other key on it holds nothing or is breaking to
+/// nothing. What comes before the first step gives nothing out, and each step keeps the laws of servers.
+/// Does nothing.
+pub fn calls_go_by_steps()
+    ensures steps { CallsGoBySteps }
+    ensures silence { CallsBeginInSilence }
+    ensures kept { StepsKeepTheLaws }
+{}
+
+/// What small steps make of leases and tell of breaks. A lease is lowered, or begins to break, only by a step
+/// that names it and tells its Break, with the state that it had and the one that it is lowered to. So
+/// wherever a call has come, what is breaking was breaking when it began, or its Break was told already.
+/// Does nothing.
+pub fn breaks_of_steps()
+    ensures leases { LeasesOfSteps }
+    ensures told { BreaksOfSteps }
+    ensures always_told { BreaksAreTold }
+{}
+
+/// What any call gives out: each reply goes to a client whose connection the server has after the call, and
+/// each change ends within the limit of a file. Does nothing.
+pub fn outs_reach_and_fit()
+    ensures replies { RepliesFindTheirClients }
+    ensures changes { ChangesAreShort }
+{}
