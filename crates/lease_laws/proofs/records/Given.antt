@@ -25,6 +25,7 @@ use Rattle.lease_state.specs.declared.patch.Patch.{Patch}
 use Rattle.lease_model.specs.records.Past.{is_settled}
 use Rattle.lease_model.specs.values.Tables.{put}
 use Rattle.lease_laws.proofs.client.Entries.{first_entries, called_entries}
+use Rattle.lease_laws.proofs.client.InFiles.{first_in_files, called_in_files}
 use Rattle.lease_laws.proofs.client.Notes.{called_tells}
 use Rattle.lease_laws.proofs.client.Numbers.{first_numbers, called_numbers}
 use Rattle.lease_laws.proofs.client.Thin.{put_same, put_other}
@@ -33,13 +34,18 @@ use Rattle.lease_model.specs.client.State.{new_client}
 
 -- a new client is sound
 new_sound : (guid : List ℕ) (files : ℕ) → IsSoundClient (new_client guid files)
-new_sound guid files = record { entries = first_entries guid files; numbers = first_numbers guid files }
+new_sound guid files = record {
+  entries = first_entries guid files;
+  in_files = first_in_files guid files;
+  numbers = first_numbers guid files;
+}
 
 -- and every call keeps it so
 called_sound : (client : Client) (call : ClientCall) → IsSoundClient client
     → IsSoundClient (client_called client call).client
 called_sound client call sound = record {
   entries = called_entries client call sound.entries;
+  in_files = called_in_files client call sound.in_files;
   numbers = called_numbers client call sound.entries sound.numbers;
 }
 

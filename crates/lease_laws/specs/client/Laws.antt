@@ -1,11 +1,13 @@
 -- What is true of every client machine, whatever commands and messages come to it, in any order.
-use Rattle.std.specs.Prelude.{◌≡◌, ◌≢◌, ℕ, Bool, true, false, None, List, [], ◌∷◌, ◌++◌, ◌&&◌, nat_lt, nat_le, ◌≤◌, ◌<◌}
+use Rattle.std.specs.Prelude.{◌≡◌, ◌≢◌, ℕ, Bool, true, false, None, List, [], ◌∷◌, ◌++◌, ◌&&◌, ◌==◌, if◌then◌else◌, nat_lt, nat_le, ◌≤◌, ◌<◌}
 use Rattle.std.specs.List.{list_all, list_any}
-use Rattle.lease_model.specs.client.Commanded.{is_asking}
+use Rattle.lease_model.specs.client.Commanded.{is_asking, commanded}
 use Rattle.lease_model.specs.client.Calls.{ClientCall, client_called}
-use Rattle.lease_model.specs.client.Commands.{Note}
+use Rattle.lease_model.specs.client.Commands.{Command, Answer, Refusal, Note}
 use Rattle.lease_model.specs.client.Taken.{is_numbered}
-use Rattle.lease_model.specs.client.State.{Client, Entry, LiveEntry, Pending, Phase, new_client}
+use Rattle.lease_model.specs.client.State.{Client, Entry, LiveEntry, Pending, Phase, new_client, knows_file, belief}
+use Rattle.lease_model.specs.client.Step.{refused_step}
+use Rattle.lease_state.specs.State.{State}
 
 -- each of the writes was answered before it was sent
 abbrev pub are_buffered : List Pending → Bool
@@ -63,9 +65,10 @@ pub record HaveOwnNumbers (last : ℕ) (writes : ℕ → List Pending) : Type 0 
   pub apart : (file other number : ℕ) → file ≢ other → has_number number (writes file) ≡ true
       → has_number number (writes other) ≡ false
 
--- The laws of a client.
+-- The laws of a client. Entries of files that it doesn't know are closed.
 pub record IsSoundClient (client : Client) : Type 0 where
   pub entries : (file : ℕ) → IsSoundEntry client.is_online (client.entries file)
+  pub in_files : (file : ℕ) → knows_file client file ≡ false → (client.entries file).phase ≡ Phase.Closed
   pub numbers : HaveOwnNumbers client.last_number (λ file. unanswered_in (client.entries file))
 
 -- The laws hold of a new client,
@@ -92,3 +95,24 @@ abbrev pub NotesTellNumbers : Type 0
 NotesTellNumbers = (client : Client) (call : ClientCall) → IsSoundClient client
     → TellNumbers client.last_number (client_called client call).notes
     (client_called client call).client.last_number
+
+-- What a client believes of a file's lease after these notes, from what it believed before.
+abbrev pub believed_after : ℕ → State → List Note → State
+believed_after file old [] = old
+believed_after file old (Note.Believes of_file state ∷ notes) =
+    believed_after file (if of_file == file then state else old) notes
+believed_after file old (Note.Settled number outcome ∷ notes) = believed_after file old notes
+believed_after file old (Note.Wrote of_file number patch buffered ∷ notes) = believed_after file old notes
+believed_after file old (Note.CachedRead of_file bytes ∷ notes) = believed_after file old notes
+
+-- The notes of every call tell what the client believes after it.
+abbrev pub NotesTellBeliefs : Type 0
+NotesTellBeliefs = (client : Client) (call : ClientCall) → IsSoundClient client → (file : ℕ)
+    → believed_after file (belief client file) (client_called client call).notes
+    ≡ belief (client_called client call).client file
+
+-- A refused command changes nothing, sends nothing and notes nothing.
+abbrev pub RefusedCommandsDoNothing : Type 0
+RefusedCommandsDoNothing = (client : Client) (command : Command) (refusal : Refusal)
+    → (commanded client command).answer ≡ Answer.Refused refusal
+    → commanded client command ≡ refused_step client refusal
