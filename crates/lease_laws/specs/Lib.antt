@@ -2,3 +2,4 @@ pub mod client
 pub mod messages
 pub mod records
 pub mod server
+pub mod world

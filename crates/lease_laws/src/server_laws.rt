@@ -9,7 +9,7 @@ ghost use Rattle.lease_model.specs.messages.Requests.{FileRequest, Request};
 ghost use Rattle.lease_laws.specs.server.Laws.{Among, IsSound, IsBlocked, HasToWait};
 ghost use Rattle.lease_laws.specs.server.Outs.{EachOut, IsFlaggedRightly, ArePaired, IsBreak, IsNoBreak, GoOn, AreBreaksFirst, IsAlone, CachesAlone};
 ghost use Rattle.lease_model.specs.server.State.{Server, Open, new_server, has_key};
-ghost use Rattle.lease_laws.specs.server.Waiting.{WaitsWell};
+ghost use Rattle.lease_laws.specs.server.Waiting.{WaitsWell, WritersDontWait};
 ghost use Rattle.lease_laws.specs.server.Wanted.{WantsAreExact};
 ghost use Rattle.lease_model.specs.server.Findings.{connected_open};
 
@@ -21,18 +21,18 @@ pub fn laws_of_servers()
 
 /// The laws of waiting hold of the first server, and every call keeps them: who is connected, on which
 /// file requests are held, and that the first held request of each client there waits for a break of
-/// another key. So a key that holds W on a file has no request of its own waiting there.
+/// another key, a write for one that leaves something. So where a key that holds W has an open, no first
+/// held request of a client stands under it.
 pub fn waiting_of_servers()
     ensures first { (contents : List (List ℕ)) → WaitsWell (new_server contents) }
     ensures kept { (server : Server) (call : Call) → IsSound server → WaitsWell server → WaitsWell (called server call).server }
-    ensures writer { (server : Server) (key : Key) (one : Open) → IsSound server → (server.leases key).state.write ≡ true
-        → Among one server.opens → has_key key one ≡ true → IsBlocked server (Some key) one.file → ⊥ }
+    ensures writers { WritersDontWait }
 {}
 
 /// What a call gives out. Breaks are flagged rightly. A Changed stands directly before its WriteDone.
 /// The Breaks for a request stand before its answer, and so before its Changed: a try gives out Breaks
 /// alone, and the end of a try none; so it is in the whole of a call that tries one request. And once
-/// a write is ready to be done, no other key on its file caches anything.
+/// a write is ready to be done, each other key on its file holds nothing or is breaking to nothing.
 pub fn outs_of_calls()
     ensures flagged { (server : Server) (call : Call) → EachOut IsFlaggedRightly (called server call).outs }
     ensures paired { (server : Server) (call : Call) → ArePaired None (called server call).outs }

@@ -1,24 +1,26 @@
 -- Every call keeps opens and held requests where they belong, and lets no first held request wait for
 -- nothing.
 use Rattle.std.proofs.Common.{◌≡◌, inl, refl, sym, ap, ◌∙◌, subst, ℕ, Bool, true, false, not, cond, List, map, arith, true≢false, ◌==◌}
-use Rattle.std.specs.Prelude.{Some}
+use Rattle.std.specs.Prelude.{Some, None, Option, find}
 use Rattle.std.specs.List.{list_any}
+use Rattle.lease_laws.proofs.server.Keys.{is_key-one, is_key-refl}
+use Rattle.lease_model.specs.server.Naming.{own_key, key_of, key_under, key_of_open}
 use Rattle.lease_model.specs.server.Calls.{Call, called, join, joined, cut, is_lost, disconnected, opens_disconnected, client_forgotten, key_expired, expire, scavenge, is_left_behind}
 use Rattle.lease_model.specs.values.Keys.{Key}
 use Rattle.lease_model.specs.values.Lists.{without}
 use Rattle.lease_model.specs.server.Passes.{all_passes}
 use Rattle.lease_model.specs.server.Progress.{Progress, begun, opens_dropped}
-use Rattle.lease_model.specs.messages.Requests.{FileRequest}
-use Rattle.lease_laws.specs.server.Laws.{Among, IsSound, IsBlocked}
-use Rattle.lease_model.specs.server.State.{Server, Open, Held, new_server, has_key, has_file, is_breaking}
-use Rattle.lease_laws.specs.server.Waiting.{WaitsWell, IsAbout, IsOpenOn, IsOrderly}
+use Rattle.lease_model.specs.messages.Requests.{FileRequest, CreateAsk}
+use Rattle.lease_laws.specs.server.Laws.{Among, IsSound, IsBlocked, HasToWait}
+use Rattle.lease_model.specs.server.State.{Server, Open, Held, new_server, has_key, has_file, is_breaking, has_own_key, is_key}
+use Rattle.lease_laws.specs.server.Waiting.{WaitsWell, IsAbout, IsOpenOn, IsOrderly, IsUnder}
 use Rattle.lease_model.specs.values.Tables.{put}
 use Rattle.lease_laws.proofs.server.Arrivals.{everyone_keeps, fine_goes, everyone_cases, receive-waits, new_server-waits}
 use Rattle.lease_laws.proofs.server.Calls.{joined-sound, opens_disconnected-sound, client_forgotten-sound, key_expired-sound, dropped_lease, left_lasting, lasting_left}
 use Rattle.lease_laws.proofs.server.Goes.{Goes, still_there, dropped-goes}
 use Rattle.lease_laws.proofs.server.Held.{SameHeld, dropped_held}
-use Rattle.lease_laws.proofs.server.Keeps.{Kept, Anywhere}
-use Rattle.lease_laws.proofs.server.Lists.{if_cases, clash, not_parts, among_filter, among_map}
+use Rattle.lease_laws.proofs.server.Keeps.{Kept, Anywhere, connected_has}
+use Rattle.lease_laws.proofs.server.Lists.{if_cases, clash, not_parts, among_filter, among_map, find_has}
 use Rattle.lease_laws.proofs.server.Orderly.{IsFine}
 use Rattle.lease_laws.proofs.server.PassWaits.{EveryoneWaits, all_passes-wait}
 use Rattle.lease_laws.proofs.server.Progress.{opens_dropped-sound}
@@ -277,3 +279,47 @@ pub writer-unblocked : (server : Server) (key : Key) (one : Open) → IsSound se
     → Among one server.opens → has_key key one ≡ true → IsBlocked server (Some key) one.file → ⊥
 writer-unblocked server key one s w a k b = clash (has_key key b.one)
     (s.one_writer key one b.one w a k b.is_there b.is_on_file) b.is_other
+
+-- the key of an open that has it
+key_of_that : (key : Key) (one : Open) → has_key key one ≡ true → key_of_open one ≡ Some key
+key_of_that key one k = under one.client one.lease_key k
+  where
+    under : (client : ℕ) (bytes : Option (List ℕ)) → is_key key client bytes ≡ true → key_under client bytes ≡ Some key
+    under client None k = clash false k refl
+    under client (Some bytes) k = ap (λ x. Some x)
+        (is_key-one (key_of client bytes) key client (Some bytes) (is_key-refl client bytes) k)
+
+-- a request that has to wait isn't under a key that holds W on its file
+pub writers-wait_not : (server : Server) (key : Key) (one : Open) (client : ℕ) (request : FileRequest)
+    → IsSound server → (server.leases key).state.write ≡ true
+    → Among one server.opens → has_key key one ≡ true → IsAbout server one.file request
+    → HasToWait server client request → IsUnder server client request key → ⊥
+writers-wait_not server key one client (FileRequest.Create file access share None) s w a k about wait under = under
+writers-wait_not server key one client (FileRequest.Create file access share (Some ask)) s w a k about wait under =
+    writer-unblocked server key one s w a k
+    (subst (λ own. IsBlocked server own one.file) under (subst (IsBlocked server (own_key client ask.lease)) about wait))
+writers-wait_not server key one client (FileRequest.Read file_id) s w a k about wait under = wait
+writers-wait_not server key one client (FileRequest.Write file_id number patch) s w a k about wait under =
+    let same : wait.one ≡ under.one = one_open wait.one under.one (sym wait.is_open ∙ under.is_open) in
+    let its : has_key key wait.one ≡ true = ap (λ o. has_key key o) same ∙ under.has_the_key in
+    let b = wait.is_blocked in
+    let there = connected_has server client file_id wait.one wait.is_open in
+    clash (has_key key b.one)
+    (s.one_writer key wait.one b.one w there.0 its b.is_there b.is_on_file)
+    (ap (λ own. has_own_key own b.one) (sym (key_of_that key wait.one its)) ∙ b.is_other)
+  where
+    one_open : (x y : Open) → Some x ≡ Some y → x ≡ y
+    one_open x y e = cc
+writers-wait_not server key one client (FileRequest.Close file_id) s w a k about wait under = wait
+
+-- so no first held request is
+pub writers-dont-wait : (server : Server) (key : Key) (one : Open) (client : ℕ) (held : Held)
+    → IsSound server → WaitsWell server → (server.leases key).state.write ≡ true
+    → Among one server.opens → has_key key one ≡ true
+    → find (λ other. other.client == client) (server.held one.file) ≡ Some held
+    → IsUnder server client held.request key → ⊥
+writers-dont-wait server key one client held s w writes a k first under =
+    writers-wait_not server key one client held.request s writes a k
+    (w.is_orderly.held_about one.file held
+    (find_has (λ other. other.client == client) held (server.held one.file) first).0)
+    (w.all_wait one.file client held first) under

@@ -1,8 +1,11 @@
 -- The laws of waiting: who is connected, where requests are held, and that each waits for a break.
-use Rattle.std.specs.Prelude.{◌≡◌, ℕ, ◌≤◌, true, Some, find, ◌==◌}
+use Rattle.std.specs.Prelude.{◌≡◌, ℕ, ◌≤◌, true, Some, None, find, ◌==◌}
 use Rattle.lease_model.specs.messages.Requests.{FileRequest}
-use Rattle.lease_laws.specs.server.Laws.{Among, HasToWait}
-use Rattle.lease_model.specs.server.State.{Server, Open, Held, has_file}
+use Rattle.lease_laws.specs.server.Laws.{Among, HasToWait, IsSound}
+use Rattle.lease_model.specs.server.State.{Server, Open, Held, has_file, has_key}
+use Rattle.lease_model.specs.server.Findings.{connected_open}
+use Rattle.lease_model.specs.server.Naming.{own_key}
+use Rattle.lease_model.specs.values.Keys.{Key}
 
 -- a FileId that was given, and whose open, if it is there yet, is on the file
 pub record IsOpenOn (server : Server) (file : ℕ) (file_id : ℕ) : Type 0 where
@@ -36,8 +39,30 @@ AllWait server file = (client : ℕ) (one : Held)
     → find (λ other. other.client == client) (server.held file) ≡ Some one
     → HasToWait server client one.request
 
--- The laws of waiting. (With them a key that holds W has no request of its own among the first held on
--- its file.)
+-- an open of the client that has the key
+pub record IsOpenUnder (server : Server) (client : ℕ) (file_id : ℕ) (key : Key) : Type 0 where
+  pub one : Open
+  pub is_open : connected_open server client file_id ≡ Some one
+  pub has_the_key : has_key key one ≡ true
+
+-- The laws of waiting.
 pub record WaitsWell (server : Server) : Type 0 where
   pub is_orderly : IsOrderly server
   pub all_wait : (file : ℕ) → AllWait server file
+
+-- A request of the client stands under the key: its create names it, or the open that it names has it.
+abbrev pub IsUnder : Server → ℕ → FileRequest → Key → Type 0
+IsUnder server client (FileRequest.Create file access share None) key = ⊥
+IsUnder server client (FileRequest.Create file access share (Some ask)) key = own_key client ask.lease ≡ Some key
+IsUnder server client (FileRequest.Read file_id) key = IsOpenUnder server client file_id key
+IsUnder server client (FileRequest.Write file_id number patch) key = IsOpenUnder server client file_id key
+IsUnder server client (FileRequest.Close file_id) key = IsOpenUnder server client file_id key
+
+-- Where a key that holds W has an open, no first held request of a client stands under it there. (One behind
+-- another may.)
+abbrev pub WritersDontWait : Type 0
+WritersDontWait = (server : Server) (key : Key) (one : Open) (client : ℕ) (held : Held)
+    → IsSound server → WaitsWell server → (server.leases key).state.write ≡ true
+    → Among one server.opens → has_key key one ≡ true
+    → find (λ other. other.client == client) (server.held one.file) ≡ Some held
+    → IsUnder server client held.request key → ⊥

@@ -1,4 +1,4 @@
-use Rattle.lease_laws.proofs.server.WaitCalls.{first-waits-well, called-waits-well, writer-unblocked}
+use Rattle.lease_laws.proofs.server.WaitCalls.{first-waits-well, called-waits-well, writers-dont-wait}
 use Rattle.lease_laws.proofs.server_laws.waiting_of_servers.Goals as goal
 
 pub returns-clause-first : goal.returns-clause-first
@@ -7,5 +7,5 @@ returns-clause-first c = first-waits-well
 pub returns-clause-kept : goal.returns-clause-kept
 returns-clause-kept c = called-waits-well
 
-pub returns-clause-writer : goal.returns-clause-writer
-returns-clause-writer c = writer-unblocked
+pub returns-clause-writers : goal.returns-clause-writers
+returns-clause-writers c = writers-dont-wait

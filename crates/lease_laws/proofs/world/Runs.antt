@@ -1,0 +1,325 @@
+-- In every run the server is sound, contents fit, and the record says what clients believe.
+use Rattle.std.proofs.Common.{◌≡◌, ◌≢◌, ℕ, zero, suc, ◌+◌, ◌≤◌, max, Bool, true, false, List, [], ◌∷◌, ◌++◌, length, take, Option, Some, None, refl, sym, ap, ◌∙◌, subst, arith, true≢false, ◌==◌}
+use Rattle.std.specs.Prelude.{◌&&◌, if◌then◌else◌, nat_le, slice_get, unwrap_or}
+use Rattle.std.specs.List.{list_any, list_all}
+use Rattle.std.proofs.lemmas.Bool.Decides.{Decides-eqb}
+use Rattle.lease_state.proofs.ContentLemmas.{length-written}
+use Rattle.lease_state.specs.Content.{patch, patch_at}
+use Rattle.lease_state.specs.State.{State, nothing_cached}
+use Rattle.lease_state.specs.declared.content.TheConstants.{FILE_LIMIT}
+use Rattle.lease_state.specs.declared.patch.Patch.{Patch}
+use Rattle.lease_state.specs.declared.status.Status.{Status}
+use Rattle.lease_state.specs.declared.access.Access.{Access}
+use Rattle.lease_state.specs.declared.access.Share.{Share}
+use Rattle.lease_model.specs.client.Calls.{ClientCall, client_called}
+use Rattle.lease_model.specs.client.Commands.{Note}
+use Rattle.lease_model.specs.client.State.{Client, belief, new_client}
+use Rattle.lease_model.specs.client.Step.{Step}
+use Rattle.lease_model.specs.messages.Replies.{Reply, Out}
+use Rattle.lease_model.specs.messages.Requests.{FileRequest, CreateAsk, LeaseOf}
+use Rattle.lease_model.specs.records.Facts.{Fact}
+use Rattle.lease_model.specs.records.Past.{believed}
+use Rattle.lease_model.specs.server.Acknowledge.{acknowledged, judged, break_ended}
+use Rattle.lease_model.specs.server.Answers.{concluded, answered, created, closed, changed, read_done, on_open, on_contexts}
+use Rattle.lease_model.specs.server.Attempt.{Outcome, is_left_open}
+use Rattle.lease_model.specs.server.Calls.{Call, called, join, joined, is_lost, opens_disconnected, client_forgotten, key_expired, is_left_behind}
+use Rattle.lease_model.specs.server.Findings.{connected_open}
+use Rattle.lease_model.specs.server.Grant.{granted, granted_with, lease_after, lease_put, reconnected}
+use Rattle.lease_model.specs.server.Naming.{key_of}
+use Rattle.lease_model.specs.server.Progress.{Progress, begun, opens_dropped, with_opens, lease_lowered, break_begun, request_held, held_left, replied, refused}
+use Rattle.lease_model.specs.server.State.{Server, Open, Lease, Held, new_server, with_number, has_lease, has_key, is_breaking}
+use Rattle.lease_model.specs.values.LeaseStates.{is_within}
+use Rattle.lease_model.specs.values.Limits.{last_file_id, last_file_number}
+use Rattle.lease_model.specs.values.Patches.{is_within_limit}
+use Rattle.lease_model.specs.values.Tables.{put, numbered}
+use Rattle.lease_model.specs.world.Allowed.{is_allowed_setup, is_content}
+use Rattle.lease_model.specs.world.Events.{Event, served, stepped_in, after}
+use Rattle.lease_model.specs.world.World.{World, Setup, Link, first_world, happened, delivered, all_delivered, requests_sent, fact_of, noted, starts_from}
+use Rattle.lease_laws.specs.client.Laws.{believed_after}
+use Rattle.lease_laws.specs.server.Laws.{IsSound}
+use Rattle.lease_laws.specs.server.SmallSteps.{SmallStep, step_taken, steps_taken, IsGuarded, AreGuarded, MayServe, call_begun}
+use Rattle.lease_laws.specs.server.Waiting.{WaitsWell}
+use Rattle.lease_laws.proofs.client.AllBeliefs.{called-beliefs}
+use Rattle.lease_laws.proofs.client.InFiles.{InFiles, first_in_files, called_in_files}
+use Rattle.lease_laws.proofs.client.Thin.{put_same, put_other}
+use Rattle.lease_laws.proofs.server.Calls.{new_server-sound, called-sound}
+use Rattle.lease_laws.proofs.server.Lists.{if_cases, either, clash, and_parts}
+use Rattle.lease_laws.proofs.server.StepCalls.{called-steps}
+use Rattle.lease_laws.proofs.server.StepKeeps.{end_serves}
+use Rattle.lease_laws.proofs.server.WaitCalls.{first-waits-well, called-waits-well}
+use Rattle.lease_laws.proofs.world.Kept.{IsKept, IsOfWorld, served-clients, served-server, after-kept}
+
+-- ---- what a client's step leaves alone
+
+-- notes change no client and no server
+noted_clients : (world : World) (client : ℕ) (notes : List Note) → (noted world client notes).clients ≡ world.clients
+unfolding noted
+noted_clients world client [] = refl
+noted_clients world client (note ∷ notes) = noted_clients (happened world (fact_of client note)) client notes
+
+noted_server : (world : World) (client : ℕ) (notes : List Note) → (noted world client notes).server ≡ world.server
+unfolding noted
+noted_server world client [] = refl
+noted_server world client (note ∷ notes) = noted_server (happened world (fact_of client note)) client notes
+
+pub stepped_server : (world : World) (client : ℕ) (step : Step) → (stepped_in world client step).server ≡ world.server
+unfolding stepped_in requests_sent
+stepped_server world client step = noted_server
+    (requests_sent (record world { clients = put world.clients client step.client }) client step.requests) client
+    step.notes
+
+pub stepped_clients : (world : World) (client : ℕ) (step : Step)
+    → (stepped_in world client step).clients ≡ put world.clients client step.client
+unfolding stepped_in requests_sent
+stepped_clients world client step = noted_clients
+    (requests_sent (record world { clients = put world.clients client step.client }) client step.requests) client
+    step.notes
+
+-- ---- servers of runs
+
+record IsSoundWorld (world : World) : Type 0 where
+  sound : IsSound world.server
+  waits : WaitsWell world.server
+
+-- by the server alone
+sound_by : (world : World) (server : Server) → world.server ≡ server → IsSound server → WaitsWell server
+    → IsSoundWorld world
+sound_by world server same s w = record { sound = subst IsSound (sym same) s; waits = subst WaitsWell (sym same) w }
+
+sound_kept : IsKept IsSoundWorld
+sound_kept = record {
+  messages = λ world requests replies links p. record { sound = p.sound; waits = p.waits };
+  fact = λ world fact of p. record { sound = p.sound; waits = p.waits };
+  call = λ world call p. sound_by (served world (called world.server call)) (called world.server call).server
+      (served-server world (called world.server call)) (called-sound world.server call p.sound)
+      (called-waits-well world.server call p.sound p.waits);
+  step = λ world client call p. sound_by
+      (stepped_in world client (client_called (world.clients client) call)) world.server
+      (stepped_server world client (client_called (world.clients client) call)) p.sound p.waits;
+}
+
+first_sound : (setup : Setup) → IsSoundWorld (first_world setup)
+unfolding first_world
+first_sound setup = record { sound = new_server-sound setup.files; waits = first-waits-well setup.files }
+
+run_sound : (setup : Setup) (events : List Event) → IsSoundWorld (after (first_world setup) events)
+run_sound setup events = after-kept IsSoundWorld sound_kept (first_world setup) events (first_sound setup)
+
+pub servers_of_runs : (setup : Setup) (events : List Event)
+    → IsSound (after (first_world setup) events).server × WaitsWell (after (first_world setup) events).server
+servers_of_runs setup events = let r = run_sound setup events in (r.sound, r.waits)
+
+-- ---- contents fit
+
+abbrev DoFit : (ℕ → List ℕ) → Type 0
+DoFit contents = (file : ℕ) → length (contents file) ≤ FILE_LIMIT
+
+-- a patch within the limit
+patched_fits : (content : List ℕ) (offset : ℕ) (bytes : List ℕ) → length content ≤ FILE_LIMIT
+    → nat_le (offset + length bytes) FILE_LIMIT ≡ true → length (patch_at content offset bytes) ≤ FILE_LIMIT
+patched_fits content offset [] fits e = fits
+patched_fits content offset (b ∷ bytes) fits e =
+    subst (λ n. n ≤ FILE_LIMIT) (sym (length-written content offset (b ∷ bytes)))
+    (both_fit (length content) (offset + length (b ∷ bytes)) FILE_LIMIT fits e)
+  where
+    both_fit : (a b limit : ℕ) → a ≤ limit → nat_le b limit ≡ true → max a b ≤ limit
+    both_fit a b limit h e = grind arith
+
+-- one file that changed
+put_fits : (contents : ℕ → List ℕ) (file : ℕ) (content : List ℕ) → DoFit contents → length content ≤ FILE_LIMIT
+    → DoFit (put contents file content)
+unfolding put
+put_fits contents file content fit new other = if_cases (λ c. length c ≤ FILE_LIMIT) (other == file) content
+    (contents other) (λ e. new) (λ e. fit other)
+
+-- a create changes no content
+created_contents : (client file : ℕ) (access : Access) (share : Share) (asked : Option LeaseOf) (durable : Bool)
+    (again : Option ℕ) (progress : Progress)
+    → (created client file access share asked durable again progress).server.contents ≡ progress.server.contents
+unfolding granted granted_with reconnected
+created_contents client file access share asked durable None progress =
+    if_cases (λ p. p.server.contents ≡ progress.server.contents) (progress.server.last_id == last_file_id)
+    (replied client (Reply.CreateFailed file Status.InsufficientResources) progress)
+    (granted_with client file access share asked durable (lease_after progress.server client file asked) progress)
+    (λ e. refl) (λ e. put_contents asked)
+  where
+    put_contents : (a : Option LeaseOf)
+        → (lease_put progress.server client a (lease_after progress.server client file asked)).contents
+        ≡ progress.server.contents
+    put_contents None = refl
+    put_contents (Some l) = refl
+created_contents client file access share asked durable (Some file_id) progress = refl
+
+-- by an open, or by contexts
+on_open_fits : (one : Option Open) (done : ℕ → Progress → Progress) (progress : Progress) → DoFit progress.server.contents
+    → ((file : ℕ) → DoFit (done file progress).server.contents)
+    → DoFit (on_open one done progress).server.contents
+on_open_fits None done progress fit each = fit
+on_open_fits (Some one) done progress fit each = each one.file
+
+on_contexts_same : (contexts : Option CreateAsk) (done : CreateAsk → Progress → Progress) (progress : Progress)
+    → ((ask : CreateAsk) → (done ask progress).server.contents ≡ progress.server.contents)
+    → (on_contexts contexts done progress).server.contents ≡ progress.server.contents
+on_contexts_same None done progress each = refl
+on_contexts_same (Some ask) done progress each = each ask
+
+-- the end of a request
+concluded_fits : (client : ℕ) (request : FileRequest) (progress : Progress) (outcome : Outcome)
+    → (outcome ≡ Outcome.Ready → (number : ℕ) (file_id : ℕ) (patch : Patch)
+    → request ≡ FileRequest.Write file_id number patch → is_within_limit patch ≡ true)
+    → DoFit progress.server.contents → DoFit (concluded client request progress outcome).server.contents
+unfolding refused answered changed closed opens_dropped with_opens
+concluded_fits client request progress (Outcome.Refused status) may fit = fit
+concluded_fits client request progress Outcome.Waits may fit = fit
+concluded_fits client (FileRequest.Create file access share contexts) progress Outcome.Ready may fit =
+    subst DoFit (sym (on_contexts_same contexts _ progress
+    (λ ask. created_contents client file access share ask.lease ask.durable ask.reconnect progress))) fit
+concluded_fits client (FileRequest.Read file_id) progress Outcome.Ready may fit =
+    on_open_fits (connected_open progress.server client file_id) (λ file. read_done client file file_id) progress fit
+    (λ file. fit)
+concluded_fits client (FileRequest.Write file_id number patch) progress Outcome.Ready may fit =
+    on_open_fits (connected_open progress.server client file_id)
+    (λ file. changed client file file_id number patch) progress fit
+    (λ file. put_fits progress.server.contents file _ fit
+    (patched_fits (progress.server.contents file) patch.offset patch.bytes (fit file) (may refl number file_id patch refl)))
+concluded_fits client (FileRequest.Close file_id) progress Outcome.Ready may fit =
+    on_open_fits (connected_open progress.server client file_id) (λ file. closed client file_id) progress fit
+    (λ file. fit)
+
+-- a write that may be served fits
+serve_fits : (server : Server) (client : ℕ) (request : FileRequest) → MayServe server client request
+    → (number : ℕ) (file_id : ℕ) (patch : Patch) → request ≡ FileRequest.Write file_id number patch
+    → is_within_limit patch ≡ true
+serve_fits server client request may number file_id patch e =
+    (subst (λ q. MayServe server client q) e may).allowed.fits
+
+-- an acknowledgment changes no content
+judged_contents : (key : _) (state : State) (broken : Option State) (progress : Progress)
+    → (judged key state broken progress).server.contents ≡ progress.server.contents
+unfolding break_ended
+judged_contents key state None progress = refl
+judged_contents key state (Some lowered) progress =
+    if_cases (λ p. p.server.contents ≡ progress.server.contents) (is_within state lowered)
+    (break_ended key state progress)
+    (replied key.client (Reply.AckFailed Status.RequestNotAccepted) progress) (λ e. refl) (λ e. refl)
+
+acknowledged_contents : (client : ℕ) (given : Option LeaseOf) (progress : Progress)
+    → (acknowledged client given progress).server.contents ≡ progress.server.contents
+unfolding acknowledged
+acknowledged_contents client None progress = refl
+acknowledged_contents client (Some given) progress =
+    if_cases (λ p. p.server.contents ≡ progress.server.contents)
+    (has_lease progress.server (key_of client given.key))
+    (judged (key_of client given.key) given.state (progress.server.leases (key_of client given.key)).broken_to
+    progress)
+    (replied client (Reply.AckFailed Status.ObjectNameNotFound) progress)
+    (λ e. judged_contents (key_of client given.key) given.state
+    (progress.server.leases (key_of client given.key)).broken_to progress) (λ e. refl)
+
+-- each step
+step_fits : (step : SmallStep) (progress : Progress) → IsGuarded step progress.server
+    → DoFit progress.server.contents → DoFit (step_taken step progress).server.contents
+unfolding held_left request_held opens_dropped with_opens lease_lowered break_begun
+step_fits (SmallStep.Answer client request outcome) progress may fit =
+    concluded_fits client request progress outcome
+    (λ ready. serve_fits progress.server client request (end_serves progress.server client request outcome may ready))
+    fit
+step_fits (SmallStep.AnswerHeld file before one behind outcome) progress may fit =
+    concluded_fits one.client one.request (held_left file (before ++ behind) progress) outcome
+    (λ ready. serve_fits progress.server one.client one.request
+    (end_serves progress.server one.client one.request outcome may.1 ready)) fit
+step_fits (SmallStep.Acknowledge client given) progress may fit =
+    subst DoFit (sym (acknowledged_contents client given progress)) fit
+step_fits (SmallStep.Hold file one) progress may fit = fit
+step_fits (SmallStep.Drop key) progress may fit = fit
+step_fits (SmallStep.Lower key lowered) progress may fit = fit
+step_fits (SmallStep.Begin key lowered) progress may fit = fit
+
+steps_fit : (steps : List SmallStep) (progress : Progress) → AreGuarded steps progress
+    → DoFit progress.server.contents → DoFit (steps_taken steps progress).server.contents
+steps_fit [] progress g fit = fit
+steps_fit (step ∷ steps) progress g fit = steps_fit steps (step_taken step progress) g.1
+    (step_fits step progress g.0 fit)
+
+-- before them no content changes
+either_contents : (b : Bool) (x y : Progress) (contents : ℕ → List ℕ) → x.server.contents ≡ contents
+    → y.server.contents ≡ contents → (if b then x else y).server.contents ≡ contents
+either_contents true x y contents e f = e
+either_contents false x y contents e f = f
+
+begun_contents : (server : Server) (call : Call) → (call_begun server call).server.contents ≡ server.contents
+unfolding join joined client_forgotten opens_disconnected opens_dropped with_opens key_expired
+begun_contents server (Call.Join client) =
+    either_contents (server.present client) (begun server) (joined client (begun server)) server.contents refl refl
+begun_contents server (Call.Receive client request) = refl
+begun_contents server (Call.Cut client) =
+    either_contents (server.present client) _ (begun server) server.contents refl refl
+begun_contents server (Call.Expire key) =
+    either_contents (is_breaking (server.leases key)) _ (begun server) server.contents refl refl
+begun_contents server (Call.Scavenge file_id) =
+    either_contents (list_any (is_left_behind file_id) server.opens) _ (begun server) server.contents refl refl
+
+called_fits : (server : Server) (call : Call) → IsSound server → WaitsWell server → DoFit server.contents
+    → DoFit (called server call).server.contents
+called_fits server call s w fit =
+    let go = called-steps server call s w in
+    subst (λ p. DoFit p.server.contents) (sym go.lead)
+    (steps_fit go.steps (call_begun server call) go.are_guarded
+    (subst DoFit (sym (begun_contents server call)) fit))
+
+-- in every run
+record IsFitWorld (world : World) : Type 0 where
+  sound : IsSoundWorld world
+  fit : DoFit world.server.contents
+
+fit_kept : IsKept IsFitWorld
+fit_kept = record {
+  messages = λ world requests replies links p.
+      record { sound = sound_kept.messages world requests replies links p.sound; fit = p.fit };
+  fact = λ world fact of p. record { sound = sound_kept.fact world fact of p.sound; fit = p.fit };
+  call = λ world call p. record {
+    sound = sound_kept.call world call p.sound;
+    fit = subst (λ s. DoFit s.contents) (sym (served-server world (called world.server call)))
+        (called_fits world.server call (p.sound).sound (p.sound).waits p.fit);
+  };
+  step = λ world client call p. record {
+    sound = sound_kept.step world client call p.sound;
+    fit = subst (λ s. DoFit s.contents)
+        (sym (stepped_server world client (client_called (world.clients client) call))) p.fit;
+  };
+}
+
+-- the contents of a setup that is allowed
+taken_fit : (n : ℕ) (files : List (List ℕ)) → list_all is_content files ≡ true → list_all is_content (take n files) ≡ true
+taken_fit zero files e = refl
+taken_fit (suc n) [] e = refl
+taken_fit (suc n) (bytes ∷ files) e =
+    let parts = and_parts (is_content bytes) (list_all is_content files) e in
+    rw (parts.0, taken_fit n files parts.1) refl
+
+got_fits : (files : List (List ℕ)) (n : ℕ) → list_all is_content files ≡ true
+    → length (unwrap_or (slice_get files n) []) ≤ FILE_LIMIT
+got_fits [] n e = omega arith
+got_fits (bytes ∷ files) zero e = content_fits bytes (and_parts (is_content bytes) (list_all is_content files) e).0
+  where
+    content_fits : (content : List ℕ) → is_content content ≡ true → length content ≤ FILE_LIMIT
+    content_fits content e = grind arith
+got_fits (bytes ∷ files) (suc n) e = got_fits files n (and_parts (is_content bytes) (list_all is_content files) e).1
+
+numbered_fit : (files : List (List ℕ)) → list_all is_content files ≡ true → DoFit (numbered [] files)
+unfolding numbered
+numbered_fit files e zero = omega arith
+numbered_fit files e (suc n) = got_fits files n e
+
+first_fit : (setup : Setup) → is_allowed_setup setup ≡ true → IsFitWorld (first_world setup)
+unfolding first_world new_server is_allowed_setup
+first_fit setup allowed = record {
+  sound = first_sound setup;
+  fit = numbered_fit (with_number setup.files) (taken_fit last_file_number setup.files
+      (and_parts _ (list_all is_content setup.files) (and_parts _ _ (and_parts _ _ allowed).0).0).1);
+}
+
+pub contents_of_runs_fit : (setup : Setup) (events : List Event) → is_allowed_setup setup ≡ true
+    → (file : ℕ) → length ((after (first_world setup) events).server.contents file) ≤ FILE_LIMIT
+contents_of_runs_fit setup events allowed =
+    (after-kept IsFitWorld fit_kept (first_world setup) events (first_fit setup allowed)).fit

@@ -1,0 +1,12 @@
+use Rattle.lease_laws.proofs.world.Beliefs.{beliefs_of_runs}
+use Rattle.lease_laws.proofs.world.Runs.{servers_of_runs, contents_of_runs_fit}
+use Rattle.lease_laws.proofs.world_laws.runs_are_lawful.Goals as goal
+
+pub returns-clause-servers : goal.returns-clause-servers
+returns-clause-servers c = servers_of_runs
+
+pub returns-clause-contents : goal.returns-clause-contents
+returns-clause-contents c = contents_of_runs_fit
+
+pub returns-clause-beliefs : goal.returns-clause-beliefs
+returns-clause-beliefs c = beliefs_of_runs
