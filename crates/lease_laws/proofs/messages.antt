@@ -1,1 +1,4 @@
+pub mod ClientBytes
 pub mod FromBytesLemmas
+pub mod ReadBack
+pub mod ServerBytes

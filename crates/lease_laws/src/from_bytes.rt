@@ -1,3 +1,4 @@
+ghost use Rattle.lease_laws.specs.messages.Written.{RequestsAreReadBack, RepliesAreReadBack, RepliesHaveBytes, RequestsHaveBytes};
 ghost use Rattle.lease_laws.specs.messages.Bytes.{AcknowledgmentIsFound, NotificationIsFound, NoAcknowledgmentIsFound, NoNotificationIsFound, WrittenMessagesAreFound, WrittenContextsAreFound};
 
 /// Laws of the map from the bytes of real messages to the values of the model: it finds a break
@@ -9,4 +10,18 @@ pub fn bytes_laws()
     ensures no_notification { NoNotificationIsFound }
     ensures written_messages { WrittenMessagesAreFound }
     ensures written_contexts { WrittenContextsAreFound }
+{}
+
+/// What has bytes is read back, for every request and every reply that has them: contexts and break messages
+/// are there, and keys have 16 bytes. Does nothing.
+pub fn written_is_read()
+    ensures requests { RequestsAreReadBack }
+    ensures replies { RepliesAreReadBack }
+{}
+
+/// Every reply of a server has bytes where the keys of its opens and of what it is asked have 16 bytes, and
+/// every request of a client machine has where its ClientGuid has 16 and FileIds fit their field. Does nothing.
+pub fn machines_write_bytes()
+    ensures replies { RepliesHaveBytes }
+    ensures requests { RequestsHaveBytes }
 {}

@@ -10,6 +10,7 @@ use Rattle.lease_state.specs.declared.status.Status.{Status}
 use Rattle.lease_model.specs.messages.Requests.{FileRequest, CreateAsk, LeaseOf}
 use Rattle.lease_model.specs.server.Allowed.{conflicts_on}
 use Rattle.lease_model.specs.server.Attempt.{Outcome, Tried, ended, must_wait, after_breaks, after_finding, tried_for, tried, is_left_open, lease_broken, want_met, wants_met}
+use Rattle.lease_model.specs.server.Calls.{Call}
 use Rattle.lease_model.specs.server.Findings.{Finding, finding, create_finding, reconnect_finding, write_finding, asked_finding, read_finding, by_open, by_contexts, connected_open, is_leased_elsewhere, awaits}
 use Rattle.lease_model.specs.server.Naming.{own_key, key_of_open}
 use Rattle.lease_model.specs.server.Progress.{Progress, opens_dropped, with_opens, lease_lowered, break_begun}
@@ -22,7 +23,7 @@ use Rattle.lease_model.specs.values.Patches.{is_within_limit}
 use Rattle.lease_model.specs.values.Sharing.{may_read, may_write}
 use Rattle.lease_laws.specs.server.Enough.{EndsFor}
 use Rattle.lease_laws.specs.server.Laws.{Among, IsSound}
-use Rattle.lease_laws.specs.server.SmallSteps.{SmallStep, step_taken, steps_taken, IsGuarded, AreGuarded, GoesBySteps, IsLowered, MayLower, IsFree, IsAwaitedAt, MayCreate, HasOpen, MayChange, MayServe, IsGone, MayRefuse, MayEnd}
+use Rattle.lease_laws.specs.server.SmallSteps.{SmallStep, step_taken, steps_taken, IsGuarded, AreGuarded, IsOfCall, AreOf, GoesBySteps, IsLowered, MayLower, IsFree, IsAwaitedAt, MayCreate, HasOpen, MayChange, MayServe, IsGone, MayRefuse, MayEnd}
 use Rattle.lease_laws.specs.server.Outs.{CachesAlone}
 use Rattle.lease_laws.specs.server.Wanted.{AreInKeyOrder}
 use Rattle.lease_laws.proofs.server.Breaks.{left_present, wants_met-sound}
@@ -38,13 +39,14 @@ use Rattle.lease_laws.proofs.server.Wants.{FindingFits, AllFit, finding-fits}
 -- ---- lists of steps
 
 -- no step
-pub steps_none : (progress : Progress) → GoesBySteps progress progress
-steps_none progress = record { steps = []; are_guarded = tt; lead = refl }
+pub steps_none : (call : Call) (progress : Progress) → GoesBySteps call progress progress
+steps_none call progress = record { steps = []; are_guarded = tt; are_of = tt; lead = refl }
 
 -- one step
-pub step_one : (step : SmallStep) (progress : Progress) → IsGuarded step progress.server
-    → GoesBySteps progress (step_taken step progress)
-step_one step progress guard = record { steps = step ∷ []; are_guarded = (guard, tt); lead = refl }
+pub step_one : (call : Call) (step : SmallStep) (progress : Progress) → IsGuarded step progress.server
+    → IsOfCall call step → GoesBySteps call progress (step_taken step progress)
+step_one call step progress guard of =
+    record { steps = step ∷ []; are_guarded = (guard, tt); are_of = (of, tt); lead = refl }
 
 -- steps, and then others
 taken_append : (first later : List SmallStep) (progress : Progress)
@@ -59,12 +61,19 @@ guarded_append [] later progress g h = h
 guarded_append (step ∷ first) later progress g h =
     (g.0, guarded_append first later (step_taken step progress) g.1 h)
 
+-- and of one call
+of_append : (call : Call) (first later : List SmallStep) → AreOf call first → AreOf call later
+    → AreOf call (first ++ later)
+of_append call [] later o p = p
+of_append call (step ∷ first) later o p = (o.0, of_append call first later o.1 p)
+
 -- two calls under way, one after the other
-pub steps_then : (a b c : Progress) → GoesBySteps a b → GoesBySteps b c → GoesBySteps a c
-steps_then a b c h k = record {
+pub steps_then : (call : Call) (a b c : Progress) → GoesBySteps call a b → GoesBySteps call b c → GoesBySteps call a c
+steps_then call a b c h k = record {
   steps = h.steps ++ k.steps;
   are_guarded = guarded_append h.steps k.steps a h.are_guarded
       (subst (λ p. AreGuarded k.steps p) h.lead k.are_guarded);
+  are_of = of_append call h.steps k.steps h.are_of k.are_of;
   lead = k.lead ∙ ap (λ p. steps_taken k.steps p) h.lead ∙ sym (taken_append h.steps k.steps a);
 }
 
@@ -108,14 +117,14 @@ broken-lowers key lowered progress want other lowers =
     key_is one other same = subst (λ x. key_eq one x ≡ true) same (key_eq-refl one)
 
 -- one want
-want_met-steps : (want : Want) (progress : Progress) → Lowers progress.server want
-    → GoesBySteps progress (want_met want progress)
+want_met-steps : (call : Call) (want : Want) (progress : Progress) → Lowers progress.server want
+    → GoesBySteps call progress (want_met want progress)
 unfolding want_met lease_broken
-want_met-steps want progress lowers =
+want_met-steps call want progress lowers =
     let dropped = opens_dropped (is_left_open want.key) progress in
-    steps_then progress dropped (lease_broken want.key want.lowered dropped)
-    (step_one (SmallStep.Drop want.key) progress tt)
-    (if_cases (GoesBySteps dropped)
+    steps_then call progress dropped (lease_broken want.key want.lowered dropped)
+    (step_one call (SmallStep.Drop want.key) progress tt tt)
+    (if_cases (GoesBySteps call dropped)
     (has_lease dropped.server want.key && not (is_breaking (dropped.server.leases want.key)))
     (if needs_acknowledgment (dropped.server.leases want.key).state then break_begun want.key want.lowered dropped
     else lease_lowered want.key want.lowered dropped) dropped
@@ -127,11 +136,11 @@ want_met-steps want progress lowers =
       is_settled = not_parts (is_breaking (dropped.server.leases want.key)) parts.1;
       is_lowered = dropped-lowers (is_left_open want.key) progress want lowers parts.0;
     } in
-    if_cases (GoesBySteps dropped) (needs_acknowledgment (dropped.server.leases want.key).state)
+    if_cases (GoesBySteps call dropped) (needs_acknowledgment (dropped.server.leases want.key).state)
     (break_begun want.key want.lowered dropped) (lease_lowered want.key want.lowered dropped)
-    (λ n. step_one (SmallStep.Begin want.key want.lowered) dropped (may, n))
-    (λ n. step_one (SmallStep.Lower want.key want.lowered) dropped (may, n)))
-    (λ t. steps_none dropped))
+    (λ n. step_one call (SmallStep.Begin want.key want.lowered) dropped (may, n) tt)
+    (λ n. step_one call (SmallStep.Lower want.key want.lowered) dropped (may, n) tt))
+    (λ t. steps_none call dropped))
 
 -- it leaves the others to be met
 want_met-lowers : (first other : Want) (progress : Progress) → key_eq other.key first.key ≡ false
@@ -148,15 +157,15 @@ before_apart one other before = not_true (key_eq other one) (λ same.
     (ap (λ x. key_before one x) (sym (key_eq-same other one same)) ∙ before) (key_before-self one))
 
 -- wants that stand in order
-wants_met-steps : (wants : List Want) (progress : Progress) → AreInKeyOrder wants
+wants_met-steps : (call : Call) (wants : List Want) (progress : Progress) → AreInKeyOrder wants
     → ((want : Want) → Among want wants → Lowers progress.server want)
-    → GoesBySteps progress (wants_met wants progress)
+    → GoesBySteps call progress (wants_met wants progress)
 unfolding wants_met
-wants_met-steps [] progress order lowers = steps_none progress
-wants_met-steps (want ∷ wants) progress order lowers =
-    steps_then progress (want_met want progress) (wants_met wants (want_met want progress))
-    (want_met-steps want progress (lowers want (inl refl)))
-    (wants_met-steps wants (want_met want progress) order.1
+wants_met-steps call [] progress order lowers = steps_none call progress
+wants_met-steps call (want ∷ wants) progress order lowers =
+    steps_then call progress (want_met want progress) (wants_met wants (want_met want progress))
+    (want_met-steps call want progress (lowers want (inl refl)))
+    (wants_met-steps call wants (want_met want progress) order.1
     (λ other a. want_met-lowers want other progress (before_apart want.key other.key (order.0 other a))
     (lowers other (inr a))))
 
@@ -231,35 +240,35 @@ finding-ordered server client (FileRequest.Close file_id) =
 -- ---- tries
 
 -- a round
-after_finding-steps : (again : Progress → Tried) (request : FileRequest) (progress : Progress) (found : Finding)
+after_finding-steps : (call : Call) (again : Progress → Tried) (request : FileRequest) (progress : Progress) (found : Finding)
     → FindingFits progress.server found → IsOrdered found → IsSound progress.server
-    → ((next : Progress) → IsSound next.server → GoesBySteps next (again next).progress)
-    → GoesBySteps progress (after_finding again request progress found).progress
-after_finding-steps again request progress (Finding.Fails status) fits order s more = steps_none progress
-after_finding-steps again request progress (Finding.Needs wants) fits order s more =
+    → ((next : Progress) → IsSound next.server → GoesBySteps call next (again next).progress)
+    → GoesBySteps call progress (after_finding again request progress found).progress
+after_finding-steps call again request progress (Finding.Fails status) fits order s more = steps_none call progress
+after_finding-steps call again request progress (Finding.Needs wants) fits order s more =
     let met = wants_met wants progress in
-    let go = wants_met-steps wants progress order (λ want a there. (fits want a).can_lower) in
-    if_cases (λ t. GoesBySteps progress t.progress) (is_ready request progress.server.leases wants)
+    let go = wants_met-steps call wants progress order (λ want a there. (fits want a).can_lower) in
+    if_cases (λ t. GoesBySteps call progress t.progress) (is_ready request progress.server.leases wants)
     (ended progress Outcome.Ready) (after_breaks again request wants met)
-    (λ r. steps_none progress)
-    (λ r. if_cases (λ t. GoesBySteps progress t.progress) (must_wait request met wants)
+    (λ r. steps_none call progress)
+    (λ r. if_cases (λ t. GoesBySteps call progress t.progress) (must_wait request met wants)
     (ended met Outcome.Waits) (again met) (λ w. go)
-    (λ w. steps_then progress met (again met).progress go (more met (wants_met-sound wants progress s fits))))
+    (λ w. steps_then call progress met (again met).progress go (more met (wants_met-sound wants progress s fits))))
 
 -- so many rounds
-tried_for-steps : (rounds client : ℕ) (request : FileRequest) (progress : Progress) → IsSound progress.server
-    → GoesBySteps progress (tried_for rounds client request progress).progress
+tried_for-steps : (call : Call) (rounds client : ℕ) (request : FileRequest) (progress : Progress) → IsSound progress.server
+    → GoesBySteps call progress (tried_for rounds client request progress).progress
 unfolding tried_for
-tried_for-steps zero client request progress s = steps_none progress
-tried_for-steps (suc rounds) client request progress s = after_finding-steps (tried_for rounds client request)
+tried_for-steps call zero client request progress s = steps_none call progress
+tried_for-steps call (suc rounds) client request progress s = after_finding-steps call (tried_for rounds client request)
     request progress (finding progress.server client request) (finding-fits progress.server client request s)
     (finding-ordered progress.server client request) s
-    (λ next n. tried_for-steps rounds client request next n)
+    (λ next n. tried_for-steps call rounds client request next n)
 
 -- a try
-pub tried-steps : (client : ℕ) (request : FileRequest) (progress : Progress) → IsSound progress.server
-    → GoesBySteps progress (tried client request progress).progress
-tried-steps client request progress s = tried_for-steps 3 client request progress s
+pub tried-steps : (call : Call) (client : ℕ) (request : FileRequest) (progress : Progress) → IsSound progress.server
+    → GoesBySteps call progress (tried client request progress).progress
+tried-steps call client request progress s = tried_for-steps call 3 client request progress s
 
 -- ---- the end of a try is guarded
 

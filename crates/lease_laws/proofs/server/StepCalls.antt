@@ -34,83 +34,83 @@ MayEndAt progress one outcome = MayEnd progress.server one.client one.request ou
 -- ---- passes
 
 -- what follows the try of a held request
-after_try-steps : (start : Progress) (file count : ℕ) (one : Held) (waiting : List Held) (pass : Pass)
+after_try-steps : (call : Call) (start : Progress) (file count : ℕ) (one : Held) (waiting : List Held) (pass : Pass)
     (progress : Progress) (outcome : Outcome)
     → PassWaits start file count (one ∷ waiting) pass
     → IsTry one.client one.request pass.progress (record { progress = progress; outcome = outcome })
-    → GoesBySteps pass.progress progress
+    → GoesBySteps call pass.progress progress
     → ((outcome ≡ Outcome.Waits → ⊥) → MayEndAt progress one outcome)
-    → GoesBySteps pass.progress (after_try file one waiting pass progress outcome).progress
-after_try-steps start file count one waiting pass progress Outcome.Waits p t go may = go
-after_try-steps start file count one waiting pass progress (Outcome.Refused status) p t go may =
-    steps_then pass.progress progress _ go
-    (step_one (SmallStep.AnswerHeld file pass.passed one waiting (Outcome.Refused status)) progress
-    (ap (λ h. h file) t.held ∙ p.in_pass.is_held, may (λ never. absurd (cc))))
-after_try-steps start file count one waiting pass progress Outcome.Ready p t go may =
-    steps_then pass.progress progress _ go
-    (step_one (SmallStep.AnswerHeld file pass.passed one waiting Outcome.Ready) progress
-    (ap (λ h. h file) t.held ∙ p.in_pass.is_held, may (λ never. absurd (cc))))
+    → GoesBySteps call pass.progress (after_try file one waiting pass progress outcome).progress
+after_try-steps call start file count one waiting pass progress Outcome.Waits p t go may = go
+after_try-steps call start file count one waiting pass progress (Outcome.Refused status) p t go may =
+    steps_then call pass.progress progress _ go
+    (step_one call (SmallStep.AnswerHeld file pass.passed one waiting (Outcome.Refused status)) progress
+    (ap (λ h. h file) t.held ∙ p.in_pass.is_held, may (λ never. absurd (cc))) tt)
+after_try-steps call start file count one waiting pass progress Outcome.Ready p t go may =
+    steps_then call pass.progress progress _ go
+    (step_one call (SmallStep.AnswerHeld file pass.passed one waiting Outcome.Ready) progress
+    (ap (λ h. h file) t.held ∙ p.in_pass.is_held, may (λ never. absurd (cc))) tt)
 
 -- a held request tried again
-tried_again-steps : (start : Progress) (file count : ℕ) (one : Held) (waiting : List Held) (pass : Pass)
+tried_again-steps : (call : Call) (start : Progress) (file count : ℕ) (one : Held) (waiting : List Held) (pass : Pass)
     → PassWaits start file count (one ∷ waiting) pass
-    → GoesBySteps pass.progress (tried_again file one waiting pass).progress
+    → GoesBySteps call pass.progress (tried_again file one waiting pass).progress
 unfolding tried_again
-tried_again-steps start file count one waiting pass p =
+tried_again-steps call start file count one waiting pass p =
     let done = tried one.client one.request pass.progress in
     let t = any_try one.client one.request pass.progress p.fine.sound in
     let well = held_well pass.progress.server file one p.fine.orderly
     (subst (λ list. Among one list) (sym p.in_pass.is_held)
     (among_behind one pass.passed (one ∷ waiting) (inl refl))) in
-    if_cases (λ q. GoesBySteps pass.progress q.progress) (is_behind one.client pass.passed)
+    if_cases (λ q. GoesBySteps call pass.progress q.progress) (is_behind one.client pass.passed)
     (left_waiting one pass pass.progress) (after_try file one waiting pass done.progress done.outcome)
-    (λ e. steps_none pass.progress)
-    (λ e. after_try-steps start file count one waiting pass done.progress done.outcome p t
-    (tried-steps one.client one.request pass.progress p.fine.sound)
+    (λ e. steps_none call pass.progress)
+    (λ e. after_try-steps call start file count one waiting pass done.progress done.outcome p t
+    (tried-steps call one.client one.request pass.progress p.fine.sound)
     (λ ends. tried-guarded one.client one.request pass.progress ends (t.goes.ups one.client ∙ well.up)))
 
 -- a pass
-pass_over-steps : (start : Progress) (file count : ℕ) (waiting : List Held) (pass : Pass)
+pass_over-steps : (call : Call) (start : Progress) (file count : ℕ) (waiting : List Held) (pass : Pass)
     → PassWaits start file count waiting pass
-    → GoesBySteps pass.progress (pass_over file waiting pass).progress
+    → GoesBySteps call pass.progress (pass_over file waiting pass).progress
 unfolding pass_over
-pass_over-steps start file count [] pass p = steps_none pass.progress
-pass_over-steps start file count (one ∷ waiting) pass p =
+pass_over-steps call start file count [] pass p = steps_none call pass.progress
+pass_over-steps call start file count (one ∷ waiting) pass p =
     let next = tried_again file one waiting pass in
-    steps_then pass.progress next.progress (pass_over file waiting next).progress
-    (tried_again-steps start file count one waiting pass p)
-    (pass_over-steps start file count waiting next (tried_again-waits start file count one waiting pass p))
+    steps_then call pass.progress next.progress (pass_over file waiting next).progress
+    (tried_again-steps call start file count one waiting pass p)
+    (pass_over-steps call start file count waiting next (tried_again-waits start file count one waiting pass p))
 
 -- so many passes over a file
-passes_for-steps : (count file : ℕ) (progress : Progress) → IsFine progress.server
-    → GoesBySteps progress (passes_for count file progress)
+passes_for-steps : (call : Call) (count file : ℕ) (progress : Progress) → IsFine progress.server
+    → GoesBySteps call progress (passes_for count file progress)
 unfolding passes_for
-passes_for-steps zero file progress f = steps_none progress
-passes_for-steps (suc count) file progress f =
+passes_for-steps call zero file progress f = steps_none call progress
+passes_for-steps call (suc count) file progress f =
     let pass = one_pass file progress in
-    let go = pass_over-steps progress file (length (progress.server.held file)) (progress.server.held file)
+    let go = pass_over-steps call progress file (length (progress.server.held file)) (progress.server.held file)
     (record { passed = []; progress = progress; has_answered = false }) (pass_begun file progress f) in
-    if_cases (GoesBySteps progress) pass.has_answered (passes_for count file pass.progress) pass.progress
-    (λ e. steps_then progress pass.progress (passes_for count file pass.progress) go
-    (passes_for-steps count file pass.progress (one_pass-waits file progress f).fine))
+    if_cases (GoesBySteps call progress) pass.has_answered (passes_for count file pass.progress) pass.progress
+    (λ e. steps_then call progress pass.progress (passes_for count file pass.progress) go
+    (passes_for-steps call count file pass.progress (one_pass-waits file progress f).fine))
     (λ e. go)
 
 -- passes over files
-passes_over-steps : (files : List ℕ) (progress : Progress) → IsFine progress.server
-    → GoesBySteps progress (passes_over files progress)
+passes_over-steps : (call : Call) (files : List ℕ) (progress : Progress) → IsFine progress.server
+    → GoesBySteps call progress (passes_over files progress)
 unfolding passes_over
-passes_over-steps [] progress f = steps_none progress
-passes_over-steps (file ∷ files) progress f =
+passes_over-steps call [] progress f = steps_none call progress
+passes_over-steps call (file ∷ files) progress f =
     let next = passes file progress in
-    steps_then progress next (passes_over files next)
-    (passes_for-steps (length (progress.server.held file) + 1) file progress f)
-    (passes_over-steps files next
+    steps_then call progress next (passes_over files next)
+    (passes_for-steps call (length (progress.server.held file) + 1) file progress f)
+    (passes_over-steps call files next
     (passes_for-waits (length (progress.server.held file) + 1) file progress (omega arith) f).fine)
 
 -- passes over all files
-all_passes-steps : (progress : Progress) → IsFine progress.server → GoesBySteps progress (all_passes progress)
+all_passes-steps : (call : Call) (progress : Progress) → IsFine progress.server → GoesBySteps call progress (all_passes progress)
 unfolding all_passes
-all_passes-steps progress f = passes_over-steps (numbers_to progress.server.files) progress f
+all_passes-steps call progress f = passes_over-steps call (numbers_to progress.server.files) progress f
 
 -- ---- arrivals
 
@@ -134,114 +134,116 @@ asked-refuses server client (FileRequest.Close file_id) status e =
     closed_asked server client file_id status (connected_open server client file_id) refl e
 
 -- what follows a first try
-first_try-steps : (client file : ℕ) (request : FileRequest) (before : Progress) (progress : Progress) (outcome : Outcome)
-    → before.server.present client ≡ true
+first_try-steps : (call : Call) (client file : ℕ) (request : FileRequest) (before : Progress) (progress : Progress) (outcome : Outcome)
+    → call ≡ Call.Receive client (Request.OnFile request) → before.server.present client ≡ true
     → IsTry client request before (record { progress = progress; outcome = outcome })
-    → GoesBySteps before progress
+    → GoesBySteps call before progress
     → ((outcome ≡ Outcome.Waits → ⊥) → MayEndAt progress (held_of client request) outcome)
-    → GoesBySteps before (after_first_try client file request progress outcome)
-first_try-steps client file request before progress Outcome.Waits up t go may =
-    steps_then before progress (request_held file (held_of client request) progress) go
-    (step_one (SmallStep.Hold file (held_of client request)) progress
-    (t.goes.ups client ∙ up, inl (t.waits refl)))
-first_try-steps client file request before progress (Outcome.Refused status) up t go may =
-    steps_then before progress (concluded client request progress (Outcome.Refused status)) go
-    (step_one (SmallStep.Answer client request (Outcome.Refused status)) progress (may (λ never. absurd (cc))))
-first_try-steps client file request before progress Outcome.Ready up t go may =
-    steps_then before progress (concluded client request progress Outcome.Ready) go
-    (step_one (SmallStep.Answer client request Outcome.Ready) progress (may (λ never. absurd (cc))))
+    → GoesBySteps call before (after_first_try client file request progress outcome)
+first_try-steps call client file request before progress Outcome.Waits of up t go may =
+    steps_then call before progress (request_held file (held_of client request) progress) go
+    (step_one call (SmallStep.Hold file (held_of client request)) progress
+    (t.goes.ups client ∙ up, inl (t.waits refl)) of)
+first_try-steps call client file request before progress (Outcome.Refused status) of up t go may =
+    steps_then call before progress (concluded client request progress (Outcome.Refused status)) go
+    (step_one call (SmallStep.Answer client request (Outcome.Refused status)) progress (may (λ never. absurd (cc))) of)
+first_try-steps call client file request before progress Outcome.Ready of up t go may =
+    steps_then call before progress (concluded client request progress Outcome.Ready) go
+    (step_one call (SmallStep.Answer client request Outcome.Ready) progress (may (λ never. absurd (cc))) of)
 
 -- a request that comes
-arrived_on-steps : (client : ℕ) (request : FileRequest) (progress : Progress) (asked : Result ℕ Status)
-    → IsFine progress.server → progress.server.present client ≡ true
+arrived_on-steps : (call : Call) (client : ℕ) (request : FileRequest) (progress : Progress) (asked : Result ℕ Status)
+    → call ≡ Call.Receive client (Request.OnFile request) → IsFine progress.server → progress.server.present client ≡ true
     → file_asked progress.server client request ≡ asked
-    → GoesBySteps progress (arrived_on client request progress asked)
-arrived_on-steps client request progress (Err status) f up e =
-    step_one (SmallStep.Answer client request (Outcome.Refused status)) progress
-    (up, asked-refuses progress.server client request status e)
-arrived_on-steps client request progress (Ok file) f up e =
+    → GoesBySteps call progress (arrived_on client request progress asked)
+arrived_on-steps call client request progress (Err status) of f up e =
+    step_one call (SmallStep.Answer client request (Outcome.Refused status)) progress
+    (up, asked-refuses progress.server client request status e) of
+arrived_on-steps call client request progress (Ok file) of f up e =
     let done = tried client request progress in
     let t = any_try client request progress f.sound in
-    if_cases (GoesBySteps progress) (is_behind client (progress.server.held file))
+    if_cases (GoesBySteps call progress) (is_behind client (progress.server.held file))
     (request_held file (held_of client request) progress)
     (after_first_try client file request done.progress done.outcome)
-    (λ behind. step_one (SmallStep.Hold file (held_of client request)) progress (up, inr behind))
-    (λ first. first_try-steps client file request progress done.progress done.outcome up t
-    (tried-steps client request progress f.sound)
+    (λ behind. step_one call (SmallStep.Hold file (held_of client request)) progress (up, inr behind) of)
+    (λ first. first_try-steps call client file request progress done.progress done.outcome of up t
+    (tried-steps call client request progress f.sound)
     (λ ends. tried-guarded client request progress ends (t.goes.ups client ∙ up)))
 
 -- and finds its own file
-asked-steps : (client : ℕ) (request : FileRequest) (progress : Progress)
-    → IsFine progress.server → progress.server.present client ≡ true
-    → GoesBySteps progress (arrived_on client request progress (file_asked progress.server client request))
-asked-steps client request progress f up =
-    arrived_on-steps client request progress (file_asked progress.server client request) f up refl
+asked-steps : (call : Call) (client : ℕ) (request : FileRequest) (progress : Progress)
+    → call ≡ Call.Receive client (Request.OnFile request) → IsFine progress.server → progress.server.present client ≡ true
+    → GoesBySteps call progress (arrived_on client request progress (file_asked progress.server client request))
+asked-steps call client request progress of f up =
+    arrived_on-steps call client request progress (file_asked progress.server client request) of f up refl
 
 -- a request about a file
-file_request-steps : (client : ℕ) (request : FileRequest) (progress : Progress)
-    → IsFine progress.server → progress.server.present client ≡ true
-    → GoesBySteps progress (file_request_arrived client request progress)
-file_request-steps client (FileRequest.Create file access share contexts) progress f up =
-    asked-steps client (FileRequest.Create file access share contexts) progress f up
-file_request-steps client (FileRequest.Read file_id) progress f up =
-    asked-steps client (FileRequest.Read file_id) progress f up
-file_request-steps client (FileRequest.Write file_id number patch) progress f up =
-    asked-steps client (FileRequest.Write file_id number patch) progress f up
-file_request-steps client (FileRequest.Close file_id) progress f up =
+file_request-steps : (call : Call) (client : ℕ) (request : FileRequest) (progress : Progress)
+    → call ≡ Call.Receive client (Request.OnFile request) → IsFine progress.server → progress.server.present client ≡ true
+    → GoesBySteps call progress (file_request_arrived client request progress)
+file_request-steps call client (FileRequest.Create file access share contexts) progress of f up =
+    asked-steps call client (FileRequest.Create file access share contexts) progress of f up
+file_request-steps call client (FileRequest.Read file_id) progress of f up =
+    asked-steps call client (FileRequest.Read file_id) progress of f up
+file_request-steps call client (FileRequest.Write file_id number patch) progress of f up =
+    asked-steps call client (FileRequest.Write file_id number patch) progress of f up
+file_request-steps call client (FileRequest.Close file_id) progress of f up =
     let request = FileRequest.Close file_id in
     let after = arrived_on client request progress (file_asked progress.server client request) in
-    steps_then progress after (all_passes after) (asked-steps client request progress f up)
-    (all_passes-steps after (arrived_on-fine client request progress (file_asked progress.server client request) f
+    steps_then call progress after (all_passes after) (asked-steps call client request progress of f up)
+    (all_passes-steps call after (arrived_on-fine client request progress (file_asked progress.server client request) f
     (asked_well client request progress f up)))
 
 -- any request
-arrived-steps : (client : ℕ) (request : Request) (progress : Progress)
-    → IsFine progress.server → progress.server.present client ≡ true
-    → GoesBySteps progress (arrived client request progress)
+arrived-steps : (call : Call) (client : ℕ) (request : Request) (progress : Progress)
+    → call ≡ Call.Receive client request → IsFine progress.server → progress.server.present client ≡ true
+    → GoesBySteps call progress (arrived client request progress)
 unfolding arrived
-arrived-steps client (Request.Acknowledge given) progress f up =
+arrived-steps call client (Request.Acknowledge given) progress of f up =
     let after = acknowledged client given progress in
-    steps_then progress after (all_passes after)
-    (step_one (SmallStep.Acknowledge client given) progress up)
-    (all_passes-steps after (fine_goes progress after f (acknowledged-sound client given progress f.sound)
+    steps_then call progress after (all_passes after)
+    (step_one call (SmallStep.Acknowledge client given) progress up of)
+    (all_passes-steps call after (fine_goes progress after f (acknowledged-sound client given progress f.sound)
     (acknowledged-goes client given progress) (acknowledged-held client given progress)))
-arrived-steps client (Request.OnFile request) progress f up = file_request-steps client request progress f up
+arrived-steps call client (Request.OnFile request) progress of f up =
+    file_request-steps call client request progress of f up
 
 -- ---- calls
 
 -- a call that applies or doesn't
-either_steps : (b : Bool) (start : Progress) (after : Progress) (nothing : Progress)
-    → (b ≡ true → GoesBySteps start after) → GoesBySteps (if b then start else nothing) (if b then after else nothing)
-either_steps true start after nothing go = go refl
-either_steps false start after nothing go = steps_none nothing
+either_steps : (call : Call) (b : Bool) (start : Progress) (after : Progress) (nothing : Progress)
+    → (b ≡ true → GoesBySteps call start after) → GoesBySteps call (if b then start else nothing) (if b then after else nothing)
+either_steps call true start after nothing go = go refl
+either_steps call false start after nothing go = steps_none call nothing
 
 -- a request received
-receive-steps : (server : Server) (client : ℕ) (request : Request) → IsFine server
-    → GoesBySteps (begun server) (receive server client request)
+receive-steps : (call : Call) (server : Server) (client : ℕ) (request : Request)
+    → call ≡ Call.Receive client request → IsFine server
+    → GoesBySteps call (begun server) (receive server client request)
 unfolding receive
-receive-steps server client request f = if_cases (GoesBySteps (begun server)) (server.present client)
+receive-steps call server client request of f = if_cases (GoesBySteps call (begun server)) (server.present client)
     (arrived client request (begun server)) (begun server)
-    (λ up. arrived-steps client request (begun server) f up) (λ away. steps_none (begun server))
+    (λ up. arrived-steps call client request (begun server) of f up) (λ away. steps_none call (begun server))
 
 -- every call
 pub called-steps : (server : Server) (call : Call) → IsSound server → WaitsWell server
-    → GoesBySteps (call_begun server call) (called server call)
+    → GoesBySteps call (call_begun server call) (called server call)
 unfolding cut expire scavenge
-called-steps server (Call.Join client) s w = steps_none (join server client)
+called-steps server (Call.Join client) s w = steps_none (Call.Join client) (join server client)
 called-steps server (Call.Receive client request) s w =
-    receive-steps server client request (record { sound = s; orderly = w.is_orderly })
+    receive-steps (Call.Receive client request) server client request refl (record { sound = s; orderly = w.is_orderly })
 called-steps server (Call.Cut client) s w =
     let start = client_forgotten client (opens_disconnected client (opens_dropped (is_lost server client) (begun server))) in
-    either_steps (server.present client) start (all_passes start) (begun server)
-    (λ up. all_passes-steps start (cut-fine server client (record { sound = s; orderly = w.is_orderly })))
+    either_steps (Call.Cut client) (server.present client) start (all_passes start) (begun server)
+    (λ up. all_passes-steps (Call.Cut client) start (cut-fine server client (record { sound = s; orderly = w.is_orderly })))
 called-steps server (Call.Expire key) s w =
     let start = key_expired key (opens_dropped (has_key key) (begun server)) in
-    either_steps (is_breaking (server.leases key)) start (all_passes start) (begun server)
-    (λ up. all_passes-steps start (expired-fine server key (record { sound = s; orderly = w.is_orderly })))
+    either_steps (Call.Expire key) (is_breaking (server.leases key)) start (all_passes start) (begun server)
+    (λ up. all_passes-steps (Call.Expire key) start (expired-fine server key (record { sound = s; orderly = w.is_orderly })))
 called-steps server (Call.Scavenge file_id) s w =
     let start = opens_dropped (is_left_behind file_id) (begun server) in
-    either_steps (list_any (is_left_behind file_id) server.opens) start (all_passes start) (begun server)
-    (λ up. all_passes-steps start
+    either_steps (Call.Scavenge file_id) (list_any (is_left_behind file_id) server.opens) start (all_passes start) (begun server)
+    (λ up. all_passes-steps (Call.Scavenge file_id) start
     (dropped-fine (is_left_behind file_id) (begun server) (record { sound = s; orderly = w.is_orderly })))
 
 -- ---- the first part of a call gives nothing out

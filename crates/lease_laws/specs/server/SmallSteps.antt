@@ -8,7 +8,7 @@ use Rattle.lease_state.specs.declared.access.Access.{Access}
 use Rattle.lease_state.specs.declared.access.Share.{Share}
 use Rattle.lease_state.specs.declared.patch.Patch.{Patch}
 use Rattle.lease_state.specs.declared.status.Status.{Status}
-use Rattle.lease_model.specs.messages.Requests.{FileRequest, CreateAsk, LeaseOf}
+use Rattle.lease_model.specs.messages.Requests.{FileRequest, Request, CreateAsk, LeaseOf}
 use Rattle.lease_model.specs.server.Acknowledge.{acknowledged}
 use Rattle.lease_model.specs.server.Answers.{concluded}
 use Rattle.lease_model.specs.server.Attempt.{Outcome, is_left_open}
@@ -158,10 +158,22 @@ abbrev pub AreGuarded : List SmallStep → Progress → Type 0
 AreGuarded [] progress = ⊤
 AreGuarded (step ∷ steps) progress = IsGuarded step progress.server × AreGuarded steps (step_taken step progress)
 
--- one call under way goes on to another by guarded steps
-pub record GoesBySteps (before : Progress) (after : Progress) : Type 0 where
+-- The request that is answered, held or judged as it comes is that of the call.
+abbrev pub IsOfCall : Call → SmallStep → Type 0
+IsOfCall call (SmallStep.Answer client request outcome) = call ≡ Call.Receive client (Request.OnFile request)
+IsOfCall call (SmallStep.Hold file one) = call ≡ Call.Receive one.client (Request.OnFile one.request)
+IsOfCall call (SmallStep.Acknowledge client given) = call ≡ Call.Receive client (Request.Acknowledge given)
+IsOfCall call step = ⊤
+
+abbrev pub AreOf : Call → List SmallStep → Type 0
+AreOf call [] = ⊤
+AreOf call (step ∷ steps) = IsOfCall call step × AreOf call steps
+
+-- a call under way goes on by guarded steps
+pub record GoesBySteps (call : Call) (before : Progress) (after : Progress) : Type 0 where
   pub steps : List SmallStep
   pub are_guarded : AreGuarded steps before
+  pub are_of : AreOf call steps
   pub lead : after ≡ steps_taken steps before
 
 -- The part of a call that comes before any request is looked at. It gives nothing out.
@@ -184,7 +196,7 @@ call_begun server (Call.Scavenge file_id) =
 -- Every call goes by guarded small steps.
 abbrev pub CallsGoBySteps : Type 0
 CallsGoBySteps = (server : Server) (call : Call) → IsSound server → WaitsWell server
-    → GoesBySteps (call_begun server call) (called server call)
+    → GoesBySteps call (call_begun server call) (called server call)
 
 -- and its first part gives nothing out
 abbrev pub CallsBeginInSilence : Type 0

@@ -1,0 +1,80 @@
+-- What has bytes is read back.
+use Rattle.std.proofs.Common.{◌≡◌, ℕ, List, Option, Some, None, refl, sym, ap, ◌∙◌}
+use Rattle.std.specs.Prelude.{IfSome, length, Ok}
+use Rattle.std.specs.Option.{option_map}
+use Rattle.lease_state.specs.declared.access.Access.{Access}
+use Rattle.lease_state.specs.declared.access.Share.{Share}
+use Rattle.lease_wire.specs.Canonical.{IsWritable}
+use Rattle.lease_wire.specs.Gathering.{value_of}
+use Rattle.lease_wire.specs.declared.create.Direction.{Direction}
+use Rattle.lease_model.specs.messages.FromBytes.{request_of, reply_of, ask_found, answer_found, lease_wanted, lease_read, acknowledged_in, notice_in}
+use Rattle.lease_model.specs.messages.Replies.{Reply, LeaseGiven, CreateAnswer, BreakNotice}
+use Rattle.lease_model.specs.messages.Requests.{FileRequest, Request, LeaseOf, CreateAsk}
+use Rattle.lease_model.specs.messages.ToBytes.{request_written, reply_written, file_request_written, HasRequestBytes, HasReplyBytes, HasAskBytes, HasAnswerBytes, view_of_ask, view_of_answer, ask_bytes, answer_bytes, key_and_state, notice_view}
+use Rattle.lease_laws.proofs.messages.FromBytesLemmas.{written_messages_found, written_contexts_found}
+
+-- the lease of an ask is found as it was
+ask_lease : (lease : Option LeaseOf) (durable : _) (again : Option ℕ)
+    → ask_found (Ok (view_of_ask (record { lease = lease; durable = durable; reconnect = again })))
+    ≡ Some (record { lease = lease; durable = durable; reconnect = again })
+ask_lease None durable again = refl
+ask_lease (Some l) durable again = refl
+
+-- an ask that has bytes can be written
+ask_writable : (lease : Option LeaseOf) (durable : _) (again : Option ℕ)
+    → HasAskBytes (record { lease = lease; durable = durable; reconnect = again })
+    → IsWritable Direction.Request (view_of_ask (record { lease = lease; durable = durable; reconnect = again }))
+ask_writable None durable again h = record { key = tt; file_id = h.file_id; directed = tt }
+ask_writable (Some l) durable again h = record { key = h.key; file_id = h.file_id; directed = refl }
+
+-- so it is read back
+ask_back : (ask : CreateAsk) → HasAskBytes ask
+    → ask_found (value_of Direction.Request (ask_bytes (Some ask))) ≡ Some ask
+ask_back ask h = written_contexts_found.0 (view_of_ask ask) (ask_writable ask.lease ask.durable ask.reconnect h)
+    ∙ ask_lease ask.lease ask.durable ask.reconnect
+
+-- the same for an answer
+answer_lease : (lease : Option LeaseGiven) (durable : _)
+    → answer_found (Ok (view_of_answer (record { lease = lease; durable = durable })))
+    ≡ Some (record { lease = lease; durable = durable })
+answer_lease None durable = refl
+answer_lease (Some l) durable = refl
+
+answer_writable : (lease : Option LeaseGiven) (durable : _) → HasAnswerBytes (record { lease = lease; durable = durable })
+    → IsWritable Direction.Reply (view_of_answer (record { lease = lease; durable = durable }))
+answer_writable None durable h = record { key = tt; file_id = tt; directed = refl }
+answer_writable (Some l) durable h = record { key = h; file_id = tt; directed = refl }
+
+answer_back : (answer : CreateAnswer) → HasAnswerBytes answer
+    → answer_found (value_of Direction.Reply (answer_bytes (Some answer))) ≡ Some answer
+answer_back answer h = written_contexts_found.1 (view_of_answer answer)
+    (answer_writable answer.lease answer.durable h) ∙ answer_lease answer.lease answer.durable
+
+pub requests_back : (request : Request) → HasRequestBytes request → request_of (request_written request) ≡ request
+requests_back (Request.OnFile (FileRequest.Create file access share None)) h = absurd h
+requests_back (Request.OnFile (FileRequest.Create file access share (Some ask))) h =
+    ap (λ contexts. Request.OnFile (FileRequest.Create file access share contexts)) (ask_back ask h)
+requests_back (Request.OnFile (FileRequest.Read file_id)) h = refl
+requests_back (Request.OnFile (FileRequest.Write file_id number patch)) h = refl
+requests_back (Request.OnFile (FileRequest.Close file_id)) h = refl
+requests_back (Request.Acknowledge None) h = absurd h
+requests_back (Request.Acknowledge (Some lease)) h =
+    ap (λ l. Request.Acknowledge l) (written_messages_found.0 (key_and_state lease) h)
+
+pub replies_back : (reply : Reply) → HasReplyBytes reply → reply_of (reply_written reply) ≡ reply
+replies_back (Reply.Created file file_id None) h = absurd h
+replies_back (Reply.Created file file_id (Some answer)) h =
+    ap (λ contexts. Reply.Created file file_id contexts) (answer_back answer h)
+replies_back (Reply.CreateFailed file status) h = refl
+replies_back (Reply.ReadDone file_id bytes) h = refl
+replies_back (Reply.ReadFailed file_id status) h = refl
+replies_back (Reply.WriteDone file_id number) h = refl
+replies_back (Reply.WriteFailed file_id number status) h = refl
+replies_back (Reply.Closed file_id) h = refl
+replies_back (Reply.CloseFailed file_id status) h = refl
+replies_back (Reply.Break None) h = absurd h
+replies_back (Reply.Break (Some notice)) h = ap (λ n. Reply.Break n) (written_messages_found.1 (notice_view notice) h)
+replies_back (Reply.AckDone None) h = absurd h
+replies_back (Reply.AckDone (Some lease)) h =
+    ap (λ l. Reply.AckDone l) (written_messages_found.0 (key_and_state lease) h)
+replies_back (Reply.AckFailed status) h = refl

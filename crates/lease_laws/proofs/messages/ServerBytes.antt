@@ -1,0 +1,389 @@
+-- Every reply of a server whose keys have 16 bytes has bytes.
+use Rattle.std.proofs.Common.{◌≡◌, ◌⊎◌, inl, inr, ⊎_elim, refl, sym, ap, ◌∙◌, subst, ℕ, Bool, true, false, not, List, [], ◌∷◌, ◌++◌, map, length, true≢false, ◌==◌}
+use Rattle.std.specs.Prelude.{◌&&◌, ⊤, if◌then◌else◌, bytes_eq, Option, Some, None, IfSome}
+use Rattle.std.specs.List.{list_any}
+use Rattle.std.proofs.lemmas.Slice.Eq.{bytes_eq-Decides}
+use Rattle.std.proofs.lemmas.Bool.Decides.{Decides-eqb}
+use Rattle.lease_state.specs.State.{State}
+use Rattle.lease_state.specs.declared.access.Access.{Access}
+use Rattle.lease_state.specs.declared.access.Share.{Share}
+use Rattle.lease_state.specs.declared.status.Status.{Status}
+use Rattle.lease_model.specs.messages.Replies.{Reply, Out, LeaseGiven}
+use Rattle.lease_model.specs.messages.Requests.{FileRequest, Request, CreateAsk, LeaseOf}
+use Rattle.lease_model.specs.messages.ToBytes.{HasReplyBytes}
+use Rattle.lease_model.specs.server.Acknowledge.{acknowledged, judged, break_ended}
+use Rattle.lease_model.specs.server.Answers.{concluded, answered, created, closed, changed, read_done, on_open, on_contexts}
+use Rattle.lease_model.specs.server.Attempt.{Outcome, is_left_open}
+use Rattle.lease_model.specs.server.Calls.{Call, called, join, joined, is_lost, disconnected, opens_disconnected, client_forgotten, key_expired, is_left_behind}
+use Rattle.lease_model.specs.server.Findings.{connected_open}
+use Rattle.lease_model.specs.server.Grant.{granted, granted_with, lease_after, lease_put, lease_given, asked_key, new_open, standing_lease, reconnected, connected_again}
+use Rattle.lease_model.specs.server.Naming.{key_of}
+use Rattle.lease_model.specs.server.Progress.{Progress, begun, opens_dropped, with_opens, lease_lowered, break_begun, request_held, held_left, replied, refused, refusal_of}
+use Rattle.lease_model.specs.server.State.{Server, Open, Lease, Held, is_key, has_key, has_lease, is_breaking}
+use Rattle.lease_model.specs.values.Keys.{Key}
+use Rattle.lease_model.specs.values.LeaseStates.{is_within}
+use Rattle.lease_model.specs.values.Limits.{last_file_id}
+use Rattle.lease_model.specs.values.Lists.{without}
+use Rattle.lease_model.specs.values.Tables.{put}
+use Rattle.lease_laws.specs.messages.Written.{HasFullKey, HaveFullKeys, CallHasFullKey, OutHasBytes}
+use Rattle.lease_laws.specs.server.Laws.{Among, IsSound}
+use Rattle.lease_laws.specs.server.Outs.{EachOut, GoOn}
+use Rattle.lease_laws.specs.server.SmallSteps.{SmallStep, step_taken, steps_taken, IsGuarded, AreGuarded, IsOfCall, AreOf, MayLower, call_begun}
+use Rattle.lease_laws.specs.server.Waiting.{WaitsWell}
+use Rattle.lease_laws.proofs.server.Lists.{if_cases, either, clash, and_parts, any_has, among_append, among_filter, among_map, among_behind}
+use Rattle.lease_laws.proofs.server.OutLists.{each_append, go_on-same}
+use Rattle.lease_laws.proofs.server.OutSteps.{opens_dropped-outs}
+use Rattle.lease_laws.proofs.server.OutCalls.{request_held-outs, held_left-outs}
+use Rattle.lease_laws.proofs.server.StepCalls.{called-steps, call_begun-silent}
+
+-- what a step comes to: outs with bytes, and full keys
+record IsFull (before : Progress) (after : Progress) : Type 0 where
+  outs : GoOn OutHasBytes before.outs after.outs
+  keys : HaveFullKeys after.server
+
+-- a key with an open has 16 bytes
+full_key : (server : Server) (key : Key) → HaveFullKeys server → has_lease server key ≡ true → length key.bytes ≡ 16
+full_key server key full there =
+    let x = any_has (has_key key) server.opens there in
+    own (x.0).client (x.0).lease_key x.2 (λ bytes e. full.opens x.0 bytes x.1 e)
+  where
+    own : (client : ℕ) (bytes : Option (List ℕ)) → is_key key client bytes ≡ true
+        → ((b : List ℕ) → bytes ≡ Some b → length b ≡ 16) → length key.bytes ≡ 16
+    own client None k each = clash false k refl
+    own client (Some bytes) k each =
+        ap (λ b. length b) ((bytes_eq-Decides key.bytes bytes).0
+        (and_parts (key.client == client) (bytes_eq key.bytes bytes) k).1) ∙ each bytes refl
+
+-- one reply that has bytes, where nothing changes
+replied_full : (client : ℕ) (reply : Reply) (progress : Progress) → HasReplyBytes reply → HaveFullKeys progress.server
+    → IsFull progress (replied client reply progress)
+replied_full client reply progress has full = record {
+  outs = record { more = Out.Sent client reply ∷ []; are_more = refl; each = (has, tt) };
+  keys = full;
+}
+
+-- a refusal has bytes
+refusal_bytes : (request : FileRequest) (status : Status) → HasReplyBytes (refusal_of request status)
+refusal_bytes (FileRequest.Create file access share contexts) status = tt
+refusal_bytes (FileRequest.Read file_id) status = tt
+refusal_bytes (FileRequest.Write file_id number patch) status = tt
+refusal_bytes (FileRequest.Close file_id) status = tt
+
+-- fewer opens
+dropped_full : (test : Open → Bool) (progress : Progress) → HaveFullKeys progress.server
+    → HaveFullKeys (opens_dropped test progress).server
+unfolding opens_dropped with_opens
+dropped_full test progress full = record {
+  opens = λ one bytes a e. full.opens one bytes
+      (among_filter (λ x. not (test x)) one progress.server.opens a).0 e;
+  held = full.held;
+}
+
+-- ---- a create
+
+-- the lease context of a reply
+given_bytes : (asked : Option LeaseOf) (lease : Lease) → IfSome asked (λ l. length l.key ≡ 16)
+    → IfSome (lease_given asked lease) (λ l. length l.key ≡ 16)
+given_bytes None lease h = tt
+given_bytes (Some l) lease h = h
+
+-- the new open's key
+new_key : (asked : Option LeaseOf) (bytes : List ℕ) → IfSome asked (λ l. length l.key ≡ 16)
+    → asked_key asked ≡ Some bytes → length bytes ≡ 16
+new_key None bytes h e = absurd (cc)
+new_key (Some l) bytes h e = ap (λ b. length b) (sym (same l.key bytes e)) ∙ h
+  where
+    same : (a b : List ℕ) → Some a ≡ Some b → a ≡ b
+    same a b e = cc
+
+-- a lease that is put changes no open and no held request
+put_opens : (server : Server) (client : ℕ) (asked : Option LeaseOf) (lease : Lease)
+    → (lease_put server client asked lease).held ≡ server.held
+put_opens server client None lease = refl
+put_opens server client (Some l) lease = refl
+
+granted_full : (client file : ℕ) (access : Access) (share : Share) (asked : Option LeaseOf) (durable : Bool)
+    (progress : Progress) → IfSome asked (λ l. length l.key ≡ 16) → HaveFullKeys progress.server
+    → IsFull progress
+    (granted_with client file access share asked durable (lease_after progress.server client file asked) progress)
+unfolding granted_with
+granted_full client file access share asked durable progress h full =
+    let lease = lease_after progress.server client file asked in
+    record {
+      outs = record { more = _; are_more = refl; each = (tt, (given_bytes asked lease h, tt)) };
+      keys = record {
+        opens = λ one bytes a e. ⊎_elim (λ old. full.opens one bytes old e)
+            (λ last. ⊎_elim (λ same. new_key asked bytes h (ap (λ o. o.lease_key) (sym same) ∙ e)) (λ never. absurd never) last)
+            (among_append one progress.server.opens _ a);
+        held = λ f one a. full.held f one
+            (subst (λ held. Among one (held f)) (put_opens progress.server client asked lease) a);
+      };
+    }
+
+-- an open that is connected again has its key
+again_key : (file_id : ℕ) (one : Open) → (connected_again file_id one).lease_key ≡ one.lease_key
+again_key file_id one = if_cases (λ o. o.lease_key ≡ one.lease_key) (one.file_id == file_id)
+    (record one { connected = true }) one (λ e. refl) (λ e. refl)
+
+created_full : (client file : ℕ) (access : Access) (share : Share) (asked : Option LeaseOf) (durable : Bool)
+    (again : Option ℕ) (progress : Progress) → IfSome asked (λ l. length l.key ≡ 16) → HaveFullKeys progress.server
+    → IsFull progress (created client file access share asked durable again progress)
+unfolding granted reconnected
+created_full client file access share asked durable None progress h full =
+    if_cases (IsFull progress) (progress.server.last_id == last_file_id)
+    (replied client (Reply.CreateFailed file Status.InsufficientResources) progress)
+    (granted_with client file access share asked durable (lease_after progress.server client file asked) progress)
+    (λ e. replied_full client (Reply.CreateFailed file Status.InsufficientResources) progress tt full)
+    (λ e. granted_full client file access share asked durable progress h full)
+created_full client file access share asked durable (Some file_id) progress h full = record {
+  outs = record {
+    more = _;
+    are_more = refl;
+    each = (given_bytes asked (standing_lease progress.server client asked) h, tt);
+  };
+  keys = record {
+    opens = λ one bytes a e. let x = among_map (connected_again file_id) one progress.server.opens a in
+        full.opens x.0 bytes x.1 (sym (again_key file_id x.0) ∙ ap (λ o. o.lease_key) (sym x.2) ∙ e);
+    held = full.held;
+  };
+}
+
+-- ---- the end of a request
+
+on_open_full : (one : Option Open) (done : ℕ → Progress → Progress) (progress : Progress) → HaveFullKeys progress.server
+    → ((file : ℕ) → IsFull progress (done file progress)) → IsFull progress (on_open one done progress)
+on_open_full None done progress full each = record { outs = go_on-same OutHasBytes progress.outs; keys = full }
+on_open_full (Some one) done progress full each = each one.file
+
+on_contexts_full : (contexts : Option CreateAsk) (done : CreateAsk → Progress → Progress) (progress : Progress)
+    → HaveFullKeys progress.server
+    → ((ask : CreateAsk) → contexts ≡ Some ask → IsFull progress (done ask progress))
+    → IsFull progress (on_contexts contexts done progress)
+on_contexts_full None done progress full each = record { outs = go_on-same OutHasBytes progress.outs; keys = full }
+on_contexts_full (Some ask) done progress full each = each ask refl
+
+closed_full : (client file_id : ℕ) (progress : Progress) → HaveFullKeys progress.server
+    → IsFull progress (closed client file_id progress)
+unfolding closed
+closed_full client file_id progress full = record {
+  outs = subst (λ outs. GoOn OutHasBytes outs (closed client file_id progress).outs)
+      (opens_dropped-outs (λ one. one.file_id == file_id) progress)
+      (record { more = Out.Sent client (Reply.Closed file_id) ∷ []; are_more = refl; each = (tt, tt) });
+  keys = dropped_full (λ one. one.file_id == file_id) progress full;
+}
+
+changed_full : (client file file_id number : ℕ) (patch : _) (progress : Progress) → HaveFullKeys progress.server
+    → IsFull progress (changed client file file_id number patch progress)
+unfolding changed
+changed_full client file file_id number patch progress full = record {
+  outs = record { more = _; are_more = refl; each = (tt, (tt, tt)) };
+  keys = record { opens = full.opens; held = full.held };
+}
+
+concluded_full : (client : ℕ) (request : FileRequest) (progress : Progress) (outcome : Outcome)
+    → HasFullKey request → HaveFullKeys progress.server
+    → IsFull progress (concluded client request progress outcome)
+unfolding refused answered
+concluded_full client request progress (Outcome.Refused status) h full =
+    replied_full client (refusal_of request status) progress (refusal_bytes request status) full
+concluded_full client request progress Outcome.Waits h full =
+    record { outs = go_on-same OutHasBytes progress.outs; keys = full }
+concluded_full client (FileRequest.Create file access share contexts) progress Outcome.Ready h full =
+    on_contexts_full contexts _ progress full (λ ask e. created_full client file access share ask.lease ask.durable
+    ask.reconnect progress (subst (λ c. HasFullKey (FileRequest.Create file access share c)) e h) full)
+concluded_full client (FileRequest.Read file_id) progress Outcome.Ready h full =
+    on_open_full (connected_open progress.server client file_id) (λ file. read_done client file file_id) progress full
+    (λ file. replied_full client (Reply.ReadDone file_id (progress.server.contents file)) progress tt full)
+concluded_full client (FileRequest.Write file_id number patch) progress Outcome.Ready h full =
+    on_open_full (connected_open progress.server client file_id)
+    (λ file. changed client file file_id number patch) progress full
+    (λ file. changed_full client file file_id number patch progress full)
+concluded_full client (FileRequest.Close file_id) progress Outcome.Ready h full =
+    on_open_full (connected_open progress.server client file_id) (λ file. closed client file_id) progress full
+    (λ file. closed_full client file_id progress full)
+
+-- ---- acknowledgments
+
+ended_full : (key : Key) (state : State) (progress : Progress) → HaveFullKeys progress.server
+    → length key.bytes ≡ 16 → IsFull progress (break_ended key state progress)
+unfolding break_ended
+ended_full key state progress full long = record {
+  outs = record { more = _; are_more = refl; each = (long, tt) };
+  keys = record { opens = full.opens; held = full.held };
+}
+
+judged_full : (key : Key) (state : State) (broken : Option State) (progress : Progress)
+    → HaveFullKeys progress.server → length key.bytes ≡ 16 → IsFull progress (judged key state broken progress)
+judged_full key state None progress full long =
+    replied_full key.client (Reply.AckFailed Status.Unsuccessful) progress tt full
+judged_full key state (Some lowered) progress full long = if_cases (IsFull progress) (is_within state lowered)
+    (break_ended key state progress)
+    (replied key.client (Reply.AckFailed Status.RequestNotAccepted) progress)
+    (λ e. ended_full key state progress full long)
+    (λ e. replied_full key.client (Reply.AckFailed Status.RequestNotAccepted) progress tt full)
+
+acknowledged_full : (client : ℕ) (given : Option LeaseOf) (progress : Progress) → HaveFullKeys progress.server
+    → IsFull progress (acknowledged client given progress)
+unfolding acknowledged
+acknowledged_full client None progress full =
+    replied_full client (Reply.AckFailed Status.InvalidParameter) progress tt full
+acknowledged_full client (Some given) progress full = if_cases (IsFull progress)
+    (has_lease progress.server (key_of client given.key))
+    (judged (key_of client given.key) given.state (progress.server.leases (key_of client given.key)).broken_to
+    progress)
+    (replied client (Reply.AckFailed Status.ObjectNameNotFound) progress)
+    (λ there. judged_full (key_of client given.key) given.state
+    (progress.server.leases (key_of client given.key)).broken_to progress full
+    (full_key progress.server (key_of client given.key) full there))
+    (λ e. replied_full client (Reply.AckFailed Status.ObjectNameNotFound) progress tt full)
+
+-- ---- steps
+
+-- the request that a step answers or holds as it comes
+abbrev StepHasFullKey : SmallStep → Type 0
+StepHasFullKey (SmallStep.Answer client request outcome) = HasFullKey request
+StepHasFullKey (SmallStep.Hold file one) = HasFullKey one.request
+StepHasFullKey step = ⊤
+
+-- it is that of the call
+of_call : (call : Call) (step : SmallStep) → IsOfCall call step → CallHasFullKey call → StepHasFullKey step
+of_call call (SmallStep.Answer client request outcome) of h = subst CallHasFullKey of h
+of_call call (SmallStep.AnswerHeld file before one behind outcome) of h = tt
+of_call call (SmallStep.Acknowledge client given) of h = tt
+of_call call (SmallStep.Hold file one) of h = subst CallHasFullKey of h
+of_call call (SmallStep.Drop key) of h = tt
+of_call call (SmallStep.Lower key lowered) of h = tt
+of_call call (SmallStep.Begin key lowered) of h = tt
+
+-- a request less among the held ones
+left_full : (file : ℕ) (before : List Held) (one : Held) (behind : List Held) (progress : Progress)
+    → progress.server.held file ≡ before ++ one ∷ behind → HaveFullKeys progress.server
+    → HaveFullKeys (held_left file (before ++ behind) progress).server
+unfolding held_left put
+left_full file before one behind progress held full = record {
+  opens = full.opens;
+  held = λ other x. if_cases (λ list. Among x list → HasFullKey x.request) (other == file) (before ++ behind)
+      (progress.server.held other)
+      (λ e a. full.held file x (subst (λ list. Among x list) (sym held) (more x before a)))
+      (λ e a. full.held other x a);
+}
+  where
+    more : (x : Held) (xs : List Held) → Among x (xs ++ behind) → Among x (xs ++ one ∷ behind)
+    more x [] a = inr a
+    more x (y ∷ xs) (inl same) = inl same
+    more x (y ∷ xs) (inr a) = inr (more x xs a)
+
+-- one more
+held_full : (file : ℕ) (one : Held) (progress : Progress) → HasFullKey one.request → HaveFullKeys progress.server
+    → HaveFullKeys (request_held file one progress).server
+unfolding request_held put
+held_full file one progress h full = record {
+  opens = full.opens;
+  held = λ other x. if_cases (λ list. Among x list → HasFullKey x.request) (other == file)
+      (progress.server.held file ++ one ∷ []) (progress.server.held other)
+      (λ e a. ⊎_elim (λ old. full.held file x old)
+      (λ last. ⊎_elim (λ same. subst (λ y. HasFullKey y.request) (sym same) h) (λ never. absurd never) last)
+      (among_append x (progress.server.held file) (one ∷ []) a))
+      (λ e a. full.held other x a);
+}
+
+step_full : (step : SmallStep) (progress : Progress) → IsGuarded step progress.server → StepHasFullKey step
+    → HaveFullKeys progress.server → IsFull progress (step_taken step progress)
+unfolding lease_lowered break_begun
+step_full (SmallStep.Answer client request outcome) progress may h full =
+    concluded_full client request progress outcome h full
+step_full (SmallStep.AnswerHeld file before one behind outcome) progress may h full =
+    let left = held_left file (before ++ behind) progress in
+    let done = concluded_full one.client one.request left outcome
+    (full.held file one (subst (λ list. Among one list) (sym may.0) (among_behind one before (one ∷ behind) (inl refl))))
+    (left_full file before one behind progress may.0 full) in
+    record {
+      outs = subst (λ outs. GoOn OutHasBytes outs (concluded one.client one.request left outcome).outs)
+          (held_left-outs file (before ++ behind) progress) done.outs;
+      keys = done.keys;
+    }
+step_full (SmallStep.Acknowledge client given) progress may h full = acknowledged_full client given progress full
+step_full (SmallStep.Hold file one) progress may h full = record {
+  outs = subst (λ outs. GoOn OutHasBytes progress.outs outs) (sym (request_held-outs file one progress))
+      (go_on-same OutHasBytes progress.outs);
+  keys = held_full file one progress h full;
+}
+step_full (SmallStep.Drop key) progress may h full = record {
+  outs = subst (λ outs. GoOn OutHasBytes progress.outs outs) (sym (opens_dropped-outs (is_left_open key) progress))
+      (go_on-same OutHasBytes progress.outs);
+  keys = dropped_full (is_left_open key) progress full;
+}
+step_full (SmallStep.Lower key lowered) progress may h full = record {
+  outs = record { more = _; are_more = refl; each = (full_key progress.server key full (may.0).is_there, tt) };
+  keys = record { opens = full.opens; held = full.held };
+}
+step_full (SmallStep.Begin key lowered) progress may h full = record {
+  outs = record { more = _; are_more = refl; each = (full_key progress.server key full (may.0).is_there, tt) };
+  keys = record { opens = full.opens; held = full.held };
+}
+
+steps_full : (call : Call) (steps : List SmallStep) (progress : Progress) → CallHasFullKey call
+    → AreGuarded steps progress → AreOf call steps → HaveFullKeys progress.server
+    → EachOut OutHasBytes progress.outs
+    → EachOut OutHasBytes (steps_taken steps progress).outs × HaveFullKeys (steps_taken steps progress).server
+steps_full call [] progress h g of full each = (each, full)
+steps_full call (step ∷ steps) progress h g of full each =
+    let one = step_full step progress g.0 (of_call call step of.0 h) full in
+    steps_full call steps (step_taken step progress) h g.1 of.1 one.keys
+    (subst (EachOut OutHasBytes) (sym (one.outs).are_more)
+    (each_append OutHasBytes progress.outs (one.outs).more each (one.outs).each))
+
+-- ---- calls
+
+-- a lost connection changes no key
+cut_key : (client : ℕ) (one : Open) → (disconnected client one).lease_key ≡ one.lease_key
+cut_key client one = if_cases (λ o. o.lease_key ≡ one.lease_key) (one.client == client)
+    (record one { connected = false }) one (λ e. refl) (λ e. refl)
+
+lost_full : (client : ℕ) (progress : Progress) → HaveFullKeys progress.server
+    → HaveFullKeys (client_forgotten client (opens_disconnected client progress)).server
+unfolding client_forgotten opens_disconnected
+lost_full client progress full = record {
+  opens = λ one bytes a e. let x = among_map (disconnected client) one progress.server.opens a in
+      full.opens x.0 bytes x.1 (sym (cut_key client x.0) ∙ ap (λ o. o.lease_key) (sym x.2) ∙ e);
+  held = λ file one a. full.held file one
+      (among_filter (λ x. not (x.client == client)) one (progress.server.held file) a).0;
+}
+
+timer_full : (key : Key) (progress : Progress) → HaveFullKeys progress.server
+    → HaveFullKeys (key_expired key progress).server
+unfolding key_expired
+timer_full key progress full = record { opens = full.opens; held = full.held }
+
+joined_full : (client : ℕ) (progress : Progress) → HaveFullKeys progress.server
+    → HaveFullKeys (joined client progress).server
+unfolding joined
+joined_full client progress full = record { opens = full.opens; held = full.held }
+
+either_full : (b : Bool) (x y : Progress) → HaveFullKeys x.server → HaveFullKeys y.server
+    → HaveFullKeys (if b then x else y).server
+either_full true x y f g = f
+either_full false x y f g = g
+
+begun_full : (server : Server) (call : Call) → HaveFullKeys server → HaveFullKeys (call_begun server call).server
+unfolding join
+begun_full server (Call.Join client) full =
+    either_full (server.present client) (begun server) (joined client (begun server)) full
+    (joined_full client (begun server) full)
+begun_full server (Call.Receive client request) full = full
+begun_full server (Call.Cut client) full = either_full (server.present client) _ (begun server)
+    (lost_full client (opens_dropped (is_lost server client) (begun server))
+    (dropped_full (is_lost server client) (begun server) full)) full
+begun_full server (Call.Expire key) full = either_full (is_breaking (server.leases key)) _ (begun server)
+    (timer_full key (opens_dropped (has_key key) (begun server)) (dropped_full (has_key key) (begun server) full)) full
+begun_full server (Call.Scavenge file_id) full = either_full (list_any (is_left_behind file_id) server.opens) _
+    (begun server) (dropped_full (is_left_behind file_id) (begun server) full) full
+
+pub replies_have_bytes : (server : Server) (call : Call) → IsSound server → WaitsWell server → HaveFullKeys server
+    → CallHasFullKey call
+    → EachOut OutHasBytes (called server call).outs × HaveFullKeys (called server call).server
+replies_have_bytes server call s w full h =
+    let go = called-steps server call s w in
+    subst (λ p. EachOut OutHasBytes p.outs × HaveFullKeys p.server) (sym go.lead)
+    (steps_full call go.steps (call_begun server call) h go.are_guarded go.are_of (begun_full server call full)
+    (subst (EachOut OutHasBytes) (sym (call_begun-silent server call)) tt))
