@@ -25,8 +25,8 @@ use Rattle.lease_model.specs.server.Wants.{wants_where, handle_wants, write_want
 use Rattle.lease_model.specs.values.Keys.{key_eq, bytes_before, key_before}
 use Rattle.lease_model.specs.values.Limits.{files_limit, clients_limit, events_limit, last_file_number, last_file_id, last_write_number, count_limit}
 use Rattle.lease_model.specs.values.Tables.{put, put_key, numbered}
-use Rattle.lease_model.specs.worked.ClientCalls.{steps_along, client_after}
-use Rattle.lease_model.specs.worked.ServerCalls.{server_after, outs_along}
+use Rattle.lease_model.specs.worked.ClientWords.{steps_along, client_after}
+use Rattle.lease_model.specs.worked.ServerWords.{server_after, outs_along}
 use Rattle.lease_model.specs.world.Allowed.{are_apart, is_allowed_setup, are_too_many}
 use Rattle.lease_model.specs.world.Events.{served, stepped_in, link_cut, link_noticed, link_connected, timer_expired, strayed_over, applied, happens, after}
 use Rattle.lease_model.specs.world.World.{starts_from, first_world, delivered, all_delivered, requests_sent, noted}

@@ -9,12 +9,15 @@ use Rattle.lease_model.specs.world.Events.{Event}
 use Rattle.lease_model.specs.messages.Replies.{Reply}
 use Rattle.lease_model.specs.world.World.{Setup}
 
--- clients whose GUIDs are sixteen bytes 11, and sixteen bytes 22
+-- clients whose GUIDs are sixteen bytes 11, sixteen bytes 22 and sixteen bytes 33
 abbrev pub first_guid : List ℕ
 first_guid = replicate 16 0x11
 
 abbrev pub second_guid : List ℕ
 second_guid = replicate 16 0x22
+
+abbrev pub third_guid : List ℕ
+third_guid = replicate 16 0x33
 
 -- the key of the first client for file 1
 abbrev pub first_key : List ℕ
@@ -28,7 +31,14 @@ two_clients = record {
   clients = first_guid ∷ second_guid ∷ [];
 }
 
--- the same with a second file `x`
+-- the same with a third client
+abbrev pub three_clients : Setup
+three_clients = record {
+  files = (0x61 ∷ 0x62 ∷ 0x63 ∷ []) ∷ [];
+  clients = first_guid ∷ second_guid ∷ third_guid ∷ [];
+}
+
+-- two clients, and a second file `x`
 abbrev pub two_clients_two_files : Setup
 two_clients_two_files = record {
   files = (0x61 ∷ 0x62 ∷ 0x63 ∷ []) ∷ (0x78 ∷ []) ∷ [];

@@ -10,10 +10,6 @@ pub returns-clause-own_writes : goal.returns-clause-own_writes
 unfolding the_model
 returns-clause-own_writes c = (refl, refl)
 
-pub returns-clause-crossing_writes : goal.returns-clause-crossing_writes
-unfolding the_model
-returns-clause-crossing_writes c = (refl, refl, refl)
-
 pub returns-clause-no_event : goal.returns-clause-no_event
 unfolding the_model
 returns-clause-no_event c = (refl, refl)

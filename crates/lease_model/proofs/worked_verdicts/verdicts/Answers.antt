@@ -17,3 +17,7 @@ returns-clause-strange c = refl
 pub returns-clause-limit : goal.returns-clause-limit
 unfolding the_model
 returns-clause-limit c = refl
+
+pub returns-clause-large_writes : goal.returns-clause-large_writes
+unfolding the_model
+returns-clause-large_writes c = refl
