@@ -3,7 +3,6 @@ pub mod ClientCalls
 pub mod ClientRefusals
 pub mod ClientReplies
 pub mod ClientWords
-pub mod Letters
 pub mod MessageWords
 pub mod RunsOfAsking
 pub mod RunsOfBreaks
@@ -18,4 +17,5 @@ pub mod ServerDurable
 pub mod ServerRefusals
 pub mod ServerWords
 pub mod Setups
+pub mod ValueWords
 pub mod Verdicts

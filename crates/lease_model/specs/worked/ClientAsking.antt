@@ -8,9 +8,8 @@ use Rattle.lease_model.specs.client.Calls.{ClientCall}
 use Rattle.lease_model.specs.client.Commands.{Answer, Refusal, Note, Settlement}
 use Rattle.lease_model.specs.messages.Replies.{Reply}
 use Rattle.lease_model.specs.worked.ClientWords.{shown, steps_along, one_client, open_it, close_it, read_it, write_it, flush_it}
-use Rattle.lease_model.specs.worked.Letters.{R, RH, RWH}
 use Rattle.lease_model.specs.worked.MessageWords.{keyed, keyed_durable, reconnecting, read_of, write_of, close_of, created}
-use Rattle.lease_model.specs.worked.Schedules.{at, first_key}
+use Rattle.lease_model.specs.worked.ValueWords.{R, RH, RWH, at, first_key}
 
 abbrev pub asking_calls : List ClientCall
 asking_calls =

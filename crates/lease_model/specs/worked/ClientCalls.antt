@@ -6,9 +6,8 @@ use Rattle.lease_model.specs.client.Calls.{ClientCall}
 use Rattle.lease_model.specs.client.Commands.{Answer, Refusal, Note, Settlement}
 use Rattle.lease_model.specs.messages.Replies.{Reply}
 use Rattle.lease_model.specs.worked.ClientWords.{shown, steps_along, one_client, open_it, read_it, write_it}
-use Rattle.lease_model.specs.worked.Letters.{RH, RWH}
 use Rattle.lease_model.specs.worked.MessageWords.{keyed, read_of, write_of, acknowledging, created, break_of}
-use Rattle.lease_model.specs.worked.Schedules.{at, first_key}
+use Rattle.lease_model.specs.worked.ValueWords.{RH, RWH, at, first_key}
 
 abbrev pub open_shared : ClientCall
 open_shared = open_it Access.ReadWrite Share.ReadWrite RWH false

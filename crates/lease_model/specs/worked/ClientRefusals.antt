@@ -9,11 +9,10 @@ use Rattle.lease_model.specs.client.Commands.{Command, Answer, Refusal, Note, Se
 use Rattle.lease_model.specs.client.State.{Client, LiveEntry, Asked, live_entry}
 use Rattle.lease_model.specs.messages.Replies.{Reply}
 use Rattle.lease_model.specs.worked.ClientWords.{shown, steps_along, client_after, one_client, open_it, close_it, read_it, write_it}
-use Rattle.lease_model.specs.worked.Letters.{R, RH}
 use Rattle.lease_model.specs.worked.MessageWords.{keyed, keyed_durable, reconnecting, read_of, write_of, close_of, created}
-use Rattle.lease_model.specs.worked.Schedules.{at, first_key}
 use Rattle.lease_model.specs.values.Limits.{count_limit, last_write_number}
 use Rattle.lease_model.specs.values.Tables.{put}
+use Rattle.lease_model.specs.worked.ValueWords.{R, RH, at, first_key}
 
 abbrev pub refusals_calls : List ClientCall
 refusals_calls =

@@ -7,7 +7,7 @@ use Rattle.lease_model.specs.client.Calls.{ClientCall, client_called}
 use Rattle.lease_model.specs.client.Commands.{Command, Answer, Note}
 use Rattle.lease_model.specs.client.State.{Client, new_client}
 use Rattle.lease_model.specs.messages.Requests.{Request}
-use Rattle.lease_model.specs.worked.Schedules.{at, first_guid}
+use Rattle.lease_model.specs.worked.ValueWords.{at, first_guid}
 
 -- what a call shows of its step
 pub record Shown : Type 0 where

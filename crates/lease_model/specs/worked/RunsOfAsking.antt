@@ -8,8 +8,8 @@ use Rattle.lease_model.specs.client.Commands.{Settlement}
 use Rattle.lease_model.specs.messages.Replies.{Reply}
 use Rattle.lease_model.specs.records.Facts.{Fact, Start, Joined, Expired, Sent, Took, Opened, Changed, Wrote, Settled, Believes, CachedRead}
 use Rattle.lease_model.specs.records.Verdict.{Verdict, verdict}
-use Rattle.lease_model.specs.worked.Letters.{R, RH, RW, RWH}
-use Rattle.lease_model.specs.worked.Schedules.{opening, closing, reading, writing, flushing, at, two_clients}
+use Rattle.lease_model.specs.worked.Schedules.{opening, closing, reading, writing, flushing, two_clients}
+use Rattle.lease_model.specs.worked.ValueWords.{R, RH, RW, RWH, at}
 use Rattle.lease_model.specs.world.Events.{Event, ServerTakes, ClientTakes, Connect, Expire, recorded, after}
 use Rattle.lease_model.specs.world.World.{first_world}
 

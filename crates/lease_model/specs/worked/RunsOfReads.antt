@@ -5,10 +5,10 @@ use Rattle.lease_state.specs.declared.access.Access.{Access}
 use Rattle.lease_state.specs.declared.access.Share.{Share}
 use Rattle.lease_model.specs.world.Events.{Event, ServerTakes, ClientTakes, Connect, recorded, after}
 use Rattle.lease_model.specs.records.Facts.{Fact, Start, Joined, Sent, Took, Opened, Changed, Wrote, Believes, CachedRead}
-use Rattle.lease_model.specs.worked.Letters.{R, RWH}
 use Rattle.lease_model.specs.messages.Requests.{FileRequest, Request}
-use Rattle.lease_model.specs.worked.Schedules.{opening, reading, writing, at, two_clients}
+use Rattle.lease_model.specs.worked.Schedules.{opening, reading, writing, two_clients}
 use Rattle.lease_model.specs.records.Verdict.{Verdict, verdict}
+use Rattle.lease_model.specs.worked.ValueWords.{R, RWH, at}
 use Rattle.lease_model.specs.world.World.{first_world}
 
 -- ---- staleness

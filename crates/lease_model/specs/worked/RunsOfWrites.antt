@@ -8,8 +8,8 @@ use Rattle.lease_model.specs.client.Commands.{Settlement}
 use Rattle.lease_model.specs.messages.Replies.{Reply}
 use Rattle.lease_model.specs.records.Facts.{Fact, Start, Joined, Sent, Took, Opened, Changed, Wrote, Settled, Believes, CachedRead}
 use Rattle.lease_model.specs.records.Verdict.{Verdict, verdict}
-use Rattle.lease_model.specs.worked.Letters.{R, RH}
-use Rattle.lease_model.specs.worked.Schedules.{opening, reading, writing, at, two_clients, three_clients}
+use Rattle.lease_model.specs.worked.Schedules.{opening, reading, writing, two_clients, three_clients}
+use Rattle.lease_model.specs.worked.ValueWords.{R, RH, at}
 use Rattle.lease_model.specs.world.Events.{Event, ServerTakes, ClientTakes, Connect, recorded, after}
 use Rattle.lease_model.specs.world.World.{first_world}
 

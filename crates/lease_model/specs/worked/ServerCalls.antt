@@ -9,10 +9,9 @@ use Rattle.lease_model.specs.messages.Requests.{Request}
 use Rattle.lease_model.specs.server.Allowed.{allowed}
 use Rattle.lease_model.specs.server.Calls.{Call}
 use Rattle.lease_model.specs.server.State.{Server}
-use Rattle.lease_model.specs.worked.Letters.{R, RH, RWH}
 use Rattle.lease_model.specs.worked.MessageWords.{keyed, plain, write_of, close_of, acknowledging, done_acknowledging, created, created_plain, break_of}
-use Rattle.lease_model.specs.worked.Schedules.{at}
-use Rattle.lease_model.specs.worked.ServerWords.{server_after, outs_along, sample_key, sample_named, two_files}
+use Rattle.lease_model.specs.worked.ServerWords.{server_after, outs_along, sample_named, two_files}
+use Rattle.lease_model.specs.worked.ValueWords.{R, RH, RWH, at, sample_key}
 
 -- a create that asks for a lease under the sample key, and the reply that gives it
 abbrev pub leased : ℕ → Access → Share → State → Request

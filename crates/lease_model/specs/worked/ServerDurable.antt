@@ -6,10 +6,9 @@ use Rattle.lease_state.specs.declared.access.Share.{Share}
 use Rattle.lease_state.specs.declared.status.Status.{Status}
 use Rattle.lease_model.specs.messages.Replies.{Reply, Out}
 use Rattle.lease_model.specs.server.Calls.{Call}
-use Rattle.lease_model.specs.worked.Letters.{R, RH, RWH}
 use Rattle.lease_model.specs.worked.MessageWords.{keyed, keyed_durable, plain, plain_durable, reconnecting, plain_reconnecting, write_of, created, created_plain, break_of}
-use Rattle.lease_model.specs.worked.Schedules.{at}
-use Rattle.lease_model.specs.worked.ServerWords.{outs_along, sample_key, later_key, three_joined}
+use Rattle.lease_model.specs.worked.ServerWords.{outs_along, three_joined}
+use Rattle.lease_model.specs.worked.ValueWords.{R, RH, RWH, at, sample_key, later_key}
 
 abbrev pub durable_while_breaking_calls : List Call
 durable_while_breaking_calls =

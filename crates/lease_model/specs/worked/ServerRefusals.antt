@@ -6,12 +6,11 @@ use Rattle.lease_state.specs.declared.content.TheConstants.{FILE_LIMIT}
 use Rattle.lease_state.specs.declared.status.Status.{Status}
 use Rattle.lease_model.specs.messages.Replies.{Reply, Out}
 use Rattle.lease_model.specs.server.Calls.{Call, called}
-use Rattle.lease_model.specs.worked.Letters.{R, RH}
 use Rattle.lease_model.specs.worked.MessageWords.{keyed, plain, unreadable, read_of, write_of, close_of, created, created_plain}
-use Rattle.lease_model.specs.worked.Schedules.{at}
-use Rattle.lease_model.specs.worked.ServerWords.{server_after, outs_along, sample_named, sample_key, three_joined}
+use Rattle.lease_model.specs.worked.ServerWords.{server_after, outs_along, sample_named, three_joined}
 use Rattle.lease_model.specs.server.State.{Server}
 use Rattle.lease_model.specs.values.Limits.{last_file_id}
+use Rattle.lease_model.specs.worked.ValueWords.{R, RH, at, sample_key}
 
 abbrev pub refused_on_arrival_calls : List Call
 refused_on_arrival_calls =

@@ -1,9 +1,10 @@
 -- Words for worked calls of a server.
-use Rattle.std.specs.Prelude.{ℕ, List, [], ◌∷◌}
+use Rattle.std.specs.Prelude.{List, [], ◌∷◌}
 use Rattle.lease_model.specs.messages.Replies.{Out}
 use Rattle.lease_model.specs.server.Calls.{Call, called}
 use Rattle.lease_model.specs.server.State.{Server, new_server}
 use Rattle.lease_model.specs.values.Keys.{Key}
+use Rattle.lease_model.specs.worked.ValueWords.{sample_key}
 
 -- the server after calls, and what each of them gave out
 unfoldable pub server_after : Server → List Call → Server
@@ -14,14 +15,7 @@ unfoldable pub outs_along : Server → List Call → List (List Out)
 outs_along server [] = []
 outs_along server (call ∷ calls) = (called server call).outs ∷ outs_along (called server call).server calls
 
--- the bytes 0 to 15 as a LeaseKey, rising, and falling
-abbrev pub sample_key : List ℕ
-sample_key = 0 ∷ 1 ∷ 2 ∷ 3 ∷ 4 ∷ 5 ∷ 6 ∷ 7 ∷ 8 ∷ 9 ∷ 10 ∷ 11 ∷ 12 ∷ 13 ∷ 14 ∷ 15 ∷ []
-
-abbrev pub later_key : List ℕ
-later_key = 15 ∷ 14 ∷ 13 ∷ 12 ∷ 11 ∷ 10 ∷ 9 ∷ 8 ∷ 7 ∷ 6 ∷ 5 ∷ 4 ∷ 3 ∷ 2 ∷ 1 ∷ 0 ∷ []
-
--- the first of these as a key of client 1
+-- the sample key as a key of client 1
 abbrev pub sample_named : Key
 sample_named = record { client = 1; bytes = sample_key }
 

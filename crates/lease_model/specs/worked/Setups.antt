@@ -2,7 +2,8 @@
 use Rattle.std.specs.Prelude.{◌≡◌, ℕ, Bool, true, false, List, [], ◌∷◌, map, replicate}
 use Rattle.lease_model.specs.server.State.{new_server}
 use Rattle.lease_model.specs.values.Lists.{numbers_to}
-use Rattle.lease_model.specs.worked.Schedules.{two_clients, first_guid, second_guid}
+use Rattle.lease_model.specs.worked.Schedules.{two_clients}
+use Rattle.lease_model.specs.worked.ValueWords.{first_guid, second_guid}
 use Rattle.lease_model.specs.world.Allowed.{is_allowed_setup}
 use Rattle.lease_model.specs.world.World.{first_world}
 

@@ -3,10 +3,9 @@ use Rattle.std.specs.Prelude.{◌≡◌, ◌-◌, true, false, [], ◌∷◌}
 use Rattle.lease_model.specs.client.Commands.{Settlement}
 use Rattle.lease_state.specs.declared.patch.Patch.{Patch}
 use Rattle.lease_model.specs.records.Facts.{Fact}
-use Rattle.lease_model.specs.worked.Letters.{R, RW}
-use Rattle.lease_model.specs.worked.Schedules.{at}
 use Rattle.lease_state.specs.declared.content.TheConstants.{FILE_LIMIT}
 use Rattle.lease_model.specs.records.Verdict.{Verdict, verdict}
+use Rattle.lease_model.specs.worked.ValueWords.{R, RW, at}
 
 abbrev pub x_at_0 : Patch
 x_at_0 = record { offset = 0; bytes = 0x58 ∷ [] }
