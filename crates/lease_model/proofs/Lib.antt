@@ -1,1 +1,5 @@
-pub mod Computing
+pub mod ClientComputes
+pub mod RecordsCompute
+pub mod ServerComputes
+pub mod ValuesCompute
+pub mod WorldComputes

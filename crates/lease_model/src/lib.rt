@@ -3,17 +3,29 @@
 #![tactic(auto)]
 
 mod worked_client;
+mod worked_runs_of_asking;
 mod worked_runs_of_breaks;
 mod worked_runs_of_cuts;
 mod worked_runs_of_others;
 mod worked_runs_of_reads;
+mod worked_runs_of_writes;
 mod worked_server;
+mod worked_setups;
 mod worked_verdicts;
 
-pub use worked_client::{client_never_connected, client_of_one_file};
+pub use worked_client::{
+    client_asks_for_more, client_never_connected, client_of_one_file,
+    client_passes_long_reads_over, client_refusals, client_takes_replies,
+};
+pub use worked_runs_of_asking::runs_of_asking;
 pub use worked_runs_of_breaks::runs_of_breaks;
 pub use worked_runs_of_cuts::runs_of_cuts;
 pub use worked_runs_of_others::runs_of_others;
 pub use worked_runs_of_reads::runs_of_reads;
-pub use worked_server::{acknowledgments, odd_states, one_list_of_opens, two_passes};
-pub use worked_verdicts::verdicts;
+pub use worked_runs_of_writes::runs_of_writes;
+pub use worked_server::{
+    acknowledgments, breaks_of_servers, durable_opens, odd_states, one_list_of_opens,
+    refusals_of_servers, two_passes,
+};
+pub use worked_setups::setups;
+pub use worked_verdicts::{verdicts, verdicts_of_each_rule};

@@ -1,10 +1,8 @@
-ghost use Rattle.lease_model.specs.worked.RunsOfReads.{Staleness, OwnWrites, CrossingWrites, NoEvent};
+ghost use Rattle.lease_model.specs.worked.RunsOfReads.{Staleness, OwnWrites, NoEvent};
 
-/// Runs of cached reads and of writes that go through: staleness, own writes, writes that cross, and
-/// a setup with no event.
+/// Runs of cached reads: staleness, own writes, and a setup with no event.
 pub fn runs_of_reads()
     ensures staleness { Staleness }
     ensures own_writes { OwnWrites }
-    ensures crossing_writes { CrossingWrites }
     ensures no_event { NoEvent }
 {}

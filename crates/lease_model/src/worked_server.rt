@@ -1,4 +1,7 @@
 ghost use Rattle.lease_model.specs.worked.ServerCalls.{SharedCalls, SharedAllowed, LaterCalls, LaterAllowed, Acknowledgments, OddStates, TwoPasses};
+ghost use Rattle.lease_model.specs.worked.ServerBreaks.{KeysInOrder, OwnLeaseBroken, ReadsBrokenAtOnce, OneBreakForTwoWrites, WriteHeldByBreakToReads};
+ghost use Rattle.lease_model.specs.worked.ServerRefusals.{RefusedOnArrival, DeniedBreaksNothing, FileIdsUsedUp};
+ghost use Rattle.lease_model.specs.worked.ServerDurable.{DurableWhileBreaking, RefusedReconnects};
 
 /// Two clients and two files: a lease is broken for another client's create, acknowledged, and the
 /// create answered; then a denied write, two closes and refused creates. What the server would
@@ -23,4 +26,26 @@ pub fn odd_states()
 /// Held requests are tried again in passes, until a pass answers nothing.
 pub fn two_passes()
     ensures { TwoPasses }
+{}
+
+/// In which order leases are broken, and what goes on or waits while they are breaking.
+pub fn breaks_of_servers()
+    ensures keys { KeysInOrder }
+    ensures own_lease { OwnLeaseBroken }
+    ensures reads { ReadsBrokenAtOnce }
+    ensures one_break { OneBreakForTwoWrites }
+    ensures held_write { WriteHeldByBreakToReads }
+{}
+
+/// What a server refuses, in which order, and that it breaks nothing for that.
+pub fn refusals_of_servers()
+    ensures arrival { RefusedOnArrival }
+    ensures denied { DeniedBreaksNothing }
+    ensures file_ids { FileIdsUsedUp }
+{}
+
+/// When an open is durable, and which reconnects are refused.
+pub fn durable_opens()
+    ensures grants { DurableWhileBreaking }
+    ensures reconnects { RefusedReconnects }
 {}

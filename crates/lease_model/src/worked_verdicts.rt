@@ -1,4 +1,4 @@
-ghost use Rattle.lease_model.specs.worked.Verdicts.{OneFlaw, StrayedVerdicts, StrangeOrder, LimitVerdicts};
+ghost use Rattle.lease_model.specs.worked.Verdicts.{OneFlaw, StrayedVerdicts, StrangeOrder, LimitVerdicts, LargeWrites, BeliefsAndReads, UnfitFacts, SettledAsDone, NothingWrong};
 
 /// Verdicts on short records: one flaw each, strayed clients, facts in an order that no run gives,
 /// and writes at the limit.
@@ -7,4 +7,13 @@ pub fn verdicts()
     ensures strayed { StrayedVerdicts }
     ensures strange { StrangeOrder }
     ensures limit { LimitVerdicts }
+    ensures large_writes { LargeWrites }
+{}
+
+/// Verdicts that tell each rule from what is close to it.
+pub fn verdicts_of_each_rule()
+    ensures beliefs_and_reads { BeliefsAndReads }
+    ensures unfit { UnfitFacts }
+    ensures done { SettledAsDone }
+    ensures nothing_wrong { NothingWrong }
 {}

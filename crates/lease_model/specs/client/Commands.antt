@@ -41,8 +41,9 @@ pub data Answer : Type 0 where
   Failed : (status : Status) → Answer
   Quiet : Answer
 
--- what became of a write: the server did it, the server refused it, nobody knows, or it was never
--- sent and is given up
+-- What became of a write: the server did it; the server refused it, or it was buffered and can't be sent
+-- any more; nobody knows; or it was kept over a lost connection and is given up. A lost one may have been
+-- sent before, and even done.
 pub data Settlement : Type 0 where
   Done : Settlement
   Failed : Settlement

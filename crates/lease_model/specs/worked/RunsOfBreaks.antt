@@ -7,10 +7,10 @@ use Rattle.lease_state.specs.declared.status.Status.{Status}
 use Rattle.lease_model.specs.client.Commands.{Settlement}
 use Rattle.lease_model.specs.world.Events.{Event, ServerTakes, ClientTakes, Connect, Expire, recorded, after}
 use Rattle.lease_model.specs.records.Facts.{Fact, Start, Joined, Expired, Sent, Took, Opened, Changed, Wrote, Settled, Believes}
-use Rattle.lease_model.specs.worked.Letters.{RH, RW, RWH}
 use Rattle.lease_model.specs.messages.Replies.{Reply}
-use Rattle.lease_model.specs.worked.Schedules.{opening, closing, writing, at, two_clients, created_reply}
+use Rattle.lease_model.specs.worked.Schedules.{opening, closing, writing, two_clients, created_reply}
 use Rattle.lease_model.specs.records.Verdict.{Verdict, verdict}
+use Rattle.lease_model.specs.worked.ValueWords.{RH, RW, RWH, at}
 use Rattle.lease_model.specs.world.World.{first_world}
 
 -- ---- the whole break

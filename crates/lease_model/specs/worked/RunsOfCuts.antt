@@ -7,10 +7,10 @@ use Rattle.lease_state.specs.declared.status.Status.{Status}
 use Rattle.lease_model.specs.client.Commands.{Settlement}
 use Rattle.lease_model.specs.world.Events.{Event, ServerTakes, ClientTakes, Cut, Notice, Connect, Scavenge, recorded, after}
 use Rattle.lease_model.specs.records.Facts.{Fact, Start, Joined, Dropped, Sent, Took, Opened, Changed, Wrote, Settled, Believes, CachedRead}
-use Rattle.lease_model.specs.worked.Letters.{RH, RWH}
 use Rattle.lease_model.specs.messages.Replies.{Reply}
-use Rattle.lease_model.specs.worked.Schedules.{opening, reading, writing, flushing, at, two_clients}
+use Rattle.lease_model.specs.worked.Schedules.{opening, reading, writing, flushing, two_clients}
 use Rattle.lease_model.specs.records.Verdict.{Verdict, verdict}
+use Rattle.lease_model.specs.worked.ValueWords.{RH, RWH, at}
 use Rattle.lease_model.specs.world.World.{first_world}
 
 -- ---- a cut without a durable open

@@ -5,11 +5,11 @@ use Rattle.lease_state.specs.declared.access.Share.{Share}
 use Rattle.lease_state.specs.declared.status.Status.{Status}
 use Rattle.lease_model.specs.world.Events.{Event, ServerTakes, ClientTakes, Cut, Connect, Raw, recorded, after}
 use Rattle.lease_model.specs.records.Facts.{Fact, Start, Joined, Dropped, Sent, Took, Opened, Changed, Wrote, Believes, Strayed}
-use Rattle.lease_model.specs.worked.Letters.{R, RH, RWH}
 use Rattle.lease_model.specs.messages.Replies.{Reply}
 use Rattle.lease_model.specs.messages.Requests.{FileRequest, Request}
-use Rattle.lease_model.specs.worked.Schedules.{opening, writing, at, first_key, two_clients, two_clients_two_files}
+use Rattle.lease_model.specs.worked.Schedules.{opening, writing, two_clients, two_clients_two_files}
 use Rattle.lease_model.specs.records.Verdict.{Verdict, verdict}
+use Rattle.lease_model.specs.worked.ValueWords.{R, RH, RWH, at, first_key}
 use Rattle.lease_model.specs.world.World.{first_world}
 
 -- ---- held requests on two files

@@ -1,15 +1,14 @@
--- Worked runs: reads from the cache and from the server, and writes that are not buffered.
+-- Worked runs: reads from the cache and from the server.
 use Rattle.std.specs.Prelude.{◌≡◌, List, [], ◌∷◌, true, false}
 use Rattle.lease_state.specs.State.{nothing_cached}
 use Rattle.lease_state.specs.declared.access.Access.{Access}
 use Rattle.lease_state.specs.declared.access.Share.{Share}
-use Rattle.lease_model.specs.client.Commands.{Settlement}
 use Rattle.lease_model.specs.world.Events.{Event, ServerTakes, ClientTakes, Connect, recorded, after}
-use Rattle.lease_model.specs.records.Facts.{Fact, Start, Joined, Sent, Took, Opened, Changed, Wrote, Settled, Believes, CachedRead}
-use Rattle.lease_model.specs.worked.Letters.{R, RH, RWH}
+use Rattle.lease_model.specs.records.Facts.{Fact, Start, Joined, Sent, Took, Opened, Changed, Wrote, Believes, CachedRead}
 use Rattle.lease_model.specs.messages.Requests.{FileRequest, Request}
-use Rattle.lease_model.specs.worked.Schedules.{opening, reading, writing, at, two_clients}
+use Rattle.lease_model.specs.worked.Schedules.{opening, reading, writing, two_clients}
 use Rattle.lease_model.specs.records.Verdict.{Verdict, verdict}
+use Rattle.lease_model.specs.worked.ValueWords.{R, RWH, at}
 use Rattle.lease_model.specs.world.World.{first_world}
 
 -- ---- staleness
@@ -54,30 +53,6 @@ own_writes_record =
 abbrev pub OwnWrites : Type 0
 OwnWrites = (recorded two_clients own_writes_events ≡ own_writes_record)
     × (verdict own_writes_record ≡ Verdict.Safe)
-
--- ---- crossing writes
-
--- Two clients that cache reads and handles write at once. Each write breaks the other lease to nothing
--- and goes on, in the order in which they come; the acknowledgments are still due.
-abbrev pub crossing_writes_events : List Event
-crossing_writes_events =
-    Connect 1 ∷ Connect 2 ∷ opening 1 1 Access.ReadWrite Share.ReadWrite RH false ∷ ServerTakes 1
-    ∷ ClientTakes 1 ∷ opening 2 1 Access.ReadWrite Share.ReadWrite RH false ∷ ServerTakes 2
-    ∷ ClientTakes 2 ∷ writing 1 1 0 (0x58 ∷ []) ∷ writing 2 1 0 (0x59 ∷ []) ∷ ServerTakes 1
-    ∷ ServerTakes 2 ∷ ClientTakes 1 ∷ ClientTakes 2 ∷ ServerTakes 1 ∷ ServerTakes 2 ∷ []
-
-abbrev pub crossing_writes_record : List Fact
-crossing_writes_record =
-    Start 1 (0x61 ∷ 0x62 ∷ 0x63 ∷ []) ∷ Joined 1 ∷ Joined 2 ∷ Opened 1 1 ∷ Sent 1 ∷ Took 1
-    ∷ Believes 1 1 RH ∷ Opened 1 2 ∷ Sent 2 ∷ Took 2 ∷ Believes 2 1 RH
-    ∷ Wrote 1 1 1 (at 0 (0x58 ∷ [])) false ∷ Wrote 2 1 1 (at 0 (0x59 ∷ [])) false ∷ Sent 2
-    ∷ Changed 1 1 1 (at 0 (0x58 ∷ [])) ∷ Sent 1 ∷ Sent 1 ∷ Changed 1 2 1 (at 0 (0x59 ∷ [])) ∷ Sent 2
-    ∷ Took 1 ∷ Settled 1 1 Settlement.Done ∷ Took 2 ∷ Believes 2 1 nothing_cached ∷ Sent 2 ∷ []
-
-abbrev pub CrossingWrites : Type 0
-CrossingWrites = (recorded two_clients crossing_writes_events ≡ crossing_writes_record)
-    × (verdict crossing_writes_record ≡ Verdict.Safe)
-    × ((after (first_world two_clients) crossing_writes_events).server.contents 1 ≡ 0x59 ∷ 0x62 ∷ 0x63 ∷ [])
 
 -- ---- no event
 

@@ -1,25 +1,13 @@
 -- Words for worked runs.
-use Rattle.std.specs.Prelude.{ℕ, Bool, false, Some, List, [], ◌∷◌, replicate}
+use Rattle.std.specs.Prelude.{ℕ, Bool, false, Some, List, [], ◌∷◌}
 use Rattle.lease_state.specs.State.{State}
 use Rattle.lease_state.specs.declared.access.Access.{Access}
 use Rattle.lease_state.specs.declared.access.Share.{Share}
 use Rattle.lease_model.specs.client.Commands.{Command}
-use Rattle.lease_state.specs.declared.patch.Patch.{Patch}
 use Rattle.lease_model.specs.world.Events.{Event}
 use Rattle.lease_model.specs.messages.Replies.{Reply}
+use Rattle.lease_model.specs.worked.ValueWords.{first_guid, second_guid, third_guid, first_key, at}
 use Rattle.lease_model.specs.world.World.{Setup}
-
--- clients whose GUIDs are sixteen bytes 11, and sixteen bytes 22
-abbrev pub first_guid : List ℕ
-first_guid = replicate 16 0x11
-
-abbrev pub second_guid : List ℕ
-second_guid = replicate 16 0x22
-
--- the key of the first client for file 1
-abbrev pub first_key : List ℕ
-first_key = 0x11 ∷ 0x11 ∷ 0x11 ∷ 0x11 ∷ 0x11 ∷ 0x11 ∷ 0x11 ∷ 0x11 ∷ 0x11 ∷ 0x11 ∷ 0x11 ∷ 0x11
-    ∷ 1 ∷ 0 ∷ 0 ∷ 0 ∷ []
 
 -- two clients, and one file `abc`
 abbrev pub two_clients : Setup
@@ -28,7 +16,14 @@ two_clients = record {
   clients = first_guid ∷ second_guid ∷ [];
 }
 
--- the same with a second file `x`
+-- the same with a third client
+abbrev pub three_clients : Setup
+three_clients = record {
+  files = (0x61 ∷ 0x62 ∷ 0x63 ∷ []) ∷ [];
+  clients = first_guid ∷ second_guid ∷ third_guid ∷ [];
+}
+
+-- two clients, and a second file `x`
 abbrev pub two_clients_two_files : Setup
 two_clients_two_files = record {
   files = (0x61 ∷ 0x62 ∷ 0x63 ∷ []) ∷ (0x78 ∷ []) ∷ [];
@@ -41,9 +36,6 @@ created_reply file_id state = Reply.Created 1 file_id (Some (record {
   lease = Some (record { key = first_key; state = state; in_progress = false });
   durable = false;
 }))
-
-abbrev pub at : ℕ → List ℕ → Patch
-at offset bytes = record { offset = offset; bytes = bytes }
 
 -- the commands of an application, each as an event: client, file, and the rest
 abbrev pub opening : ℕ → ℕ → Access → Share → State → Bool → Event

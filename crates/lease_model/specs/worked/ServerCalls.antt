@@ -1,76 +1,24 @@
--- Worked calls of a server.
-use Rattle.std.specs.Prelude.{◌≡◌, ℕ, Bool, true, false, Option, Some, None, List, [], ◌∷◌, map}
+-- Worked calls of a server: a lease that is broken for another client, acknowledgments, and passes.
+use Rattle.std.specs.Prelude.{◌≡◌, ℕ, true, false, None, Some, List, [], ◌∷◌, map}
 use Rattle.lease_state.specs.State.{State, state_of_bits, nothing_cached}
-use Rattle.lease_model.specs.values.Keys.{Key}
 use Rattle.lease_state.specs.declared.access.Access.{Access}
 use Rattle.lease_state.specs.declared.access.Share.{Share}
 use Rattle.lease_state.specs.declared.status.Status.{Status}
-use Rattle.lease_model.specs.server.Allowed.{allowed}
-use Rattle.lease_model.specs.server.Calls.{Call, called}
-use Rattle.lease_model.specs.worked.Letters.{R, RH, RWH}
 use Rattle.lease_model.specs.messages.Replies.{Reply, Out}
-use Rattle.lease_model.specs.messages.Requests.{FileRequest, Request, LeaseOf}
-use Rattle.lease_model.specs.server.State.{Server, new_server}
+use Rattle.lease_model.specs.messages.Requests.{Request}
+use Rattle.lease_model.specs.server.Allowed.{allowed}
+use Rattle.lease_model.specs.server.Calls.{Call}
+use Rattle.lease_model.specs.server.State.{Server}
+use Rattle.lease_model.specs.worked.MessageWords.{keyed, plain, write_of, close_of, acknowledging, done_acknowledging, created, created_plain, break_of}
+use Rattle.lease_model.specs.worked.ServerWords.{server_after, outs_along, sample_named, two_files}
+use Rattle.lease_model.specs.worked.ValueWords.{R, RH, RWH, at, sample_key}
 
--- the server after calls, and what each of them gave out
-unfoldable pub server_after : Server → List Call → Server
-server_after server [] = server
-server_after server (call ∷ calls) = server_after (called server call).server calls
-
-unfoldable pub outs_along : Server → List Call → List (List Out)
-outs_along server [] = []
-outs_along server (call ∷ calls) = (called server call).outs ∷ outs_along (called server call).server calls
-
--- the bytes 0 to 15, as a LeaseKey
-abbrev pub sample_key : List ℕ
-sample_key = 0 ∷ 1 ∷ 2 ∷ 3 ∷ 4 ∷ 5 ∷ 6 ∷ 7 ∷ 8 ∷ 9 ∷ 10 ∷ 11 ∷ 12 ∷ 13 ∷ 14 ∷ 15 ∷ []
-
-abbrev pub sample_named : Key
-sample_named = record { client = 1; bytes = sample_key }
-
--- a create that asks for a lease, and one that asks for none
+-- a create that asks for a lease under the sample key, and the reply that gives it
 abbrev pub leased : ℕ → Access → Share → State → Request
-leased file access share want = Request.OnFile (FileRequest.Create file access share (Some (record {
-  lease = Some (record { key = sample_key; state = want });
-  durable = false;
-  reconnect = None;
-})))
-
-abbrev pub plain : ℕ → Access → Share → Request
-plain file access share = Request.OnFile
-    (FileRequest.Create file access share (Some (record { lease = None; durable = false; reconnect = None })))
-
-abbrev pub write_by : ℕ → ℕ → ℕ → ℕ → Request
-write_by file_id number offset byte =
-    Request.OnFile (FileRequest.Write file_id number (record { offset = offset; bytes = byte ∷ [] }))
-
-abbrev pub close_of : ℕ → Request
-close_of file_id = Request.OnFile (FileRequest.Close file_id)
+leased file access share want = keyed file access share sample_key want
 
 abbrev pub created_leased : ℕ → ℕ → State → Reply
-created_leased file file_id state = Reply.Created file file_id (Some (record {
-  lease = Some (record { key = sample_key; state = state; in_progress = false });
-  durable = false;
-}))
-
-abbrev pub created_plain : ℕ → ℕ → Reply
-created_plain file file_id = Reply.Created file file_id (Some (record { lease = None; durable = false }))
-
--- an acknowledgment of the sample key, and its response
-abbrev pub sample_lease : State → Option LeaseOf
-sample_lease state = Some (record { key = sample_key; state = state })
-
-abbrev pub break_sent : State → State → Out
-break_sent current lowered = Out.Sent 1 (Reply.Break (Some (record {
-  ack_required = true;
-  key = sample_key;
-  current = current;
-  lowered = lowered;
-})))
-
--- two files, `abc` and an empty one, and two clients
-abbrev pub two_files : Server
-two_files = new_server ((0x61 ∷ 0x62 ∷ 0x63 ∷ []) ∷ [] ∷ [])
+created_leased file file_id state = created file file_id sample_key state false false
 
 abbrev pub shared_calls : List Call
 shared_calls =
@@ -78,12 +26,12 @@ shared_calls =
     ∷ Call.Join 2
     ∷ Call.Receive 1 (leased 1 Access.ReadWrite Share.ReadWrite RWH)
     ∷ Call.Receive 2 (plain 1 Access.Read Share.ReadWrite)
-    ∷ Call.Receive 1 (Request.Acknowledge (sample_lease RH))
+    ∷ Call.Receive 1 (acknowledging sample_key RH)
     ∷ []
 
 abbrev pub later_calls : List Call
 later_calls =
-    Call.Receive 2 (write_by 2 1 0 0x59)
+    Call.Receive 2 (write_of 2 1 (at 0 (0x59 ∷ [])))
     ∷ Call.Receive 2 (close_of 2)
     ∷ Call.Receive 2 (close_of 2)
     ∷ Call.Receive 1 (leased 1 Access.ReadWrite Share.ReadWrite RWH)
@@ -97,8 +45,8 @@ SharedCalls = outs_along two_files shared_calls ≡
     []
     ∷ []
     ∷ (Out.Opened 1 1 ∷ Out.Sent 1 (created_leased 1 1 RWH) ∷ [])
-    ∷ (break_sent RWH RH ∷ [])
-    ∷ (Out.Sent 1 (Reply.AckDone (sample_lease RH)) ∷ Out.Opened 1 2 ∷ Out.Sent 2 (created_plain 1 2) ∷ [])
+    ∷ (Out.Sent 1 (break_of sample_key RWH RH true) ∷ [])
+    ∷ (Out.Sent 1 (done_acknowledging sample_key RH) ∷ Out.Opened 1 2 ∷ Out.Sent 2 (created_plain 1 2) ∷ [])
     ∷ []
 
 abbrev pub SharedAllowed : Type 0
@@ -126,11 +74,11 @@ breaking_calls =
 
 abbrev pub acknowledging_calls : List Call
 acknowledging_calls =
-    Call.Receive 1 (Request.Acknowledge (sample_lease RWH))
+    Call.Receive 1 (acknowledging sample_key RWH)
     ∷ Call.Receive 1 (Request.Acknowledge None)
-    ∷ Call.Receive 1 (Request.Acknowledge (Some (record { key = []; state = RH })))
-    ∷ Call.Receive 1 (Request.Acknowledge (sample_lease RH))
-    ∷ Call.Receive 1 (Request.Acknowledge (sample_lease RH))
+    ∷ Call.Receive 1 (acknowledging [] RH)
+    ∷ Call.Receive 1 (acknowledging sample_key RH)
+    ∷ Call.Receive 1 (acknowledging sample_key RH)
     ∷ []
 
 -- Acknowledgments above the state broken to, unreadable, of an unknown key, as it should be (the
@@ -140,7 +88,7 @@ Acknowledgments = outs_along (server_after two_files breaking_calls) acknowledgi
     (Out.Sent 1 (Reply.AckFailed Status.RequestNotAccepted) ∷ [])
     ∷ (Out.Sent 1 (Reply.AckFailed Status.InvalidParameter) ∷ [])
     ∷ (Out.Sent 1 (Reply.AckFailed Status.ObjectNameNotFound) ∷ [])
-    ∷ (Out.Sent 1 (Reply.AckDone (sample_lease RH))
+    ∷ (Out.Sent 1 (done_acknowledging sample_key RH)
     ∷ Out.Opened 1 2 ∷ Out.Sent 2 (created_leased 1 2 RH) ∷ [])
     ∷ (Out.Sent 1 (Reply.AckFailed Status.Unsuccessful) ∷ [])
     ∷ []
@@ -182,18 +130,10 @@ waiting_calls =
     ∷ Call.Receive 2 (leased 1 Access.ReadWrite Share.ReadWrite RH)
     ∷ Call.Receive 3 (leased 1 Access.ReadWrite Share.ReadWrite RH)
     ∷ Call.Receive 1 (plain 1 Access.ReadWrite Share.Nothing)
-    ∷ Call.Receive 2 (write_by 1 1 0 0x58)
+    ∷ Call.Receive 2 (write_of 1 1 (at 0 (0x58 ∷ [])))
     ∷ Call.Receive 2 (close_of 1)
-    ∷ Call.Receive 3 (Request.Acknowledge (sample_lease R))
+    ∷ Call.Receive 3 (acknowledging sample_key R)
     ∷ []
-
-abbrev pub break_to : ℕ → Bool → State → State → Out
-break_to client ack_required current lowered = Out.Sent client (Reply.Break (Some (record {
-  ack_required = ack_required;
-  key = sample_key;
-  current = current;
-  lowered = lowered;
-})))
 
 -- The create of client 1 waits for two leases, the write of client 2 for one of them, and the close
 -- of client 2 behind its write. With the acknowledgment of client 3 a first pass answers the write,
@@ -206,12 +146,12 @@ TwoPasses = outs_along two_files waiting_calls ≡
     ∷ []
     ∷ (Out.Opened 1 2 ∷ Out.Sent 2 (created_leased 1 1 RH) ∷ [])
     ∷ (Out.Opened 1 3 ∷ Out.Sent 3 (created_leased 1 2 RH) ∷ [])
-    ∷ (break_to 2 true RH R ∷ break_to 3 true RH R ∷ [])
+    ∷ (Out.Sent 2 (break_of sample_key RH R true) ∷ Out.Sent 3 (break_of sample_key RH R true) ∷ [])
     ∷ []
     ∷ []
-    ∷ (Out.Sent 3 (Reply.AckDone (sample_lease R))
-    ∷ break_to 3 false R nothing_cached
-    ∷ Out.Changed 1 2 1 (record { offset = 0; bytes = 0x58 ∷ [] })
+    ∷ (Out.Sent 3 (done_acknowledging sample_key R)
+    ∷ Out.Sent 3 (break_of sample_key R nothing_cached false)
+    ∷ Out.Changed 1 2 1 (at 0 (0x58 ∷ []))
     ∷ Out.Sent 2 (Reply.WriteDone 1 1)
     ∷ Out.Sent 2 (Reply.Closed 1)
     ∷ Out.Sent 1 (Reply.CreateFailed 1 Status.SharingViolation)

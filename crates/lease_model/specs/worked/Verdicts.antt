@@ -3,9 +3,9 @@ use Rattle.std.specs.Prelude.{◌≡◌, ◌-◌, true, false, [], ◌∷◌}
 use Rattle.lease_model.specs.client.Commands.{Settlement}
 use Rattle.lease_state.specs.declared.patch.Patch.{Patch}
 use Rattle.lease_model.specs.records.Facts.{Fact}
-use Rattle.lease_model.specs.worked.Letters.{R, RW}
 use Rattle.lease_state.specs.declared.content.TheConstants.{FILE_LIMIT}
 use Rattle.lease_model.specs.records.Verdict.{Verdict, verdict}
+use Rattle.lease_model.specs.worked.ValueWords.{R, RW, at}
 
 abbrev pub x_at_0 : Patch
 x_at_0 = record { offset = 0; bytes = 0x58 ∷ [] }
@@ -52,4 +52,52 @@ LimitVerdicts =
     ∷ Fact.Wrote 1 1 1 (record { offset = FILE_LIMIT - 1; bytes = 0x58 ∷ [] }) false ∷ [])
     ∷ verdict (Fact.Start 1 [] ∷ Fact.Joined 1
     ∷ Fact.Wrote 1 1 1 (record { offset = FILE_LIMIT; bytes = 0x58 ∷ [] }) false ∷ []) ∷ [])
+    ≡ Verdict.Safe ∷ Verdict.Malformed 3 ∷ []
+
+-- A belief outlives a lost connection and counts again with the next one. A cached read needs a message
+-- that was taken since the client joined.
+abbrev pub BeliefsAndReads : Type 0
+BeliefsAndReads =
+    (verdict (Fact.Start 1 [] ∷ Fact.Joined 1 ∷ Fact.Joined 2 ∷ Fact.Believes 1 1 RW ∷ Fact.Dropped 1
+    ∷ Fact.Believes 2 1 R ∷ Fact.Joined 1 ∷ [])
+    ∷ verdict (Fact.Start 1 (0x61 ∷ []) ∷ Fact.Joined 1 ∷ Fact.CachedRead 1 1 (0x61 ∷ []) ∷ [])
+    ∷ verdict (Fact.Start 1 (0x61 ∷ []) ∷ Fact.Joined 1 ∷ Fact.Sent 1 ∷ Fact.Took 1 ∷ Fact.Dropped 1
+    ∷ Fact.Joined 1 ∷ Fact.CachedRead 1 1 (0x61 ∷ []) ∷ []) ∷ [])
+    ≡ Verdict.Unsafe 7 1 ∷ Verdict.Unsafe 3 2 ∷ Verdict.Unsafe 7 2 ∷ []
+
+-- A message is taken by a client that joined; a number is used once, on whichever file; a file is started
+-- before it is named, and changed within the limit.
+abbrev pub UnfitFacts : Type 0
+UnfitFacts =
+    (verdict (Fact.Start 1 [] ∷ Fact.Sent 1 ∷ Fact.Took 1 ∷ [])
+    ∷ verdict (Fact.Start 1 [] ∷ Fact.Start 2 [] ∷ Fact.Wrote 1 1 1 (at 0 (0x58 ∷ [])) false
+    ∷ Fact.Wrote 1 2 1 (at 0 (0x58 ∷ [])) false ∷ [])
+    ∷ verdict (Fact.Expired 1 1 ∷ [])
+    ∷ verdict (Fact.Start 1 [] ∷ Fact.Changed 1 1 1 (at 1048577 []) ∷ []) ∷ [])
+    ≡ Verdict.Malformed 3 ∷ Verdict.Malformed 4 ∷ Verdict.Malformed 1 ∷ Verdict.Malformed 2 ∷ []
+
+-- A write is accepted on its own file and with its own patch, or it isn't done.
+abbrev pub SettledAsDone : Type 0
+SettledAsDone =
+    (verdict (Fact.Start 1 [] ∷ Fact.Start 2 [] ∷ Fact.Wrote 1 1 1 (at 0 (0x58 ∷ [])) false
+    ∷ Fact.Changed 2 1 1 (at 0 (0x58 ∷ [])) ∷ Fact.Settled 1 1 Settlement.Done ∷ [])
+    ∷ verdict (Fact.Start 1 [] ∷ Fact.Start 2 [] ∷ Fact.Wrote 1 1 1 (at 0 (0x58 ∷ [])) false
+    ∷ Fact.Changed 1 1 1 (at 0 (0x59 ∷ [])) ∷ Fact.Settled 1 1 Settlement.Done ∷ [])
+    ∷ verdict (Fact.Start 1 [] ∷ Fact.Start 2 [] ∷ Fact.Wrote 1 1 1 (at 0 (0x58 ∷ [])) false
+    ∷ Fact.Changed 1 1 1 (at 0 (0x58 ∷ [])) ∷ Fact.Settled 1 1 Settlement.Done ∷ []) ∷ [])
+    ≡ Verdict.Unsafe 5 4 ∷ Verdict.Unsafe 5 4 ∷ Verdict.Safe ∷ []
+
+-- A client may open a file that it has buffered writes of; of no fact nothing is wrong.
+abbrev pub NothingWrong : Type 0
+NothingWrong =
+    (verdict (Fact.Start 1 [] ∷ Fact.Wrote 1 1 1 (at 0 (0x58 ∷ [])) true ∷ Fact.Opened 1 1
+    ∷ Fact.Changed 1 1 1 (at 0 (0x58 ∷ [])) ∷ [])
+    ∷ verdict [] ∷ [])
+    ≡ Verdict.Safe ∷ Verdict.Safe ∷ []
+
+-- A write that begins at 65,536 is within the limit, one that begins at 1,048,576 isn't.
+abbrev pub LargeWrites : Type 0
+LargeWrites =
+    (verdict (Fact.Start 1 [] ∷ Fact.Joined 1 ∷ Fact.Wrote 1 1 1 (at 65536 (0x58 ∷ [])) false ∷ [])
+    ∷ verdict (Fact.Start 1 [] ∷ Fact.Joined 1 ∷ Fact.Wrote 1 1 1 (at 1048576 (0x58 ∷ [])) false ∷ []) ∷ [])
     ≡ Verdict.Safe ∷ Verdict.Malformed 3 ∷ []

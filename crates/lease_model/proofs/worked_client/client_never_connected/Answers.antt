@@ -1,7 +1,7 @@
 use Rattle.std.proofs.Common.{refl}
-use Rattle.lease_model.proofs.Computing.{the_model}
+use Rattle.lease_model.proofs.ClientComputes.{the_client}
 use Rattle.lease_model.proofs.worked_client.client_never_connected.Goals as goal
 
 pub returns : goal.returns
-unfolding the_model
+unfolding the_client
 returns c = refl

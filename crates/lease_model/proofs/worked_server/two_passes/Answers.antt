@@ -1,7 +1,7 @@
 use Rattle.std.proofs.Common.{refl}
-use Rattle.lease_model.proofs.Computing.{the_model}
+use Rattle.lease_model.proofs.ServerComputes.{the_server}
 use Rattle.lease_model.proofs.worked_server.two_passes.Goals as goal
 
 pub returns : goal.returns
-unfolding the_model
+unfolding the_server
 returns c = refl

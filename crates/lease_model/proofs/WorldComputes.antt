@@ -1,0 +1,12 @@
+-- To unfold `the_world` is to unfold every definition of the model, so that a worked run computes.
+use Rattle.std.specs.Prelude.{⊤}
+use Rattle.lease_model.specs.world.Allowed.{are_apart, is_allowed_setup, are_too_many}
+use Rattle.lease_model.specs.world.Events.{served, stepped_in, link_cut, link_noticed, link_connected, timer_expired, strayed_over, applied, happens, after}
+use Rattle.lease_model.specs.world.World.{starts_from, first_world, delivered, all_delivered, requests_sent, noted}
+use Rattle.lease_model.proofs.ServerComputes.{the_server}
+use Rattle.lease_model.proofs.ClientComputes.{the_client}
+use Rattle.lease_model.proofs.RecordsCompute.{the_records}
+
+unfoldable pub the_world : ⊤
+unfolding the_server the_client the_records are_apart is_allowed_setup are_too_many served stepped_in link_cut link_noticed link_connected timer_expired strayed_over applied happens after starts_from first_world delivered all_delivered requests_sent noted
+the_world = tt

@@ -1,0 +1,67 @@
+-- Worked calls of a server: when an open is durable, and which reconnects are refused.
+use Rattle.std.specs.Prelude.{◌≡◌, true, false, List, [], ◌∷◌}
+use Rattle.lease_state.specs.State.{nothing_cached}
+use Rattle.lease_state.specs.declared.access.Access.{Access}
+use Rattle.lease_state.specs.declared.access.Share.{Share}
+use Rattle.lease_state.specs.declared.status.Status.{Status}
+use Rattle.lease_model.specs.messages.Replies.{Reply, Out}
+use Rattle.lease_model.specs.server.Calls.{Call}
+use Rattle.lease_model.specs.worked.MessageWords.{keyed, keyed_durable, plain, plain_durable, reconnecting, plain_reconnecting, write_of, created, created_plain, break_of}
+use Rattle.lease_model.specs.worked.ServerWords.{outs_along, three_joined}
+use Rattle.lease_model.specs.worked.ValueWords.{R, RH, RWH, at, sample_key, later_key}
+
+abbrev pub durable_while_breaking_calls : List Call
+durable_while_breaking_calls =
+    Call.Receive 1 (keyed_durable 1 Access.ReadWrite Share.ReadWrite sample_key R)
+    ∷ Call.Receive 1 (keyed 1 Access.ReadWrite Share.ReadWrite sample_key RH)
+    ∷ Call.Receive 2 (plain 1 Access.ReadWrite Share.ReadWrite)
+    ∷ Call.Receive 2 (write_of 3 1 (at 0 (0x58 ∷ [])))
+    ∷ Call.Receive 1 (keyed_durable 1 Access.ReadWrite Share.ReadWrite sample_key RH)
+    ∷ Call.Receive 1 (plain_durable 1 Access.ReadWrite Share.ReadWrite)
+    ∷ []
+
+-- An open is durable where that is asked and its lease holds H: not under R, not without a lease, but also
+-- under a lease that is breaking to nothing, since it still holds H.
+abbrev pub DurableWhileBreaking : Type 0
+DurableWhileBreaking = outs_along three_joined durable_while_breaking_calls ≡
+    (Out.Opened 1 1 ∷ Out.Sent 1 (created 1 1 sample_key R false false) ∷ [])
+    ∷ (Out.Opened 1 1 ∷ Out.Sent 1 (created 1 2 sample_key RH false false) ∷ [])
+    ∷ (Out.Opened 1 2 ∷ Out.Sent 2 (created_plain 1 3) ∷ [])
+    ∷ (Out.Sent 1 (break_of sample_key RH nothing_cached true) ∷ Out.Changed 1 2 1 (at 0 (0x58 ∷ []))
+    ∷ Out.Sent 2 (Reply.WriteDone 3 1) ∷ [])
+    ∷ (Out.Opened 1 1 ∷ Out.Sent 1 (created 1 4 sample_key RH true true) ∷ [])
+    ∷ (Out.Opened 1 1 ∷ Out.Sent 1 (created_plain 1 5) ∷ [])
+    ∷ []
+
+abbrev pub reconnects_calls : List Call
+reconnects_calls =
+    Call.Receive 1 (keyed_durable 1 Access.ReadWrite Share.ReadWrite sample_key RWH)
+    ∷ Call.Receive 1 (reconnecting 1 Access.ReadWrite Share.ReadWrite sample_key 1)
+    ∷ Call.Cut 1
+    ∷ Call.Join 1
+    ∷ Call.Receive 2 (reconnecting 1 Access.ReadWrite Share.ReadWrite sample_key 1)
+    ∷ Call.Receive 1 (reconnecting 2 Access.ReadWrite Share.ReadWrite sample_key 1)
+    ∷ Call.Receive 1 (reconnecting 1 Access.ReadWrite Share.ReadWrite later_key 1)
+    ∷ Call.Receive 1 (plain_reconnecting 1 Access.ReadWrite Share.ReadWrite 1)
+    ∷ Call.Receive 1 (reconnecting 1 Access.ReadWrite Share.ReadWrite sample_key 2)
+    ∷ Call.Receive 1 (reconnecting 1 Access.Read Share.Nothing sample_key 1)
+    ∷ Call.Receive 1 (reconnecting 1 Access.ReadWrite Share.ReadWrite sample_key 1)
+    ∷ []
+
+-- A reconnect is refused while the open is connected, by another client, on another file, under another
+-- key, without a key, and of another FileId. It then connects the open again as it was, whatever else the
+-- create asks for; once more is refused.
+abbrev pub RefusedReconnects : Type 0
+RefusedReconnects = outs_along three_joined reconnects_calls ≡
+    (Out.Opened 1 1 ∷ Out.Sent 1 (created 1 1 sample_key RWH false true) ∷ [])
+    ∷ (Out.Sent 1 (Reply.CreateFailed 1 Status.ObjectNameNotFound) ∷ [])
+    ∷ []
+    ∷ []
+    ∷ (Out.Sent 2 (Reply.CreateFailed 1 Status.ObjectNameNotFound) ∷ [])
+    ∷ (Out.Sent 1 (Reply.CreateFailed 2 Status.ObjectNameNotFound) ∷ [])
+    ∷ (Out.Sent 1 (Reply.CreateFailed 1 Status.ObjectNameNotFound) ∷ [])
+    ∷ (Out.Sent 1 (Reply.CreateFailed 1 Status.ObjectNameNotFound) ∷ [])
+    ∷ (Out.Sent 1 (Reply.CreateFailed 1 Status.ObjectNameNotFound) ∷ [])
+    ∷ (Out.Sent 1 (created 1 1 sample_key RWH false false) ∷ [])
+    ∷ (Out.Sent 1 (Reply.CreateFailed 1 Status.ObjectNameNotFound) ∷ [])
+    ∷ []
