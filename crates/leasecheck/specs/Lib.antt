@@ -2,4 +2,5 @@ pub mod Answer
 pub mod Words
 pub mod Shown
 pub mod Printed
-pub mod Told
+pub mod Values
+pub mod Refusals

@@ -7,7 +7,6 @@ ghost use Rattle.lease_wire.specs.Contexts.{view_of};
 ghost use Rattle.lease_wire.specs.Reading.{items_of};
 ghost use Rattle.leasecheck.specs.Words.{state_word, name_word, context_line, item_line, lease_line, lease_lines, durable_lines, reconnect_lines, value_lines};
 
-use bitflags::Flags;
 use lease_state::{FileId, LeaseKey, LeaseState};
 use lease_wire::{Context, contexts};
 use std::alloc::{AllocError, Global};
@@ -16,10 +15,10 @@ use std::alloc::{AllocError, Global};
 pub(crate) fn state_letters(state: LeaseState) -> &'static str
     ensures { result.now ≡ state_word (state_of state) }
 {
-    let read = state.contains(LeaseState::READ_CACHING);
-    let write = state.contains(LeaseState::WRITE_CACHING);
-    let handle = state.contains(LeaseState::HANDLE_CACHING);
-    match (read, write, handle) {
+    let reads = state.caches_reads();
+    let writes = state.caches_writes();
+    let handles = state.caches_handles();
+    match (reads, writes, handles) {
         (false, false, false) => "none",
         (true, false, false) => "R",
         (false, true, false) => "W",
@@ -82,7 +81,7 @@ fn push_lease(
     writeln!(text, "lease {key} {letters}{end}")
 }
 
-fn push_lease_asked(
+fn push_leases(
     text: &mut String,
     lease: &Option<(LeaseKey, LeaseState, bool)>,
 ) -> Result<(), AllocError>
@@ -118,25 +117,25 @@ fn push_reconnect(text: &mut String, reconnect: Option<FileId>) -> Result<(), Al
 
 /// What create contexts ask for or grant.
 #[derive(Clone, Copy)]
-pub(crate) struct Told {
+pub(crate) struct CreateValue {
     pub(crate) lease: Option<(LeaseKey, LeaseState, bool)>,
     pub(crate) durable: bool,
     pub(crate) reconnect: Option<FileId>,
 }
 
-ghost use Rattle.leasecheck.specs.Told.{told_view};
+ghost use Rattle.leasecheck.specs.Values.{create_view};
 ghost use Rattle.lease_wire.specs.Create.{granted_view};
 
 /// A line for each part that is there, or `nothing`.
-pub(crate) fn push_told(text: &mut String, told: &Told) -> Result<(), AllocError>
-    ensures { OnOk result (string_bytes text.new ≡ string_bytes text.old ++ value_lines (told_view told.now)) }
+pub(crate) fn push_value(text: &mut String, value: &CreateValue) -> Result<(), AllocError>
+    ensures { OnOk result (string_bytes text.new ≡ string_bytes text.old ++ value_lines (create_view value.now)) }
 {
-    let leased = told.lease.is_some();
-    let reconnects = told.reconnect.is_some();
-    if !(leased || (told.durable || reconnects)) {
+    let leased = value.lease.is_some();
+    let reconnects = value.reconnect.is_some();
+    if !(leased || (value.durable || reconnects)) {
         return text.push_str("nothing\n");
     }
-    push_lease_asked(text, &told.lease)?;
-    push_durable(text, told.durable)?;
-    push_reconnect(text, told.reconnect)
+    push_leases(text, &value.lease)?;
+    push_durable(text, value.durable)?;
+    push_reconnect(text, value.reconnect)
 }

@@ -1,45 +1,59 @@
-ghost use Rattle.std.specs.Prelude.{◌≡◌, ◌≤◌, IfOk, OnOk, IsErr};
+ghost use Rattle.std.specs.Prelude.{◌≡◌, ◌≤◌, IfOk, IfErr, IsSome, OnOk};
 ghost use Rattle.std.specs.String.{string_bytes};
 ghost use Rattle.std.specs.Io.KnownBytes.{Appends, Keeps};
-ghost use Rattle.leasecheck.specs.Printed.{IsTextOf, HasNoBytes, Prints};
+ghost use Rattle.leasecheck.specs.Printed.{IsTextOf, Prints};
+ghost use Rattle.leasecheck.specs.Refusals.{AnswersOrRefuses, EndsWith, refusal_of, failure_line};
 
-use crate::asked::Task;
+use crate::acknowledge::ack_lines;
 use crate::failure::Failure;
-use crate::{hexadecimal, lines, shown};
+use crate::hexadecimal;
+use crate::render::render;
+use crate::tasks::Task;
 use std::alloc::Global;
+use std::io;
 use std::io::{Read, Write};
 
 // All that the task prints.
 fn text_of(alloc: Global, asked: &Task) -> Result<String, Failure>
     ensures text { IfOk result (λ text. IsTextOf asked.now (string_bytes text)) }
-    ensures refused { HasNoBytes asked.now → IsErr result }
+    ensures refused { AnswersOrRefuses asked.now result }
 {
     match asked {
         Task::Ack(digits) => {
             let bytes = hexadecimal::bytes_of(alloc, digits.as_str())?;
-            lines::ack_lines(alloc, bytes.as_slice())
+            ack_lines(alloc, bytes.as_slice())
         }
         Task::Show(kind, digits) => {
             let bytes = hexadecimal::bytes_of(alloc, digits.as_str())?;
-            shown::show(alloc, *kind, bytes.as_slice())
+            render(alloc, *kind, bytes.as_slice())
         }
     }
 }
 
 fn print_text<O: Write>(text: &str, out: &mut O) -> Result<(), Failure>
-    ensures { OnOk result (Appends (O.contents out.old) (O.contents out.new) text.now) }
+    ensures ok { OnOk result (Appends (O.contents out.old) (O.contents out.new) text.now) }
+    ensures refused { IfErr result (λ failure. failure ≡ Failure.Output) }
 {
     out.write_all(text.as_bytes()).map_err(|_| Failure::Output)?;
     out.flush().map_err(|_| Failure::Output)?;
     Ok(())
 }
 
-fn done<O: Write>(alloc: Global, asked: &Task, out: &mut O) -> Result<(), Failure>
+// Makes the task's whole text, and writes it after that.
+fn print_task<O: Write>(alloc: Global, asked: &Task, out: &mut O) -> Result<(), Failure>
     ensures printed { OnOk result (Prints asked.now (O.contents out.old) (O.contents out.new)) }
-    ensures refused { HasNoBytes asked.now → IsErr result }
+    ensures accepted { OnOk result (refusal_of asked.now ≡ None) }
+    ensures refused { IfErr result (EndsWith asked.now (O.contents out.old) (O.contents out.new)) }
 {
     let text = text_of(alloc, asked)?;
     print_text(text.as_str(), out)
+}
+
+// One line for a failure.
+fn tell_failure<F: Write>(failure: Failure, faults: &mut F) -> io::Result<()>
+    ensures { OnOk result (Appends (F.contents faults.old) (F.contents faults.new) (failure_line failure)) }
+{
+    writeln!(faults, "{failure}")
 }
 
 /// Does a task, and gives the exit status: 0 where it was done, 1 where its input is refused, where
@@ -57,12 +71,16 @@ pub fn perform<I: Read, O: Write, F: Write>(
 ) -> u8
     ensures status { result ≤ 1 }
     ensures printed { result ≡ 0 → Prints asked.now (O.contents out.old) (O.contents out.new) }
-    ensures refused { HasNoBytes asked.now → result ≡ 1 }
+    ensures silent { result ≡ 0 → Keeps (F.contents faults.old) (F.contents faults.new) }
+
+    // An argument that is refused prints nothing.
+    ensures refused { IsSome (refusal_of asked.now) → result ≡ 1 }
+    ensures kept { IsSome (refusal_of asked.now) → Keeps (O.contents out.old) (O.contents out.new) }
 {
-    match done(alloc, asked, out) {
+    match print_task(alloc, asked, out) {
         Ok(()) => 0,
         Err(failure) => {
-            let _ = writeln!(faults, "{failure}");
+            let _ = tell_failure(failure, faults);
             1
         }
     }
