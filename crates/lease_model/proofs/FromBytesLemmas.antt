@@ -6,7 +6,7 @@ use Rattle.std.proofs.lemmas.Bool.Decides.{nat_tests}
 use Rattle.lease_wire.specs.Acknowledgment.{KeyAndState, IsAcknowledgment, acknowledgment_bytes}
 use Rattle.lease_wire.specs.Field.{number_at}
 use Rattle.lease_wire.specs.Notification.{Notice, IsNotification, notification_bytes}
-use Rattle.lease_wire.specs.declared.direction.Direction.{Direction}
+use Rattle.lease_wire.specs.declared.create.Direction.{Direction}
 use Rattle.lease_wire.proofs.CanonicalLaws.{written_reads_back}
 use Rattle.lease_wire.proofs.Messages.{acknowledgment_layout, notification_layout}
 use Rattle.lease_wire.proofs.Pieces.{number_at-taken, bytes_at-taken}

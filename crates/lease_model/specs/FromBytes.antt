@@ -8,7 +8,7 @@ use Rattle.lease_state.specs.declared.reply.Reply as real_reply
 use Rattle.lease_wire.specs.Field.{number_at, bytes_at}
 use Rattle.lease_wire.specs.Gathering.{value_of}
 use Rattle.lease_wire.specs.Names.{LeaseView, CreateView}
-use Rattle.lease_wire.specs.declared.direction.Direction.{Direction}
+use Rattle.lease_wire.specs.declared.create.Direction.{Direction}
 use Rattle.lease_wire.specs.declared.fault.WireFault.{WireFault}
 use Rattle.lease_model.specs.Replies as replies
 use Rattle.lease_model.specs.Replies.{LeaseGiven, CreateAnswer, BreakNotice}

@@ -6,7 +6,7 @@ use Rattle.lease_wire.specs.Field.{number_at}
 use Rattle.lease_wire.specs.Gathering.{value_of}
 use Rattle.lease_wire.specs.Names.{CreateView}
 use Rattle.lease_wire.specs.Notification.{Notice, IsNotification, notification_bytes}
-use Rattle.lease_wire.specs.declared.direction.Direction.{Direction}
+use Rattle.lease_wire.specs.declared.create.Direction.{Direction}
 use Rattle.lease_model.specs.FromBytes.{ask_found, answer_found, acknowledged_in, notice_in}
 use Rattle.lease_model.specs.Replies.{BreakNotice}
 use Rattle.lease_model.specs.Requests.{LeaseOf}
