@@ -1,4 +1,14 @@
 //! `leasecheck`: the create contexts and break messages of SMB 2.1 leases, on the command line.
+//!
+//! `leasecheck ack HEX` prints the acknowledgment that a lease break notification asks for, and
+//! `leasecheck show KIND HEX` what create contexts or a break message hold. The whole text is made
+//! before anything is written; a refusal is one line on standard error. So
+//!
+//! ```text
+//! leasecheck show ack 2400000000000000000102030405060708090a0b0c0d0e0f030000000000000000000000
+//! ```
+//!
+//! prints `ack 00010203-0405-0607-0809-0a0b0c0d0e0f RH`; the tests have it, and more.
 #![tactic(auto)]
 
 mod acknowledge;

@@ -14,11 +14,11 @@ use std::io;
 use std::io::{Read, Write};
 
 // All that the task prints.
-fn text_of(alloc: Global, asked: &Task) -> Result<String, Failure>
-    ensures text { IfOk result (λ text. IsTextOf asked.now (string_bytes text)) }
-    ensures refused { AnswersOrRefuses asked.now result }
+fn text_of(alloc: Global, task: &Task) -> Result<String, Failure>
+    ensures text { IfOk result (λ text. IsTextOf task.now (string_bytes text)) }
+    ensures refused { AnswersOrRefuses task.now result }
 {
-    match asked {
+    match task {
         Task::Ack(digits) => {
             let bytes = hexadecimal::bytes_of(alloc, digits.as_str())?;
             ack_lines(alloc, bytes.as_slice())
@@ -40,12 +40,12 @@ fn print_text<O: Write>(text: &str, out: &mut O) -> Result<(), Failure>
 }
 
 // Makes the task's whole text, and writes it after that.
-fn print_task<O: Write>(alloc: Global, asked: &Task, out: &mut O) -> Result<(), Failure>
-    ensures printed { OnOk result (Prints asked.now (O.contents out.old) (O.contents out.new)) }
-    ensures accepted { OnOk result (refusal_of asked.now ≡ None) }
-    ensures refused { IfErr result (EndsWith asked.now (O.contents out.old) (O.contents out.new)) }
+fn print_task<O: Write>(alloc: Global, task: &Task, out: &mut O) -> Result<(), Failure>
+    ensures printed { OnOk result (Prints task.now (O.contents out.old) (O.contents out.new)) }
+    ensures accepted { OnOk result (refusal_of task.now ≡ None) }
+    ensures refused { IfErr result (EndsWith task.now (O.contents out.old) (O.contents out.new)) }
 {
-    let text = text_of(alloc, asked)?;
+    let text = text_of(alloc, task)?;
     print_text(text.as_str(), out)
 }
 
@@ -64,20 +64,20 @@ fn tell_failure<F: Write>(failure: Failure, faults: &mut F) -> io::Result<()>
 /// the task's file, none for `ack` and `show`.
 pub fn perform<I: Read, O: Write, F: Write>(
     alloc: Global,
-    asked: &Task,
+    task: &Task,
     _input: &mut I,
     out: &mut O,
     faults: &mut F,
 ) -> u8
     ensures status { result ≤ 1 }
-    ensures printed { result ≡ 0 → Prints asked.now (O.contents out.old) (O.contents out.new) }
+    ensures printed { result ≡ 0 → Prints task.now (O.contents out.old) (O.contents out.new) }
     ensures silent { result ≡ 0 → Keeps (F.contents faults.old) (F.contents faults.new) }
 
     // An argument that is refused prints nothing.
-    ensures refused { IsSome (refusal_of asked.now) → result ≡ 1 }
-    ensures kept { IsSome (refusal_of asked.now) → Keeps (O.contents out.old) (O.contents out.new) }
+    ensures refused { IsSome (refusal_of task.now) → result ≡ 1 }
+    ensures kept { IsSome (refusal_of task.now) → Keeps (O.contents out.old) (O.contents out.new) }
 {
-    match print_task(alloc, asked, out) {
+    match print_task(alloc, task, out) {
         Ok(()) => 0,
         Err(failure) => {
             let _ = tell_failure(failure, faults);

@@ -1,6 +1,6 @@
 ghost use Rattle.std.specs.Prelude.{◌≡◌, false, IfSome};
 ghost use Rattle.std.specs.Option.{option_map};
-ghost use Rattle.lease_wire.specs.Create.{asked, answered, asked_view, granted_view, IsReadingOf, ValueIsRead};
+ghost use Rattle.lease_wire.specs.Create.{ask_result, answer_result, asked_view, granted_view, IsReadingOf, ValueIsRead};
 ghost use Rattle.lease_wire.specs.Gathering.{with_meaning, value_of, no_values};
 ghost use Rattle.lease_wire.specs.Views.{lease_of, values_of, values_result, meaning_view};
 ghost use Rattle.lease_wire.specs.declared.create.Direction.TheVariants.{Request, Reply};
@@ -97,8 +97,8 @@ fn granted_lease(lease: Option<Lease>) -> Option<(LeaseKey, LeaseState, bool)>
 /// The first fault in the order of the text. Within a context the tests come in the order of the
 /// faults' numbers. Reading takes no memory.
 pub fn read_create(bytes: &[u8]) -> Result<CreateAsk, WireFault>
-    ensures reading { IsReadingOf Request bytes.now (asked result) }
-    ensures value { asked result ≡ value_of Request bytes.now }
+    ensures reading { IsReadingOf Request bytes.now (ask_result result) }
+    ensures value { ask_result result ≡ value_of Request bytes.now }
 {
     match gather(Direction::Request, bytes) {
         Err(fault) => Err(fault),
@@ -117,8 +117,8 @@ pub fn read_create(bytes: &[u8]) -> Result<CreateAsk, WireFault>
 ///
 /// As those of [`read_create`].
 pub fn read_create_reply(bytes: &[u8]) -> Result<CreateAnswer, WireFault>
-    ensures reading { IsReadingOf Reply bytes.now (answered result) }
-    ensures value { answered result ≡ value_of Reply bytes.now }
+    ensures reading { IsReadingOf Reply bytes.now (answer_result result) }
+    ensures value { answer_result result ≡ value_of Reply bytes.now }
 {
     match gather(Direction::Reply, bytes) {
         Err(fault) => Err(fault),
