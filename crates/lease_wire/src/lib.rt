@@ -34,8 +34,8 @@ mod tests;
 pub use acknowledgment::{Acknowledgment, BreakResponse, acknowledgment_laws};
 pub use chain::{Context, Contexts, contexts, contexts_laws};
 pub use create::{
-    CreateAnswer, CreateAsk, Direction, canonical_laws, read_create, read_create_reply,
-    reading_laws, write_create_ask, write_create_reply,
+    ContextValues, CreateAnswer, CreateAsk, Direction, Lease, canonical_laws, read_create,
+    read_create_reply, reading_laws, write_create_ask, write_create_reply,
 };
 pub use fault::WireFault;
 pub use notification::{Notification, notification_laws};

@@ -1,61 +1,42 @@
 ghost use Rattle.std.specs.Prelude.{◌≡◌, ◌++◌, codes, IfOk};
+ghost use Rattle.std.specs.Result.{result_err};
 ghost use Rattle.std.specs.String.{string_bytes};
 ghost use Rattle.lease_state.specs.State.{state_of};
 ghost use Rattle.lease_wire.specs.Notification.{notice_of};
-ghost use Rattle.lease_wire.specs.declared.create.Direction.TheVariants.{Request, Reply};
+ghost use Rattle.lease_wire.specs.Gathering.{value_of};
 ghost use Rattle.leasecheck.specs.Answer.{rest_line};
 ghost use Rattle.leasecheck.specs.Refusals.{RefusesExactly, shown_fault};
 ghost use Rattle.leasecheck.specs.Shown.{ShowsCreate, ShowsBreak, ShowsKeyAndState, Shows};
-ghost use Rattle.leasecheck.specs.Values.{create_view};
-ghost use Rattle.leasecheck.specs.Words as words;
 ghost use Rattle.leasecheck.specs.Words.{break_line, key_and_state_line};
 
 use crate::acknowledge::push_rest;
 use crate::failure::Failure;
 use crate::tasks::Kind;
-use crate::words::{CreateValue, push_contexts, push_value, state_letters};
+use crate::words::{push_context, push_values, state_letters};
 use lease_state::{LeaseKey, LeaseState};
-use lease_wire::{Acknowledgment, BreakResponse, Notification, read_create, read_create_reply};
+use lease_wire::{Acknowledgment, BreakResponse, ContextValues, Direction, Notification, contexts};
 use std::alloc::{AllocError, Global};
 
-/// What `leasecheck show ask` prints: the create contexts of a request, and what they ask for.
-fn render_ask(alloc: Global, bytes: &[u8]) -> Result<String, Failure>
-    ensures shown { IfOk result (λ text. ShowsCreate Request bytes.now (string_bytes text)) }
-    ensures refused { RefusesExactly (shown_fault Kind.Ask bytes.now) result }
-{
-    let ask = read_create(bytes)?;
-    let value = CreateValue {
-        lease: match ask.lease {
-            Some((key, state)) => Some((key, state, false)),
-            None => None,
-        },
-        durable: ask.durable,
-        reconnect: ask.reconnect,
-    };
-    Ok(create_text(alloc, bytes, &value)?)
-}
-
-/// What `leasecheck show reply` prints: the create contexts of a response, and what they grant.
-fn render_reply(alloc: Global, bytes: &[u8]) -> Result<String, Failure>
-    ensures shown { IfOk result (λ text. ShowsCreate Reply bytes.now (string_bytes text)) }
-    ensures refused { RefusesExactly (shown_fault Kind.Reply bytes.now) result }
-{
-    let answer = read_create_reply(bytes)?;
-    let value = CreateValue {
-        lease: answer.lease,
-        durable: answer.durable,
-        reconnect: None,
-    };
-    Ok(create_text(alloc, bytes, &value)?)
-}
-
-// The contexts of the bytes, and their value.
-fn create_text(alloc: Global, bytes: &[u8], value: &CreateValue) -> Result<String, AllocError>
-    ensures { IfOk result (λ text. string_bytes text ≡ words.create_text bytes.now (create_view value.now)) }
+// What `leasecheck show ask` and `show reply` print: the create contexts of a request or a response,
+// and what they ask for or grant. Where memory runs out the rest is still read, since a fault of the
+// bytes comes first.
+#[tactic(auto, unfolding(lease_wire::specs::Gathering::gathered))]
+fn render_create(alloc: Global, direction: Direction, bytes: &[u8]) -> Result<String, Failure>
+    ensures shown { IfOk result (λ text. ShowsCreate direction bytes.now (string_bytes text)) }
+    ensures refused { RefusesExactly (result_err (value_of direction bytes.now)) result }
 {
     let mut text = String::new(alloc);
-    push_contexts(alloc, &mut text, bytes)?;
-    push_value(&mut text, value)?;
+    let mut values = ContextValues::nothing();
+    let mut room = Ok(());
+    for item in contexts(bytes) {
+        let context = item?;
+        values = values.with_context(direction, &context)?;
+        if room.is_ok() {
+            room = push_context(alloc, &mut text, &context);
+        }
+    }
+    room?;
+    push_values(&mut text, &values)?;
     Ok(text)
 }
 
@@ -135,8 +116,8 @@ pub fn render(alloc: Global, kind: Kind, bytes: &[u8]) -> Result<String, Failure
     ensures refused { RefusesExactly (shown_fault kind bytes.now) result }
 {
     match kind {
-        Kind::Ask => render_ask(alloc, bytes),
-        Kind::Reply => render_reply(alloc, bytes),
+        Kind::Ask => render_create(alloc, Direction::Request, bytes),
+        Kind::Reply => render_create(alloc, Direction::Reply, bytes),
         Kind::Break => render_break(alloc, bytes),
         Kind::Ack => render_acknowledgment(alloc, bytes),
         Kind::Response => render_response(alloc, bytes),
