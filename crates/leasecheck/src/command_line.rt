@@ -113,8 +113,10 @@ fn task_of(alloc: Global, matches: &ArgMatches) -> Result<Option<Task>, AllocErr
 
 /// Reads the words of a command line, those after the program's name.
 ///
-/// `Err` has help (status 0) where the words ask for it, and else says why they are refused
-/// (status 2). Where there is no memory for the answer the words are refused with no text.
+/// # Errors
+///
+/// Help, with status 0, where the words ask for it, and else why they are refused, with status 2.
+/// Where there is no memory for the answer the words are refused with no text.
 pub fn task(alloc: Global, words: &[&str]) -> Result<Task, Usage>
     ensures { IfErr result (λ usage. (usage.status ≡ 0) ⊎ (usage.status ≡ 2)) }
 {
