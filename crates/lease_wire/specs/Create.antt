@@ -35,13 +35,13 @@ answer_of answer = record {
   reconnect = None;
 }
 
-abbrev pub asked : Result CreateAsk WireFault → Result CreateView WireFault
-asked (Ok ask) = Ok (ask_of ask)
-asked (Err fault) = Err fault
+abbrev pub ask_result : Result CreateAsk WireFault → Result CreateView WireFault
+ask_result (Ok ask) = Ok (ask_of ask)
+ask_result (Err fault) = Err fault
 
-abbrev pub answered : Result CreateAnswer WireFault → Result CreateView WireFault
-answered (Ok answer) = Ok (answer_of answer)
-answered (Err fault) = Err fault
+abbrev pub answer_result : Result CreateAnswer WireFault → Result CreateView WireFault
+answer_result (Ok answer) = Ok (answer_of answer)
+answer_result (Err fault) = Err fault
 
 -- The answer of a reader is right for a text: it gives a value exactly where the text holds it, and a
 -- fault exactly where it is the text's.

@@ -20,12 +20,12 @@ meaning_view code.TheVariants.Durable = names.Meaning.Durable
 meaning_view (code.TheVariants.Reconnect file_id) = names.Meaning.Reconnect file_id.0
 
 abbrev pub values_of : ContextValues → CreateView
-values_of found = record {
-  lease = option_map lease_of found.lease;
-  durable = found.durable;
-  reconnect = option_map (λ file_id. file_id.0) found.reconnect;
+values_of values = record {
+  lease = option_map lease_of values.lease;
+  durable = values.durable;
+  reconnect = option_map (λ file_id. file_id.0) values.reconnect;
 }
 
 abbrev pub values_result : Result ContextValues WireFault → Result CreateView WireFault
-values_result (Ok found) = Ok (values_of found)
+values_result (Ok values) = Ok (values_of values)
 values_result (Err fault) = Err fault

@@ -4,7 +4,8 @@ mod meaning;
 mod reading;
 mod writing;
 
-pub use reading::{read_create, read_create_reply, reading_laws};
+pub use meaning::Lease;
+pub use reading::{ContextValues, read_create, read_create_reply, reading_laws};
 pub use writing::{canonical_laws, write_create_ask, write_create_reply};
 
 /// What the create contexts of a CREATE request ask for (MS-SMB2 2.2.13.2).

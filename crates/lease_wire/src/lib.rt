@@ -1,4 +1,25 @@
-//! Lease break messages and create contexts of SMB 2.1, read and written.
+//! The bytes of SMB 2.1 leases (MS-SMB2): create contexts, and the lease break notification,
+//! acknowledgment and response, read and written without the SMB2 header. What is read borrows from
+//! the input and takes no memory; what is written is laid out in one way for each value. Each
+//! reader's answer is proved right for every text: a value exactly where the layout holds one, and
+//! else the first fault with its place.
+//!
+//! ```
+//! let message = Notification {
+//!     ack_required: true,
+//!     key: LeaseKey([7; 16]),
+//!     current: LeaseState::from_wire(7),
+//!     new: LeaseState::from_wire(3),
+//! };
+//! let bytes = message.encode();
+//! assert_eq!(Notification::decode(&bytes), Ok((message, b"".as_slice())));
+//! assert_eq!(Notification::decode(&bytes[1..]), Err(WireFault::Short(0)));
+//!
+//! let mut contexts = Vec::new(alloc);
+//! let ask = CreateAsk { lease: Some((message.key, message.new)), durable: true, reconnect: None };
+//! write_create_ask(&ask, &mut contexts)?;
+//! assert_eq!(read_create(contexts.as_slice()), Ok(ask));
+//! ```
 #![tactic(auto)]
 
 mod acknowledgment;
@@ -13,8 +34,8 @@ mod tests;
 pub use acknowledgment::{Acknowledgment, BreakResponse, acknowledgment_laws};
 pub use chain::{Context, Contexts, contexts, contexts_laws};
 pub use create::{
-    CreateAnswer, CreateAsk, Direction, canonical_laws, read_create, read_create_reply,
-    reading_laws, write_create_ask, write_create_reply,
+    ContextValues, CreateAnswer, CreateAsk, Direction, Lease, canonical_laws, read_create,
+    read_create_reply, reading_laws, write_create_ask, write_create_reply,
 };
 pub use fault::WireFault;
 pub use notification::{Notification, notification_laws};

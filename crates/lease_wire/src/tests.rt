@@ -12,6 +12,30 @@ const ASK: &[u8; 96] = b"\x38\0\0\0\x10\0\x04\0\0\0\x18\0\x20\0\0\0RqLs\0\0\0\0\
 \0\x01\x02\x03\x04\x05\x06\x07\x08\x09\x0a\x0b\x0c\x0d\x0e\x0f\x03\0\0\0\0\0\0\0\0\0\0\0\0\0\0\0\
 \0\0\0\0\x10\0\x04\0\0\0\x18\0\x10\0\0\0DHnQ\0\0\0\0\0\0\0\0\0\0\0\0\0\0\0\0\0\0\0\0";
 
+// The example at the top of the crate.
+#[test]
+fn the_example_holds(rt: HostRuntime) -> Result<(), Fail> {
+    let message = Notification {
+        ack_required: true,
+        key: LeaseKey([7; 16]),
+        current: LeaseState::from_wire(7),
+        new: LeaseState::from_wire(3),
+    };
+    let bytes = message.encode();
+    assert_eq!(&rt; Notification::decode(&bytes), Ok((message, b"".as_slice())));
+    assert_eq!(&rt; Notification::decode(&bytes[1..]), Err(WireFault::Short(0)));
+
+    let mut contexts = Vec::new(rt.alloc());
+    let ask = CreateAsk {
+        lease: Some((message.key, message.new)),
+        durable: true,
+        reconnect: None,
+    };
+    write_create_ask(&ask, &mut contexts)?;
+    assert_eq!(&rt; read_create(contexts.as_slice()), Ok(ask));
+    Ok(())
+}
+
 #[test]
 fn writes_a_request(rt: HostRuntime) -> Result<(), Fail> {
     let ask = CreateAsk {
@@ -71,23 +95,24 @@ fn writes_a_response(rt: HostRuntime) -> Result<(), Fail> {
 
 #[test]
 fn borrows_the_parts_of_contexts(rt: HostRuntime) -> Result<(), Fail> {
+    let text = ASK.as_slice();
     let mut all: Vec<Context> = Vec::new(rt.alloc());
-    for item in contexts(ASK.as_slice()) {
+    for item in contexts(text) {
         all.push(item?)?;
     }
     let lease = Context {
         place: 0,
         name: b"RqLs",
-        body: &ASK[24..56],
+        body: &text[24..56],
     };
     let durable = Context {
         place: 56,
         name: b"DHnQ",
-        body: &ASK[80..],
+        body: &text[80..],
     };
     assert_eq!(&rt; all.as_slice(), [lease, durable].as_slice());
     assert_eq!(&rt; contexts(b"").next(), None);
-    let mut cut = contexts(&ASK[..60]);
+    let mut cut = contexts(&text[..60]);
     assert_eq!(&rt; cut.size_hint(), (0, Some(4)));
     assert_eq!(&rt; cut.next(), Some(Ok(lease)));
     assert_eq!(&rt; cut.next(), Some(Err(WireFault::Short(56))));

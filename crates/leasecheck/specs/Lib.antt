@@ -2,4 +2,4 @@ pub mod Answer
 pub mod Words
 pub mod Shown
 pub mod Printed
-pub mod Told
+pub mod Refusals

@@ -1,6 +1,6 @@
 ghost use Rattle.std.specs.Prelude.{◌≡◌, ◌⊎◌, IfErr};
 
-use crate::asked::{Kind, Task, Usage};
+use crate::tasks::{Kind, Task, Usage};
 use clap::{Arg, ArgMatches, Command, Error};
 use std::alloc::{AllocError, Global};
 
@@ -73,7 +73,7 @@ fn with_name<'a>(alloc: Global, words: &[&'a str]) -> Result<Vec<&'a str>, Alloc
 }
 
 // There is no memory to say why.
-fn untold(alloc: Global) -> Usage
+fn refused_untold(alloc: Global) -> Usage
     ensures { result.status ≡ 2 }
 {
     Usage {
@@ -82,17 +82,17 @@ fn untold(alloc: Global) -> Usage
     }
 }
 
-fn refused(alloc: Global, error: &Error) -> Usage
+fn usage_of(alloc: Global, error: &Error) -> Usage
     ensures { (result.status ≡ 0) ⊎ (result.status ≡ 2) }
 {
     let status = if error.use_stderr() { 2 } else { 0 };
     match format!(in alloc; "{error}") {
         Ok(text) => Usage { status, text },
-        Err(_) => untold(alloc),
+        Err(_) => refused_untold(alloc),
     }
 }
 
-fn shown_by(alloc: Global, given: &ArgMatches) -> Result<Option<Task>, AllocError> {
+fn show_task(alloc: Global, given: &ArgMatches) -> Result<Option<Task>, AllocError> {
     let (Some(name), Some(digits)) = (given.get_str("KIND"), given.get_str("HEX")) else {
         return Ok(None);
     };
@@ -100,33 +100,35 @@ fn shown_by(alloc: Global, given: &ArgMatches) -> Result<Option<Task>, AllocErro
     Ok(kind_named(name).map(|kind| Task::Show(kind, digits)))
 }
 
-fn asked_by(alloc: Global, matches: &ArgMatches) -> Result<Option<Task>, AllocError> {
+fn task_of(alloc: Global, matches: &ArgMatches) -> Result<Option<Task>, AllocError> {
     match matches.subcommand() {
         Some(("ack", given)) => match given.get_str("HEX") {
             Some(digits) => Ok(Some(Task::Ack(String::from_str(alloc, digits)?))),
             None => Ok(None),
         },
-        Some(("show", given)) => shown_by(alloc, given),
+        Some(("show", given)) => show_task(alloc, given),
         _ => Ok(None),
     }
 }
 
 /// Reads the words of a command line, those after the program's name.
 ///
-/// `Err` has help (status 0) where the words ask for it, and else says why they are refused
-/// (status 2). Where there is no memory for the answer the words are refused with no text.
+/// # Errors
+///
+/// Help, with status 0, where the words ask for it, and else why they are refused, with status 2.
+/// Where there is no memory for the answer the words are refused with no text.
 pub fn task(alloc: Global, words: &[&str]) -> Result<Task, Usage>
     ensures { IfErr result (λ usage. (usage.status ≡ 0) ⊎ (usage.status ≡ 2)) }
 {
     let Ok(all) = with_name(alloc, words) else {
-        return Err(untold(alloc));
+        return Err(refused_untold(alloc));
     };
     let matches = match parse(alloc, all.as_slice()) {
         Ok(matches) => matches,
-        Err(error) => return Err(refused(alloc, &error)),
+        Err(error) => return Err(usage_of(alloc, &error)),
     };
-    match asked_by(alloc, &matches) {
+    match task_of(alloc, &matches) {
         Ok(Some(asked)) => Ok(asked),
-        _ => Err(untold(alloc)),
+        _ => Err(refused_untold(alloc)),
     }
 }

@@ -3,23 +3,35 @@ ghost use Rattle.leasecheck.specs.declared.failure.Failure.TheVariants.{Wire, Me
 
 use lease_wire::WireFault;
 use std::alloc::{AllocError, AllocFailed};
-use thiserror::Error;
+use std::fmt;
 
-/// Why a task is refused. As text it is the line that standard error gets.
-#[derive(Clone, Copy, Debug, PartialEq, Eq, Error)]
+/// Why a task is refused. As text it is the line that standard error gets, without its line feed.
+#[derive(Clone, Copy, Debug, PartialEq, Eq)]
 pub enum Failure {
     /// The argument isn't an even number of hexadecimal digits.
-    #[error("fault hex")]
     Hex,
     /// The bytes are refused.
-    #[error("fault {0}")]
     Wire(WireFault),
     /// There was no memory.
-    #[error("fault memory")]
     Memory,
     /// A write to standard output failed.
-    #[error("fault output")]
     Output,
+}
+
+impl fmt::Display for Failure {
+    ghost use Rattle.std.specs.Prelude.{Some};
+    ghost use Rattle.leasecheck.specs.Refusals.{failure_text};
+
+    ghost output = { λ failure. Some (failure_text failure) };
+
+    fn fmt<W: fmt::Write>(&self, f: &mut fmt::Formatter<W>) -> fmt::Result {
+        match self {
+            Failure::Hex => f.write_str("fault hex"),
+            Failure::Wire(fault) => write!(f, "fault {fault}"),
+            Failure::Memory => f.write_str("fault memory"),
+            Failure::Output => f.write_str("fault output"),
+        }
+    }
 }
 
 impl From<WireFault> for Failure {

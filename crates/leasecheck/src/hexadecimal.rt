@@ -7,8 +7,10 @@ use std::alloc::Global;
 
 /// The bytes that hexadecimal digits of either case write, two digits a byte.
 ///
-/// Refused as `Hex` where the digits are odd in number or one of them is none, and as `Memory`
-/// where there is none for the bytes.
+/// # Errors
+///
+/// `Hex` where the digits are odd in number or one of them is none, and `Memory` where there is none
+/// for the bytes.
 pub fn bytes_of(alloc: Global, digits: &str) -> Result<Vec<u8>, Failure>
     ensures bytes { IfOk result (λ bytes. decode_of digits.now ≡ Ok bytes.items) }
     ensures refused { IfErr result (λ failure. (failure ≡ Failure.Memory)

@@ -1,22 +1,29 @@
 //! `leasecheck`: the create contexts and break messages of SMB 2.1 leases, on the command line.
+//!
+//! `leasecheck ack HEX` prints the acknowledgment that a lease break notification asks for, and
+//! `leasecheck show KIND HEX` what create contexts or a break message hold. The whole text is made
+//! before anything is written; a refusal is one line on standard error. So
+//!
+//! ```text
+//! leasecheck show ack 2400000000000000000102030405060708090a0b0c0d0e0f030000000000000000000000
+//! ```
+//!
+//! prints `ack 00010203-0405-0607-0809-0a0b0c0d0e0f RH`; the tests have it, and more.
 #![tactic(auto)]
 
-mod answer;
-mod asked;
+mod acknowledge;
 mod command_line;
-mod doing;
 mod failure;
 mod hexadecimal;
-mod lines;
-mod shown;
+mod printing;
+mod render;
+mod run;
+mod tasks;
 #[cfg(test)]
 mod tests;
 mod words;
 
-use asked::Usage;
-use command_line::task;
-use doing::perform;
-use std::alloc::{AllocError, Global};
+use run::run_words;
 use std::process::ExitCode;
 use std::rt::Env;
 use std::{env, io};
@@ -27,40 +34,8 @@ fn words_given<R: Env + AllocGlobal>(rt: &R) -> io::Result<Vec<String>> {
     Ok(words)
 }
 
-fn views<'a>(alloc: Global, words: &'a [String]) -> Result<Vec<&'a str>, AllocError> {
-    words.iter().map(|word| word.as_str()).collect(alloc)
-}
-
-// Prints help to standard output, or why a command line is refused to standard error.
-fn tell<R: Print + Eprint>(rt: &R, usage: &Usage) -> u8 {
-    let told = if usage.status == 0 {
-        print!(rt; "{}", usage.text)
-    } else {
-        eprint!(rt; "{}", usage.text)
-    };
-    match told {
-        Ok(()) => usage.status,
-        Err(_) if usage.status == 0 => 1,
-        Err(_) => usage.status,
-    }
-}
-
 fn main(rt: HostRuntime) -> ExitCode {
-    let Ok(owned) = words_given(&rt) else {
-        let _ = eprintln!(rt; "error: an argument is no text, or there is no memory for it");
-        return ExitCode::from(2);
-    };
-    let Ok(words) = views(rt.alloc(), owned.as_slice()) else {
-        let _ = eprintln!(rt; "fault memory");
-        return ExitCode::from(1);
-    };
-    match task(rt.alloc(), words.as_slice()) {
-        Err(usage) => ExitCode::from(tell(&rt, &usage)),
-        Ok(asked) => {
-            let mut nothing: &[u8] = &[];
-            let mut out = io::writer(&rt);
-            let mut faults = rt.stderr();
-            ExitCode::from(perform(rt.alloc(), &asked, &mut nothing, &mut out, &mut faults))
-        }
-    }
+    let given = words_given(&rt);
+    let (mut out, mut faults) = (io::writer(&rt), rt.stderr());
+    ExitCode::from(run_words(rt.alloc(), given, &mut out, &mut faults))
 }

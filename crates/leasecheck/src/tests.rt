@@ -1,11 +1,12 @@
 use crate::command_line::task;
-use crate::doing::perform;
+use crate::printing::perform;
 use std::alloc::Global;
 use std::process::Abort;
 
 mod ack;
 mod command_line;
 mod output;
+mod run;
 mod show;
 
 // Does the task of these words, and compares the status and what both streams got.

@@ -1,25 +1,23 @@
 ghost use Rattle.std.specs.Prelude.{◌≡◌, ◌++◌, List, length, OnOk, IfOk};
 ghost use Rattle.std.specs.String.{string_bytes};
-ghost use Rattle.std.specs.List.{flat_map};
 ghost use Rattle.std.specs.Option.{option_map};
 ghost use Rattle.lease_state.specs.State.{state_of};
 ghost use Rattle.lease_wire.specs.Contexts.{view_of};
-ghost use Rattle.lease_wire.specs.Reading.{items_of};
-ghost use Rattle.leasecheck.specs.Words.{state_word, name_word, context_line, item_line, lease_line, lease_lines, durable_lines, reconnect_lines, value_lines};
+ghost use Rattle.lease_wire.specs.Views.{lease_of, values_of};
+ghost use Rattle.leasecheck.specs.Words.{state_word, name_word, context_line, lease_lines, durable_lines, reconnect_lines, value_lines};
 
-use bitflags::Flags;
-use lease_state::{FileId, LeaseKey, LeaseState};
-use lease_wire::{Context, contexts};
+use lease_state::{FileId, LeaseState};
+use lease_wire::{Context, ContextValues, Lease};
 use std::alloc::{AllocError, Global};
 
 /// The letters of a state in the order R, W, H, or `none`.
 pub(crate) fn state_letters(state: LeaseState) -> &'static str
     ensures { result.now ≡ state_word (state_of state) }
 {
-    let read = state.contains(LeaseState::READ_CACHING);
-    let write = state.contains(LeaseState::WRITE_CACHING);
-    let handle = state.contains(LeaseState::HANDLE_CACHING);
-    match (read, write, handle) {
+    let reads = state.caches_reads();
+    let writes = state.caches_writes();
+    let handles = state.caches_handles();
+    match (reads, writes, handles) {
         (false, false, false) => "none",
         (true, false, false) => "R",
         (false, true, false) => "W",
@@ -42,7 +40,12 @@ fn name_digits(alloc: Global, name: &[u8]) -> Result<String, AllocError>
     }
 }
 
-fn push_context(alloc: Global, text: &mut String, context: &Context) -> Result<(), AllocError>
+/// A line for a create context.
+pub(crate) fn push_context(
+    alloc: Global,
+    text: &mut String,
+    context: &Context,
+) -> Result<(), AllocError>
     ensures { OnOk result (string_bytes text.new ≡ string_bytes text.old ++ context_line (view_of context.now)) }
 {
     let name = name_digits(alloc, context.name)?;
@@ -50,48 +53,17 @@ fn push_context(alloc: Global, text: &mut String, context: &Context) -> Result<(
     writeln!(text, "context {name} {count}")
 }
 
-/// A line for each create context of the bytes.
-pub(crate) fn push_contexts(
-    alloc: Global,
-    text: &mut String,
-    bytes: &[u8],
-) -> Result<(), AllocError>
-    ensures { OnOk result (string_bytes text.new ≡ string_bytes text.old ++ flat_map item_line (items_of bytes.now)) }
+fn push_lease(text: &mut String, lease: &Option<Lease>) -> Result<(), AllocError>
+    ensures { OnOk result (string_bytes text.new ≡ string_bytes text.old ++ lease_lines (option_map lease_of lease.now)) }
 {
-    for item in contexts(bytes) {
-        if let Ok(context) = item {
-            push_context(alloc, text, &context)?;
-        }
-    }
-    Ok(())
-}
-
-fn push_lease(
-    text: &mut String,
-    key: &LeaseKey,
-    state: LeaseState,
-    breaking: bool,
-) -> Result<(), AllocError>
-    ensures { OnOk result (string_bytes text.new ≡ string_bytes text.old
-        ++ lease_line (record { key = key.now.0; state = state_of state; breaking = breaking })) }
-{
+    let Some(lease) = lease else {
+        return Ok(());
+    };
     let mut buffer = [0u8; 36];
-    let key = key.text(&mut buffer);
-    let letters = state_letters(state);
-    let end = if breaking { " breaking" } else { "" };
+    let key = lease.key.text(&mut buffer);
+    let letters = state_letters(lease.state);
+    let end = if lease.breaking { " breaking" } else { "" };
     writeln!(text, "lease {key} {letters}{end}")
-}
-
-fn push_lease_asked(
-    text: &mut String,
-    lease: &Option<(LeaseKey, LeaseState, bool)>,
-) -> Result<(), AllocError>
-    ensures { OnOk result (string_bytes text.new ≡ string_bytes text.old ++ lease_lines (option_map granted_view lease.now)) }
-{
-    match lease {
-        Some((key, state, breaking)) => push_lease(text, key, *state, *breaking),
-        None => Ok(()),
-    }
 }
 
 fn push_durable(text: &mut String, durable: bool) -> Result<(), AllocError>
@@ -116,27 +88,16 @@ fn push_reconnect(text: &mut String, reconnect: Option<FileId>) -> Result<(), Al
     }
 }
 
-/// What create contexts ask for or grant.
-#[derive(Clone, Copy)]
-pub(crate) struct Told {
-    pub(crate) lease: Option<(LeaseKey, LeaseState, bool)>,
-    pub(crate) durable: bool,
-    pub(crate) reconnect: Option<FileId>,
-}
-
-ghost use Rattle.leasecheck.specs.Told.{told_view};
-ghost use Rattle.lease_wire.specs.Create.{granted_view};
-
 /// A line for each part that is there, or `nothing`.
-pub(crate) fn push_told(text: &mut String, told: &Told) -> Result<(), AllocError>
-    ensures { OnOk result (string_bytes text.new ≡ string_bytes text.old ++ value_lines (told_view told.now)) }
+pub(crate) fn push_values(text: &mut String, values: &ContextValues) -> Result<(), AllocError>
+    ensures { OnOk result (string_bytes text.new ≡ string_bytes text.old ++ value_lines (values_of values.now)) }
 {
-    let leased = told.lease.is_some();
-    let reconnects = told.reconnect.is_some();
-    if !(leased || (told.durable || reconnects)) {
+    let leased = values.lease.is_some();
+    let reconnects = values.reconnect.is_some();
+    if !(leased || (values.durable || reconnects)) {
         return text.push_str("nothing\n");
     }
-    push_lease_asked(text, &told.lease)?;
-    push_durable(text, told.durable)?;
-    push_reconnect(text, told.reconnect)
+    push_lease(text, &values.lease)?;
+    push_durable(text, values.durable)?;
+    push_reconnect(text, values.reconnect)
 }

@@ -49,7 +49,7 @@ fn words_given<R: Env + AllocGlobal>(rt: &R) -> io::Result<Vec<String>> {
     Ok(words)
 }
 
-fn done(alloc: Global, words: &[String]) -> Option<u64> {
+fn sum_of(alloc: Global, words: &[String]) -> Option<u64> {
     let count = words.get(1)?.as_str().parse::<u32>().ok()?;
     match words.first()?.as_str() {
         "read" => Some(read_many(count)),
@@ -62,7 +62,7 @@ fn main(rt: HostRuntime) -> ExitCode {
     let Ok(words) = words_given(&rt) else {
         return ExitCode::from(2);
     };
-    match done(rt.alloc(), words.as_slice()) {
+    match sum_of(rt.alloc(), words.as_slice()) {
         Some(sum) => {
             let _ = println!(rt; "{sum}");
             ExitCode::from(0)

@@ -9,13 +9,13 @@ use crate::field::{key_at, state_at};
 use byteorder::{ByteOrder, LittleEndian};
 use lease_state::{FileId, LeaseKey, LeaseState};
 
-/// A lease context's value.
-#[derive(Clone, Copy)]
-pub(crate) struct Lease {
-    pub(crate) key: LeaseKey,
-    pub(crate) state: LeaseState,
+/// The value of an `RqLs` context (MS-SMB2 2.2.13.2.8, 2.2.14.2.10).
+#[derive(Clone, Copy, Debug, PartialEq, Eq)]
+pub struct Lease {
+    pub key: LeaseKey,
+    pub state: LeaseState,
     /// SMB2_LEASE_FLAG_BREAK_IN_PROGRESS, which only a response tells.
-    pub(crate) breaking: bool,
+    pub breaking: bool,
 }
 
 /// What a context means by its name and its length.

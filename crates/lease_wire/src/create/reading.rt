@@ -1,26 +1,31 @@
 ghost use Rattle.std.specs.Prelude.{◌≡◌, false, IfSome};
 ghost use Rattle.std.specs.Option.{option_map};
-ghost use Rattle.lease_wire.specs.Create.{asked, answered, asked_view, granted_view, IsReadingOf, ValueIsRead};
+ghost use Rattle.lease_wire.specs.Create.{ask_result, answer_result, asked_view, granted_view, IsReadingOf, ValueIsRead};
 ghost use Rattle.lease_wire.specs.Gathering.{with_meaning, value_of, no_values};
+ghost use Rattle.lease_wire.specs.Contexts.{view_of};
+ghost use Rattle.lease_wire.specs.Names as names;
 ghost use Rattle.lease_wire.specs.Views.{lease_of, values_of, values_result, meaning_view};
 ghost use Rattle.lease_wire.specs.declared.create.Direction.TheVariants.{Request, Reply};
 
-use crate::chain::contexts;
+use crate::chain::{Context, contexts};
 use crate::create::meaning::{Lease, Meaning, meaning_of};
 use crate::create::{CreateAnswer, CreateAsk, Direction};
 use crate::fault::WireFault;
 use lease_state::{FileId, LeaseKey, LeaseState};
 
-/// What the contexts so far ask for or grant.
-#[derive(Clone, Copy)]
-pub(crate) struct ContextValues {
-    pub(crate) lease: Option<Lease>,
-    pub(crate) durable: bool,
-    pub(crate) reconnect: Option<FileId>,
+/// What create contexts ask for or grant, gathered context by context: for those who look at each
+/// one on the way. [`read_create`] and [`read_create_reply`] read a whole text.
+#[derive(Clone, Copy, Debug, PartialEq, Eq)]
+pub struct ContextValues {
+    pub lease: Option<Lease>,
+    pub durable: bool,
+    /// Only a request has one.
+    pub reconnect: Option<FileId>,
 }
 
 impl ContextValues {
-    fn nothing() -> ContextValues
+    /// The values of no contexts.
+    pub fn nothing() -> ContextValues
         ensures { values_of result ≡ no_values }
     {
         ContextValues {
@@ -28,6 +33,22 @@ impl ContextValues {
             durable: false,
             reconnect: None,
         }
+    }
+
+    /// These values with those of one more context of a request or a response.
+    ///
+    /// # Errors
+    ///
+    /// `BadLength` or `Twice`, with the context's place, where it breaks a rule of names.
+    pub fn with_context(
+        self,
+        direction: Direction,
+        context: &Context,
+    ) -> Result<ContextValues, WireFault>
+        ensures { values_result result ≡ with_meaning (values_of self) context.now.place
+            (names.meaning_of direction (view_of context.now)) }
+    {
+        self.with(context.place, meaning_of(direction, context))
     }
 
     // With what the context at a place means, or the rule of names that it breaks.
@@ -56,15 +77,15 @@ impl ContextValues {
     }
 }
 
-/// What the contexts of a text ask for or grant, or the first fault.
+// What the contexts of a text ask for or grant, or the first fault.
 #[tactic(auto, unfolding(crate::specs::Gathering::gathered))]
-pub(crate) fn gather(direction: Direction, bytes: &[u8]) -> Result<ContextValues, WireFault>
+fn gather(direction: Direction, bytes: &[u8]) -> Result<ContextValues, WireFault>
     ensures { values_result result ≡ value_of direction bytes.now }
 {
     let mut values = ContextValues::nothing();
     for item in contexts(bytes) {
         let context = item?;
-        values = values.with(context.place, meaning_of(direction, &context))?;
+        values = values.with_context(direction, &context)?;
     }
     Ok(values)
 }
@@ -97,8 +118,8 @@ fn granted_lease(lease: Option<Lease>) -> Option<(LeaseKey, LeaseState, bool)>
 /// The first fault in the order of the text. Within a context the tests come in the order of the
 /// faults' numbers. Reading takes no memory.
 pub fn read_create(bytes: &[u8]) -> Result<CreateAsk, WireFault>
-    ensures reading { IsReadingOf Request bytes.now (asked result) }
-    ensures value { asked result ≡ value_of Request bytes.now }
+    ensures reading { IsReadingOf Request bytes.now (ask_result result) }
+    ensures value { ask_result result ≡ value_of Request bytes.now }
 {
     match gather(Direction::Request, bytes) {
         Err(fault) => Err(fault),
@@ -117,8 +138,8 @@ pub fn read_create(bytes: &[u8]) -> Result<CreateAsk, WireFault>
 ///
 /// As those of [`read_create`].
 pub fn read_create_reply(bytes: &[u8]) -> Result<CreateAnswer, WireFault>
-    ensures reading { IsReadingOf Reply bytes.now (answered result) }
-    ensures value { answered result ≡ value_of Reply bytes.now }
+    ensures reading { IsReadingOf Reply bytes.now (answer_result result) }
+    ensures value { answer_result result ≡ value_of Reply bytes.now }
 {
     match gather(Direction::Reply, bytes) {
         Err(fault) => Err(fault),

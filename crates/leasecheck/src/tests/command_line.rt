@@ -1,5 +1,5 @@
-use crate::asked::{Kind, Task};
 use crate::command_line::task;
+use crate::tasks::{Kind, Task};
 use crate::tests::ack::BREAK;
 use std::test::Fail;
 

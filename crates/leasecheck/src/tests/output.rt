@@ -1,5 +1,5 @@
-use crate::asked::Task;
-use crate::doing::perform;
+use crate::printing::perform;
+use crate::tasks::Task;
 use crate::tests::ack::BREAK;
 use std::io;
 use std::io::Write;
@@ -7,8 +7,8 @@ use std::test::Fail;
 
 // A writer whose call number `left`, counted from 0, fails, and each one after it.
 #[derive(Drop)]
-struct FailsLater {
-    left: u64,
+pub(crate) struct FailsLater {
+    pub(crate) left: u64,
 }
 
 impl FailsLater {

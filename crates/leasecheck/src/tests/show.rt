@@ -258,6 +258,21 @@ fn passes_over_what_is_free(rt: HostRuntime) {
     );
 }
 
+#[test]
+fn shows_a_long_chain(rt: HostRuntime) -> Result<(), Fail> {
+    // 300 contexts of 24 bytes with a name of four bytes and no data, and the lease behind them
+    let mut digits = String::new(rt.alloc());
+    let mut lines = String::new(rt.alloc());
+    for _ in 0..300u16 {
+        digits.push_str("1800000010000400ffff0000000000004d78416300000000")?;
+        lines.push_str("context 4d784163 0\n")?;
+    }
+    digits.push_str(LEASE)?;
+    lines.push_str(LEASE_LINES)?;
+    shows(&rt, rt.alloc(), "ask", digits.as_str(), lines.as_str());
+    Ok(())
+}
+
 fn cut_lease(length: usize) -> (u8, &'static str, &'static str) {
     match length {
         0 => (0, "nothing\n", ""),

@@ -1,0 +1,62 @@
+-- Why a task is refused, and the line that tells it.
+use Rattle.std.specs.Prelude.{◌≡◌, ℕ, ◌++◌, List, [], ◌∷◌, codes, Option, Some, None, Result, Ok, Err, MatchResult, ◌⊎◌}
+use Rattle.std.specs.Option.{option_map}
+use Rattle.std.specs.Result.{result_err}
+use Rattle.std.specs.String.{string_bytes}
+use Rattle.std.specs.Io.KnownBytes.{Keeps}
+use Rattle.hex.specs.Hex.{decode_of}
+use Rattle.lease_wire.specs.Gathering.{value_of}
+use Rattle.lease_wire.specs.WireFaults.{message_fault, fault_text}
+use Rattle.lease_wire.specs.declared.create.Direction.TheVariants.{Request, Reply}
+use Rattle.lease_wire.specs.declared.fault.WireFault.{WireFault}
+use Rattle.leasecheck.specs.declared.failure.Failure.{Failure}
+use Rattle.leasecheck.specs.declared.failure.Failure.TheVariants.{Hex, Wire, Memory, Output}
+use Rattle.leasecheck.specs.declared.tasks.Kind.{Kind}
+use Rattle.leasecheck.specs.declared.tasks.Kind.TheVariants as kind
+use Rattle.leasecheck.specs.declared.tasks.Task.{Task}
+use Rattle.leasecheck.specs.declared.tasks.Task.TheVariants as task
+
+-- the fault of bytes that are shown
+abbrev pub shown_fault : Kind → List ℕ → Option WireFault
+shown_fault kind.Ask bytes = result_err (value_of Request bytes)
+shown_fault kind.Reply bytes = result_err (value_of Reply bytes)
+shown_fault kind.Break bytes = message_fault 44 bytes
+shown_fault kind.Ack bytes = message_fault 36 bytes
+shown_fault kind.Response bytes = message_fault 36 bytes
+
+-- Where bytes have a fault they are refused as that, and else for want of memory alone.
+abbrev pub RefusesExactly : {X : Type 0} → Option WireFault → Result X Failure → Type 0
+RefusesExactly fault answer = MatchResult answer (λ _. fault ≡ None)
+    (λ failure. ((failure ≡ Memory) × (fault ≡ None)) ⊎ (option_map Wire fault ≡ Some failure))
+
+-- what digits are refused as that have to write bytes without a fault
+abbrev pub digits_refusal : {E : Type 0} → (List ℕ → Option WireFault) → Result (List ℕ) E → Option Failure
+digits_refusal fault (Ok bytes) = option_map Wire (fault bytes)
+digits_refusal fault (Err e) = Some Hex
+
+-- what the task's argument is refused as
+abbrev pub refusal_of : Task → Option Failure
+refusal_of (task.Ack digits) = digits_refusal (message_fault 44) (decode_of (string_bytes digits))
+refusal_of (task.Show kind digits) = digits_refusal (shown_fault kind) (decode_of (string_bytes digits))
+
+-- An answer to a task is given only where its argument is not refused; a refusal is the argument's own, or
+-- want of memory.
+abbrev pub AnswersOrRefuses : {X : Type 0} → Task → Result X Failure → Type 0
+AnswersOrRefuses asked answer = MatchResult answer (λ _. refusal_of asked ≡ None)
+    (λ failure. (failure ≡ Memory) ⊎ (refusal_of asked ≡ Some failure))
+
+-- A task that ends with this failure: where a write failed the argument was fine, and else nothing was written.
+abbrev pub EndsWith : Task → Option (List ℕ) → Option (List ℕ) → Failure → Type 0
+EndsWith asked old new failure =
+    ((failure ≡ Output) × (refusal_of asked ≡ None))
+    ⊎ (Keeps old new × ((failure ≡ Memory) ⊎ (refusal_of asked ≡ Some failure)))
+
+-- a failure as it is told
+abbrev pub failure_text : Failure → List ℕ
+failure_text Hex = codes "fault hex"
+failure_text (Wire fault) = codes "fault " ++ fault_text fault
+failure_text Memory = codes "fault memory"
+failure_text Output = codes "fault output"
+
+abbrev pub failure_line : Failure → List ℕ
+failure_line failure = failure_text failure ++ 10 ∷ []
