@@ -1,5 +1,5 @@
 -- Where all entries of a client have their turn, the notes tell what it then believes.
-use Rattle.std.proofs.Common.{◌≡◌, ◌≢◌, ℕ, zero, suc, ◌≤◌, Bool, true, false, List, [], ◌∷◌, ◌++◌, refl, sym, ap, ◌∙◌, subst, arith, append-nil, true≢false}
+use Rattle.std.proofs.Common.{◌≡◌, ◌≢◌, ℕ, zero, suc, Bool, true, false, List, [], ◌∷◌, ◌++◌, refl, sym, ap, ◌∙◌, subst, arith, append-nil}
 use Rattle.std.specs.Prelude.{◌&&◌, ◌==◌, if◌then◌else◌, nat_le, flat_map}
 use Rattle.std.proofs.lemmas.Grind.{flat_map-append}
 use Rattle.std.proofs.lemmas.Bool.Decides.{Decides-eqb}
@@ -8,9 +8,9 @@ use Rattle.lease_model.specs.client.Calls.{ClientCall, client_called}
 use Rattle.lease_model.specs.client.Commands.{Note, Settlement}
 use Rattle.lease_model.specs.client.Connection.{all_turned, live_parted, live_noticed, notice_turn, noticed, connect_turn, connection_made}
 use Rattle.lease_model.specs.client.State.{Client, Entry, LiveEntry, Pending, Phase, knows_file, belief, belief_in, belief_of}
-use Rattle.lease_model.specs.client.Step.{Turn, settled_as, believes_noted}
+use Rattle.lease_model.specs.client.Step.{Turn, believes_noted}
 use Rattle.lease_model.specs.values.Lists.{numbers_to, without}
-use Rattle.lease_laws.specs.client.Laws.{believed_after, IsSoundClient}
+use Rattle.lease_laws.specs.client.Laws.{believed_after}
 use Rattle.lease_laws.proofs.client.Beliefs.{AreSettlements, settled_settle, settle_pass, noted_own, noted_other, commanded_behaves, taken_tells}
 use Rattle.lease_laws.proofs.client.InFiles.{InFiles}
 use Rattle.lease_laws.proofs.client.Words.{if_either}

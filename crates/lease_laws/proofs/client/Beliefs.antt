@@ -1,34 +1,28 @@
 -- The notes of every call tell what the client then believes; refused commands do nothing; and entries of
 -- files that a client doesn't know stay closed.
-use Rattle.std.proofs.Common.{◌≡◌, ◌≢◌, ℕ, zero, suc, ◌+◌, ◌≤◌, Bool, true, false, List, [], ◌∷◌, ◌++◌, Option, Some, None, refl, sym, ap, ◌∙◌, subst, arith, true≢false}
-use Rattle.std.specs.Prelude.{◌&&◌, ◌||◌, not, ◌==◌, if◌then◌else◌, nat_le, nat_lt, length, flat_map, map, find}
-use Rattle.std.specs.List.{list_any}
+use Rattle.std.proofs.Common.{◌≡◌, ◌≢◌, ℕ, ◌+◌, Bool, true, false, List, [], ◌∷◌, ◌++◌, Option, Some, None, refl, sym, ap, ◌∙◌, subst, true≢false}
+use Rattle.std.specs.Prelude.{◌&&◌, ◌||◌, not, ◌==◌, if◌then◌else◌, nat_lt}
 use Rattle.std.proofs.lemmas.Bool.Decides.{Decides-eqb}
 use mathlib.Core.Bool.{beq}
-use Rattle.lease_state.specs.State.{State, nothing_cached}
-use Rattle.lease_state.specs.declared.content.TheConstants.{FILE_LIMIT}
+use Rattle.lease_state.specs.State.{State}
 use Rattle.lease_state.specs.declared.patch.Patch.{Patch}
 use Rattle.lease_state.specs.declared.status.Status.{Status}
-use Rattle.lease_model.specs.client.Calls.{ClientCall, client_called}
-use Rattle.lease_model.specs.client.Commanded.{turn_of, create_request, is_asking, on_closed, handle_added, opened_anew, more_asked, joint_terms, asked_by, open_other, open_on_live, last_handle_closed, close_on_live, cached_read, read_sent, read_from, read_on_live, wrote_step, next_write, write_buffered, write_sent, write_taken, write_on_live, flush_on_live, on_live, on_entry, commanded, one_handle_less, has_unanswered, file_of}
+use Rattle.lease_model.specs.client.Commanded.{turn_of, create_request, is_asking, on_closed, handle_added, opened_anew, more_asked, joint_terms, asked_by, open_other, open_on_live, last_handle_closed, close_on_live, cached_read, read_sent, read_from, read_on_live, wrote_step, next_write, write_buffered, write_sent, write_on_live, flush_on_live, on_live, on_entry, commanded, one_handle_less, has_unanswered, file_of}
 use Rattle.lease_model.specs.client.Commands.{Command, OpenTerms, Answer, Refusal, Note, Settlement}
-use Rattle.lease_model.specs.client.Connection.{all_turned, live_parted, live_noticed, notice_turn, noticed, connect_turn, connection_made}
-use Rattle.lease_model.specs.client.State.{Client, Entry, LiveEntry, Asked, Pending, Phase, new_client, closed_entry, live_entry, knows_file, belief, belief_in, belief_of, view}
+use Rattle.lease_model.specs.client.State.{Client, Entry, LiveEntry, Asked, Pending, Phase, live_entry, belief, belief_in, belief_of, view}
 use Rattle.lease_model.specs.client.Step.{Step, Turn, turned, quiet_step, refused_step, settled_as, believes_noted}
-use Rattle.lease_model.specs.client.Taken.{file_where, on_file, belief_lowered, parked_closed, break_turn, break_on, broken, opened_turn, reconnected_turn, promoted_turn, created_for, created_on_live, created_on, create_answered, failed_turn, create_failed_for, create_failed_on_live, failed_on, create_failed, read_turn, read_on, read_answered, without_open, closed_by_server, still_open, read_failed_turn, read_failed_on, read_failed, sent_without, is_numbered, phase_with, write_done_turn, write_done, write_failed_in, write_failed, taken, is_file_closed, one_read_less}
+use Rattle.lease_model.specs.client.Taken.{on_file, belief_lowered, parked_closed, break_turn, break_on, broken, opened_turn, reconnected_turn, promoted_turn, created_for, created_on_live, created_on, create_answered, create_failed_for, create_failed_on_live, failed_on, create_failed, read_turn, read_on, read_answered, closed_by_server, still_open, read_failed_turn, read_failed_on, read_failed, sent_without, write_done_turn, write_done, write_failed_in, write_failed, taken, is_file_closed, one_read_less}
 use Rattle.lease_model.specs.messages.Replies.{Reply, BreakNotice, CreateAnswer}
 use Rattle.lease_model.specs.messages.Requests.{FileRequest, Request}
 use Rattle.lease_model.specs.values.LeaseStates.{same_state, meet}
-use Rattle.lease_model.specs.values.Limits.{count_limit, last_write_number}
-use Rattle.lease_model.specs.values.Lists.{is_empty, numbers_to, without}
-use Rattle.lease_model.specs.values.Patches.{is_within_limit}
-use Rattle.lease_model.specs.values.Sharing.{may_read, may_write, same_access, same_share}
+use Rattle.lease_model.specs.values.Limits.{count_limit}
+use Rattle.lease_model.specs.values.Lists.{is_empty}
+use Rattle.lease_model.specs.values.Sharing.{same_access, same_share}
 use Rattle.lease_model.specs.values.Tables.{put}
-use Rattle.lease_laws.specs.client.Laws.{believed_after, IsSoundClient}
-use Rattle.lease_laws.specs.server.Laws.{Among}
+use Rattle.lease_laws.specs.client.Laws.{believed_after}
 use Rattle.lease_laws.proofs.client.Thin.{put_same, put_other}
 use Rattle.lease_laws.proofs.client.Words.{if_either}
-use Rattle.lease_laws.proofs.server.Lists.{if_cases, either, clash, and_parts, and_both, among_append, among_before, among_behind}
+use Rattle.lease_laws.proofs.server.Lists.{if_cases, either, clash, and_parts}
 
 -- ---- notes that settle writes
 

@@ -1,20 +1,17 @@
 -- Entries of files that a client doesn't know stay closed.
-use Rattle.std.proofs.Common.{◌≡◌, ◌≢◌, ◌⊎◌, inl, inr, ⊎_elim, ℕ, zero, suc, ◌≤◌, Bool, true, false, List, [], ◌∷◌, Option, Some, None, refl, sym, ap, ◌∙◌, subst, arith, true≢false}
-use Rattle.std.specs.Prelude.{◌&&◌, ◌||◌, not, ◌==◌, if◌then◌else◌, nat_le, nat_lt, find, length}
-use Rattle.std.proofs.lemmas.Bool.Decides.{Decides-eqb}
-use Rattle.lease_state.specs.State.{State}
+use Rattle.std.proofs.Common.{◌≡◌, ⊎_elim, ℕ, zero, suc, Bool, true, false, List, [], ◌∷◌, Option, Some, None, refl, sym, ap, ◌∙◌, arith}
+use Rattle.std.specs.Prelude.{◌&&◌, ◌||◌, not, ◌==◌, if◌then◌else◌, nat_le, nat_lt, length}
 use Rattle.lease_state.specs.declared.content.TheConstants.{FILE_LIMIT}
 use Rattle.lease_state.specs.declared.patch.Patch.{Patch}
 use Rattle.lease_state.specs.declared.status.Status.{Status}
 use Rattle.lease_model.specs.client.Calls.{ClientCall, client_called}
-use Rattle.lease_model.specs.client.Commanded.{turn_of, create_request, is_asking, on_closed, handle_added, opened_anew, more_asked, joint_terms, asked_by, open_other, open_on_live, last_handle_closed, close_on_live, cached_read, read_sent, read_from, read_on_live, wrote_step, next_write, write_buffered, write_sent, write_taken, write_on_live, flush_on_live, on_live, on_entry, commanded, one_handle_less, has_unanswered, file_of}
+use Rattle.lease_model.specs.client.Commanded.{turn_of, is_asking, on_closed, handle_added, opened_anew, more_asked, open_other, open_on_live, last_handle_closed, close_on_live, cached_read, read_sent, read_from, read_on_live, write_buffered, write_sent, write_taken, write_on_live, flush_on_live, on_live, on_entry, commanded, one_handle_less, has_unanswered, file_of}
 use Rattle.lease_model.specs.client.Commands.{Command, OpenTerms, Answer, Refusal}
 use Rattle.lease_model.specs.client.Connection.{all_turned, notice_turn, noticed, connect_turn, connection_made}
-use Rattle.lease_model.specs.client.State.{Client, Entry, LiveEntry, Asked, Pending, Phase, new_client, closed_entry, live_entry, knows_file}
+use Rattle.lease_model.specs.client.State.{Client, Entry, LiveEntry, Asked, Pending, Phase, new_client, live_entry, knows_file}
 use Rattle.lease_model.specs.client.Step.{Step, Turn, turned, quiet_step, refused_step}
 use Rattle.lease_model.specs.client.Taken.{file_where, on_file, break_on, broken, created_for, created_on_live, created_on, create_answered, create_failed_for, create_failed_on_live, failed_on, create_failed, read_on, read_answered, read_failed_on, read_failed, has_sent, sent_without, write_done_turn, write_done, write_failed_in, write_failed, taken}
 use Rattle.lease_model.specs.messages.Replies.{Reply, BreakNotice, CreateAnswer}
-use Rattle.lease_model.specs.messages.Requests.{FileRequest, Request}
 use Rattle.lease_model.specs.values.Limits.{count_limit, last_write_number}
 use Rattle.lease_model.specs.values.Lists.{numbers_to}
 use Rattle.lease_model.specs.values.Patches.{is_within_limit}
@@ -23,7 +20,7 @@ use Rattle.lease_model.specs.values.Tables.{put}
 use Rattle.lease_laws.specs.server.Laws.{Among}
 use Rattle.lease_laws.proofs.client.Beliefs.{by_place}
 use Rattle.lease_laws.proofs.client.Words.{if_either}
-use Rattle.lease_laws.proofs.server.Lists.{either, clash, not_false, among_append, find_has}
+use Rattle.lease_laws.proofs.server.Lists.{clash, not_false, among_append, find_has}
 
 abbrev pub InFiles : Client → Type 0
 InFiles client = (file : ℕ) → knows_file client file ≡ false → (client.entries file).phase ≡ Phase.Closed

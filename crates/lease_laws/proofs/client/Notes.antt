@@ -17,8 +17,6 @@ use Rattle.lease_model.specs.values.LeaseStates.{meet, same_state}
 use Rattle.lease_state.specs.declared.patch.Patch.{Patch}
 use Rattle.lease_model.specs.messages.Requests.{Request}
 use Rattle.lease_model.specs.messages.Replies.{Reply, BreakNotice, CreateAnswer}
-use Rattle.lease_state.specs.declared.access.Access.{Access}
-use Rattle.lease_state.specs.declared.access.Share.{Share}
 use Rattle.lease_state.specs.declared.status.Status.{Status}
 use Rattle.lease_laws.proofs.client.Words.{if_either}
 use Rattle.lease_laws.proofs.client.Thin.{IsThinner, thin_front, thin_behind, thin_without, thin_filter, beyond}

@@ -18,8 +18,6 @@ use Rattle.lease_state.specs.declared.patch.Patch.{Patch}
 use Rattle.lease_model.specs.messages.Requests.{Request, FileRequest}
 use Rattle.lease_model.specs.messages.Replies.{Reply, BreakNotice, CreateAnswer}
 use Rattle.lease_model.specs.values.Tables.{put}
-use Rattle.lease_state.specs.declared.access.Access.{Access}
-use Rattle.lease_state.specs.declared.access.Share.{Share}
 use Rattle.lease_state.specs.declared.status.Status.{Status}
 use Rattle.std.proofs.lemmas.List.{append-nil}
 use Rattle.lease_laws.proofs.client.Words.{HasSoundEntries, if_either}

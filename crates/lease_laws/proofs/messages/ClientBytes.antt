@@ -1,28 +1,25 @@
 -- Every request of a client machine has bytes.
-use Rattle.std.proofs.Common.{◌≡◌, ◌≢◌, ℕ, ◌+◌, ◌<◌, ◌^◌, Bool, true, false, List, [], ◌∷◌, ◌++◌, length, take, Option, Some, None, refl, sym, ap, ◌∙◌, subst, arith, length-append, ◌==◌}
-use Rattle.std.specs.Prelude.{◌&&◌, ◌||◌, ⊤, not, if◌then◌else◌, nat_le, nat_lt, find, flat_map, map, bytes_eq, IfSome}
+use Rattle.std.proofs.Common.{◌≡◌, ℕ, ◌+◌, ◌<◌, ◌^◌, Bool, true, false, List, [], ◌∷◌, ◌++◌, length, take, Option, Some, None, refl, sym, ap, ◌∙◌, arith, length-append, ◌==◌}
+use Rattle.std.specs.Prelude.{◌&&◌, ◌||◌, not, if◌then◌else◌, nat_lt, flat_map}
 use Rattle.std.proofs.lemmas.Slice.Eq.{bytes_eq-Decides}
 use Rattle.std.proofs.lemmas.List.{length-take-le}
 use Rattle.lease_state.specs.State.{State}
-use Rattle.lease_state.specs.declared.content.TheConstants.{FILE_LIMIT}
 use Rattle.lease_state.specs.declared.patch.Patch.{Patch}
 use Rattle.lease_state.specs.declared.status.Status.{Status}
 use Rattle.lease_model.specs.client.Calls.{ClientCall, client_called}
-use Rattle.lease_model.specs.client.Commanded.{turn_of, create_request, is_asking, on_closed, handle_added, opened_anew, more_asked, joint_terms, asked_by, open_other, open_on_live, last_handle_closed, close_on_live, cached_read, read_sent, read_from, read_on_live, wrote_step, next_write, write_buffered, write_sent, write_taken, write_on_live, flush_on_live, on_live, on_entry, commanded, one_handle_less, has_unanswered, file_of}
+use Rattle.lease_model.specs.client.Commanded.{turn_of, create_request, is_asking, on_closed, handle_added, opened_anew, more_asked, joint_terms, asked_by, open_other, open_on_live, last_handle_closed, close_on_live, cached_read, read_sent, read_from, read_on_live, wrote_step, next_write, write_buffered, write_sent, write_on_live, flush_on_live, on_live, on_entry, commanded, one_handle_less, has_unanswered, file_of}
 use Rattle.lease_model.specs.client.Commands.{Command, OpenTerms, Answer, Refusal, Note, Settlement}
-use Rattle.lease_model.specs.client.Connection.{all_turned, live_parted, live_noticed, notice_turn, noticed, connect_turn, connection_made, reconnect_request}
-use Rattle.lease_model.specs.client.State.{Client, Entry, LiveEntry, Asked, Pending, Phase, closed_entry, live_entry, lease_key, knows_file}
+use Rattle.lease_model.specs.client.Connection.{all_turned, live_parted, live_noticed, notice_turn, noticed, connect_turn, connection_made}
+use Rattle.lease_model.specs.client.State.{Client, Entry, LiveEntry, Asked, Pending, Phase, live_entry, lease_key}
 use Rattle.lease_model.specs.client.Step.{Step, Turn, turned, quiet_step, refused_step, write_requests}
-use Rattle.lease_model.specs.client.Taken.{file_where, on_file, is_key_of, flushed, acknowledgment, belief_lowered, parked_closed, break_turn, break_on, broken, opened_turn, reconnected_turn, promoted_turn, created_for, created_on_live, created_on, create_answered, create_failed_for, create_failed_on_live, failed_on, create_failed, read_turn, read_on, read_answered, without_open, closed_by_server, still_open, read_failed_turn, read_failed_on, read_failed, sent_without, has_sent, is_numbered, phase_with, write_done_turn, write_done, write_failed_in, write_failed, taken, is_file_closed, one_read_less}
+use Rattle.lease_model.specs.client.Taken.{file_where, on_file, is_key_of, flushed, acknowledgment, belief_lowered, parked_closed, break_turn, break_on, broken, opened_turn, reconnected_turn, promoted_turn, created_for, created_on_live, created_on, create_answered, create_failed_for, create_failed_on_live, failed_on, create_failed, read_turn, read_on, read_answered, without_open, closed_by_server, still_open, read_failed_turn, read_failed_on, read_failed, sent_without, has_sent, phase_with, write_done_turn, write_done, write_failed_in, write_failed, taken, is_file_closed, one_read_less}
 use Rattle.lease_model.specs.messages.Replies.{Reply, BreakNotice, CreateAnswer}
 use Rattle.lease_model.specs.messages.Requests.{FileRequest, Request}
 use Rattle.lease_model.specs.messages.ToBytes.{HasRequestBytes}
 use Rattle.lease_model.specs.values.LeaseStates.{meet}
-use Rattle.lease_model.specs.values.Limits.{count_limit, last_write_number}
+use Rattle.lease_model.specs.values.Limits.{count_limit}
 use Rattle.lease_model.specs.values.Lists.{numbers_to}
-use Rattle.lease_model.specs.values.Patches.{is_within_limit}
-use Rattle.lease_model.specs.values.Sharing.{may_read, may_write, same_access, same_share}
-use Rattle.lease_model.specs.values.Tables.{put}
+use Rattle.lease_model.specs.values.Sharing.{may_read, same_access, same_share}
 use Rattle.lease_laws.specs.messages.Written.{HasFileId, IsWriting, CallHasFileId, EachRequest}
 use Rattle.lease_laws.proofs.client.Words.{if_either, put_each}
 use Rattle.lease_laws.proofs.server.Lists.{find_has}

@@ -1,16 +1,13 @@
 -- What has bytes is read back.
-use Rattle.std.proofs.Common.{◌≡◌, ℕ, List, Option, Some, None, refl, sym, ap, ◌∙◌}
-use Rattle.std.specs.Prelude.{IfSome, length, Ok}
-use Rattle.std.specs.Option.{option_map}
-use Rattle.lease_state.specs.declared.access.Access.{Access}
-use Rattle.lease_state.specs.declared.access.Share.{Share}
+use Rattle.std.proofs.Common.{◌≡◌, ℕ, Option, Some, None, refl, ap, ◌∙◌}
+use Rattle.std.specs.Prelude.{Ok}
 use Rattle.lease_wire.specs.Canonical.{IsWritable}
 use Rattle.lease_wire.specs.Gathering.{value_of}
 use Rattle.lease_wire.specs.declared.create.Direction.{Direction}
-use Rattle.lease_model.specs.messages.FromBytes.{request_of, reply_of, ask_found, answer_found, lease_wanted, lease_read, acknowledged_in, notice_in}
-use Rattle.lease_model.specs.messages.Replies.{Reply, LeaseGiven, CreateAnswer, BreakNotice}
+use Rattle.lease_model.specs.messages.FromBytes.{request_of, reply_of, ask_found, answer_found}
+use Rattle.lease_model.specs.messages.Replies.{Reply, LeaseGiven, CreateAnswer}
 use Rattle.lease_model.specs.messages.Requests.{FileRequest, Request, LeaseOf, CreateAsk}
-use Rattle.lease_model.specs.messages.ToBytes.{request_written, reply_written, file_request_written, HasRequestBytes, HasReplyBytes, HasAskBytes, HasAnswerBytes, view_of_ask, view_of_answer, ask_bytes, answer_bytes, key_and_state, notice_view}
+use Rattle.lease_model.specs.messages.ToBytes.{request_written, reply_written, HasRequestBytes, HasReplyBytes, HasAskBytes, HasAnswerBytes, view_of_ask, view_of_answer, ask_bytes, answer_bytes, key_and_state, notice_view}
 use Rattle.lease_laws.proofs.messages.FromBytesLemmas.{written_messages_found, written_contexts_found}
 
 -- the lease of an ask is found as it was

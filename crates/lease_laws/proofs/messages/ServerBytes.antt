@@ -1,36 +1,33 @@
 -- Every reply of a server whose keys have 16 bytes has bytes.
-use Rattle.std.proofs.Common.{◌≡◌, ◌⊎◌, inl, inr, ⊎_elim, refl, sym, ap, ◌∙◌, subst, ℕ, Bool, true, false, not, List, [], ◌∷◌, ◌++◌, map, length, true≢false, ◌==◌}
-use Rattle.std.specs.Prelude.{◌&&◌, ⊤, if◌then◌else◌, bytes_eq, Option, Some, None, IfSome}
+use Rattle.std.proofs.Common.{◌≡◌, inl, inr, ⊎_elim, refl, sym, ap, ◌∙◌, subst, ℕ, Bool, true, false, not, List, [], ◌∷◌, ◌++◌, length, ◌==◌}
+use Rattle.std.specs.Prelude.{⊤, if◌then◌else◌, bytes_eq, Option, Some, None, IfSome}
 use Rattle.std.specs.List.{list_any}
 use Rattle.std.proofs.lemmas.Slice.Eq.{bytes_eq-Decides}
-use Rattle.std.proofs.lemmas.Bool.Decides.{Decides-eqb}
-use Rattle.lease_state.specs.State.{State}
+use Rattle.lease_state.specs.State.{State, is_state_within}
 use Rattle.lease_state.specs.declared.access.Access.{Access}
 use Rattle.lease_state.specs.declared.access.Share.{Share}
 use Rattle.lease_state.specs.declared.status.Status.{Status}
-use Rattle.lease_model.specs.messages.Replies.{Reply, Out, LeaseGiven}
-use Rattle.lease_model.specs.messages.Requests.{FileRequest, Request, CreateAsk, LeaseOf}
+use Rattle.lease_model.specs.messages.Replies.{Reply, Out}
+use Rattle.lease_model.specs.messages.Requests.{FileRequest, CreateAsk, LeaseOf}
 use Rattle.lease_model.specs.messages.ToBytes.{HasReplyBytes}
 use Rattle.lease_model.specs.server.Acknowledge.{acknowledged, judged, break_ended}
 use Rattle.lease_model.specs.server.Answers.{concluded, answered, created, closed, changed, read_done, on_open, on_contexts}
 use Rattle.lease_model.specs.server.Attempt.{Outcome, is_left_open}
 use Rattle.lease_model.specs.server.Calls.{Call, called, join, joined, is_lost, disconnected, opens_disconnected, client_forgotten, key_expired, is_left_behind}
 use Rattle.lease_model.specs.server.Findings.{connected_open}
-use Rattle.lease_model.specs.server.Grant.{granted, granted_with, lease_after, lease_put, lease_given, asked_key, new_open, standing_lease, reconnected, connected_again}
+use Rattle.lease_model.specs.server.Grant.{granted, granted_with, lease_after, lease_put, lease_given, asked_key, standing_lease, reconnected, connected_again}
 use Rattle.lease_model.specs.server.Naming.{key_of}
 use Rattle.lease_model.specs.server.Progress.{Progress, begun, opens_dropped, with_opens, lease_lowered, break_begun, request_held, held_left, replied, refused, refusal_of}
 use Rattle.lease_model.specs.server.State.{Server, Open, Lease, Held, is_key, has_key, has_lease, is_breaking}
 use Rattle.lease_model.specs.values.Keys.{Key}
-use Rattle.lease_model.specs.values.LeaseStates.{is_within}
 use Rattle.lease_model.specs.values.Limits.{last_file_id}
-use Rattle.lease_model.specs.values.Lists.{without}
 use Rattle.lease_model.specs.values.Tables.{put}
 use Rattle.lease_laws.specs.messages.Written.{HasFullKey, HaveFullKeys, CallHasFullKey, OutHasBytes}
 use Rattle.lease_laws.specs.server.Laws.{Among, IsSound}
 use Rattle.lease_laws.specs.server.Outs.{EachOut, GoOn}
-use Rattle.lease_laws.specs.server.SmallSteps.{SmallStep, step_taken, steps_taken, IsGuarded, AreGuarded, IsOfCall, AreOf, MayLower, call_begun}
+use Rattle.lease_laws.specs.server.SmallSteps.{SmallStep, step_taken, steps_taken, IsGuarded, AreGuarded, IsOfCall, AreOf, call_begun}
 use Rattle.lease_laws.specs.server.Waiting.{WaitsWell}
-use Rattle.lease_laws.proofs.server.Lists.{if_cases, either, clash, and_parts, any_has, among_append, among_filter, among_map, among_behind}
+use Rattle.lease_laws.proofs.server.Lists.{if_cases, clash, and_parts, any_has, among_append, among_filter, among_map, among_behind}
 use Rattle.lease_laws.proofs.server.OutLists.{each_append, go_on-same}
 use Rattle.lease_laws.proofs.server.OutSteps.{opens_dropped-outs}
 use Rattle.lease_laws.proofs.server.OutCalls.{request_held-outs, held_left-outs}
@@ -216,7 +213,7 @@ judged_full : (key : Key) (state : State) (broken : Option State) (progress : Pr
     → HaveFullKeys progress.server → length key.bytes ≡ 16 → IsFull progress (judged key state broken progress)
 judged_full key state None progress full long =
     replied_full key.client (Reply.AckFailed Status.Unsuccessful) progress tt full
-judged_full key state (Some lowered) progress full long = if_cases (IsFull progress) (is_within state lowered)
+judged_full key state (Some lowered) progress full long = if_cases (IsFull progress) (is_state_within state lowered)
     (break_ended key state progress)
     (replied key.client (Reply.AckFailed Status.RequestNotAccepted) progress)
     (λ e. ended_full key state progress full long)

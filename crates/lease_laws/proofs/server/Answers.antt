@@ -1,7 +1,7 @@
 -- To answer a request that is ready, or an acknowledgment, keeps a server's laws.
 use Rattle.std.proofs.Common.{◌≡◌, refl, sym, ap, ap₂, ◌∙◌, subst, ℕ, Bool, true, false, cond, List, [], ◌∷◌, map, true≢false, ◌==◌}
 use Rattle.std.specs.Prelude.{if◌then◌else◌, Option, Some, None, is_some}
-use Rattle.lease_state.specs.State.{State, granted_form_of, nothing_cached}
+use Rattle.lease_state.specs.State.{State, granted_form_of, nothing_cached, is_state_within}
 use Rattle.lease_state.specs.declared.access.Access.{Access}
 use Rattle.lease_state.specs.declared.access.Share.{Share}
 use Rattle.lease_state.specs.declared.status.Status.{Status}
@@ -11,7 +11,6 @@ use Rattle.lease_model.specs.server.Attempt.{Outcome}
 use Rattle.lease_state.specs.declared.patch.Patch.{Patch}
 use Rattle.lease_model.specs.server.Grant.{reconnected, connected_again}
 use Rattle.lease_model.specs.values.Keys.{Key}
-use Rattle.lease_model.specs.values.LeaseStates.{is_within}
 use Rattle.lease_model.specs.server.Progress.{Progress, replied, refused}
 use Rattle.lease_model.specs.messages.Replies.{Reply}
 use Rattle.lease_model.specs.messages.Requests.{FileRequest, CreateAsk, LeaseOf}
@@ -147,7 +146,7 @@ breaking_present opens leases expired last_id key one s b a k = not_false one.co
     (is_key-one key l.key one.client one.lease_key k l.has_the_key) ∙ l.is_settled))
 
 -- the granted form of a part writes only where the whole does
-part_form_write : (state lowered : State) → is_within state lowered ≡ true
+part_form_write : (state lowered : State) → is_state_within state lowered ≡ true
     → (granted_form_of state).write ≡ true → lowered.write ≡ true
 part_form_write state lowered part w = write_of_part state lowered part
     (if_cases (λ s. s.write ≡ true → state.write ≡ true) state.read state nothing_cached
@@ -156,7 +155,7 @@ part_form_write state lowered part w = write_of_part state lowered part
 -- an acknowledgment of a part of the state broken to
 break_ended-sound : (key : Key) (state lowered : State) (progress : Progress) → IsSound progress.server
     → has_lease progress.server key ≡ true → (progress.server.leases key).broken_to ≡ Some lowered
-    → is_within state lowered ≡ true
+    → is_state_within state lowered ≡ true
     → IsSound (break_ended key state progress).server
 unfolding break_ended
 break_ended-sound key state lowered progress s there broken part =
@@ -182,7 +181,7 @@ judged-sound : (key : Key) (state : State) (broken : Option State) (progress : P
     → IsSound (judged key state broken progress).server
 judged-sound key state None progress s there e = s
 judged-sound key state (Some lowered) progress s there e =
-    if_cases (λ p. IsSound p.server) (is_within state lowered) (break_ended key state progress)
+    if_cases (λ p. IsSound p.server) (is_state_within state lowered) (break_ended key state progress)
     (replied key.client (Reply.AckFailed Status.RequestNotAccepted) progress)
     (λ part. break_ended-sound key state lowered progress s there e part) (λ part. s)
 

@@ -3,14 +3,13 @@ use Rattle.std.proofs.Common.{◌≡◌, inl, ⊎_elim, refl, sym, ap, ◌∙◌
 use Rattle.std.specs.Prelude.{Option, Some, None, find, Result, Ok, Err}
 use Rattle.std.specs.List.{list_any}
 use Rattle.std.proofs.lemmas.Bool.Decides.{Decides-eqb}
-use Rattle.lease_state.specs.State.{State}
+use Rattle.lease_state.specs.State.{State, is_state_within}
 use Rattle.lease_state.specs.declared.status.Status.{Status}
 use Rattle.lease_model.specs.server.Acknowledge.{acknowledged, judged, break_ended}
 use Rattle.lease_model.specs.server.Answers.{concluded}
 use Rattle.lease_model.specs.server.Attempt.{Outcome, Tried, tried}
 use Rattle.lease_model.specs.server.Calls.{file_request_arrived, receive, arrived, arrived_on, after_first_try, held_of, file_asked, file_of_open, file_of_create}
 use Rattle.lease_model.specs.values.Keys.{Key}
-use Rattle.lease_model.specs.values.LeaseStates.{is_within}
 use Rattle.lease_model.specs.server.Passes.{is_behind}
 use Rattle.lease_model.specs.server.Progress.{Progress, begun, request_held, refused, replied}
 use Rattle.lease_model.specs.messages.Replies.{Reply}
@@ -326,7 +325,7 @@ ended-held key state progress = refl
 judged-held : (key : Key) (state : State) (broken : Option State) (progress : Progress)
     → SameHeld progress (judged key state broken progress)
 judged-held key state None progress = refl
-judged-held key state (Some lowered) progress = if_cases (SameHeld progress) (is_within state lowered)
+judged-held key state (Some lowered) progress = if_cases (SameHeld progress) (is_state_within state lowered)
     (break_ended key state progress)
     (replied key.client (Reply.AckFailed Status.RequestNotAccepted) progress)
     (λ e. ended-held key state progress) (λ e. refl)

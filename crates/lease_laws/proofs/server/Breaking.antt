@@ -1,5 +1,5 @@
 -- Leases that are breaking to something, and to nothing.
-use Rattle.std.proofs.Common.{◌≡◌, refl, ap, true, false, not, Bool}
+use Rattle.std.proofs.Common.{◌≡◌, refl, ap, true, false, not}
 use Rattle.std.specs.Prelude.{Option, Some, None, is_some}
 use Rattle.lease_state.specs.State.{State}
 use Rattle.lease_model.specs.server.Ready.{leaves_something, leaves_nothing}

@@ -2,10 +2,9 @@
 use Rattle.std.proofs.Common.{◌≡◌, inl, inr, ⊎_elim, refl, sym, ap, ◌∙◌, subst, Bool, true, false, not, List, [], ◌∷◌, true≢false}
 use Rattle.std.specs.Prelude.{if◌then◌else◌, ◌&&◌, filter, Some, None}
 use Rattle.std.specs.List.{list_any}
-use Rattle.lease_state.specs.State.{State, needs_acknowledgment}
+use Rattle.lease_state.specs.State.{State, needs_acknowledgment, is_state_within}
 use Rattle.lease_model.specs.server.Attempt.{is_left_open, lease_broken, want_met, wants_met}
 use Rattle.lease_model.specs.values.Keys.{Key}
-use Rattle.lease_model.specs.values.LeaseStates.{is_within}
 use Rattle.lease_model.specs.server.Progress.{Progress, opens_dropped, with_opens, lease_lowered, break_begun}
 use Rattle.lease_laws.specs.server.Laws.{Among, IsSound}
 use Rattle.lease_model.specs.server.State.{Server, Open, Lease, no_lease, has_key, is_breaking, has_lease}
@@ -94,7 +93,7 @@ lease_lowered-under base key lowered progress u light was = record {
 }
 
 -- a part of what needs no acknowledgment needs none
-pub light_part : (part state : State) → is_within part state ≡ true → needs_acknowledgment state ≡ false
+pub light_part : (part state : State) → is_state_within part state ≡ true → needs_acknowledgment state ≡ false
     → needs_acknowledgment part ≡ false
 light_part part state p light = not_true (needs_acknowledgment part) (λ needs. ⊎_elim
     (λ w. clash (needs_acknowledgment state) (true_or state.write state.handle (write_of_part part state p w))

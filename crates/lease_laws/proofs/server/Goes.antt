@@ -2,7 +2,7 @@
 use Rattle.std.proofs.Common.{◌≡◌, ◌⊎◌, inl, inr, ⊎_elim, refl, sym, ap, ◌∙◌, subst, ℕ, ◌+◌, ◌≤◌, ◌<◌, zero, suc, Bool, true, false, not, cond, List, [], ◌∷◌, ◌++◌, arith, ◌==◌}
 use Rattle.std.specs.Prelude.{if◌then◌else◌, ◌&&◌, Option, Some, None}
 use Rattle.std.proofs.lemmas.Bool.Decides.{Decides-eqb}
-use Rattle.lease_state.specs.State.{State, needs_acknowledgment}
+use Rattle.lease_state.specs.State.{State, needs_acknowledgment, is_state_within}
 use Rattle.lease_state.specs.declared.access.Access.{Access}
 use Rattle.lease_state.specs.declared.access.Share.{Share}
 use Rattle.lease_state.specs.declared.status.Status.{Status}
@@ -12,7 +12,6 @@ use Rattle.lease_model.specs.server.Attempt.{Outcome, Tried, is_left_open, lease
 use Rattle.lease_state.specs.declared.patch.Patch.{Patch}
 use Rattle.lease_model.specs.server.Grant.{granted, granted_with, reconnected, lease_after, connected_again, new_open}
 use Rattle.lease_model.specs.values.Keys.{Key}
-use Rattle.lease_model.specs.values.LeaseStates.{is_within}
 use Rattle.lease_model.specs.values.Limits.{last_file_id}
 use Rattle.lease_model.specs.server.Progress.{Progress, opens_dropped, with_opens, lease_lowered, break_begun, replied, refused}
 use Rattle.lease_model.specs.server.Ready.{is_ready}
@@ -400,7 +399,7 @@ ended-goes key state progress = record {
 judged-goes : (key : Key) (state : State) (broken : Option State) (progress : Progress)
     → Goes progress (judged key state broken progress)
 judged-goes key state None progress = goes-same progress.server
-judged-goes key state (Some lowered) progress = if_cases (Goes progress) (is_within state lowered)
+judged-goes key state (Some lowered) progress = if_cases (Goes progress) (is_state_within state lowered)
     (break_ended key state progress)
     (replied key.client (Reply.AckFailed Status.RequestNotAccepted) progress)
     (λ e. ended-goes key state progress) (λ e. goes-same progress.server)

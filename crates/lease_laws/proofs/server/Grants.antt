@@ -4,14 +4,14 @@ use Rattle.std.specs.Prelude.{◌&&◌, Option, Some, None}
 use Rattle.std.specs.List.{list_any}
 use Rattle.std.proofs.lemmas.Bool.Decides.{Decides-eqb}
 use Rattle.lease_state.specs.Access.{conflict}
-use Rattle.lease_state.specs.State.{State, granted_form_of, nothing_cached}
+use Rattle.lease_state.specs.State.{State, granted_form_of, nothing_cached, is_state_within}
 use Rattle.lease_state.specs.declared.access.Access.{Access}
 use Rattle.lease_state.specs.declared.access.Share.{Share}
 use Rattle.lease_state.specs.declared.status.Status.{Status}
 use Rattle.lease_model.specs.server.Allowed.{allowed, is_other_on}
 use Rattle.lease_model.specs.server.Grant.{offered, lease_granted, lease_after, new_open, granted_with, granted}
 use Rattle.lease_model.specs.values.Keys.{Key}
-use Rattle.lease_model.specs.values.LeaseStates.{is_within, without_write}
+use Rattle.lease_model.specs.values.LeaseStates.{without_write}
 use Rattle.lease_model.specs.values.Limits.{last_file_id}
 use Rattle.lease_model.specs.server.Progress.{Progress, replied}
 use Rattle.lease_model.specs.messages.Replies.{Reply}
@@ -147,7 +147,7 @@ plain_may_open server client file access share durable lease free = record {
 offer_may : (server : Server) (client file : ℕ) (asked : LeaseOf) (new : Open)
     → IsSound server → new.file ≡ file → new.connected ≡ true → has_key (key_of client asked.key) new ≡ true
     → ((one : Open) → Among one server.opens → has_key (key_of client asked.key) one ≡ true → one.file ≡ file)
-    → is_within (server.leases (key_of client asked.key)).state (granted_form_of asked.state) ≡ true
+    → is_state_within (server.leases (key_of client asked.key)).state (granted_form_of asked.state) ≡ true
     → MayBecome (server.opens ++ new ∷ []) (key_of client asked.key)
     (record { state = offered server (key_of client asked.key) file asked.state; broken_to = None })
 offer_may server client file asked new s new_file new_up new_key home part =
@@ -192,7 +192,7 @@ granted_may server client file asked new s more new_file new_up new_key home =
     _
     (λ e. keep)
     (λ e. if_cases (MayBecome (server.opens ++ new ∷ []) key)
-    (is_within (server.leases key).state (granted_form_of asked.state)) _ (server.leases key)
+    (is_state_within (server.leases key).state (granted_form_of asked.state)) _ (server.leases key)
     (λ part. offer_may server client file asked new s new_file new_up new_key home part)
     (λ p. keep))
 
@@ -209,7 +209,7 @@ granted_late server key file want s out =
     let none = s.timed_out key out in
     if_cases (λ l. l ≡ no_lease) (is_breaking (server.leases key)) (server.leases key) _
     (λ e. none)
-    (λ e. if_cases (λ l. l ≡ no_lease) (is_within (server.leases key).state (granted_form_of want)) _
+    (λ e. if_cases (λ l. l ≡ no_lease) (is_state_within (server.leases key).state (granted_form_of want)) _
     (server.leases key)
     (λ part. if_cases (λ x. settled x ≡ no_lease) (server.expired key) nothing_cached
     (allowed server (Some key) file want)

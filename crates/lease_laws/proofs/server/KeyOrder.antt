@@ -1,11 +1,11 @@
 -- The keys of opens: each open's key is among them, once, and they stand in order.
-use Rattle.std.proofs.Common.{◌≡◌, inl, inr, ⊎_elim, refl, sym, ap, ◌∙◌, subst, ℕ, Bool, true, false, List, [], ◌∷◌, map, filter, true≢false}
+use Rattle.std.proofs.Common.{◌≡◌, inl, inr, ⊎_elim, refl, sym, ap, ◌∙◌, subst, ℕ, Bool, true, List, [], ◌∷◌, map, filter, true≢false}
 use Rattle.std.specs.Prelude.{if◌then◌else◌, Option, Some, None}
 use Rattle.lease_state.specs.State.{State}
 use Rattle.lease_model.specs.server.KeyOrder.{key_added, open_key_added, keys_of}
 use Rattle.lease_model.specs.server.Naming.{key_of}
 use Rattle.lease_model.specs.server.State.{Server, Open, has_key, is_key}
-use Rattle.lease_model.specs.server.Wants.{Want, wants_where}
+use Rattle.lease_model.specs.server.Wants.{wants_where}
 use Rattle.lease_model.specs.values.Keys.{Key, key_eq, key_before}
 use Rattle.lease_laws.specs.server.Laws.{Among}
 use Rattle.lease_laws.proofs.server.Keys.{key_eq-same, is_key-refl, is_key-one}

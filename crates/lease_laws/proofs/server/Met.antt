@@ -1,25 +1,15 @@
 -- What is left once wants are met and none of their leases is breaking: no open passes the test any more.
-use Rattle.std.proofs.Common.{◌≡◌, inl, inr, ⊎_elim, refl, sym, ap, ◌∙◌, subst, ℕ, Bool, true, false, not, List, [], ◌∷◌, map, true≢false, ◌==◌}
-use Rattle.std.specs.Prelude.{if◌then◌else◌, ◌&&◌, filter, find, Option, Some, None}
-use Rattle.std.specs.List.{list_any}
-use Rattle.lease_state.specs.State.{State, nothing_cached, needs_acknowledgment}
-use Rattle.lease_model.specs.server.Attempt.{is_left_open, lease_broken, want_met, wants_met, must_wait}
-use Rattle.lease_model.specs.values.Keys.{Key, key_eq, key_before}
-use Rattle.lease_model.specs.values.Lists.{is_empty}
+use Rattle.std.proofs.Common.{◌≡◌, refl, ap, ◌∙◌, subst, ℕ, Bool, true, not, List, [], ◌∷◌, ◌==◌}
+use Rattle.std.specs.Prelude.{if◌then◌else◌, ◌&&◌, filter, find, Some}
+use Rattle.lease_state.specs.State.{State, needs_acknowledgment}
+use Rattle.lease_model.specs.server.Attempt.{is_left_open, lease_broken, want_met, wants_met}
+use Rattle.lease_model.specs.values.Keys.{Key}
 use Rattle.lease_model.specs.server.Progress.{Progress, opens_dropped, with_opens, lease_lowered, break_begun}
-use Rattle.lease_model.specs.server.Ready.{waits_for}
-use Rattle.lease_model.specs.messages.Requests.{FileRequest}
-use Rattle.lease_laws.specs.server.Laws.{Among, IsSound}
-use Rattle.lease_model.specs.server.State.{Server, Open, Lease, no_lease, has_key, is_key, is_breaking, has_lease}
-use Rattle.lease_model.specs.server.Wants.{Want, wants_where}
-use Rattle.lease_model.specs.server.KeyOrder.{key_added, open_key_added, keys_of}
-use Rattle.lease_model.specs.server.Naming.{key_of, lease_of, lease_by}
+use Rattle.lease_laws.specs.server.Laws.{Among}
+use Rattle.lease_model.specs.server.State.{Open, has_key, is_breaking, has_lease}
+use Rattle.lease_model.specs.server.Wants.{Want}
 use Rattle.lease_model.specs.server.Findings.{connected_open}
-use Rattle.lease_laws.proofs.server.Breaks.{IsAlong, under-itself, want_met-along, opens_dropped-under, light_part}
-use Rattle.lease_laws.proofs.server.Keys.{key_eq-same, key_eq-refl, is_key-refl, is_key-one, lease_by-key, put_key-cases}
-use Rattle.lease_laws.proofs.server.Lists.{if_cases, clash, and_both, and_parts, not_parts, not_true, among_filter, among_filtered, any_has, has_any, none_has}
-use Rattle.lease_laws.proofs.server.Progress.{opens_dropped-sound}
-use Rattle.lease_laws.proofs.server.Wants.{Fits, AllFit}
+use Rattle.lease_laws.proofs.server.Lists.{if_cases, clash, and_parts, not_parts, not_true, among_filter}
 
 -- opens are only dropped
 pub lease_broken-opens : (key : Key) (lowered : State) (progress : Progress)

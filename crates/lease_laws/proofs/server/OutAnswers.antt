@@ -10,9 +10,7 @@ use Rattle.lease_model.specs.server.Attempt.{Outcome, tried}
 use Rattle.lease_model.specs.server.Calls.{receive, arrived, file_request_arrived, arrived_on, after_first_try, held_of, file_asked}
 use Rattle.lease_state.specs.declared.patch.Patch.{Patch}
 use Rattle.lease_model.specs.values.Patches.{is_within_limit}
-use Rattle.lease_model.specs.values.Keys.{Key}
 use Rattle.lease_model.specs.values.LeaseStates.{holds_any}
-use Rattle.lease_model.specs.values.Lists.{is_empty}
 use Rattle.lease_model.specs.server.Passes.{is_behind}
 use Rattle.lease_model.specs.server.Progress.{Progress, begun, request_held, refused}
 use Rattle.lease_model.specs.server.Ready.{is_ready, leaves_nothing, breaks_to_none}
@@ -20,7 +18,7 @@ use Rattle.lease_model.specs.messages.Replies.{Out}
 use Rattle.lease_model.specs.messages.Requests.{FileRequest, Request}
 use Rattle.lease_laws.specs.server.Laws.{IsSound}
 use Rattle.lease_laws.specs.server.Outs.{IsBreak, IsNoBreak, GoOn, AreBreaksFirst, IsAlone, CachesAlone}
-use Rattle.lease_model.specs.server.State.{Server, Open, Lease, has_own_key}
+use Rattle.lease_model.specs.server.State.{Server, Open, has_own_key}
 use Rattle.lease_model.specs.values.Sharing.{may_write}
 use Rattle.lease_model.specs.server.Wants.{Want, all_wants}
 use Rattle.lease_model.specs.server.Findings.{Finding, finding, by_open, write_finding, connected_open}

@@ -1,7 +1,7 @@
 -- A try gives out breaks alone, flagged rightly; and the end of a try gives out an answer without one.
 use Rattle.std.proofs.Common.{◌≡◌, refl, sym, subst, ℕ, zero, suc, Bool, not, List, [], ◌∷◌, ◌==◌, append-nil}
 use Rattle.std.specs.Prelude.{◌&&◌, Option, Some, None, if◌then◌else◌}
-use Rattle.lease_state.specs.State.{State, needs_acknowledgment}
+use Rattle.lease_state.specs.State.{State, needs_acknowledgment, is_state_within}
 use Rattle.lease_state.specs.declared.access.Access.{Access}
 use Rattle.lease_state.specs.declared.access.Share.{Share}
 use Rattle.lease_state.specs.declared.status.Status.{Status}
@@ -11,7 +11,6 @@ use Rattle.lease_model.specs.server.Attempt.{Outcome, Tried, is_left_open, lease
 use Rattle.lease_state.specs.declared.patch.Patch.{Patch}
 use Rattle.lease_model.specs.server.Grant.{granted, granted_with, reconnected, lease_after}
 use Rattle.lease_model.specs.values.Keys.{Key}
-use Rattle.lease_model.specs.values.LeaseStates.{is_within}
 use Rattle.lease_model.specs.values.Limits.{last_file_id}
 use Rattle.lease_model.specs.server.Progress.{Progress, opens_dropped, lease_lowered, break_begun, break_notice, replied, refused, refusal_of}
 use Rattle.lease_model.specs.server.Ready.{is_ready}
@@ -279,7 +278,7 @@ judged-answered : (key : Key) (state : State) (broken : Option State) (progress 
     → Answered progress (judged key state broken progress)
 judged-answered key state None progress = replied-answered key.client (Reply.AckFailed Status.Unsuccessful)
     progress tt
-judged-answered key state (Some lowered) progress = if_cases (Answered progress) (is_within state lowered)
+judged-answered key state (Some lowered) progress = if_cases (Answered progress) (is_state_within state lowered)
     (break_ended key state progress)
     (replied key.client (Reply.AckFailed Status.RequestNotAccepted) progress)
     (λ e. break_ended-answered key state progress)

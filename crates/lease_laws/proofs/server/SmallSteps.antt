@@ -1,5 +1,5 @@
 -- Tries and their ends go by guarded small steps.
-use Rattle.std.proofs.Common.{◌≡◌, ◌⊎◌, inl, inr, ⊎_elim, refl, sym, ap, ◌∙◌, subst, ℕ, zero, suc, Bool, true, false, not, List, [], ◌∷◌, ◌++◌, true≢false}
+use Rattle.std.proofs.Common.{◌≡◌, inl, inr, refl, sym, ap, ◌∙◌, subst, ℕ, zero, suc, Bool, true, false, not, List, [], ◌∷◌, ◌++◌}
 use Rattle.std.specs.Prelude.{⊤, if◌then◌else◌, ◌&&◌, Option, Some, None}
 use Rattle.std.specs.List.{list_any}
 use Rattle.lease_state.specs.State.{State, needs_acknowledgment}
@@ -11,8 +11,8 @@ use Rattle.lease_model.specs.messages.Requests.{FileRequest, CreateAsk, LeaseOf}
 use Rattle.lease_model.specs.server.Allowed.{conflicts_on}
 use Rattle.lease_model.specs.server.Attempt.{Outcome, Tried, ended, must_wait, after_breaks, after_finding, tried_for, tried, is_left_open, lease_broken, want_met, wants_met}
 use Rattle.lease_model.specs.server.Calls.{Call}
-use Rattle.lease_model.specs.server.Findings.{Finding, finding, create_finding, reconnect_finding, write_finding, asked_finding, read_finding, by_open, by_contexts, connected_open, is_leased_elsewhere, awaits}
-use Rattle.lease_model.specs.server.Naming.{own_key, key_of_open}
+use Rattle.lease_model.specs.server.Findings.{Finding, finding, create_finding, reconnect_finding, write_finding, asked_finding, read_finding, by_open, connected_open, is_leased_elsewhere, awaits}
+use Rattle.lease_model.specs.server.Naming.{own_key}
 use Rattle.lease_model.specs.server.Progress.{Progress, opens_dropped, with_opens, lease_lowered, break_begun}
 use Rattle.lease_model.specs.server.Ready.{is_ready}
 use Rattle.lease_model.specs.server.State.{Server, Open, Lease, has_key, has_lease, has_file, is_breaking}
@@ -23,7 +23,7 @@ use Rattle.lease_model.specs.values.Patches.{is_within_limit}
 use Rattle.lease_model.specs.values.Sharing.{may_read, may_write}
 use Rattle.lease_laws.specs.server.Enough.{EndsFor}
 use Rattle.lease_laws.specs.server.Laws.{Among, IsSound}
-use Rattle.lease_laws.specs.server.SmallSteps.{SmallStep, step_taken, steps_taken, IsGuarded, AreGuarded, IsOfCall, AreOf, GoesBySteps, IsLowered, MayLower, IsFree, IsAwaitedAt, MayCreate, HasOpen, MayChange, MayServe, IsGone, MayRefuse, MayEnd}
+use Rattle.lease_laws.specs.server.SmallSteps.{SmallStep, step_taken, steps_taken, IsGuarded, AreGuarded, IsOfCall, AreOf, GoesBySteps, IsLowered, MayLower, IsAwaitedAt, MayCreate, HasOpen, MayChange, MayServe, IsGone, MayRefuse, MayEnd}
 use Rattle.lease_laws.specs.server.Outs.{CachesAlone}
 use Rattle.lease_laws.specs.server.Wanted.{AreInKeyOrder}
 use Rattle.lease_laws.proofs.server.Breaks.{left_present, wants_met-sound}
@@ -34,7 +34,7 @@ use Rattle.lease_laws.proofs.server.OutAnswers.{found_alone, write_finding-alone
 use Rattle.lease_laws.proofs.server.Ready.{CreateFree, contexts_free, create_ready-empty}
 use Rattle.lease_laws.proofs.server.Steps.{left_here}
 use Rattle.lease_laws.proofs.server.Wanted.{wants_where-exact, key_before-self}
-use Rattle.lease_laws.proofs.server.Wants.{FindingFits, AllFit, finding-fits}
+use Rattle.lease_laws.proofs.server.Wants.{FindingFits, finding-fits}
 
 -- ---- lists of steps
 

@@ -1,9 +1,9 @@
 -- States by their three rights: parts, granted forms, and what may be broken to.
 use Rattle.std.proofs.Common.{◌≡◌, refl, sym, ap, subst, Bool, true, false, true≢false, arith}
 use Rattle.std.specs.Prelude.{◌||◌, Some, None}
-use Rattle.lease_state.specs.State.{State, granted_form_of, nothing_cached, needs_acknowledgment}
+use Rattle.lease_state.specs.State.{State, granted_form_of, nothing_cached, needs_acknowledgment, is_state_within}
 use Rattle.lease_laws.specs.server.SmallSteps.{IsLowered}
-use Rattle.lease_model.specs.values.LeaseStates.{holds_any, is_within, same_state, without_write, without_handle}
+use Rattle.lease_model.specs.values.LeaseStates.{holds_any, same_state, without_write, without_handle}
 use Rattle.lease_laws.specs.server.Laws.{IsBrokenTo, IsLawful}
 use Rattle.lease_model.specs.server.State.{no_lease}
 use Rattle.lease_laws.proofs.server.Lists.{if_cases}
@@ -40,14 +40,14 @@ pub without_handle-form : (state : State) → granted_form_of state ≡ state
 without_handle-form state e = form_without_handle state.read state.write state.handle e
 
 -- a state without W is a part
-part_without_write : (r w h : Bool) → is_within (rights r false h) (rights r w h) ≡ true
+part_without_write : (r w h : Bool) → is_state_within (rights r false h) (rights r w h) ≡ true
 part_without_write true w true = refl
 part_without_write true w false = refl
 part_without_write false w true = refl
 part_without_write false w false = refl
 
 -- a state without H is a part
-part_without_handle : (r w h : Bool) → is_within (rights r w false) (rights r w h) ≡ true
+part_without_handle : (r w h : Bool) → is_state_within (rights r w false) (rights r w h) ≡ true
 part_without_handle true true h = refl
 part_without_handle true false h = refl
 part_without_handle false true h = refl
@@ -105,7 +105,7 @@ nothing-lowered state holds = record {
 }
 
 -- a part that holds W, by its letters
-within_write : (r w h : Bool) (s t u : Bool) → is_within (rights r w h) (rights s t u) ≡ true → w ≡ true
+within_write : (r w h : Bool) (s t u : Bool) → is_state_within (rights r w h) (rights s t u) ≡ true → w ≡ true
     → t ≡ true
 within_write r w h s true u e f = refl
 within_write true w h true false u e f = grind arith
@@ -113,19 +113,19 @@ within_write true w h false false u e f = grind arith
 within_write false w h s false u e f = grind arith
 
 -- a part that holds a right is a part of what holds it
-pub write_of_part : (part state : State) → is_within part state ≡ true → part.write ≡ true
+pub write_of_part : (part state : State) → is_state_within part state ≡ true → part.write ≡ true
     → state.write ≡ true
 write_of_part part state e f = within_write part.read part.write part.handle state.read state.write
     state.handle e f
 
 -- a part that holds H, by its letters
-within_handle : (r w h : Bool) (s t u : Bool) → is_within (rights r w h) (rights s t u) ≡ true → h ≡ true
+within_handle : (r w h : Bool) (s t u : Bool) → is_state_within (rights r w h) (rights s t u) ≡ true → h ≡ true
     → u ≡ true
 within_handle r w h s t true e f = refl
 within_handle r w h s t false e f = grind arith
 
 -- a part that holds H is a part of what holds it
-pub handle_of_part : (part state : State) → is_within part state ≡ true → part.handle ≡ true
+pub handle_of_part : (part state : State) → is_state_within part state ≡ true → part.handle ≡ true
     → state.handle ≡ true
 handle_of_part part state e f = within_handle part.read part.write part.handle state.read state.write
     state.handle e f

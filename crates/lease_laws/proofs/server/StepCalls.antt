@@ -1,18 +1,17 @@
 -- Passes and calls go by guarded small steps.
-use Rattle.std.proofs.Common.{◌≡◌, ◌⊎◌, inl, inr, refl, sym, ap, ◌∙◌, subst, ℕ, ◌+◌, zero, suc, Bool, true, false, List, [], ◌∷◌, ◌++◌, length, arith}
+use Rattle.std.proofs.Common.{◌≡◌, inl, inr, refl, sym, ap, ◌∙◌, subst, ℕ, ◌+◌, zero, suc, Bool, true, false, List, [], ◌∷◌, length, arith}
 use Rattle.std.specs.Prelude.{if◌then◌else◌, Option, Some, None, Result, Ok, Err}
 use Rattle.std.specs.List.{list_any}
 use Rattle.lease_state.specs.declared.status.Status.{Status}
-use Rattle.lease_model.specs.messages.Requests.{FileRequest, Request, CreateAsk, LeaseOf}
+use Rattle.lease_model.specs.messages.Requests.{FileRequest, Request}
 use Rattle.lease_model.specs.server.Acknowledge.{acknowledged}
 use Rattle.lease_model.specs.server.Answers.{concluded}
-use Rattle.lease_model.specs.server.Attempt.{Outcome, Tried, tried}
-use Rattle.lease_model.specs.server.Calls.{Call, called, join, joined, receive, arrived, arrived_on, file_request_arrived, after_first_try, held_of, file_asked, file_of_open, file_of_create, cut, is_lost, opens_disconnected, client_forgotten, key_expired, expire, scavenge, is_left_behind}
+use Rattle.lease_model.specs.server.Attempt.{Outcome, tried}
+use Rattle.lease_model.specs.server.Calls.{Call, called, join, joined, receive, arrived, arrived_on, file_request_arrived, after_first_try, held_of, file_asked, file_of_open, cut, is_lost, opens_disconnected, client_forgotten, key_expired, expire, scavenge, is_left_behind}
 use Rattle.lease_model.specs.server.Findings.{connected_open}
 use Rattle.lease_model.specs.server.Passes.{Pass, is_behind, left_waiting, after_try, tried_again, pass_over, one_pass, passes_for, passes, passes_over, all_passes}
-use Rattle.lease_model.specs.server.Progress.{Progress, begun, opens_dropped, request_held, held_left}
-use Rattle.lease_model.specs.server.State.{Server, Open, Held, has_file, has_key, is_breaking}
-use Rattle.lease_model.specs.values.Keys.{Key}
+use Rattle.lease_model.specs.server.Progress.{Progress, begun, opens_dropped, request_held}
+use Rattle.lease_model.specs.server.State.{Server, Open, Held, has_key, is_breaking}
 use Rattle.lease_model.specs.values.Lists.{numbers_to}
 use Rattle.lease_laws.specs.server.Laws.{Among, IsSound}
 use Rattle.lease_laws.specs.server.SmallSteps.{SmallStep, GoesBySteps, MayEnd, MayRefuse, IsGone, call_begun}
@@ -21,8 +20,8 @@ use Rattle.lease_laws.proofs.server.Answers.{acknowledged-sound}
 use Rattle.lease_laws.proofs.server.Calls.{joined-sound}
 use Rattle.lease_laws.proofs.server.Arrivals.{arrived_on-fine, asked_well, acknowledged-held, fine_goes}
 use Rattle.lease_laws.proofs.server.Goes.{acknowledged-goes}
-use Rattle.lease_laws.proofs.server.Lists.{if_cases, clash, among_behind}
-use Rattle.lease_laws.proofs.server.Orderly.{IsFine, IsHeldWell, IsTry, any_try, held_well}
+use Rattle.lease_laws.proofs.server.Lists.{if_cases, among_behind}
+use Rattle.lease_laws.proofs.server.Orderly.{IsFine, IsTry, any_try, held_well}
 use Rattle.lease_laws.proofs.server.PassWaits.{PassWaits, pass_begun, one_pass-waits, tried_again-waits, passes_for-waits}
 use Rattle.lease_laws.proofs.server.SmallSteps.{steps_none, step_one, steps_then, tried-steps, tried-guarded}
 use Rattle.lease_laws.proofs.server.WaitCalls.{joined-orderly, cut-fine, expired-fine, dropped-fine}

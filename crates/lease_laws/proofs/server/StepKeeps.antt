@@ -1,26 +1,24 @@
 -- Guarded small steps keep the laws of servers, and opens go on.
-use Rattle.std.proofs.Common.{◌≡◌, ◌⊎◌, inl, inr, ⊎_elim, refl, sym, ap, ◌∙◌, subst, ℕ, ◌≤◌, Bool, true, false, not, List, [], ◌∷◌, ◌++◌, true≢false, arith, ◌==◌}
-use Rattle.std.specs.Prelude.{◌&&◌, Option, Some, None}
-use Rattle.std.proofs.lemmas.Bool.Decides.{Decides-eqb}
-use Rattle.lease_state.specs.State.{State, nothing_cached, needs_acknowledgment, granted_form_of}
+use Rattle.std.proofs.Common.{◌≡◌, inl, ⊎_elim, refl, sym, ap, ◌∙◌, subst, ℕ, Bool, true, false, ◌++◌, true≢false, arith}
+use Rattle.std.specs.Prelude.{Option, Some, None}
+use Rattle.lease_state.specs.State.{State, nothing_cached, is_state_within}
 use Rattle.lease_state.specs.declared.access.Access.{Access}
 use Rattle.lease_state.specs.declared.access.Share.{Share}
-use Rattle.lease_model.specs.messages.Requests.{FileRequest, CreateAsk, LeaseOf}
+use Rattle.lease_model.specs.messages.Requests.{FileRequest, LeaseOf}
 use Rattle.lease_model.specs.server.Answers.{concluded}
 use Rattle.lease_model.specs.server.Attempt.{Outcome, is_left_open}
-use Rattle.lease_model.specs.server.Findings.{awaits}
 use Rattle.lease_model.specs.server.Naming.{own_key}
 use Rattle.lease_model.specs.server.Progress.{Progress, lease_lowered, break_begun, held_left}
-use Rattle.lease_model.specs.server.State.{Server, Open, Lease, Held, no_lease, has_key, has_lease}
+use Rattle.lease_model.specs.server.State.{Server, Open}
 use Rattle.lease_model.specs.values.Keys.{Key}
-use Rattle.lease_model.specs.values.LeaseStates.{is_within, same_state}
+use Rattle.lease_model.specs.values.LeaseStates.{same_state}
 use Rattle.lease_laws.specs.server.Laws.{Among, IsSound}
-use Rattle.lease_laws.specs.server.SmallSteps.{SmallStep, step_taken, IsGuarded, IsLowered, MayLower, IsAwaitedAt, MayCreate, MayServe, MayEnd}
+use Rattle.lease_laws.specs.server.SmallSteps.{SmallStep, step_taken, IsGuarded, IsLowered, MayLower, MayCreate, MayServe, MayEnd}
 use Rattle.lease_laws.proofs.server.Answers.{acknowledged-sound, concluded-sound}
 use Rattle.lease_laws.proofs.server.Arrivals.{request_held-goes}
-use Rattle.lease_laws.proofs.server.FileReady.{FileReady, ContextsReady, AgainReady, awaits_own}
+use Rattle.lease_laws.proofs.server.FileReady.{FileReady, AgainReady, awaits_own}
 use Rattle.lease_laws.proofs.server.Goes.{Goes, GoesOn, goes-twice, dropped-goes, concluded-goes, acknowledged-goes, still_there}
-use Rattle.lease_laws.proofs.server.Lists.{clash, not_true}
+use Rattle.lease_laws.proofs.server.Lists.{not_true}
 use Rattle.lease_laws.proofs.server.Orderly.{held_left-ready}
 use Rattle.lease_laws.proofs.server.Passes.{held_left-free}
 use Rattle.lease_laws.proofs.server.PassWaits.{held_left-goes}
@@ -85,7 +83,7 @@ end_serves server client request Outcome.Ready may e = may.1
 nothing_lower : (lowered : State) → IsLowered nothing_cached lowered → ⊥
 nothing_lower lowered low = never lowered.read lowered.write lowered.handle low.is_part low.is_less
   where
-    never : (r w h : Bool) → is_within (rights r w h) nothing_cached ≡ true
+    never : (r w h : Bool) → is_state_within (rights r w h) nothing_cached ≡ true
         → same_state (rights r w h) nothing_cached ≡ false → ⊥
     never true w h part less = true≢false (sym part)
     never false true h part less = true≢false (sym part)

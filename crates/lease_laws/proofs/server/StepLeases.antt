@@ -1,17 +1,17 @@
 -- What guarded small steps make of leases.
-use Rattle.std.proofs.Common.{◌≡◌, ◌⊎◌, inl, inr, ⊎_elim, refl, sym, ap, ◌∙◌, subst, ℕ, Bool, true, false, not, List, [], ◌∷◌, ◌++◌, arith, append-nil, append_assoc, true≢false, ◌==◌}
+use Rattle.std.proofs.Common.{◌≡◌, ◌⊎◌, inl, inr, ⊎_elim, refl, sym, ap, ◌∙◌, subst, ℕ, Bool, true, false, not, List, [], ◌∷◌, ◌++◌, arith, append-nil, append_assoc, ◌==◌}
 use Rattle.std.specs.Prelude.{◌&&◌, ◌||◌, is_some, Option, Some, None}
 use Rattle.std.specs.List.{list_any}
 use Rattle.std.proofs.lemmas.Bool.Decides.{Decides-eqb}
-use Rattle.lease_state.specs.State.{State, nothing_cached, granted_form_of}
+use Rattle.lease_state.specs.State.{State, nothing_cached, granted_form_of, is_state_within}
 use Rattle.lease_state.specs.declared.access.Access.{Access}
 use Rattle.lease_state.specs.declared.access.Share.{Share}
 use Rattle.lease_state.specs.declared.status.Status.{Status}
 use Rattle.lease_model.specs.messages.Replies.{Reply, Out}
-use Rattle.lease_model.specs.messages.Requests.{FileRequest, CreateAsk, LeaseOf}
+use Rattle.lease_model.specs.messages.Requests.{FileRequest, LeaseOf}
 use Rattle.lease_model.specs.server.Acknowledge.{acknowledged, judged, break_ended}
 use Rattle.lease_model.specs.server.Allowed.{is_other_on, allowed}
-use Rattle.lease_model.specs.server.Answers.{concluded, answered, created, closed, changed, read_done, on_open, on_contexts}
+use Rattle.lease_model.specs.server.Answers.{concluded, answered, created, closed, changed, read_done, on_open}
 use Rattle.lease_model.specs.server.Attempt.{Outcome, is_left_open}
 use Rattle.lease_model.specs.server.Findings.{connected_open}
 use Rattle.lease_model.specs.server.Grant.{granted, granted_with, lease_after, lease_granted, offered, reconnected}
@@ -19,16 +19,15 @@ use Rattle.lease_model.specs.server.Naming.{key_of, own_key}
 use Rattle.lease_model.specs.server.Progress.{Progress, opens_dropped, with_opens, lease_lowered, break_begun, request_held, held_left, replied, refused, break_notice}
 use Rattle.lease_model.specs.server.State.{Server, Open, Lease, Held, no_lease, has_key, has_own_key, has_lease, is_breaking}
 use Rattle.lease_model.specs.values.Keys.{Key}
-use Rattle.lease_model.specs.values.LeaseStates.{is_within, without_write}
+use Rattle.lease_model.specs.values.LeaseStates.{without_write}
 use Rattle.lease_model.specs.values.Limits.{last_file_id}
 use Rattle.lease_model.specs.values.Lists.{without}
 use Rattle.lease_model.specs.values.Tables.{put}
 use Rattle.lease_laws.specs.server.Laws.{Among, IsSound}
-use Rattle.lease_laws.specs.server.Outs.{GoOn}
-use Rattle.lease_laws.specs.server.SmallSteps.{SmallStep, step_taken, steps_taken, IsGuarded, AreGuarded, IsFree, MayCreate, MayServe, MayEnd}
+use Rattle.lease_laws.specs.server.SmallSteps.{SmallStep, step_taken, steps_taken, IsGuarded, AreGuarded, IsFree, MayCreate, MayServe}
 use Rattle.lease_laws.specs.server.StepLaws.{IsRaised, IsEnded, StaysOrRises, BecomesBy, IsBreakTold}
 use Rattle.lease_laws.proofs.server.Keys.{put_key-cases}
-use Rattle.lease_laws.proofs.server.Lists.{if_cases, either, clash, and_parts, not_true, not_parts, any_has, among_append, among_before, among_behind}
+use Rattle.lease_laws.proofs.server.Lists.{if_cases, either, clash, and_parts, not_true, not_parts, any_has, among_before, among_behind}
 use Rattle.lease_laws.proofs.server.StepKeeps.{step-sound, end_serves}
 use Rattle.lease_laws.proofs.server.Progress.{held_left-sound}
 use Rattle.lease_laws.proofs.server.StepOuts.{step-tells}
@@ -55,8 +54,8 @@ dropped-lease test progress key =
 -- ---- a grant
 
 -- a part of a state without W is a part of it without W
-part_without : (old whole : State) → old.write ≡ false → is_within old whole ≡ true
-    → is_within old (without_write whole) ≡ true
+part_without : (old whole : State) → old.write ≡ false → is_state_within old whole ≡ true
+    → is_state_within old (without_write whole) ≡ true
 part_without old whole w part = parts old.read old.write old.handle whole.read whole.write whole.handle w part
   where
     parts : (r w h s t u : Bool) → w ≡ false
@@ -92,14 +91,14 @@ written_alone server key file access share s free w others =
 -- where a key may be granted, what it holds is a part of what it is offered
 offered_more : (server : Server) (key : Key) (file : ℕ) (access : Access) (share : Share) (want : State)
     → IsSound server → IsFree server.opens server.leases (Some key) file access share
-    → is_within (server.leases key).state (granted_form_of want) ≡ true
-    → is_within (server.leases key).state (offered server key file want) ≡ true
+    → is_state_within (server.leases key).state (granted_form_of want) ≡ true
+    → is_state_within (server.leases key).state (offered server key file want) ≡ true
 unfolding offered allowed
 offered_more server key file access share want s free part =
     let old : State = (server.leases key).state in
-    if_cases (λ x. is_within old x ≡ true) (server.expired key) nothing_cached _
-    (λ out. ap (λ l. is_within l.state nothing_cached) (s.timed_out key out))
-    (λ timely. if_cases (λ x. is_within old x ≡ true) (list_any (is_other_on (Some key) file) server.opens)
+    if_cases (λ x. is_state_within old x ≡ true) (server.expired key) nothing_cached _
+    (λ out. ap (λ l. is_state_within l.state nothing_cached) (s.timed_out key out))
+    (λ timely. if_cases (λ x. is_state_within old x ≡ true) (list_any (is_other_on (Some key) file) server.opens)
     (without_write (granted_form_of want)) (granted_form_of want)
     (λ others. part_without old (granted_form_of want)
     (not_true old.write (λ w. written_alone server key file access share s free w others)) part)
@@ -115,7 +114,7 @@ granted_rises server key file access share want s free =
     let Goal : Lease → Type 0 = λ l. (l ≡ server.leases key) ⊎ IsRaised (server.leases key) l in
     if_cases Goal (is_breaking (server.leases key)) (server.leases key) _
     (λ b. inl refl)
-    (λ settled. if_cases Goal (is_within (server.leases key).state (granted_form_of want))
+    (λ settled. if_cases Goal (is_state_within (server.leases key).state (granted_form_of want))
     (record { state = offered server key file want; broken_to = None }) (server.leases key)
     (λ part. inr (record {
       was_settled = settled;
@@ -198,13 +197,13 @@ concluded-lease client (FileRequest.Close file_id) progress Outcome.Ready key s 
 -- ---- acknowledgments
 
 -- the granted form of a part is a part
-form_part : (state lowered : State) → is_within state lowered ≡ true → is_within (granted_form_of state) lowered ≡ true
-form_part state lowered part = if_cases (λ s. is_within s lowered ≡ true) state.read state nothing_cached
+form_part : (state lowered : State) → is_state_within state lowered ≡ true → is_state_within (granted_form_of state) lowered ≡ true
+form_part state lowered part = if_cases (λ s. is_state_within s lowered ≡ true) state.read state nothing_cached
     (λ e. part) (λ e. refl)
 
 -- a break that is ended
 ended-lease : (key : Key) (state lowered : State) (progress : Progress) (other : Key)
-    → (progress.server.leases key).broken_to ≡ Some lowered → is_within state lowered ≡ true
+    → (progress.server.leases key).broken_to ≡ Some lowered → is_state_within state lowered ≡ true
     → ((break_ended key state progress).server.leases other ≡ progress.server.leases other)
     ⊎ IsEnded (progress.server.leases other) ((break_ended key state progress).server.leases other)
 unfolding break_ended
@@ -229,7 +228,7 @@ judged-lease key state None progress other e = inl refl
 judged-lease key state (Some lowered) progress other e =
     if_cases (λ p. (p.server.leases other ≡ progress.server.leases other)
     ⊎ IsEnded (progress.server.leases other) (p.server.leases other))
-    (is_within state lowered) (break_ended key state progress)
+    (is_state_within state lowered) (break_ended key state progress)
     (replied key.client (Reply.AckFailed Status.RequestNotAccepted) progress)
     (λ part. ended-lease key state lowered progress other e part) (λ part. inl refl)
 

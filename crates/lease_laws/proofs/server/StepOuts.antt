@@ -1,8 +1,8 @@
 -- What guarded small steps give out.
-use Rattle.std.proofs.Common.{◌≡◌, ◌⊎◌, inl, inr, ⊎_elim, refl, sym, ap, ◌∙◌, subst, ℕ, Bool, true, false, List, [], ◌∷◌, ◌++◌, append-nil, append_assoc, true≢false, ◌==◌}
-use Rattle.std.specs.Prelude.{⊤, ◌&&◌, bytes_eq, Option, Some, None}
+use Rattle.std.proofs.Common.{◌≡◌, refl, sym, ap, ◌∙◌, subst, ℕ, Bool, true, List, [], ◌∷◌, ◌++◌, true≢false, ◌==◌}
+use Rattle.std.specs.Prelude.{bytes_eq, Option, Some, None}
 use Rattle.std.proofs.lemmas.Bool.Decides.{Decides-eqb}
-use Rattle.lease_state.specs.State.{State}
+use Rattle.lease_state.specs.State.{State, is_state_within}
 use Rattle.lease_state.specs.declared.access.Access.{Access}
 use Rattle.lease_state.specs.declared.access.Share.{Share}
 use Rattle.lease_state.specs.declared.patch.Patch.{Patch}
@@ -16,24 +16,22 @@ use Rattle.lease_model.specs.server.Calls.{Call, called}
 use Rattle.lease_model.specs.server.Findings.{connected_open}
 use Rattle.lease_model.specs.server.Grant.{granted, granted_with, lease_after, reconnected}
 use Rattle.lease_model.specs.server.Naming.{key_of}
-use Rattle.lease_model.specs.server.Progress.{Progress, opens_dropped, lease_lowered, break_begun, request_held, held_left, replied, refused, refusal_of}
-use Rattle.lease_model.specs.server.State.{Server, Open, Lease, Held, is_key, has_key, has_lease}
+use Rattle.lease_model.specs.server.Progress.{Progress, opens_dropped, lease_lowered, break_begun, held_left, replied, refused, refusal_of}
+use Rattle.lease_model.specs.server.State.{Server, Open, is_key, has_key, has_lease}
 use Rattle.lease_model.specs.values.Keys.{Key}
-use Rattle.lease_model.specs.values.LeaseStates.{is_within}
 use Rattle.lease_model.specs.values.Limits.{last_file_id}
 use Rattle.lease_model.specs.values.Patches.{is_within_limit}
-use Rattle.lease_laws.specs.server.Laws.{Among, IsSound}
+use Rattle.lease_laws.specs.server.Laws.{IsSound}
 use Rattle.lease_laws.specs.server.Outs.{EachOut, IsNoBreak, GoOn}
 use Rattle.lease_laws.specs.server.SmallSteps.{SmallStep, step_taken, steps_taken, IsGuarded, AreGuarded, MayLower, MayServe, MayEnd, call_begun}
 use Rattle.lease_laws.specs.server.StepLaws.{TellsBreaks, IsToPresent, IsShort}
 use Rattle.lease_laws.specs.server.Waiting.{WaitsWell}
-use Rattle.lease_laws.proofs.server.Goes.{Goes, GoesOn}
 use Rattle.lease_laws.proofs.server.Lists.{if_cases, and_parts, any_has}
 use Rattle.lease_laws.proofs.server.OutCalls.{concluded-answers, request_held-outs, held_left-outs}
-use Rattle.lease_laws.proofs.server.OutLists.{each_append, each_weaker, go_on-same, go_on-twice, go_on-weaker, answers_go_on}
+use Rattle.lease_laws.proofs.server.OutLists.{each_append, each_weaker, go_on-same, go_on-weaker, answers_go_on}
 use Rattle.lease_laws.proofs.server.OutSteps.{opens_dropped-outs, acknowledged-answered}
 use Rattle.lease_laws.proofs.server.StepCalls.{called-steps, call_begun-silent, call_begun-up}
-use Rattle.lease_laws.proofs.server.StepKeeps.{OpensUp, goes-up, step-sound, step-goes, end_up, end_serves}
+use Rattle.lease_laws.proofs.server.StepKeeps.{OpensUp, goes-up, step-sound, step-goes}
 
 -- ---- the end of a request gives its client out, and the change that it asks for
 
@@ -142,7 +140,7 @@ judged-out : (key : Key) (state : State) (broken : Option State) (progress : Pro
 unfolding break_ended
 judged-out key state None progress = sent-out key.client (Reply.AckFailed Status.Unsuccessful) progress
 judged-out key state (Some lowered) progress =
-    if_cases (λ p. GoOn (IsSentTo key.client) progress.outs p.outs) (is_within state lowered)
+    if_cases (λ p. GoOn (IsSentTo key.client) progress.outs p.outs) (is_state_within state lowered)
     (break_ended key state progress)
     (replied key.client (Reply.AckFailed Status.RequestNotAccepted) progress)
     (λ e. record { more = _; are_more = refl; each = (refl, tt) })

@@ -10,7 +10,7 @@ use Rattle.lease_model.specs.values.Keys.{Key}
 use Rattle.lease_model.specs.values.Lists.{without}
 use Rattle.lease_model.specs.server.Passes.{all_passes}
 use Rattle.lease_model.specs.server.Progress.{Progress, begun, opens_dropped}
-use Rattle.lease_model.specs.messages.Requests.{FileRequest, CreateAsk}
+use Rattle.lease_model.specs.messages.Requests.{FileRequest}
 use Rattle.lease_laws.specs.server.Laws.{Among, IsSound, IsBlocked, HasToWait}
 use Rattle.lease_model.specs.server.State.{Server, Open, Held, new_server, has_key, has_file, is_breaking, has_own_key, is_key}
 use Rattle.lease_laws.specs.server.Waiting.{WaitsWell, IsAbout, IsOpenOn, IsOrderly, IsUnder}

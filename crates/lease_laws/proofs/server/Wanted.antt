@@ -5,10 +5,10 @@ use Rattle.lease_state.specs.State.{State}
 use Rattle.lease_model.specs.server.KeyOrder.{key_added, open_key_added, keys_of}
 use Rattle.lease_model.specs.server.Naming.{key_of}
 use Rattle.lease_model.specs.server.State.{Server, Open, has_key}
-use Rattle.lease_model.specs.server.Wants.{Want, wants_where}
+use Rattle.lease_model.specs.server.Wants.{wants_where}
 use Rattle.lease_model.specs.values.Keys.{Key, key_eq, bytes_before, key_before}
 use Rattle.lease_laws.specs.server.Laws.{Among}
-use Rattle.lease_laws.specs.server.Wanted.{AreInKeyOrder, IsWantedFor, AreWanted}
+use Rattle.lease_laws.specs.server.Wanted.{AreInKeyOrder, AreWanted}
 use Rattle.lease_laws.proofs.server.KeyOrder.{wants_where-has}
 use Rattle.lease_laws.proofs.server.Keys.{key_eq-refl, key_of_parts}
 use Rattle.lease_laws.proofs.server.Lists.{if_cases, clash, not_false, among_map, among_filter}

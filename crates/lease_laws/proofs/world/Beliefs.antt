@@ -1,10 +1,10 @@
 -- In every run the record says what clients believe.
-use Rattle.std.proofs.Common.{◌≡◌, ◌≢◌, ℕ, Bool, true, false, List, [], ◌∷◌, length, refl, sym, ap, ◌∙◌, subst, ◌==◌}
+use Rattle.std.proofs.Common.{◌≡◌, ℕ, true, false, List, [], ◌∷◌, length, refl, sym, ap, ◌∙◌, subst, ◌==◌}
 use Rattle.std.specs.Prelude.{◌&&◌, if◌then◌else◌, reverse}
 use Rattle.std.specs.List.{list_all}
 use Rattle.std.proofs.lemmas.Bool.Decides.{Decides-eqb}
-use Rattle.lease_state.specs.State.{State, nothing_cached}
-use Rattle.lease_model.specs.client.Calls.{ClientCall, client_called}
+use Rattle.lease_state.specs.State.{nothing_cached}
+use Rattle.lease_model.specs.client.Calls.{client_called}
 use Rattle.lease_model.specs.client.Commands.{Note}
 use Rattle.lease_model.specs.client.State.{Client, belief, new_client}
 use Rattle.lease_model.specs.client.Step.{Step}

@@ -1,24 +1,20 @@
 -- What holds of a world in every run: where it holds of the first one, and calls, steps and facts keep it. For
 -- what speaks of the server, the clients and the record, and not of queues and links.
-use Rattle.std.proofs.Common.{◌≡◌, ℕ, Bool, true, false, List, [], ◌∷◌, Option, Some, None, refl, sym, ap, ◌∙◌, subst}
+use Rattle.std.proofs.Common.{◌≡◌, ℕ, List, [], ◌∷◌, Option, Some, None, refl, ◌∙◌, subst}
 use Rattle.std.specs.Prelude.{if◌then◌else◌}
 use Rattle.lease_model.specs.client.Calls.{ClientCall, client_called}
-use Rattle.lease_model.specs.client.Commanded.{commanded}
-use Rattle.lease_model.specs.client.Connection.{noticed, connection_made}
+use Rattle.lease_model.specs.client.Connection.{connection_made}
 use Rattle.lease_model.specs.client.State.{Client}
-use Rattle.lease_model.specs.client.Step.{Step}
-use Rattle.lease_model.specs.client.Taken.{taken}
 use Rattle.lease_model.specs.messages.Replies.{Reply, Out}
 use Rattle.lease_model.specs.messages.Requests.{Request}
 use Rattle.lease_model.specs.records.Facts.{Fact}
-use Rattle.lease_model.specs.server.Calls.{Call, called, receive, join, cut, expire, scavenge}
+use Rattle.lease_model.specs.server.Calls.{Call, called, join}
 use Rattle.lease_model.specs.server.Progress.{Progress}
 use Rattle.lease_model.specs.server.Queries.{breaking, kept}
-use Rattle.lease_model.specs.server.State.{Server, has_file}
-use Rattle.lease_model.specs.values.Keys.{Key}
+use Rattle.lease_model.specs.server.State.{has_file}
 use Rattle.lease_model.specs.values.Tables.{put}
 use Rattle.lease_model.specs.world.Events.{Event, served, stepped_in, server_takes, client_takes, link_cut, cut_over, link_noticed, notice_over, link_connected, connect_over, machine_key, timer_expired, scavenged, strayed_over, applied, client_of, happens, after}
-use Rattle.lease_model.specs.world.World.{World, Link, Setup, has_client, happened, delivered, all_delivered, requests_sent}
+use Rattle.lease_model.specs.world.World.{World, Link, has_client, happened, delivered, all_delivered, requests_sent}
 use Rattle.lease_laws.proofs.client.Words.{if_either}
 
 -- facts of connections, timers, messages taken and strays

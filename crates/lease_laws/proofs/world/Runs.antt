@@ -1,53 +1,44 @@
 -- In every run the server is sound, contents fit, and the record says what clients believe.
-use Rattle.std.proofs.Common.{◌≡◌, ◌≢◌, ℕ, zero, suc, ◌+◌, ◌≤◌, max, Bool, true, false, List, [], ◌∷◌, ◌++◌, length, take, Option, Some, None, refl, sym, ap, ◌∙◌, subst, arith, true≢false, ◌==◌}
-use Rattle.std.specs.Prelude.{◌&&◌, if◌then◌else◌, nat_le, slice_get, unwrap_or}
+use Rattle.std.proofs.Common.{◌≡◌, ℕ, zero, suc, ◌+◌, ◌≤◌, max, Bool, true, false, List, [], ◌∷◌, ◌++◌, length, take, Option, Some, None, refl, sym, subst, arith, ◌==◌}
+use Rattle.std.specs.Prelude.{if◌then◌else◌, nat_le, slice_get, unwrap_or}
 use Rattle.std.specs.List.{list_any, list_all}
-use Rattle.std.proofs.lemmas.Bool.Decides.{Decides-eqb}
 use Rattle.lease_state.proofs.ContentLemmas.{length-written}
 use Rattle.lease_state.specs.Content.{patch, patch_at}
-use Rattle.lease_state.specs.State.{State, nothing_cached}
+use Rattle.lease_state.specs.State.{State, is_state_within}
 use Rattle.lease_state.specs.declared.content.TheConstants.{FILE_LIMIT}
 use Rattle.lease_state.specs.declared.patch.Patch.{Patch}
 use Rattle.lease_state.specs.declared.status.Status.{Status}
 use Rattle.lease_state.specs.declared.access.Access.{Access}
 use Rattle.lease_state.specs.declared.access.Share.{Share}
-use Rattle.lease_model.specs.client.Calls.{ClientCall, client_called}
+use Rattle.lease_model.specs.client.Calls.{client_called}
 use Rattle.lease_model.specs.client.Commands.{Note}
-use Rattle.lease_model.specs.client.State.{Client, belief, new_client}
 use Rattle.lease_model.specs.client.Step.{Step}
-use Rattle.lease_model.specs.messages.Replies.{Reply, Out}
+use Rattle.lease_model.specs.messages.Replies.{Reply}
 use Rattle.lease_model.specs.messages.Requests.{FileRequest, CreateAsk, LeaseOf}
-use Rattle.lease_model.specs.records.Facts.{Fact}
-use Rattle.lease_model.specs.records.Past.{believed}
 use Rattle.lease_model.specs.server.Acknowledge.{acknowledged, judged, break_ended}
 use Rattle.lease_model.specs.server.Answers.{concluded, answered, created, closed, changed, read_done, on_open, on_contexts}
-use Rattle.lease_model.specs.server.Attempt.{Outcome, is_left_open}
-use Rattle.lease_model.specs.server.Calls.{Call, called, join, joined, is_lost, opens_disconnected, client_forgotten, key_expired, is_left_behind}
+use Rattle.lease_model.specs.server.Attempt.{Outcome}
+use Rattle.lease_model.specs.server.Calls.{Call, called, join, joined, opens_disconnected, client_forgotten, key_expired, is_left_behind}
 use Rattle.lease_model.specs.server.Findings.{connected_open}
 use Rattle.lease_model.specs.server.Grant.{granted, granted_with, lease_after, lease_put, reconnected}
 use Rattle.lease_model.specs.server.Naming.{key_of}
 use Rattle.lease_model.specs.server.Progress.{Progress, begun, opens_dropped, with_opens, lease_lowered, break_begun, request_held, held_left, replied, refused}
-use Rattle.lease_model.specs.server.State.{Server, Open, Lease, Held, new_server, with_number, has_lease, has_key, is_breaking}
-use Rattle.lease_model.specs.values.LeaseStates.{is_within}
+use Rattle.lease_model.specs.server.State.{Server, Open, new_server, with_number, has_lease, is_breaking}
 use Rattle.lease_model.specs.values.Limits.{last_file_id, last_file_number}
 use Rattle.lease_model.specs.values.Patches.{is_within_limit}
 use Rattle.lease_model.specs.values.Tables.{put, numbered}
 use Rattle.lease_model.specs.world.Allowed.{is_allowed_setup, is_content}
 use Rattle.lease_model.specs.world.Events.{Event, served, stepped_in, after}
-use Rattle.lease_model.specs.world.World.{World, Setup, Link, first_world, happened, delivered, all_delivered, requests_sent, fact_of, noted, starts_from}
-use Rattle.lease_laws.specs.client.Laws.{believed_after}
+use Rattle.lease_model.specs.world.World.{World, Setup, first_world, happened, requests_sent, fact_of, noted}
 use Rattle.lease_laws.specs.server.Laws.{IsSound}
 use Rattle.lease_laws.specs.server.SmallSteps.{SmallStep, step_taken, steps_taken, IsGuarded, AreGuarded, MayServe, call_begun}
 use Rattle.lease_laws.specs.server.Waiting.{WaitsWell}
-use Rattle.lease_laws.proofs.client.AllBeliefs.{called-beliefs}
-use Rattle.lease_laws.proofs.client.InFiles.{InFiles, first_in_files, called_in_files}
-use Rattle.lease_laws.proofs.client.Thin.{put_same, put_other}
 use Rattle.lease_laws.proofs.server.Calls.{new_server-sound, called-sound}
-use Rattle.lease_laws.proofs.server.Lists.{if_cases, either, clash, and_parts}
+use Rattle.lease_laws.proofs.server.Lists.{if_cases, and_parts}
 use Rattle.lease_laws.proofs.server.StepCalls.{called-steps}
 use Rattle.lease_laws.proofs.server.StepKeeps.{end_serves}
 use Rattle.lease_laws.proofs.server.WaitCalls.{first-waits-well, called-waits-well}
-use Rattle.lease_laws.proofs.world.Kept.{IsKept, IsOfWorld, served-clients, served-server, after-kept}
+use Rattle.lease_laws.proofs.world.Kept.{IsKept, served-server, after-kept}
 
 -- ---- what a client's step leaves alone
 
@@ -199,7 +190,7 @@ judged_contents : (key : _) (state : State) (broken : Option State) (progress : 
 unfolding break_ended
 judged_contents key state None progress = refl
 judged_contents key state (Some lowered) progress =
-    if_cases (λ p. p.server.contents ≡ progress.server.contents) (is_within state lowered)
+    if_cases (λ p. p.server.contents ≡ progress.server.contents) (is_state_within state lowered)
     (break_ended key state progress)
     (replied key.client (Reply.AckFailed Status.RequestNotAccepted) progress) (λ e. refl) (λ e. refl)
 

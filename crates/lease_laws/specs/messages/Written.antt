@@ -1,5 +1,5 @@
 -- What servers and client machines write has bytes, and reading them gives it back.
-use Rattle.std.specs.Prelude.{◌≡◌, ◌<◌, ◌^◌, ⊤, ℕ, List, [], ◌∷◌, length, Option, Some, None, IfSome}
+use Rattle.std.specs.Prelude.{◌≡◌, ◌<◌, ◌^◌, ⊤, ℕ, List, [], ◌∷◌, length, Some, IfSome}
 use Rattle.lease_model.specs.client.Calls.{ClientCall, client_called}
 use Rattle.lease_model.specs.client.State.{Client, Phase}
 use Rattle.lease_model.specs.messages.FromBytes.{request_of, reply_of}

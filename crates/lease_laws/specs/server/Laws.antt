@@ -2,10 +2,10 @@
 use Rattle.std.specs.Prelude.{◌≡◌, ℕ, ◌≤◌, ◌<◌, ◌≢◌, ◌⊎◌, Bool, true, false, Option, Some, List, [], ◌∷◌, ⊤}
 use Rattle.std.specs.List.{list_any}
 use Rattle.lease_state.specs.Access.{conflict}
-use Rattle.lease_state.specs.State.{State, granted_form_of, needs_acknowledgment}
+use Rattle.lease_state.specs.State.{State, granted_form_of, needs_acknowledgment, is_state_within}
 use Rattle.lease_model.specs.server.Ready.{breaks_to_some}
 use Rattle.lease_model.specs.values.Keys.{Key}
-use Rattle.lease_model.specs.values.LeaseStates.{is_within, same_state}
+use Rattle.lease_model.specs.values.LeaseStates.{same_state}
 use Rattle.lease_model.specs.messages.Requests.{FileRequest}
 use Rattle.lease_model.specs.server.State.{Server, Open, Lease, no_lease, is_breaking, has_key, has_own_key}
 use Rattle.lease_model.specs.server.Naming.{own_key, key_of_open}
@@ -25,7 +25,7 @@ AreInOrder (one ∷ opens) =
 -- A state that a lease may be broken to: a granted form and a proper part of the lease's state,
 -- which holds more than reads.
 pub record IsBrokenTo (state : State) (lowered : State) : Type 0 where
-  pub is_part : is_within lowered state ≡ true
+  pub is_part : is_state_within lowered state ≡ true
   pub is_less : same_state lowered state ≡ false
   pub is_granted_form : granted_form_of lowered ≡ lowered
   pub is_acknowledged : needs_acknowledgment state ≡ true

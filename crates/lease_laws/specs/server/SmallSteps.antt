@@ -1,14 +1,14 @@
 -- The small steps of a server, each with its guard, that is what must hold for it to be taken; and calls
 -- as lists of them.
-use Rattle.std.specs.Prelude.{◌≡◌, ◌⊎◌, ⊤, ℕ, Bool, true, false, Option, Some, None, List, [], ◌∷◌, ◌++◌, if◌then◌else◌}
+use Rattle.std.specs.Prelude.{◌≡◌, ◌⊎◌, ⊤, ℕ, true, false, Option, Some, None, List, [], ◌∷◌, ◌++◌, if◌then◌else◌}
 use Rattle.std.specs.List.{list_any}
 use Rattle.lease_state.specs.Access.{conflict}
-use Rattle.lease_state.specs.State.{State, needs_acknowledgment, granted_form_of}
+use Rattle.lease_state.specs.State.{State, needs_acknowledgment, granted_form_of, is_state_within}
 use Rattle.lease_state.specs.declared.access.Access.{Access}
 use Rattle.lease_state.specs.declared.access.Share.{Share}
 use Rattle.lease_state.specs.declared.patch.Patch.{Patch}
 use Rattle.lease_state.specs.declared.status.Status.{Status}
-use Rattle.lease_model.specs.messages.Requests.{FileRequest, Request, CreateAsk, LeaseOf}
+use Rattle.lease_model.specs.messages.Requests.{FileRequest, Request, LeaseOf}
 use Rattle.lease_model.specs.server.Acknowledge.{acknowledged}
 use Rattle.lease_model.specs.server.Answers.{concluded}
 use Rattle.lease_model.specs.server.Attempt.{Outcome, is_left_open}
@@ -19,7 +19,7 @@ use Rattle.lease_model.specs.server.Passes.{is_behind}
 use Rattle.lease_model.specs.server.Progress.{Progress, begun, opens_dropped, lease_lowered, break_begun, request_held, held_left}
 use Rattle.lease_model.specs.server.State.{Server, Open, Lease, Held, has_file, has_key, has_own_key, has_lease, is_breaking}
 use Rattle.lease_model.specs.values.Keys.{Key}
-use Rattle.lease_model.specs.values.LeaseStates.{is_within, same_state}
+use Rattle.lease_model.specs.values.LeaseStates.{same_state}
 use Rattle.lease_model.specs.values.Patches.{is_within_limit}
 use Rattle.lease_model.specs.values.Sharing.{may_read, may_write}
 use Rattle.lease_laws.specs.server.Laws.{Among, IsSound, HasToWait}
@@ -118,7 +118,7 @@ MayEnd server client request Outcome.Ready = (server.present client ≡ true) ×
 
 -- A state that a lease may be lowered to: a granted form, and a proper part of the lease's state.
 pub record IsLowered (state : State) (lowered : State) : Type 0 where
-  pub is_part : is_within lowered state ≡ true
+  pub is_part : is_state_within lowered state ≡ true
   pub is_granted_form : granted_form_of lowered ≡ lowered
   pub is_less : same_state lowered state ≡ false
 

@@ -1,12 +1,11 @@
 -- What small steps give out, and what they make of leases; and what follows for calls.
-use Rattle.std.specs.Prelude.{◌≡◌, ◌⊎◌, ⊤, ℕ, true, false, Option, Some, None, List, [], ◌∷◌, ◌++◌}
-use Rattle.lease_state.specs.State.{State}
-use Rattle.lease_model.specs.messages.Replies.{Reply, Out}
+use Rattle.std.specs.Prelude.{◌≡◌, ◌⊎◌, ⊤, true, false, Some, None, List, [], ◌∷◌, ◌++◌}
+use Rattle.lease_state.specs.State.{State, is_state_within}
+use Rattle.lease_model.specs.messages.Replies.{Out}
 use Rattle.lease_model.specs.server.Calls.{Call, called}
 use Rattle.lease_model.specs.server.Progress.{Progress, break_notice}
 use Rattle.lease_model.specs.server.State.{Server, Lease, has_lease, is_breaking}
 use Rattle.lease_model.specs.values.Keys.{Key}
-use Rattle.lease_model.specs.values.LeaseStates.{is_within}
 use Rattle.lease_model.specs.values.Patches.{is_within_limit}
 use Rattle.lease_laws.specs.server.Laws.{Among, IsSound}
 use Rattle.lease_laws.specs.server.Outs.{EachOut, IsNoBreak, GoOn}
@@ -19,14 +18,14 @@ use Rattle.lease_laws.specs.server.Waiting.{WaitsWell}
 pub record IsRaised (before : Lease) (after : Lease) : Type 0 where
   pub was_settled : is_breaking before ≡ false
   pub is_settled : is_breaking after ≡ false
-  pub is_more : is_within before.state after.state ≡ true
+  pub is_more : is_state_within before.state after.state ≡ true
 
 -- a break ends: what is left is a part of the state broken to
 pub record IsEnded (before : Lease) (after : Lease) : Type 0 where
   pub lowered : State
   pub was_breaking : before.broken_to ≡ Some lowered
   pub is_settled : is_breaking after ≡ false
-  pub is_part : is_within after.state lowered ≡ true
+  pub is_part : is_state_within after.state lowered ≡ true
 
 -- Where a request is answered, the lease of a key stays, or is gone with its last open, or rises.
 abbrev pub StaysOrRises : Server → Server → Key → Type 0

@@ -3,7 +3,7 @@ use Rattle.std.specs.Prelude.{◌≡◌, ⊤, true, Bool, List, [], ◌∷◌}
 use Rattle.lease_state.specs.State.{State}
 use Rattle.lease_model.specs.server.State.{Server, Open, has_key}
 use Rattle.lease_model.specs.server.Wants.{Want, wants_where}
-use Rattle.lease_model.specs.values.Keys.{Key, key_before}
+use Rattle.lease_model.specs.values.Keys.{key_before}
 use Rattle.lease_laws.specs.server.Laws.{Among}
 
 -- strictly in order: the key of each want stands before those of all wants behind it

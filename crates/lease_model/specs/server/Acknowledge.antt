@@ -1,9 +1,8 @@
 -- An acknowledgment of a lease break (MS-SMB2 3.3.5.22.2).
 use Rattle.std.specs.Prelude.{ℕ, Option, Some, None, [], ◌∷◌, if◌then◌else◌}
-use Rattle.lease_state.specs.State.{State, granted_form_of}
+use Rattle.lease_state.specs.State.{State, granted_form_of, is_state_within}
 use Rattle.lease_state.specs.declared.status.Status.{Status}
 use Rattle.lease_model.specs.values.Keys.{Key}
-use Rattle.lease_model.specs.values.LeaseStates.{is_within}
 use Rattle.lease_model.specs.server.Progress.{Progress, stepped, with_lease, replied}
 use Rattle.lease_model.specs.messages.Replies.{Reply, Out}
 use Rattle.lease_model.specs.messages.Requests.{LeaseOf}
@@ -23,7 +22,7 @@ break_ended key state progress = stepped progress
 abbrev pub judged : Key → State → Option State → Progress → Progress
 judged key state None progress = replied key.client (Reply.AckFailed Status.Unsuccessful) progress
 judged key state (Some lowered) progress =
-    if is_within state lowered then break_ended key state progress
+    if is_state_within state lowered then break_ended key state progress
     else replied key.client (Reply.AckFailed Status.RequestNotAccepted) progress
 
 unfoldable pub acknowledged : ℕ → Option LeaseOf → Progress → Progress

@@ -1,12 +1,11 @@
 -- A create that is ready: a new open, or a durable open connected again.
 use Rattle.std.specs.Prelude.{ℕ, ◌+◌, Bool, true, false, Option, Some, None, List, [], ◌∷◌, ◌++◌, map, if◌then◌else◌, ◌==◌, ◌&&◌}
-use Rattle.lease_state.specs.State.{State, nothing_cached, granted_form_of}
+use Rattle.lease_state.specs.State.{State, nothing_cached, granted_form_of, is_state_within}
 use Rattle.lease_state.specs.declared.access.Access.{Access}
 use Rattle.lease_state.specs.declared.access.Share.{Share}
 use Rattle.lease_state.specs.declared.status.Status.{Status}
 use Rattle.lease_model.specs.server.Allowed.{allowed}
 use Rattle.lease_model.specs.values.Keys.{Key}
-use Rattle.lease_model.specs.values.LeaseStates.{is_within}
 use Rattle.lease_model.specs.values.Limits.{last_file_id}
 use Rattle.lease_model.specs.server.Progress.{Progress, stepped, with_lease, replied}
 use Rattle.lease_model.specs.messages.Replies.{Reply, Out, LeaseGiven}
@@ -24,7 +23,7 @@ offered server key file want =
 unfoldable pub lease_granted : Server → Key → ℕ → State → Lease
 lease_granted server key file want =
     if is_breaking (server.leases key) then server.leases key
-    else (if is_within (server.leases key).state (granted_form_of want)
+    else (if is_state_within (server.leases key).state (granted_form_of want)
     then record { state = offered server key file want; broken_to = None }
     else server.leases key)
 

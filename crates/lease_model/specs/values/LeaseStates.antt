@@ -1,12 +1,7 @@
 -- Sets of caching rights: part, meet, and one right taken away (MS-SMB2 2.2.13.2.8).
-use Rattle.std.specs.Prelude.{Bool, false, not, ◌&&◌, ◌||◌}
+use Rattle.std.specs.Prelude.{Bool, false, ◌&&◌, ◌||◌}
 use mathlib.Core.Bool.{beq}
 use Rattle.lease_state.specs.State.{State}
-
--- each right of the one is a right of the other
-abbrev pub is_within : State → State → Bool
-is_within one other =
-    (not one.read || other.read) && (not one.write || other.write) && (not one.handle || other.handle)
 
 abbrev pub same_state : State → State → Bool
 same_state one other = beq one.read other.read && beq one.write other.write && beq one.handle other.handle
