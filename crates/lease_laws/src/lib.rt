@@ -15,7 +15,9 @@ pub use client_laws::clients_are_sound;
 pub use enough_laws::rounds_and_passes_end;
 pub use from_bytes::{bytes_laws, machines_write_bytes, written_is_read};
 pub use past_laws::{contents_of_runs, writes_of_runs};
-pub use server_laws::{laws_of_servers, outs_of_calls, waiting_of_servers, waits_of_tries, wants_are_exact};
+pub use server_laws::{
+    laws_of_servers, outs_of_calls, waiting_of_servers, waits_of_tries, wants_are_exact,
+};
 pub use step_laws::{breaks_of_steps, calls_go_by_steps, outs_reach_and_fit};
 pub use verdict_law::verdict_decides;
 pub use world_laws::runs_are_lawful;

@@ -103,8 +103,11 @@ last_handle_sound client file live sent sound on s quiet = if_either Sound live.
     (turned client file (turn_of (live_entry (record live { handles = 0 }) sent) Answer.Done []))
     (turned client file (turn_of (closed_entry (sent ++ live.unsent)) Answer.Done
     (write_requests live.file_id live.unsent ++ Request.OnFile (FileRequest.Close live.file_id) ∷ [])))
-    (turned_sound client file _ sound (on, counted live 0 live.reads s
-    (λ asks. clash (is_asking live) asks quiet)))
+    (turned_sound client file _ sound (
+      on,
+      counted live 0 live.reads s
+          (λ asks. clash (is_asking live) asks quiet),
+    ))
     (closed_sound client file _ (sent ++ live.unsent) sound on refl)
 
 -- a Close of a live entry
@@ -116,8 +119,11 @@ close_sound client file live sent sound on s = if_cases Sound (nat_lt 1 live.han
     (live_entry (record live { handles = one_handle_less live.handles }) sent) Answer.Done []))
     (if is_asking live || has_unanswered live sent then refused_step client Refusal.Busy
     else last_handle_closed client file live sent)
-    (λ more. turned_sound client file _ sound (on, counted live (one_handle_less live.handles) live.reads s
-    (λ asks. one_less_still live.handles more)))
+    (λ more. turned_sound client file _ sound (
+      on,
+      counted live (one_handle_less live.handles) live.reads s
+          (λ asks. one_less_still live.handles more),
+    ))
     (λ last. if_cases Sound (is_asking live || has_unanswered live sent) (refused_step client Refusal.Busy)
     (last_handle_closed client file live sent) (λ busy. sound)
     (λ free. last_handle_sound client file live sent sound on s

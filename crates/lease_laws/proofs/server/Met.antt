@@ -84,4 +84,3 @@ wants_met-found [] progress client file_id = refl
 wants_met-found (want ∷ wants) progress client file_id =
     wants_met-found wants (want_met want progress) client file_id
     ∙ want_met-found want progress client file_id
-

@@ -335,8 +335,11 @@ create_may server client file access share ask wants same none =
     → (has_file server file ≡ true) × MayCreate server client file access share ask.lease ask.reconnect)
     (has_file server file) (asked_finding server client file access share ask.lease ask.reconnect)
     (Finding.Fails Status.ObjectNameNotFound)
-    (λ there e. (there, free ask.lease ask.reconnect e
-    (contexts_free server client file access share (Some ask) wants same none)))
+    (λ there e. (
+      there,
+      free ask.lease ask.reconnect e
+          (contexts_free server client file access share (Some ask) wants same none),
+    ))
     (λ gone never. absurd (cc)) same
   where
     free : (lease : Option LeaseOf) (again : Option ℕ)

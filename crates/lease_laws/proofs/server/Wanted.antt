@@ -116,11 +116,17 @@ key_added-ordered new (first ∷ keys) o =
     (if key_before new first then new ∷ first ∷ keys else first ∷ key_added new keys)
     (λ e. o)
     (λ e. if_cases AreOrdered (key_before new first) (new ∷ first ∷ keys) (first ∷ key_added new keys)
-    (λ b. (λ other a. ⊎_elim (λ same. ap (λ x. key_before new x) same ∙ b)
-    (λ later. key_before-then new first other b (o.0 other later)) a, o))
-    (λ b. (λ other a. ⊎_elim
-    (λ same. ap (λ x. key_before first x) same ∙ key_before-other new first e b)
-    (λ old. o.0 other old) (key_added-from other new keys a), key_added-ordered new keys o.1)))
+    (λ b. (
+      λ other a. ⊎_elim (λ same. ap (λ x. key_before new x) same ∙ b)
+          (λ later. key_before-then new first other b (o.0 other later)) a,
+      o,
+    ))
+    (λ b. (
+      λ other a. ⊎_elim
+          (λ same. ap (λ x. key_before first x) same ∙ key_before-other new first e b)
+          (λ old. o.0 other old) (key_added-from other new keys a),
+      key_added-ordered new keys o.1,
+    )))
 
 -- so do the keys of opens
 keys_of-ordered : (opens : List Open) → AreOrdered (keys_of opens)
