@@ -1,5 +1,5 @@
 -- The passes end: each but the last answers a held request, so that one more than are held is enough.
-use Rattle.std.proofs.Common.{◌≡◌, refl, sym, ap, ◌∙◌, ℕ, ◌+◌, ◌≤◌, ◌<◌, zero, suc, Bool, true, false, not, cond, List, [], ◌∷◌, ◌++◌, length, append-nil, append_assoc, length-append, arith, true≢false, ◌==◌}
+use Rattle.std.proofs.Common.{◌≡◌, refl, sym, ap, ◌∙◌, ℕ, ◌+◌, ◌≤◌, ◌<◌, zero, suc, Bool, true, false, not, List, [], ◌∷◌, ◌++◌, length, append-nil, append_assoc, length-append, arith, true≢false, ◌==◌}
 use Rattle.std.specs.Prelude.{◌&&◌, if◌then◌else◌, Option, Some, None}
 use Rattle.std.proofs.lemmas.Bool.Decides.{Decides-eqb}
 use Rattle.lease_state.specs.State.{State, needs_acknowledgment}
@@ -12,7 +12,7 @@ use Rattle.lease_state.specs.declared.patch.Patch.{Patch}
 use Rattle.lease_model.specs.server.Grant.{granted, granted_with, reconnected, lease_after}
 use Rattle.lease_model.specs.values.Keys.{Key}
 use Rattle.lease_model.specs.values.Limits.{last_file_id}
-use Rattle.lease_model.specs.server.Passes.{Pass, is_behind, left_waiting, pass_answered, after_try, tried_again, pass_over, one_pass, passes_for}
+use Rattle.lease_model.specs.server.Passes.{Pass, is_behind, left_waiting, pass_answered, after_try, tried_again, pass_over, one_pass}
 use Rattle.lease_model.specs.server.Progress.{Progress, opens_dropped, with_opens, lease_lowered, break_begun, held_left, replied, refused}
 use Rattle.lease_model.specs.server.Ready.{is_ready}
 use Rattle.lease_model.specs.messages.Replies.{Reply}
@@ -300,21 +300,3 @@ one_pass-fewer file progress e =
     ap length (i.is_held ∙ append-nil (one_pass file progress).passed) in
     nothing_more (length (one_pass file progress).passed) (length (progress.server.held file)) _ less same
 
--- a choice between two that are one
-cond_same : {X : Type 0} (b : Bool) (x y z : X) → (b ≡ true → x ≡ y) → cond b x z ≡ cond b y z
-cond_same true x y z e = e refl
-cond_same false x y z e = refl
-
--- any two numbers of passes above that of the held requests come to one
-pub passes_for-same : (one other file : ℕ) (progress : Progress) → length (progress.server.held file) < one
-    → length (progress.server.held file) < other
-    → passes_for one file progress ≡ passes_for other file progress
-unfolding passes_for
-passes_for-same zero other file progress a b = absurd (omega (arith, a))
-passes_for-same (suc one) zero file progress a b = absurd (omega (arith, b))
-passes_for-same (suc one) (suc other) file progress a b =
-    cond_same (one_pass file progress).has_answered (passes_for one file (one_pass file progress).progress)
-    (passes_for other file (one_pass file progress).progress) (one_pass file progress).progress
-    (λ e. let less = one_pass-fewer file progress e in
-    passes_for-same one other file (one_pass file progress).progress (omega (arith, less, a))
-    (omega (arith, less, b)))

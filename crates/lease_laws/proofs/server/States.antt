@@ -168,7 +168,3 @@ or_false : (a b : Bool) → (a || b) ≡ false → (a ≡ false) × (b ≡ false
 or_false true b e = absurd (true≢false e)
 or_false false b e = (refl, e)
 
--- what needs no acknowledgment holds neither W nor H
-pub light_state : (state : State) → needs_acknowledgment state ≡ false
-    → (state.write ≡ false) × (state.handle ≡ false)
-light_state state light = or_false state.write state.handle light

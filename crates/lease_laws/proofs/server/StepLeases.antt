@@ -32,11 +32,6 @@ use Rattle.lease_laws.proofs.server.StepKeeps.{step-sound, end_serves}
 use Rattle.lease_laws.proofs.server.Progress.{held_left-sound}
 use Rattle.lease_laws.proofs.server.StepOuts.{step-tells}
 
--- nothing becomes of a lease
-same_lease : (before after : Server) (key : Key) → after.leases key ≡ before.leases key
-    → StaysOrRises before after key
-same_lease before after key e = inl e
-
 -- ---- dropped opens
 
 -- a lease stays, or is gone with its last open
