@@ -8,10 +8,11 @@ use Rattle.lease_wire.specs.Field.{number_at}
 use Rattle.lease_wire.specs.Notification.{Notice, IsNotification, notification_bytes}
 use Rattle.lease_wire.specs.declared.create.Direction.{Direction}
 use Rattle.lease_wire.proofs.CanonicalLaws.{written_reads_back}
+use Rattle.lease_wire.proofs.ReadingLaws.{value_is_read}
 use Rattle.lease_wire.proofs.Messages.{acknowledgment_layout, notification_layout}
 use Rattle.lease_wire.proofs.Pieces.{number_at-taken, bytes_at-taken}
 use Rattle.lease_model.specs.messages.FromBytes.{ask_found, answer_found, acknowledged_in, notice_in}
-use Rattle.lease_laws.specs.messages.Bytes.{AcknowledgmentIsFound, NotificationIsFound, NoAcknowledgmentIsFound, NoNotificationIsFound, WrittenMessagesAreFound, WrittenContextsAreFound}
+use Rattle.lease_laws.specs.messages.Bytes.{AcknowledgmentIsFound, NotificationIsFound, NoAcknowledgmentIsFound, NoNotificationIsFound, ContextsAreFound, FaultyContextsAreNotFound, WrittenMessagesAreFound, WrittenContextsAreFound}
 
 -- bytes whose first ones are so many are as many
 reaches : (size : ℕ) (bytes : List ℕ) → length (take size bytes) ≡ size → size ≤ length bytes
@@ -91,4 +92,16 @@ pub written_contexts_found : WrittenContextsAreFound
 written_contexts_found = (
   λ v is. ap ask_found (written_reads_back Direction.Request v is),
   λ v is. ap answer_found (written_reads_back Direction.Reply v is),
+)
+
+pub contexts_found : ContextsAreFound
+contexts_found = (
+  λ text v holds. ap ask_found (((value_is_read Direction.Request text).value v).1 holds),
+  λ text v holds. ap answer_found (((value_is_read Direction.Reply text).value v).1 holds),
+)
+
+pub faulty_contexts_not_found : FaultyContextsAreNotFound
+faulty_contexts_not_found = (
+  λ text fault faulty. ap ask_found (((value_is_read Direction.Request text).fault fault).1 faulty),
+  λ text fault faulty. ap answer_found (((value_is_read Direction.Reply text).fault fault).1 faulty),
 )

@@ -4,7 +4,9 @@ use Rattle.lease_wire.specs.Acknowledgment.{KeyAndState, IsAcknowledgment, ackno
 use Rattle.lease_wire.specs.Canonical.{canonical_text, IsWritable}
 use Rattle.lease_wire.specs.Field.{number_at}
 use Rattle.lease_wire.specs.Gathering.{value_of}
-use Rattle.lease_wire.specs.Names.{CreateView}
+use Rattle.lease_wire.specs.Faults.{IsFaultOf}
+use Rattle.lease_wire.specs.Names.{CreateView, HoldsValue}
+use Rattle.lease_wire.specs.declared.fault.WireFault.{WireFault}
 use Rattle.lease_wire.specs.Notification.{Notice, IsNotification, notification_bytes}
 use Rattle.lease_wire.specs.declared.create.Direction.{Direction}
 use Rattle.lease_model.specs.messages.FromBytes.{ask_found, answer_found, acknowledged_in, notice_in}
@@ -30,6 +32,21 @@ NoAcknowledgmentIsFound = (bytes : List ℕ) → (length bytes < 36) ⊎ (number
 
 abbrev pub NoNotificationIsFound : Type 0
 NoNotificationIsFound = (bytes : List ℕ) → (length bytes < 44) ⊎ (number_at 0 2 bytes ≢ 44) → notice_in bytes ≡ None
+
+-- contexts that hold a value, and those that have a fault, which are found to hold none
+abbrev pub ContextsAreFound : Type 0
+ContextsAreFound =
+    ((text : List ℕ) (v : CreateView) → HoldsValue Direction.Request text v
+    → ask_found (value_of Direction.Request text) ≡ ask_found (Ok v))
+    × ((text : List ℕ) (v : CreateView) → HoldsValue Direction.Reply text v
+    → answer_found (value_of Direction.Reply text) ≡ answer_found (Ok v))
+
+abbrev pub FaultyContextsAreNotFound : Type 0
+FaultyContextsAreNotFound =
+    ((text : List ℕ) (fault : WireFault) → IsFaultOf Direction.Request text fault
+    → ask_found (value_of Direction.Request text) ≡ None)
+    × ((text : List ℕ) (fault : WireFault) → IsFaultOf Direction.Reply text fault
+    → answer_found (value_of Direction.Reply text) ≡ None)
 
 -- what is written is found
 abbrev pub WrittenMessagesAreFound : Type 0

@@ -1,4 +1,4 @@
-use Rattle.lease_laws.proofs.messages.FromBytesLemmas.{acknowledgment_found, no_acknowledgment_found, notification_found, no_notification_found, written_messages_found, written_contexts_found}
+use Rattle.lease_laws.proofs.messages.FromBytesLemmas.{acknowledgment_found, no_acknowledgment_found, notification_found, no_notification_found, contexts_found, faulty_contexts_not_found, written_messages_found, written_contexts_found}
 use Rattle.lease_laws.proofs.from_bytes.bytes_laws.Goals as goal
 
 pub returns-clause-acknowledgment : goal.returns-clause-acknowledgment
@@ -12,6 +12,12 @@ returns-clause-notification c = notification_found
 
 pub returns-clause-no_notification : goal.returns-clause-no_notification
 returns-clause-no_notification c = no_notification_found
+
+pub returns-clause-contexts : goal.returns-clause-contexts
+returns-clause-contexts c = contexts_found
+
+pub returns-clause-faulty : goal.returns-clause-faulty
+returns-clause-faulty c = faulty_contexts_not_found
 
 pub returns-clause-written_messages : goal.returns-clause-written_messages
 returns-clause-written_messages c = written_messages_found
