@@ -141,6 +141,10 @@ mod tests {
         })
     }
 
+    fn sevens(alloc: Global, count: usize) -> Result<Vec<u8>, Fail> {
+        Ok(vec![in alloc; 7; count]?)
+    }
+
     #[test]
     fn patches_a_content(rt: HostRuntime) -> Result<(), Fail> {
         let alloc = rt.alloc();
@@ -187,20 +191,20 @@ mod tests {
     #[test]
     fn keeps_a_long_content_as_it_grows(rt: HostRuntime) -> Result<(), Fail> {
         let alloc = rt.alloc();
-        let mut long = Content::new(vec![in alloc; 7; 70_000]?)?;
+        let mut long = Content::new(sevens(alloc, 70_000)?)?;
         assert_eq!(rt; long.apply(&patch(alloc, 70_001, b"XY")?), Ok(()));
         assert_eq!(rt; long.bytes().len(), 70_003);
-        assert!(rt; long.bytes()[..70_000].iter().all(|byte| *byte == 7));
-        assert_eq!(rt; &long.bytes()[70_000..], b"\0XY".as_slice());
+        assert!(rt; long.bytes().iter().take(70_000).all(|byte| *byte == 7));
+        assert!(rt; long.bytes().ends_with(b"\0XY"));
         Ok(())
     }
 
     #[test]
     fn takes_no_longer_content(rt: HostRuntime) -> Result<(), Fail> {
         let alloc = rt.alloc();
-        let most = Content::new(vec![in alloc; 7; 1_048_576]?)?;
+        let most = Content::new(sevens(alloc, 1_048_576)?)?;
         assert_eq!(rt; most.try_copy()?.bytes(), most.bytes());
-        let more = Content::new(vec![in alloc; 7; 1_048_577]?);
+        let more = Content::new(sevens(alloc, 1_048_577)?);
         assert_eq!(rt; more.map(|_| ()), Err(ContentFault::TooLong));
         Ok(())
     }
