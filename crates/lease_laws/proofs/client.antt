@@ -1,6 +1,7 @@
 pub mod AllBeliefs
 pub mod Beliefs
 pub mod Entries
+pub mod Forms
 pub mod InFiles
 pub mod Notes
 pub mod Numbers

@@ -24,6 +24,7 @@ pub mod OutLists
 pub mod OutSteps
 pub mod PassWaits
 pub mod Passes
+pub mod Presence
 pub mod Progress
 pub mod Ready
 pub mod Rounds

@@ -1,3 +1,4 @@
 pub mod Beliefs
 pub mod Kept
+pub mod Links
 pub mod Runs

@@ -1,4 +1,5 @@
 use Rattle.lease_laws.proofs.world.Beliefs.{beliefs_of_runs}
+use Rattle.lease_laws.proofs.world.Links.{links_of_runs}
 use Rattle.lease_laws.proofs.world.Runs.{servers_of_runs, contents_of_runs_fit}
 use Rattle.lease_laws.proofs.world_laws.runs_are_lawful.Goals as goal
 
@@ -10,3 +11,6 @@ returns-clause-contents c = contents_of_runs_fit
 
 pub returns-clause-beliefs : goal.returns-clause-beliefs
 returns-clause-beliefs c = beliefs_of_runs
+
+pub returns-clause-links : goal.returns-clause-links
+returns-clause-links c = links_of_runs

@@ -1,0 +1,60 @@
+-- Which clients a call leaves connected.
+use Rattle.std.proofs.Common.{◌≡◌, ℕ, Bool, true, false, List, [], ◌∷◌, refl, sym, ◌∙◌, subst}
+use Rattle.std.specs.Prelude.{if◌then◌else◌, ⊤}
+use Rattle.std.specs.List.{list_any}
+use Rattle.lease_model.specs.server.Calls.{Call, called, join, joined, opens_disconnected, client_forgotten, key_expired, is_left_behind}
+use Rattle.lease_model.specs.server.Progress.{Progress, begun, opens_dropped, with_opens}
+use Rattle.lease_model.specs.server.State.{Server, is_breaking}
+use Rattle.lease_model.specs.values.Tables.{put}
+use Rattle.lease_laws.specs.server.Laws.{IsSound}
+use Rattle.lease_laws.specs.server.SmallSteps.{SmallStep, step_taken, steps_taken, AreGuarded, call_begun}
+use Rattle.lease_laws.specs.server.Waiting.{WaitsWell}
+use Rattle.lease_laws.proofs.server.StepCalls.{called-steps, call_begun-up}
+use Rattle.lease_laws.proofs.server.StepKeeps.{step-sound, step-goes}
+
+steps_present : (steps : List SmallStep) (progress : Progress) → IsSound progress.server → AreGuarded steps progress
+    → (c : ℕ) → (steps_taken steps progress).server.present c ≡ progress.server.present c
+steps_present [] progress s guarded c = refl
+steps_present (step ∷ steps) progress s guarded c =
+    steps_present steps (step_taken step progress) (step-sound step progress s guarded.0) guarded.1 c
+    ∙ (step-goes step progress s guarded.0).ups c
+
+-- only what comes before the first step changes that
+pub called_present : (server : Server) (call : Call) → IsSound server → WaitsWell server → (c : ℕ)
+    → (called server call).server.present c ≡ (call_begun server call).server.present c
+called_present server call s w c =
+    let go = called-steps server call s w in
+    subst (λ p. p.server.present c ≡ (call_begun server call).server.present c) (sym go.lead)
+    (steps_present go.steps (call_begun server call) (call_begun-up server call s w).sound go.are_guarded c)
+
+either_present : (b : Bool) (x y : Progress) (c : ℕ) (p : Bool) → x.server.present c ≡ p
+    → y.server.present c ≡ p → (if b then x else y).server.present c ≡ p
+either_present true x y c p e f = e
+either_present false x y c p e f = f
+
+-- a call that is no join and no cut
+abbrev pub IsAmong : Call → Type 0
+IsAmong (Call.Join client) = ⊥
+IsAmong (Call.Cut client) = ⊥
+IsAmong call = ⊤
+
+pub begun_present : (server : Server) (call : Call) → IsAmong call → (c : ℕ)
+    → (call_begun server call).server.present c ≡ server.present c
+unfolding opens_dropped with_opens key_expired
+begun_present server (Call.Join client) among c = absurd among
+begun_present server (Call.Cut client) among c = absurd among
+begun_present server (Call.Receive client request) among c = refl
+begun_present server (Call.Expire key) among c =
+    either_present (is_breaking (server.leases key)) _ (begun server) c (server.present c) refl refl
+begun_present server (Call.Scavenge file_id) among c =
+    either_present (list_any (is_left_behind file_id) server.opens) _ (begun server) c (server.present c) refl refl
+
+pub join_present : (server : Server) (client : ℕ) → server.present client ≡ false → (c : ℕ)
+    → (call_begun server (Call.Join client)).server.present c ≡ put server.present client true c
+unfolding join joined
+join_present server client e c = rw (e) refl
+
+pub cut_present : (server : Server) (client : ℕ) → server.present client ≡ true → (c : ℕ)
+    → (call_begun server (Call.Cut client)).server.present c ≡ put server.present client false c
+unfolding client_forgotten opens_disconnected opens_dropped with_opens
+cut_present server client e c = rw (e) refl
