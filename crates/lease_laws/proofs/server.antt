@@ -18,6 +18,7 @@ pub mod Leases
 pub mod Lists
 pub mod Met
 pub mod Orderly
+pub mod Opened
 pub mod OutAnswers
 pub mod OutCalls
 pub mod OutLists

@@ -1,4 +1,5 @@
 pub mod Beliefs
+pub mod FileIds
 pub mod Kept
 pub mod Links
 pub mod Runs

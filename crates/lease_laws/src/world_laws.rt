@@ -1,13 +1,17 @@
+ghost use Rattle.lease_laws.specs.world.FileIds.{FileIdsAreCounted, OpensAreTold};
 ghost use Rattle.lease_laws.specs.world.Links.{LinksOfRuns};
 ghost use Rattle.lease_laws.specs.world.Runs.{ServersOfRunsAreSound, ContentsOfRunsFit, BeliefsOfRuns};
 
 /// What holds in every run. Its server meets the laws of servers and of waiting. Where the setup is allowed, no
 /// content is longer than a file may be. What the record says that a client believes is what it believes. The server
 /// has a client's connection where its link is up, only then something is on its way, and the record tells how many
-/// messages. Does nothing.
+/// messages. FileIds are given one after the other, and each open is the one that the record tells of in the place of
+/// its FileId. Does nothing.
 pub fn runs_are_lawful()
     ensures servers { ServersOfRunsAreSound }
     ensures contents { ContentsOfRunsFit }
     ensures beliefs { BeliefsOfRuns }
     ensures links { LinksOfRuns }
+    ensures file_ids { FileIdsAreCounted }
+    ensures opens { OpensAreTold }
 {}

@@ -1,4 +1,5 @@
 use Rattle.lease_laws.proofs.world.Beliefs.{beliefs_of_runs}
+use Rattle.lease_laws.proofs.world.FileIds.{file_ids_are_counted, opens_are_told}
 use Rattle.lease_laws.proofs.world.Links.{links_of_runs}
 use Rattle.lease_laws.proofs.world.Runs.{servers_of_runs, contents_of_runs_fit}
 use Rattle.lease_laws.proofs.world_laws.runs_are_lawful.Goals as goal
@@ -14,3 +15,9 @@ returns-clause-beliefs c = beliefs_of_runs
 
 pub returns-clause-links : goal.returns-clause-links
 returns-clause-links c = links_of_runs
+
+pub returns-clause-file_ids : goal.returns-clause-file_ids
+returns-clause-file_ids c = file_ids_are_counted
+
+pub returns-clause-opens : goal.returns-clause-opens
+returns-clause-opens c = opens_are_told

@@ -1,0 +1,226 @@
+-- Small steps tell of each open that they make: its FileId is the next one.
+use Rattle.std.proofs.Common.{◌≡◌, ◌⊎◌, inl, inr, ⊎_elim, ℕ, ◌+◌, Bool, [], ◌∷◌, ◌++◌, Option, Some, None, refl, sym, ap, ◌∙◌, subst, ◌==◌}
+use Rattle.std.specs.Prelude.{⊤}
+use Rattle.lease_state.specs.State.{State, is_state_within}
+use Rattle.lease_state.specs.declared.access.Access.{Access}
+use Rattle.lease_state.specs.declared.access.Share.{Share}
+use Rattle.lease_state.specs.declared.status.Status.{Status}
+use Rattle.lease_model.specs.messages.Replies.{Reply, Out}
+use Rattle.lease_model.specs.messages.Requests.{FileRequest, CreateAsk, LeaseOf}
+use Rattle.lease_model.specs.server.Acknowledge.{acknowledged, judged, break_ended}
+use Rattle.lease_model.specs.server.Answers.{concluded, answered, created, closed, changed, read_done, on_open, on_contexts}
+use Rattle.lease_model.specs.server.Attempt.{Outcome, is_left_open}
+use Rattle.lease_model.specs.server.Findings.{connected_open}
+use Rattle.lease_model.specs.server.Grant.{granted, granted_with, lease_after, new_open, reconnected}
+use Rattle.lease_model.specs.server.Naming.{key_of}
+use Rattle.lease_model.specs.server.Progress.{Progress, opens_dropped, with_opens, lease_lowered, break_begun, request_held, held_left, replied, refused}
+use Rattle.lease_model.specs.server.State.{Server, Open, Lease, has_lease}
+use Rattle.lease_model.specs.values.Keys.{Key}
+use Rattle.lease_model.specs.values.Limits.{last_file_id}
+use Rattle.lease_laws.specs.server.Laws.{Among}
+use Rattle.lease_laws.specs.server.Outs.{GoOn}
+use Rattle.lease_laws.specs.server.SmallSteps.{SmallStep, step_taken}
+use Rattle.lease_laws.proofs.server.Goes.{IsOld, still_there}
+use Rattle.lease_laws.proofs.server.Lists.{if_cases, among_append}
+use Rattle.lease_laws.proofs.server.OutCalls.{held_left-outs, request_held-outs}
+use Rattle.lease_laws.proofs.server.OutLists.{go_on-same}
+use Rattle.lease_laws.proofs.server.OutSteps.{opens_dropped-outs}
+
+abbrev pub IsNoOpened : Out → Type 0
+IsNoOpened (Out.Opened file client) = ⊥
+IsNoOpened out = ⊤
+
+-- no open is made, and none is told of
+pub record IsQuiet (before : Progress) (after : Progress) : Type 0 where
+  pub last : after.server.last_id ≡ before.server.last_id
+  pub outs : GoOn IsNoOpened before.outs after.outs
+
+-- the open that is made: the next one, on the file and by the client
+pub record IsMade (before : Server) (file : ℕ) (client : ℕ) (one : Open) : Type 0 where
+  pub id : one.file_id ≡ before.last_id + 1
+  pub on_file : one.file ≡ file
+  pub by_client : one.client ≡ client
+
+-- one open is made, and told of
+pub record IsGrant (before : Progress) (after : Progress) : Type 0 where
+  pub file : ℕ
+  pub client : ℕ
+  pub reply : Reply
+  pub last : after.server.last_id ≡ before.server.last_id + 1
+  pub outs : after.outs ≡ before.outs ++ Out.Opened file client ∷ Out.Sent client reply ∷ []
+  pub from : (one : Open) → Among one after.server.opens
+      → IsOld before.server one ⊎ IsMade before.server file client one
+
+abbrev pub IsTold : Progress → Progress → Type 0
+IsTold before after = IsQuiet before after ⊎ IsGrant before after
+
+-- a reply alone
+reply_quiet : (client : ℕ) (reply : Reply) (progress : Progress) → IsQuiet progress (replied client reply progress)
+reply_quiet client reply progress = record {
+  last = refl;
+  outs = record { more = _; are_more = refl; each = (tt, tt) };
+}
+
+same_quiet : (progress : Progress) → IsQuiet progress progress
+same_quiet progress = record { last = refl; outs = go_on-same IsNoOpened progress.outs }
+
+-- a new open
+granted_told : (client file : ℕ) (access : Access) (share : Share) (asked : Option LeaseOf) (durable : Bool)
+    (lease : Lease) (progress : Progress)
+    → IsGrant progress (granted_with client file access share asked durable lease progress)
+unfolding granted_with
+granted_told client file access share asked durable lease progress = record {
+  file = file;
+  client = client;
+  reply = _;
+  last = refl;
+  outs = refl;
+  from = λ one a. ⊎_elim (λ old. inl (still_there progress.server one old)) (λ new. inr (made one new))
+      (among_append one progress.server.opens
+      (new_open progress.server client file access share asked durable lease ∷ []) a);
+}
+  where
+    made : (one : Open) → Among one (new_open progress.server client file access share asked durable lease ∷ [])
+        → IsMade progress.server file client one
+    made one (inl e) = record {
+      id = ap (λ (o : Open). o.file_id) e;
+      on_file = ap (λ (o : Open). o.file) e;
+      by_client = ap (λ (o : Open). o.client) e;
+    }
+    made one (inr none) = absurd none
+
+created_told : (client file : ℕ) (access : Access) (share : Share) (asked : Option LeaseOf) (durable : Bool)
+    (again : Option ℕ) (progress : Progress)
+    → IsTold progress (created client file access share asked durable again progress)
+unfolding granted reconnected
+created_told client file access share asked durable None progress =
+    if_cases (IsTold progress) (progress.server.last_id == last_file_id)
+    (replied client (Reply.CreateFailed file Status.InsufficientResources) progress)
+    (granted_with client file access share asked durable (lease_after progress.server client file asked) progress)
+    (λ e. inl (reply_quiet client (Reply.CreateFailed file Status.InsufficientResources) progress))
+    (λ e. inr (granted_told client file access share asked durable
+    (lease_after progress.server client file asked) progress))
+created_told client file access share asked durable (Some file_id) progress = inl (record {
+  last = refl;
+  outs = record { more = _; are_more = refl; each = (tt, tt) };
+})
+
+on_open_quiet : (one : Option Open) (done : ℕ → Progress → Progress) (progress : Progress)
+    → ((file : ℕ) → IsQuiet progress (done file progress)) → IsQuiet progress (on_open one done progress)
+on_open_quiet None done progress each = same_quiet progress
+on_open_quiet (Some one) done progress each = each one.file
+
+on_contexts_told : (contexts : Option CreateAsk) (done : CreateAsk → Progress → Progress) (progress : Progress)
+    → ((ask : CreateAsk) → IsTold progress (done ask progress)) → IsTold progress (on_contexts contexts done progress)
+on_contexts_told None done progress each = inl (same_quiet progress)
+on_contexts_told (Some ask) done progress each = each ask
+
+-- the end of a request
+pub concluded-told : (client : ℕ) (request : FileRequest) (progress : Progress) (outcome : Outcome)
+    → IsTold progress (concluded client request progress outcome)
+unfolding refused answered changed closed opens_dropped with_opens
+concluded-told client request progress (Outcome.Refused status) = inl (reply_quiet client _ progress)
+concluded-told client request progress Outcome.Waits = inl (same_quiet progress)
+concluded-told client (FileRequest.Create file access share contexts) progress Outcome.Ready =
+    on_contexts_told contexts _ progress
+    (λ ask. created_told client file access share ask.lease ask.durable ask.reconnect progress)
+concluded-told client (FileRequest.Read file_id) progress Outcome.Ready = inl
+    (on_open_quiet (connected_open progress.server client file_id) (λ file. read_done client file file_id) progress
+    (λ file. reply_quiet client _ progress))
+concluded-told client (FileRequest.Write file_id number patch) progress Outcome.Ready = inl
+    (on_open_quiet (connected_open progress.server client file_id)
+    (λ file. changed client file file_id number patch) progress
+    (λ file. record { last = refl; outs = record { more = _; are_more = refl; each = (tt, (tt, tt)) } }))
+concluded-told client (FileRequest.Close file_id) progress Outcome.Ready = inl
+    (on_open_quiet (connected_open progress.server client file_id) (λ file. closed client file_id) progress
+    (λ file. record {
+      last = refl;
+      outs = record {
+        more = _;
+        are_more = ap (λ outs. outs ++ Out.Sent client (Reply.Closed file_id) ∷ [])
+            (opens_dropped-outs (λ one. one.file_id == file_id) progress);
+        each = (tt, tt);
+      };
+    }))
+
+-- an acknowledgment
+judged_quiet : (key : Key) (state : State) (broken : Option State) (progress : Progress)
+    → IsQuiet progress (judged key state broken progress)
+unfolding break_ended
+judged_quiet key state None progress = reply_quiet key.client _ progress
+judged_quiet key state (Some lowered) progress = if_cases (IsQuiet progress) (is_state_within state lowered)
+    (break_ended key state progress)
+    (replied key.client (Reply.AckFailed Status.RequestNotAccepted) progress)
+    (λ e. record { last = refl; outs = record { more = _; are_more = refl; each = (tt, tt) } })
+    (λ e. reply_quiet key.client _ progress)
+
+acknowledged_quiet : (client : ℕ) (given : Option LeaseOf) (progress : Progress)
+    → IsQuiet progress (acknowledged client given progress)
+unfolding acknowledged
+acknowledged_quiet client None progress = reply_quiet client _ progress
+acknowledged_quiet client (Some given) progress = if_cases (IsQuiet progress)
+    (has_lease progress.server (key_of client given.key))
+    (judged (key_of client given.key) given.state (progress.server.leases (key_of client given.key)).broken_to
+    progress)
+    (replied client (Reply.AckFailed Status.ObjectNameNotFound) progress)
+    (λ e. judged_quiet (key_of client given.key) given.state
+    (progress.server.leases (key_of client given.key)).broken_to progress)
+    (λ e. reply_quiet client _ progress)
+
+-- nothing is given out
+silent_quiet : (before after : Progress) → after.server.last_id ≡ before.server.last_id → after.outs ≡ before.outs
+    → IsQuiet before after
+silent_quiet before after last outs = record {
+  last = last;
+  outs = subst (λ o. GoOn IsNoOpened before.outs o) (sym outs) (go_on-same IsNoOpened before.outs);
+}
+
+-- behind a step that leaves opens and outs alone
+told_behind : (before next after : Progress) → next.server.last_id ≡ before.server.last_id
+    → next.outs ≡ before.outs
+    → ((one : Open) → IsOld next.server one → IsOld before.server one) → IsTold next after → IsTold before after
+told_behind before next after last outs old (inl q) = inl (record {
+  last = q.last ∙ last;
+  outs = record {
+    more = (q.outs).more;
+    are_more = (q.outs).are_more ∙ ap (λ o. o ++ (q.outs).more) outs;
+    each = (q.outs).each;
+  };
+})
+told_behind before next after last outs old (inr g) = inr (record {
+  file = g.file;
+  client = g.client;
+  reply = g.reply;
+  last = g.last ∙ ap (λ n. n + 1) last;
+  outs = g.outs ∙ ap (λ o. o ++ Out.Opened g.file g.client ∷ Out.Sent g.client g.reply ∷ []) outs;
+  from = λ one a. ⊎_elim (λ o. inl (old one o))
+      (λ m. inr (record { id = m.id ∙ ap (λ n. n + 1) last; on_file = m.on_file; by_client = m.by_client }))
+      (g.from one a);
+})
+
+-- any step
+pub step-told : (step : SmallStep) (progress : Progress) → IsTold progress (step_taken step progress)
+unfolding held_left request_held opens_dropped with_opens lease_lowered break_begun
+step-told (SmallStep.Answer client request outcome) progress = concluded-told client request progress outcome
+step-told (SmallStep.AnswerHeld file before one behind outcome) progress =
+    let left = held_left file (before ++ behind) progress in
+    told_behind progress left (concluded one.client one.request left outcome) refl
+    (held_left-outs file (before ++ behind) progress)
+    (λ o old. record {
+      was = old.was;
+      was_there = old.was_there;
+      same_id = old.same_id;
+      same_file = old.same_file;
+      same_client = old.same_client;
+      up = old.up;
+    })
+    (concluded-told one.client one.request left outcome)
+step-told (SmallStep.Acknowledge client given) progress = inl (acknowledged_quiet client given progress)
+step-told (SmallStep.Hold file one) progress = inl (silent_quiet progress (request_held file one progress) refl
+    (request_held-outs file one progress))
+step-told (SmallStep.Drop key) progress = inl (silent_quiet progress (opens_dropped (is_left_open key) progress) refl
+    (opens_dropped-outs (is_left_open key) progress))
+step-told (SmallStep.Lower key lowered) progress =
+    inl (record { last = refl; outs = record { more = _; are_more = refl; each = (tt, tt) } })
+step-told (SmallStep.Begin key lowered) progress =
+    inl (record { last = refl; outs = record { more = _; are_more = refl; each = (tt, tt) } })

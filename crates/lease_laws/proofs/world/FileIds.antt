@@ -1,0 +1,337 @@
+-- In every run FileIds are counted, and each open is told of in the place of its FileId.
+use Rattle.std.proofs.Common.{◌≡◌, ◌⊎◌, ⊎_elim, ℕ, ◌+◌, Bool, true, false, not, List, [], ◌∷◌, ◌++◌, map, reverse, refl, sym, ap, ◌∙◌, subst, arith, ◌==◌, ◌&&◌, ◌||◌}
+use Rattle.std.specs.List.{list_any, list_all}
+use Rattle.std.proofs.lemmas.Bool.{eq-eqb}
+use Rattle.lease_model.specs.client.Calls.{client_called}
+use Rattle.lease_model.specs.client.Commands.{Note}
+use Rattle.lease_model.specs.client.Step.{Step}
+use Rattle.lease_model.specs.messages.Replies.{Out}
+use Rattle.lease_model.specs.records.Facts.{Fact}
+use Rattle.lease_model.specs.server.Calls.{Call, called, join, joined, is_lost, opens_disconnected, disconnected, client_forgotten, key_expired, is_left_behind}
+use Rattle.lease_model.specs.server.Progress.{Progress, begun, opens_dropped, with_opens}
+use Rattle.lease_model.specs.server.State.{Server, Open, has_key, is_breaking, new_server}
+use Rattle.lease_model.specs.values.Lists.{without}
+use Rattle.lease_model.specs.world.Events.{Event, served, stepped_in, after}
+use Rattle.lease_model.specs.world.World.{World, Setup, starts_from, first_world, delivered, all_delivered, requests_sent, noted, happened, fact_of}
+use Rattle.lease_laws.specs.records.Runs.{is_start}
+use Rattle.lease_laws.specs.server.Laws.{Among, IsSound}
+use Rattle.lease_laws.specs.server.Outs.{EachOut}
+use Rattle.lease_laws.specs.server.SmallSteps.{SmallStep, step_taken, steps_taken, IsGuarded, AreGuarded, call_begun}
+use Rattle.lease_laws.specs.server.Waiting.{WaitsWell}
+use Rattle.lease_laws.specs.world.FileIds.{opened_count, was_opened, FileIdsAreCounted, OpensAreTold}
+use Rattle.lease_laws.proofs.records.Runs.{all_starts, all_reversed}
+use Rattle.lease_laws.proofs.server.Calls.{new_server-sound, called-sound}
+use Rattle.lease_laws.proofs.server.Goes.{IsOld, IsNew}
+use Rattle.lease_laws.proofs.server.Lists.{if_cases, among_filter, among_map}
+use Rattle.lease_laws.proofs.server.Opened.{IsNoOpened, IsQuiet, IsGrant, step-told}
+use Rattle.lease_laws.proofs.server.StepCalls.{called-steps, call_begun-silent, call_begun-up}
+use Rattle.lease_laws.proofs.server.StepKeeps.{step-sound, step-goes}
+use Rattle.lease_laws.proofs.server.WaitCalls.{first-waits-well, called-waits-well}
+use Rattle.lease_laws.proofs.world.Kept.{IsKept, IsOfWorld, served-server, after-kept}
+use Rattle.lease_laws.proofs.world.Runs.{stepped_server}
+
+-- ---- outs as facts
+
+abbrev fact_told : Out → Fact
+fact_told (Out.Sent client reply) = Fact.Sent client
+fact_told (Out.Opened file client) = Fact.Opened file client
+fact_told (Out.Changed file client number patch) = Fact.Changed file client number patch
+
+-- the past once outs were delivered
+abbrev told : List Fact → List Out → List Fact
+told past [] = past
+told past (out ∷ outs) = told (fact_told out ∷ past) outs
+
+told_append : (past : List Fact) (outs more : List Out) → told past (outs ++ more) ≡ told (told past outs) more
+told_append past [] more = refl
+told_append past (out ∷ outs) more = told_append (fact_told out ∷ past) outs more
+
+delivered_past : (world : World) (out : Out) → (delivered world out).past ≡ fact_told out ∷ world.past
+unfolding delivered
+delivered_past world (Out.Sent client reply) = refl
+delivered_past world (Out.Opened file client) = refl
+delivered_past world (Out.Changed file client number patch) = refl
+
+all_delivered_past : (world : World) (outs : List Out) → (all_delivered world outs).past ≡ told world.past outs
+unfolding all_delivered
+all_delivered_past world [] = refl
+all_delivered_past world (out ∷ outs) = all_delivered_past (delivered world out) outs
+    ∙ ap (λ p. told p outs) (delivered_past world out)
+
+-- ---- the FileIds of a server, by a past
+
+record IsCounted (past : List Fact) (server : Server) : Type 0 where
+  last : server.last_id ≡ opened_count past
+  opens : (one : Open) → Among one server.opens → was_opened one.file_id one.file one.client past ≡ true
+
+-- two pasts tell of the same opens
+record SameOpens (past : List Fact) (new : List Fact) : Type 0 where
+  count : opened_count new ≡ opened_count past
+  was : (place file client : ℕ) → was_opened place file client new ≡ was_opened place file client past
+
+same_counted : (past new : List Fact) (server : Server) → SameOpens past new → IsCounted past server
+    → IsCounted new server
+same_counted past new server same c = record {
+  last = c.last ∙ sym same.count;
+  opens = λ one a. same.was one.file_id one.file one.client ∙ c.opens one a;
+}
+
+quiet_told : (past : List Fact) (outs : List Out) → EachOut IsNoOpened outs → SameOpens past (told past outs)
+unfolding opened_count was_opened
+quiet_told past [] each = record { count = refl; was = λ place file client. refl }
+quiet_told past (Out.Sent client reply ∷ outs) each =
+    let r = quiet_told (Fact.Sent client ∷ past) outs each.1 in record { count = r.count; was = r.was }
+quiet_told past (Out.Opened file client ∷ outs) each = absurd each.0
+quiet_told past (Out.Changed file client number patch ∷ outs) each =
+    let r = quiet_told (Fact.Changed file client number patch ∷ past) outs each.1 in
+    record { count = r.count; was = r.was }
+
+-- of the same FileId, file and client
+same_told : (past : List Fact) (one was : Open) → one.file_id ≡ was.file_id → one.file ≡ was.file
+    → one.client ≡ was.client → was_opened was.file_id was.file was.client past ≡ true
+    → was_opened one.file_id one.file one.client past ≡ true
+same_told past one was id file client e = rw (id, file, client) e
+
+-- an open that was there was told of
+old_told : (past : List Fact) (server : Server) (one : Open) → IsCounted past server → IsOld server one
+    → was_opened one.file_id one.file one.client past ≡ true
+old_told past server one c old =
+    same_told past one old.was old.same_id old.same_file old.same_client (c.opens old.was old.was_there)
+
+or_later : (a b : Bool) → b ≡ true → (a || b) ≡ true
+or_later true b e = refl
+or_later false b e = e
+
+-- ---- steps
+
+-- a step that makes no open
+quiet_counted : (past : List Fact) (before after : Progress) → IsSound after.server
+    → ((one : Open) → Among one after.server.opens → IsOld before.server one ⊎ IsNew before.server one)
+    → IsQuiet before after → IsCounted past before.server → IsCounted past after.server
+quiet_counted past before after s from q c = record {
+  last = q.last ∙ c.last;
+  opens = λ one a. ⊎_elim (old_told past before.server one c)
+      (λ new. let top = (s.numbered one a).1 in let last = q.last in let low = new.is_new in
+      absurd (omega (arith, top, last, low)))
+      (from one a);
+}
+
+-- a step that makes one
+grant_counted : (past : List Fact) (before after : Progress) → (g : IsGrant before after)
+    → IsCounted past before.server
+    → IsCounted (Fact.Sent g.client ∷ Fact.Opened g.file g.client ∷ past) after.server
+unfolding opened_count was_opened
+grant_counted past before after g c = record {
+  last = g.last ∙ ap (λ n. n + 1) c.last;
+  opens = λ one a. ⊎_elim
+      (λ old. or_later (one.file_id == opened_count past + 1 && (g.file == one.file && g.client == one.client))
+      (was_opened one.file_id one.file one.client past) (old_told past before.server one c old))
+      (λ made. rw (made.id, made.on_file, made.by_client, c.last,
+      eq-eqb (opened_count past + 1) (opened_count past + 1) refl, eq-eqb g.file g.file refl,
+      eq-eqb g.client g.client refl) refl)
+      (g.from one a);
+}
+
+step_counted : (base : List Fact) (step : SmallStep) (progress : Progress) → IsSound progress.server
+    → IsGuarded step progress.server → IsCounted (told base progress.outs) progress.server
+    → IsCounted (told base (step_taken step progress).outs) (step_taken step progress).server
+step_counted base step progress s may c = ⊎_elim quiet grant (step-told step progress)
+  where
+    next : Progress
+    next = step_taken step progress
+    quiet : IsQuiet progress next → IsCounted (told base next.outs) next.server
+    quiet q = subst (λ outs. IsCounted (told base outs) next.server) (sym (q.outs).are_more)
+        (subst (λ p. IsCounted p next.server) (sym (told_append base progress.outs (q.outs).more))
+        (same_counted (told base progress.outs) (told (told base progress.outs) (q.outs).more) next.server
+        (quiet_told (told base progress.outs) (q.outs).more (q.outs).each)
+        (quiet_counted (told base progress.outs) progress next (step-sound step progress s may)
+        (step-goes step progress s may).from q c)))
+    grant : IsGrant progress next → IsCounted (told base next.outs) next.server
+    grant g = subst (λ outs. IsCounted (told base outs) next.server) (sym g.outs)
+        (subst (λ p. IsCounted p next.server)
+        (sym (told_append base progress.outs (Out.Opened g.file g.client ∷ Out.Sent g.client g.reply ∷ [])))
+        (grant_counted (told base progress.outs) progress next g c))
+
+steps_counted : (base : List Fact) (steps : List SmallStep) (progress : Progress) → IsSound progress.server
+    → AreGuarded steps progress → IsCounted (told base progress.outs) progress.server
+    → IsCounted (told base (steps_taken steps progress).outs) (steps_taken steps progress).server
+steps_counted base [] progress s guarded c = c
+steps_counted base (step ∷ steps) progress s guarded c =
+    steps_counted base steps (step_taken step progress) (step-sound step progress s guarded.0) guarded.1
+    (step_counted base step progress s guarded.0 c)
+
+-- ---- what comes before the first step
+
+-- the same open, perhaps without its connection
+record IsSame (server : Server) (one : Open) : Type 0 where
+  was : Open
+  was_there : Among was server.opens
+  same_id : one.file_id ≡ was.file_id
+  same_file : one.file ≡ was.file
+  same_client : one.client ≡ was.client
+
+here : (server : Server) (one : Open) → Among one server.opens → IsSame server one
+here server one a = record {
+  was = one;
+  was_there = a;
+  same_id = refl;
+  same_file = refl;
+  same_client = refl;
+}
+
+left_same : (server : Server) (test : Open → Bool) (one : Open) → Among one (without test server.opens)
+    → IsSame server one
+left_same server test one a = here server one (among_filter (λ x. not (test x)) one server.opens a).0
+
+disconnected_same : (server : Server) (client : ℕ) (one : Open) → Among one server.opens
+    → IsSame server (disconnected client one)
+disconnected_same server client one a = if_cases (IsSame server) (one.client == client)
+    (record one { connected = false }) one
+    (λ e. record { was = one; was_there = a; same_id = refl; same_file = refl; same_client = refl })
+    (λ e. here server one a)
+
+cut_same : (server : Server) (client : ℕ) (one : Open)
+    → Among one (map (disconnected client) (without (is_lost server client) server.opens)) → IsSame server one
+cut_same server client one a =
+    let x = among_map (disconnected client) one (without (is_lost server client) server.opens) a in
+    subst (IsSame server) (sym x.2) (disconnected_same server client x.0
+    (among_filter (λ o. not (is_lost server client o)) x.0 server.opens x.1).0)
+
+AllSame : Server → Progress → Type 0
+AllSame server progress =
+    (progress.server.last_id ≡ server.last_id) × ((one : Open) → Among one progress.server.opens → IsSame server one)
+
+begun_same : (server : Server) (call : Call) → AllSame server (call_begun server call)
+unfolding AllSame join joined opens_dropped with_opens opens_disconnected client_forgotten key_expired
+begun_same server (Call.Join client) = if_cases (AllSame server) (server.present client) (begun server)
+    (joined client (begun server)) (λ e. (refl, here server)) (λ e. (refl, here server))
+begun_same server (Call.Receive client request) = (refl, here server)
+begun_same server (Call.Cut client) = if_cases (AllSame server) (server.present client) _ (begun server)
+    (λ e. (refl, cut_same server client)) (λ e. (refl, here server))
+begun_same server (Call.Expire key) = if_cases (AllSame server) (is_breaking (server.leases key)) _ (begun server)
+    (λ e. (refl, left_same server (has_key key))) (λ e. (refl, here server))
+begun_same server (Call.Scavenge file_id) = if_cases (AllSame server)
+    (list_any (is_left_behind file_id) server.opens) _ (begun server)
+    (λ e. (refl, left_same server (is_left_behind file_id))) (λ e. (refl, here server))
+
+begun_counted : (past : List Fact) (server : Server) (call : Call) → IsCounted past server
+    → IsCounted past (call_begun server call).server
+unfolding AllSame
+begun_counted past server call c = let same = begun_same server call in record {
+  last = same.0 ∙ c.last;
+  opens = λ one a. let x = same.1 one a in
+      same_told past one x.was x.same_id x.same_file x.same_client (c.opens x.was x.was_there);
+}
+
+-- any call
+called_counted : (past : List Fact) (server : Server) (call : Call) → IsSound server → WaitsWell server
+    → IsCounted past server → IsCounted (told past (called server call).outs) (called server call).server
+called_counted past server call s w c =
+    let start = call_begun server call in
+    let go = called-steps server call s w in
+    subst (λ p. IsCounted (told past p.outs) p.server) (sym go.lead)
+    (steps_counted past go.steps start (call_begun-up server call s w).sound go.are_guarded
+    (subst (λ outs. IsCounted (told past outs) start.server) (sym (call_begun-silent server call))
+    (begun_counted past server call c)))
+
+-- ---- worlds
+
+record IsCountedWorld (world : World) : Type 0 where
+  sound : IsSound world.server
+  waits : WaitsWell world.server
+  counted : IsCounted world.past world.server
+
+-- facts of the world tell of no open
+world_fact_same : (past : List Fact) (fact : Fact) → IsOfWorld fact → SameOpens past (fact ∷ past)
+unfolding opened_count was_opened
+world_fact_same past (Fact.Joined client) of = record { count = refl; was = λ place file c. refl }
+world_fact_same past (Fact.Dropped client) of = record { count = refl; was = λ place file c. refl }
+world_fact_same past (Fact.Expired client at) of = record { count = refl; was = λ place file c. refl }
+world_fact_same past (Fact.Took client) of = record { count = refl; was = λ place file c. refl }
+world_fact_same past (Fact.Strayed client) of = record { count = refl; was = λ place file c. refl }
+world_fact_same past (_) of = absurd of
+
+-- nor do notes
+note_same : (past : List Fact) (client : ℕ) (note : Note) → SameOpens past (fact_of client note ∷ past)
+unfolding opened_count was_opened
+note_same past client (Note.Settled number outcome) = record { count = refl; was = λ place file c. refl }
+note_same past client (Note.Wrote file number patch buffered) = record { count = refl; was = λ place at c. refl }
+note_same past client (Note.Believes file state) = record { count = refl; was = λ place at c. refl }
+note_same past client (Note.CachedRead file bytes) = record { count = refl; was = λ place at c. refl }
+
+noted_counted : (world : World) (client : ℕ) (notes : List Note) (server : Server) → IsCounted world.past server
+    → IsCounted (noted world client notes).past server
+unfolding noted
+noted_counted world client [] server c = c
+noted_counted world client (note ∷ notes) server c =
+    noted_counted (happened world (fact_of client note)) client notes server
+    (same_counted world.past (fact_of client note ∷ world.past) server (note_same world.past client note) c)
+
+stepped_counted : (world : World) (client : ℕ) (step : Step) → IsCounted world.past world.server
+    → IsCounted (stepped_in world client step).past (stepped_in world client step).server
+unfolding stepped_in requests_sent
+stepped_counted world client step c =
+    subst (λ s. IsCounted (stepped_in world client step).past s) (sym (stepped_server world client step))
+    (noted_counted
+    (requests_sent (record world { clients = _ }) client step.requests) client step.notes world.server c)
+
+served_counted : (world : World) (call : Call) → IsSound world.server → WaitsWell world.server
+    → IsCounted world.past world.server
+    → IsCounted (served world (called world.server call)).past (served world (called world.server call)).server
+unfolding served
+served_counted world call s w c =
+    let progress = called world.server call in
+    let next : World = record world { server = progress.server } in
+    subst (λ p. IsCounted p (all_delivered next progress.outs).server) (sym (all_delivered_past next progress.outs))
+    (subst (λ x. IsCounted (told world.past progress.outs) x) (sym (served-server world progress))
+    (called_counted world.past world.server call s w c))
+
+counted_kept : IsKept IsCountedWorld
+counted_kept = record {
+  messages = λ world requests replies links p.
+      record { sound = p.sound; waits = p.waits; counted = p.counted };
+  fact = λ world fact of p. record {
+    sound = p.sound;
+    waits = p.waits;
+    counted = same_counted world.past (fact ∷ world.past) world.server (world_fact_same world.past fact of)
+        p.counted;
+  };
+  call = λ world call p. let progress = called world.server call in record {
+    sound = subst IsSound (sym (served-server world progress)) (called-sound world.server call p.sound);
+    waits = subst WaitsWell (sym (served-server world progress))
+        (called-waits-well world.server call p.sound p.waits);
+    counted = served_counted world call p.sound p.waits p.counted;
+  };
+  step = λ world client call p. let step = client_called (world.clients client) call in record {
+    sound = subst IsSound (sym (stepped_server world client step)) p.sound;
+    waits = subst WaitsWell (sym (stepped_server world client step)) p.waits;
+    counted = stepped_counted world client step p.counted;
+  };
+}
+
+starts_open : (past : List Fact) → list_all is_start past ≡ true → opened_count past ≡ 0
+unfolding opened_count
+starts_open [] all = refl
+starts_open (Fact.Start file bytes ∷ past) all = starts_open past all
+starts_open (_ ∷ past) all = let c : ⊥ = cc in absurd c
+
+first_counted : (setup : Setup) → IsCountedWorld (first_world setup)
+unfolding first_world new_server
+first_counted setup = record {
+  sound = new_server-sound setup.files;
+  waits = first-waits-well setup.files;
+  counted = record {
+    last = sym (starts_open (reverse (starts_from 1 setup.files))
+        (all_reversed (starts_from 1 setup.files) [] (all_starts 1 setup.files) refl));
+    opens = λ one a. absurd a;
+  };
+}
+
+run_counted : (setup : Setup) (events : List Event) → IsCountedWorld (after (first_world setup) events)
+run_counted setup events = after-kept IsCountedWorld counted_kept (first_world setup) events (first_counted setup)
+
+pub file_ids_are_counted : FileIdsAreCounted
+file_ids_are_counted setup events = (run_counted setup events).counted.last
+
+pub opens_are_told : OpensAreTold
+opens_are_told setup events one a = (run_counted setup events).counted.opens one a
