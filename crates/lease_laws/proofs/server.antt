@@ -7,6 +7,7 @@ pub mod Calls
 pub mod EnoughPasses
 pub mod EnoughRounds
 pub mod EnoughTries
+pub mod Expired
 pub mod FileReady
 pub mod Goes
 pub mod Grants

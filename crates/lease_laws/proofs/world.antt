@@ -3,3 +3,4 @@ pub mod FileIds
 pub mod Kept
 pub mod Links
 pub mod Runs
+pub mod Timers

@@ -1,12 +1,13 @@
 ghost use Rattle.lease_laws.specs.world.FileIds.{FileIdsAreCounted, OpensAreTold};
 ghost use Rattle.lease_laws.specs.world.Links.{LinksOfRuns};
+ghost use Rattle.lease_laws.specs.world.Timers.{TimersAreTold};
 ghost use Rattle.lease_laws.specs.world.Runs.{ServersOfRunsAreSound, ContentsOfRunsFit, BeliefsOfRuns};
 
 /// What holds in every run. Its server meets the laws of servers and of waiting. Where the setup is allowed, no
 /// content is longer than a file may be. What the record says that a client believes is what it believes. The server
 /// has a client's connection where its link is up, only then something is on its way, and the record tells how many
 /// messages. FileIds are given one after the other, and each open is the one that the record tells of in the place of
-/// its FileId. Does nothing.
+/// its FileId. A client whose timer ran out since it connected isn't called served. Does nothing.
 pub fn runs_are_lawful()
     ensures servers { ServersOfRunsAreSound }
     ensures contents { ContentsOfRunsFit }
@@ -14,4 +15,5 @@ pub fn runs_are_lawful()
     ensures links { LinksOfRuns }
     ensures file_ids { FileIdsAreCounted }
     ensures opens { OpensAreTold }
+    ensures timers { TimersAreTold }
 {}

@@ -305,11 +305,11 @@ join_tied world client s w down tied c = by_client (IsTied (come_back world clie
 
 -- ---- worlds, event by event
 
-record IsLinked (world : World) : Type 0 where
-  sound : IsSound world.server
-  waits : WaitsWell world.server
-  tied : (c : ℕ) → IsTied world c
-  online : (c : ℕ) → IsOnline world c
+pub record IsLinked (world : World) : Type 0 where
+  pub sound : IsSound world.server
+  pub waits : WaitsWell world.server
+  pub tied : (c : ℕ) → IsTied world c
+  pub online : (c : ℕ) → IsOnline world c
 
 -- after a call that leaves all clients tied
 called_linked : (world : World) (call : Call) → IsSound world.server → WaitsWell world.server
@@ -515,12 +515,15 @@ applied_linked world (Event.Expire client file) l = if_either IsLinked (has_file
 applied_linked world (Event.Scavenge client file) l = scavenged_linked world (kept world.server client file) l
 applied_linked world (Event.Raw client request) l = strayed_linked world client request (world.links client) l
 
+pub happens_linked : (world : World) (event : Event) → IsLinked world → IsLinked (happens world event)
+unfolding happens
+happens_linked world event l = if_either IsLinked (has_client world (client_of event)) (applied world event) world
+    (applied_linked world event l) l
+
 after_linked : (world : World) (events : List Event) → IsLinked world → IsLinked (after world events)
-unfolding after happens
+unfolding after
 after_linked world [] l = l
-after_linked world (event ∷ events) l = after_linked (happens world event) events
-    (if_either IsLinked (has_client world (client_of event)) (applied world event) world
-    (applied_linked world event l) l)
+after_linked world (event ∷ events) l = after_linked (happens world event) events (happens_linked world event l)
 
 -- ---- where runs begin
 
@@ -531,7 +534,7 @@ starts_serve client [] all = refl
 starts_serve client (Fact.Start file bytes ∷ past) all = starts_serve client past all
 starts_serve client (_ ∷ past) all = let c : ⊥ = cc in absurd c
 
-first_linked : (setup : Setup) → IsLinked (first_world setup)
+pub first_linked : (setup : Setup) → IsLinked (first_world setup)
 unfolding first_world new_server new_client
 first_linked setup = record {
   sound = new_server-sound setup.files;

@@ -1,6 +1,7 @@
 use Rattle.lease_laws.proofs.world.Beliefs.{beliefs_of_runs}
 use Rattle.lease_laws.proofs.world.FileIds.{file_ids_are_counted, opens_are_told}
 use Rattle.lease_laws.proofs.world.Links.{links_of_runs}
+use Rattle.lease_laws.proofs.world.Timers.{timers_are_told}
 use Rattle.lease_laws.proofs.world.Runs.{servers_of_runs, contents_of_runs_fit}
 use Rattle.lease_laws.proofs.world_laws.runs_are_lawful.Goals as goal
 
@@ -21,3 +22,6 @@ returns-clause-file_ids c = file_ids_are_counted
 
 pub returns-clause-opens : goal.returns-clause-opens
 returns-clause-opens c = opens_are_told
+
+pub returns-clause-timers : goal.returns-clause-timers
+returns-clause-timers c = timers_are_told

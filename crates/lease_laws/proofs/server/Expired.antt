@@ -1,0 +1,155 @@
+-- Small steps leave alone which keys are expired.
+use Rattle.std.proofs.Common.{◌≡◌, ◌⊎◌, inl, inr, ℕ, Bool, true, false, List, [], ◌∷◌, ◌++◌, Option, Some, None, refl, sym, ◌∙◌, subst, ◌==◌}
+use Rattle.std.specs.Prelude.{if◌then◌else◌}
+use Rattle.std.specs.List.{list_any}
+use Rattle.lease_state.specs.State.{State, is_state_within}
+use Rattle.lease_state.specs.declared.access.Access.{Access}
+use Rattle.lease_state.specs.declared.access.Share.{Share}
+use Rattle.lease_state.specs.declared.status.Status.{Status}
+use Rattle.lease_model.specs.messages.Replies.{Reply}
+use Rattle.lease_model.specs.messages.Requests.{FileRequest, CreateAsk, LeaseOf}
+use Rattle.lease_model.specs.server.Acknowledge.{acknowledged, judged, break_ended}
+use Rattle.lease_model.specs.server.Answers.{concluded, answered, created, closed, changed, read_done, on_open, on_contexts}
+use Rattle.lease_model.specs.server.Attempt.{Outcome}
+use Rattle.lease_model.specs.server.Calls.{Call, called, join, joined, opens_disconnected, client_forgotten, key_expired, is_left_behind}
+use Rattle.lease_model.specs.server.Findings.{connected_open}
+use Rattle.lease_model.specs.server.Grant.{granted, granted_with, lease_after, lease_put, reconnected}
+use Rattle.lease_model.specs.server.Naming.{key_of}
+use Rattle.lease_model.specs.server.Progress.{Progress, begun, opens_dropped, with_opens, lease_lowered, break_begun, request_held, held_left, replied, refused}
+use Rattle.lease_model.specs.server.State.{Server, Open, Lease, has_lease, is_breaking}
+use Rattle.lease_model.specs.values.Keys.{Key}
+use Rattle.lease_model.specs.values.Limits.{last_file_id}
+use Rattle.lease_model.specs.values.Tables.{put_key}
+use Rattle.lease_laws.specs.server.Laws.{IsSound}
+use Rattle.lease_laws.specs.server.SmallSteps.{SmallStep, step_taken, steps_taken, call_begun}
+use Rattle.lease_laws.specs.server.Waiting.{WaitsWell}
+use Rattle.lease_laws.proofs.server.Lists.{if_cases}
+use Rattle.lease_laws.proofs.server.StepCalls.{called-steps}
+
+-- the same keys are expired
+abbrev SameExpired : Progress → Progress → Type 0
+SameExpired before after = after.server.expired ≡ before.server.expired
+
+put_expired : (server : Server) (client : ℕ) (asked : Option LeaseOf) (lease : Lease)
+    → (lease_put server client asked lease).expired ≡ server.expired
+put_expired server client None lease = refl
+put_expired server client (Some ask) lease = refl
+
+created_expired : (client file : ℕ) (access : Access) (share : Share) (asked : Option LeaseOf) (durable : Bool)
+    (again : Option ℕ) (progress : Progress)
+    → SameExpired progress (created client file access share asked durable again progress)
+unfolding granted granted_with reconnected
+created_expired client file access share asked durable None progress =
+    if_cases (SameExpired progress) (progress.server.last_id == last_file_id)
+    (replied client (Reply.CreateFailed file Status.InsufficientResources) progress)
+    (granted_with client file access share asked durable (lease_after progress.server client file asked) progress)
+    (λ e. refl)
+    (λ e. put_expired progress.server client asked (lease_after progress.server client file asked))
+created_expired client file access share asked durable (Some file_id) progress = refl
+
+on_open_expired : (one : Option Open) (done : ℕ → Progress → Progress) (progress : Progress)
+    → ((file : ℕ) → SameExpired progress (done file progress)) → SameExpired progress (on_open one done progress)
+on_open_expired None done progress each = refl
+on_open_expired (Some one) done progress each = each one.file
+
+on_contexts_expired : (contexts : Option CreateAsk) (done : CreateAsk → Progress → Progress) (progress : Progress)
+    → ((ask : CreateAsk) → SameExpired progress (done ask progress))
+    → SameExpired progress (on_contexts contexts done progress)
+on_contexts_expired None done progress each = refl
+on_contexts_expired (Some ask) done progress each = each ask
+
+concluded_expired : (client : ℕ) (request : FileRequest) (progress : Progress) (outcome : Outcome)
+    → SameExpired progress (concluded client request progress outcome)
+unfolding refused answered changed closed opens_dropped with_opens
+concluded_expired client request progress (Outcome.Refused status) = refl
+concluded_expired client request progress Outcome.Waits = refl
+concluded_expired client (FileRequest.Create file access share contexts) progress Outcome.Ready =
+    on_contexts_expired contexts _ progress
+    (λ ask. created_expired client file access share ask.lease ask.durable ask.reconnect progress)
+concluded_expired client (FileRequest.Read file_id) progress Outcome.Ready =
+    on_open_expired (connected_open progress.server client file_id) (λ file. read_done client file file_id) progress
+    (λ file. refl)
+concluded_expired client (FileRequest.Write file_id number patch) progress Outcome.Ready =
+    on_open_expired (connected_open progress.server client file_id)
+    (λ file. changed client file file_id number patch) progress (λ file. refl)
+concluded_expired client (FileRequest.Close file_id) progress Outcome.Ready =
+    on_open_expired (connected_open progress.server client file_id) (λ file. closed client file_id) progress
+    (λ file. refl)
+
+judged_expired : (key : Key) (state : State) (broken : Option State) (progress : Progress)
+    → SameExpired progress (judged key state broken progress)
+unfolding break_ended
+judged_expired key state None progress = refl
+judged_expired key state (Some lowered) progress = if_cases (SameExpired progress) (is_state_within state lowered)
+    (break_ended key state progress)
+    (replied key.client (Reply.AckFailed Status.RequestNotAccepted) progress) (λ e. refl) (λ e. refl)
+
+acknowledged_expired : (client : ℕ) (given : Option LeaseOf) (progress : Progress)
+    → SameExpired progress (acknowledged client given progress)
+unfolding acknowledged
+acknowledged_expired client None progress = refl
+acknowledged_expired client (Some given) progress = if_cases (SameExpired progress)
+    (has_lease progress.server (key_of client given.key))
+    (judged (key_of client given.key) given.state (progress.server.leases (key_of client given.key)).broken_to
+    progress)
+    (replied client (Reply.AckFailed Status.ObjectNameNotFound) progress)
+    (λ e. judged_expired (key_of client given.key) given.state
+    (progress.server.leases (key_of client given.key)).broken_to progress)
+    (λ e. refl)
+
+step_expired : (step : SmallStep) (progress : Progress) → SameExpired progress (step_taken step progress)
+unfolding held_left request_held opens_dropped with_opens lease_lowered break_begun
+step_expired (SmallStep.Answer client request outcome) progress = concluded_expired client request progress outcome
+step_expired (SmallStep.AnswerHeld file before one behind outcome) progress =
+    concluded_expired one.client one.request (held_left file (before ++ behind) progress) outcome
+step_expired (SmallStep.Acknowledge client given) progress = acknowledged_expired client given progress
+step_expired (SmallStep.Hold file one) progress = refl
+step_expired (SmallStep.Drop key) progress = refl
+step_expired (SmallStep.Lower key lowered) progress = refl
+step_expired (SmallStep.Begin key lowered) progress = refl
+
+steps_expired : (steps : List SmallStep) (progress : Progress) → SameExpired progress (steps_taken steps progress)
+steps_expired [] progress = refl
+steps_expired (step ∷ steps) progress = steps_expired steps (step_taken step progress) ∙ step_expired step progress
+
+-- so a call changes that before its first step alone
+pub called-expired : (server : Server) (call : Call) → IsSound server → WaitsWell server
+    → (called server call).server.expired ≡ (call_begun server call).server.expired
+called-expired server call s w =
+    let go = called-steps server call s w in
+    subst (λ p. p.server.expired ≡ (call_begun server call).server.expired) (sym go.lead)
+    (steps_expired go.steps (call_begun server call))
+
+-- ---- and there only joins and expiries do
+
+either_expired : (b : Bool) (x y : Progress) (was : Key → Bool) → x.server.expired ≡ was → y.server.expired ≡ was
+    → (if b then x else y).server.expired ≡ was
+either_expired true x y was e f = e
+either_expired false x y was e f = f
+
+pub cut-expired : (server : Server) (client : ℕ)
+    → (call_begun server (Call.Cut client)).server.expired ≡ server.expired
+unfolding opens_dropped with_opens opens_disconnected client_forgotten
+cut-expired server client =
+    either_expired (server.present client) _ (begun server) server.expired refl refl
+
+pub scavenge-expired : (server : Server) (file_id : ℕ)
+    → (call_begun server (Call.Scavenge file_id)).server.expired ≡ server.expired
+unfolding opens_dropped with_opens
+scavenge-expired server file_id =
+    either_expired (list_any (is_left_behind file_id) server.opens) _ (begun server) server.expired refl refl
+
+pub join-expired : (server : Server) (client : ℕ) → server.present client ≡ false → (key : Key)
+    → (call_begun server (Call.Join client)).server.expired key
+    ≡ (if key.client == client then false else server.expired key)
+unfolding join joined
+join-expired server client e key = rw (e) refl
+
+pub expire-expired : (server : Server) (key : Key) (other : Key)
+    → (call_begun server (Call.Expire key)).server.expired other ≡ true
+    → (server.expired other ≡ true) ⊎ (put_key server.expired key true other ≡ true)
+unfolding key_expired opens_dropped with_opens
+expire-expired server key other = if_cases
+    (λ (p : Progress). p.server.expired other ≡ true
+    → (server.expired other ≡ true) ⊎ (put_key server.expired key true other ≡ true))
+    (is_breaking (server.leases key)) _ (begun server) (λ b e. inr e) (λ b e. inl e)
