@@ -1,6 +1,6 @@
 ghost use Rattle.lease_model.specs.worked.ClientCalls.{ClientSteps, NeverConnected};
-ghost use Rattle.lease_model.specs.worked.ClientRefusals.{Refusals, WriterRefusals, UnknownFile, UsedUp};
-ghost use Rattle.lease_model.specs.worked.ClientAsking.{Asking, AskingReads, AskingWriter, AskingRefusedForSharing, ParkedAsks, ClosedWhileAsking, NoticedWhileAsking};
+ghost use Rattle.lease_model.specs.worked.ClientRefusals.{Refusals, WriterRefusals, ParkedRefusals, UnknownFile, UsedUp};
+ghost use Rattle.lease_model.specs.worked.ClientAsking.{Asking, AskingReads, AskingWriter, AskingRefusedForSharing, ParkedAsks, ClosedWhileAsking, NoticedWhileAsking, ThroughAndBuffered};
 ghost use Rattle.lease_model.specs.worked.ClientReplies.{PatchedBase, OldFileIdClosed, FirstBeliefs, LaterBeliefs, BreaksAnswered, LongReads};
 
 /// A client opens a file, buffers two writes, reads once from the server and once from its cache,
@@ -18,6 +18,7 @@ pub fn client_never_connected()
 pub fn client_refusals()
     ensures refusals { Refusals }
     ensures writer { WriterRefusals }
+    ensures parked { ParkedRefusals }
     ensures unknown_file { UnknownFile }
     ensures used_up { UsedUp }
 {}
@@ -32,6 +33,7 @@ pub fn client_asks_for_more()
     ensures parked { ParkedAsks }
     ensures closed { ClosedWhileAsking }
     ensures noticed { NoticedWhileAsking }
+    ensures through { ThroughAndBuffered }
 {}
 
 /// What replies and breaks do to an entry: the file as it knows it, its FileId, what it believes,

@@ -1,7 +1,7 @@
 ghost use Rattle.lease_model.specs.worked.ServerCalls.{SharedCalls, SharedAllowed, LaterCalls, LaterAllowed, Acknowledgments, OddStates, TwoPasses};
-ghost use Rattle.lease_model.specs.worked.ServerBreaks.{KeysInOrder, OwnLeaseBroken, ReadsBrokenAtOnce, OneBreakForTwoWrites, WriteHeldByBreakToReads};
+ghost use Rattle.lease_model.specs.worked.ServerBreaks.{KeysInOrder, OwnLeaseBroken, ReadsBrokenAtOnce, OneBreakForTwoWrites, WriteHeldByBreakToReads, OneConflictBroken, HeldInOrder, ExpiredUntilJoined};
 ghost use Rattle.lease_model.specs.worked.ServerRefusals.{RefusedOnArrival, DeniedBreaksNothing, FileIdsUsedUp};
-ghost use Rattle.lease_model.specs.worked.ServerDurable.{DurableWhileBreaking, RefusedReconnects};
+ghost use Rattle.lease_model.specs.worked.ServerDurable.{DurableWhileBreaking, RefusedReconnects, ConnectedNotScavenged};
 
 /// Two clients and two files: a lease is broken for another client's create, acknowledged, and the
 /// create answered; then a denied write, two closes and refused creates. What the server would
@@ -28,13 +28,17 @@ pub fn two_passes()
     ensures { TwoPasses }
 {}
 
-/// In which order leases are broken, and what goes on or waits while they are breaking.
+/// Which leases are broken, in which order, what goes on or waits while they are breaking, and what
+/// a break whose timer ran out leaves behind.
 pub fn breaks_of_servers()
     ensures keys { KeysInOrder }
     ensures own_lease { OwnLeaseBroken }
     ensures reads { ReadsBrokenAtOnce }
     ensures one_break { OneBreakForTwoWrites }
     ensures held_write { WriteHeldByBreakToReads }
+    ensures one_conflict { OneConflictBroken }
+    ensures held_in_order { HeldInOrder }
+    ensures expired { ExpiredUntilJoined }
 {}
 
 /// What a server refuses, in which order, and that it breaks nothing for that.
@@ -44,8 +48,9 @@ pub fn refusals_of_servers()
     ensures file_ids { FileIdsUsedUp }
 {}
 
-/// When an open is durable, and which reconnects are refused.
+/// When an open is durable, which reconnects are refused, and what a scavenge closes.
 pub fn durable_opens()
     ensures grants { DurableWhileBreaking }
     ensures reconnects { RefusedReconnects }
+    ensures scavenged { ConnectedNotScavenged }
 {}

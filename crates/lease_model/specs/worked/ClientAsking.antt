@@ -215,3 +215,36 @@ NoticedWhileAsking = steps_along one_client noticed_while_asking_calls ≡
     ∷ shown Answer.Done [] (Note.Believes 1 RWH ∷ [])
     ∷ shown Answer.Waiting (write_of 1 1 (at 0 (0x58 ∷ [])) ∷ []) []
     ∷ []
+
+abbrev pub through_and_buffered_calls : List ClientCall
+through_and_buffered_calls =
+    ClientCall.Connected
+    ∷ open_it Access.Write Share.ReadWrite RH true
+    ∷ ClientCall.Taken (created 1 1 first_key RH false true)
+    ∷ open_it Access.Read Share.ReadWrite RWH false
+    ∷ write_it 0 (0x58 ∷ [])
+    ∷ ClientCall.Taken (created 1 2 first_key RWH false true)
+    ∷ write_it 1 (0x59 ∷ [])
+    ∷ ClientCall.Noticed
+    ∷ ClientCall.Connected
+    ∷ ClientCall.Taken (created 1 2 first_key RWH false false)
+    ∷ flush_it
+    ∷ []
+
+-- A write that is sent while the entry is asking, and one that is buffered once it has W. The connection is
+-- lost before either is answered: the first is settled as unknown, the second is kept and sent later.
+abbrev pub ThroughAndBuffered : Type 0
+ThroughAndBuffered = steps_along one_client through_and_buffered_calls ≡
+    shown Answer.Quiet [] []
+    ∷ shown Answer.Waiting (keyed_durable 1 Access.Write Share.ReadWrite first_key RH ∷ []) []
+    ∷ shown Answer.Done [] (Note.Believes 1 RH ∷ [])
+    ∷ shown Answer.Waiting (keyed_durable 1 Access.ReadWrite Share.ReadWrite first_key RWH ∷ []) []
+    ∷ shown Answer.Waiting (write_of 1 1 (at 0 (0x58 ∷ [])) ∷ [])
+    (Note.Wrote 1 1 (at 0 (0x58 ∷ [])) false ∷ [])
+    ∷ shown Answer.Done (close_of 1 ∷ []) (Note.Believes 1 RWH ∷ [])
+    ∷ shown Answer.Done [] (Note.Wrote 1 2 (at 1 (0x59 ∷ [])) true ∷ [])
+    ∷ shown Answer.Quiet [] (Note.Settled 1 Settlement.Unknown ∷ Note.Believes 1 nothing_cached ∷ [])
+    ∷ shown Answer.Quiet (reconnecting 1 Access.ReadWrite Share.ReadWrite first_key 2 ∷ []) []
+    ∷ shown Answer.Done [] (Note.Believes 1 RWH ∷ [])
+    ∷ shown Answer.Waiting (write_of 2 2 (at 1 (0x59 ∷ [])) ∷ []) []
+    ∷ []

@@ -8,11 +8,11 @@ use Rattle.lease_model.specs.client.Calls.{ClientCall}
 use Rattle.lease_model.specs.client.Commands.{Command, Answer, Refusal, Note, Settlement}
 use Rattle.lease_model.specs.client.State.{Client, LiveEntry, Asked, live_entry}
 use Rattle.lease_model.specs.messages.Replies.{Reply}
-use Rattle.lease_model.specs.worked.ClientWords.{shown, steps_along, client_after, one_client, open_it, close_it, read_it, write_it}
+use Rattle.lease_model.specs.worked.ClientWords.{shown, steps_along, client_after, one_client, open_it, close_it, read_it, write_it, flush_it}
 use Rattle.lease_model.specs.worked.MessageWords.{keyed, keyed_durable, reconnecting, read_of, write_of, close_of, created}
 use Rattle.lease_model.specs.values.Limits.{count_limit, last_write_number}
 use Rattle.lease_model.specs.values.Tables.{put}
-use Rattle.lease_model.specs.worked.ValueWords.{R, RH, at, first_key}
+use Rattle.lease_model.specs.worked.ValueWords.{R, RH, RWH, at, first_key}
 
 abbrev pub refusals_calls : List ClientCall
 refusals_calls =
@@ -99,6 +99,38 @@ WriterRefusals = steps_along one_client writer_refusals_calls ≡
     ∷ shown Answer.Quiet [] (Note.Settled 1 Settlement.Done ∷ [])
     ∷ shown Answer.Done (close_of 1 ∷ []) []
     ∷ shown (Answer.Refused Refusal.NotOpen) [] []
+    ∷ []
+
+abbrev pub parked_refusals_calls : List ClientCall
+parked_refusals_calls =
+    ClientCall.Connected
+    ∷ open_it Access.ReadWrite Share.ReadWrite RWH false
+    ∷ ClientCall.Taken (created 1 1 first_key RWH false false)
+    ∷ write_it 0 (0x58 ∷ [])
+    ∷ close_it
+    ∷ flush_it
+    ∷ close_it
+    ∷ read_it
+    ∷ write_it 0 (0x59 ∷ [])
+    ∷ open_it Access.ReadWrite Share.ReadWrite R false
+    ∷ flush_it
+    ∷ []
+
+-- A parked entry with a buffered write hears an Open alone: until then the write isn't sent, and nothing is
+-- read, written or closed.
+abbrev pub ParkedRefusals : Type 0
+ParkedRefusals = steps_along one_client parked_refusals_calls ≡
+    shown Answer.Quiet [] []
+    ∷ shown Answer.Waiting (keyed 1 Access.ReadWrite Share.ReadWrite first_key RWH ∷ []) []
+    ∷ shown Answer.Done [] (Note.Believes 1 RWH ∷ [])
+    ∷ shown Answer.Done [] (Note.Wrote 1 1 (at 0 (0x58 ∷ [])) true ∷ [])
+    ∷ shown Answer.Done [] []
+    ∷ shown (Answer.Refused Refusal.NotOpen) [] []
+    ∷ shown (Answer.Refused Refusal.NotOpen) [] []
+    ∷ shown (Answer.Refused Refusal.NotOpen) [] []
+    ∷ shown (Answer.Refused Refusal.NotOpen) [] []
+    ∷ shown Answer.Done [] []
+    ∷ shown Answer.Waiting (write_of 1 1 (at 0 (0x58 ∷ [])) ∷ []) []
     ∷ []
 
 -- A file that the client doesn't have isn't open.

@@ -1,13 +1,15 @@
--- Worked calls of a server: when an open is durable, and which reconnects are refused.
+-- Worked calls of a server: when an open is durable, which reconnects are refused, and what a scavenge closes.
 use Rattle.std.specs.Prelude.{◌≡◌, true, false, List, [], ◌∷◌}
 use Rattle.lease_state.specs.State.{nothing_cached}
 use Rattle.lease_state.specs.declared.access.Access.{Access}
 use Rattle.lease_state.specs.declared.access.Share.{Share}
 use Rattle.lease_state.specs.declared.status.Status.{Status}
 use Rattle.lease_model.specs.messages.Replies.{Reply, Out}
-use Rattle.lease_model.specs.server.Calls.{Call}
-use Rattle.lease_model.specs.worked.MessageWords.{keyed, keyed_durable, plain, plain_durable, reconnecting, plain_reconnecting, write_of, created, created_plain, break_of}
-use Rattle.lease_model.specs.worked.ServerWords.{outs_along, three_joined}
+use Rattle.lease_model.specs.server.Calls.{Call, called}
+use Rattle.lease_model.specs.server.Progress.{begun}
+use Rattle.lease_model.specs.server.State.{Server}
+use Rattle.lease_model.specs.worked.MessageWords.{keyed, keyed_durable, plain, plain_durable, reconnecting, plain_reconnecting, read_of, write_of, created, created_plain, break_of}
+use Rattle.lease_model.specs.worked.ServerWords.{server_after, outs_along, three_joined}
 use Rattle.lease_model.specs.worked.ValueWords.{R, RH, RWH, at, sample_key, later_key}
 
 abbrev pub durable_while_breaking_calls : List Call
@@ -65,3 +67,32 @@ RefusedReconnects = outs_along three_joined reconnects_calls ≡
     ∷ (Out.Sent 1 (created 1 1 sample_key RWH false false) ∷ [])
     ∷ (Out.Sent 1 (Reply.CreateFailed 1 Status.ObjectNameNotFound) ∷ [])
     ∷ []
+
+-- a server on which client 1 has a durable open, and is connected
+abbrev pub durable_connected : Server
+durable_connected = server_after three_joined
+    (Call.Receive 1 (keyed_durable 1 Access.ReadWrite Share.ReadWrite sample_key RWH) ∷ [])
+
+abbrev pub scavenge_calls : List Call
+scavenge_calls =
+    Call.Scavenge 1
+    ∷ Call.Receive 1 (read_of 1)
+    ∷ Call.Cut 1
+    ∷ Call.Scavenge 1
+    ∷ Call.Join 1
+    ∷ Call.Receive 1 (reconnecting 1 Access.ReadWrite Share.ReadWrite sample_key 1)
+    ∷ []
+
+-- A scavenge of a connected open changes nothing and gives nothing out: the open can still be read. Once its
+-- client's connection is lost, a scavenge closes it, and it can't be connected again.
+abbrev pub ConnectedNotScavenged : Type 0
+ConnectedNotScavenged =
+    (called durable_connected (Call.Scavenge 1) ≡ begun durable_connected)
+    × (outs_along durable_connected scavenge_calls ≡
+    []
+    ∷ (Out.Sent 1 (Reply.ReadDone 1 (0x61 ∷ 0x62 ∷ 0x63 ∷ [])) ∷ [])
+    ∷ []
+    ∷ []
+    ∷ []
+    ∷ (Out.Sent 1 (Reply.CreateFailed 1 Status.ObjectNameNotFound) ∷ [])
+    ∷ [])

@@ -29,3 +29,7 @@ returns-clause-closed c = refl
 pub returns-clause-noticed : goal.returns-clause-noticed
 unfolding the_client
 returns-clause-noticed c = refl
+
+pub returns-clause-through : goal.returns-clause-through
+unfolding the_client
+returns-clause-through c = refl

@@ -17,3 +17,7 @@ returns-clause-unknown_file c = refl
 pub returns-clause-used_up : goal.returns-clause-used_up
 unfolding the_client
 returns-clause-used_up c = (refl, refl, refl)
+
+pub returns-clause-parked : goal.returns-clause-parked
+unfolding the_client
+returns-clause-parked c = refl

@@ -21,3 +21,15 @@ returns-clause-one_break c = refl
 pub returns-clause-held_write : goal.returns-clause-held_write
 unfolding the_server
 returns-clause-held_write c = refl
+
+pub returns-clause-one_conflict : goal.returns-clause-one_conflict
+unfolding the_server
+returns-clause-one_conflict c = refl
+
+pub returns-clause-held_in_order : goal.returns-clause-held_in_order
+unfolding the_server
+returns-clause-held_in_order c = refl
+
+pub returns-clause-expired : goal.returns-clause-expired
+unfolding the_server
+returns-clause-expired c = refl

@@ -9,3 +9,7 @@ returns-clause-grants c = refl
 pub returns-clause-reconnects : goal.returns-clause-reconnects
 unfolding the_server
 returns-clause-reconnects c = refl
+
+pub returns-clause-scavenged : goal.returns-clause-scavenged
+unfolding the_server
+returns-clause-scavenged c = (refl, refl)
