@@ -10,7 +10,6 @@ use Rattle.lease_model.specs.client.Commands.{Answer, Command, OpenTerms, Refusa
 use Rattle.lease_model.specs.client.State.{Client, Entry, LiveEntry, Asked, Pending, Phase, knows_file}
 use Rattle.lease_model.specs.client.Step.{Step, Turn, turned, refused_step, quiet_step}
 use Rattle.lease_model.specs.client.Taken.{taken, on_file, file_where, broken, break_on, create_answered, created_on, created_on_live, created_for, create_failed, failed_on, create_failed_on_live, create_failed_for, read_answered, read_on, reads_under, read_failed, read_failed_on, write_done, write_failed, is_key_of}
-
 use Rattle.lease_model.specs.messages.Replies.{Reply, BreakNotice, CreateAnswer}
 use Rattle.lease_model.specs.messages.Requests.{Request}
 use Rattle.lease_model.specs.values.Limits.{count_limit, last_write_number}

@@ -299,4 +299,3 @@ one_pass-fewer file progress e =
     (one_pass file progress).passed =
     ap length (i.is_held ∙ append-nil (one_pass file progress).passed) in
     nothing_more (length (one_pass file progress).passed) (length (progress.server.held file)) _ less same
-

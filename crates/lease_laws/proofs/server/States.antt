@@ -167,4 +167,3 @@ breaking-lawful state lowered form needs low = record {
 or_false : (a b : Bool) → (a || b) ≡ false → (a ≡ false) × (b ≡ false)
 or_false true b e = absurd (true≢false e)
 or_false false b e = (refl, e)
-

@@ -126,9 +126,15 @@ grant_counted past before after g c = record {
   opens = λ one a. ⊎_elim
       (λ old. or_later (one.file_id == opened_count past + 1 && (g.file == one.file && g.client == one.client))
       (was_opened one.file_id one.file one.client past) (old_told past before.server one c old))
-      (λ made. rw (made.id, made.on_file, made.by_client, c.last,
-      eq-eqb (opened_count past + 1) (opened_count past + 1) refl, eq-eqb g.file g.file refl,
-      eq-eqb g.client g.client refl) refl)
+      (λ made. rw (
+        made.id,
+        made.on_file,
+        made.by_client,
+        c.last,
+        eq-eqb (opened_count past + 1) (opened_count past + 1) refl,
+        eq-eqb g.file g.file refl,
+        eq-eqb g.client g.client refl,
+      ) refl)
       (g.from one a);
 }
 
@@ -139,6 +145,7 @@ step_counted base step progress s may c = ⊎_elim quiet grant (step-told step p
   where
     next : Progress
     next = step_taken step progress
+
     quiet : IsQuiet progress next → IsCounted (told base next.outs) next.server
     quiet q = subst (λ outs. IsCounted (told base outs) next.server) (sym (q.outs).are_more)
         (subst (λ p. IsCounted p next.server) (sym (told_append base progress.outs (q.outs).more))
@@ -146,6 +153,7 @@ step_counted base step progress s may c = ⊎_elim quiet grant (step-told step p
         (quiet_told (told base progress.outs) (q.outs).more (q.outs).each)
         (quiet_counted (told base progress.outs) progress next (step-sound step progress s may)
         (step-goes step progress s may).from q c)))
+
     grant : IsGrant progress next → IsCounted (told base next.outs) next.server
     grant g = subst (λ outs. IsCounted (told base outs) next.server) (sym g.outs)
         (subst (λ p. IsCounted p next.server)

@@ -299,6 +299,7 @@ join_tied world client s w down tied c = by_client (IsTied (come_back world clie
   where
     up : is_up (put world.links client Link.Up client) ≡ true
     up = ap is_up (put_same world.links client Link.Up)
+
     here : (d : ℕ) → (join world.server client).server.present d ≡ put world.server.present client true d
     here d = called_present world.server (Call.Join client) s w d
         ∙ join_present world.server client ((tied client).present ∙ down) d
@@ -440,7 +441,7 @@ connect_linked : (world : World) (client : ℕ) (link : Link) → world.links cl
 unfolding link_connected connection_made all_turned
 connect_linked world client Link.Down e l =
     let back : World =
-        happened (record world { links = put world.links client Link.Up }) (Fact.Joined client) in
+    happened (record world { links = put world.links client Link.Up }) (Fact.Joined client) in
     let progress = join world.server client in
     stepped_linked (served back progress) client (connection_made (world.clients client))
     (subst IsSound (sym (served-server back progress)) (called-sound world.server (Call.Join client) l.sound))

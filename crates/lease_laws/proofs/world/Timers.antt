@@ -156,7 +156,7 @@ connect_told : (world : World) (client : ℕ) (link : Link) → world.links clie
 unfolding link_connected
 connect_told world client Link.Down down t =
     let back : World =
-        happened (record world { links = put world.links client Link.Up }) (Fact.Joined client) in
+    happened (record world { links = put world.links client Link.Up }) (Fact.Joined client) in
     stepped_told (served back (join world.server client)) client (connection_made (world.clients client))
     (served_told back (Call.Join client)
     (λ key e. joined_told world.server.expired world.past client t.told key
