@@ -1,6 +1,9 @@
 pub mod Beliefs
+pub mod Contents
 pub mod FileIds
+pub mod InStep
 pub mod Kept
 pub mod Links
 pub mod Runs
+pub mod Snapshots
 pub mod Timers

@@ -1,3 +1,4 @@
+ghost use Rattle.lease_laws.specs.world.Contents.{ContentsAreTold, RepliesAreOfTheirPlaces};
 ghost use Rattle.lease_laws.specs.world.FileIds.{FileIdsAreCounted, OpensAreTold};
 ghost use Rattle.lease_laws.specs.world.Links.{LinksOfRuns};
 ghost use Rattle.lease_laws.specs.world.Timers.{TimersAreTold};
@@ -7,7 +8,9 @@ ghost use Rattle.lease_laws.specs.world.Runs.{ServersOfRunsAreSound, ContentsOfR
 /// content is longer than a file may be. What the record says that a client believes is what it believes. The server
 /// has a client's connection where its link is up, only then something is on its way, and the record tells how many
 /// messages. FileIds are given one after the other, and each open is the one that the record tells of in the place of
-/// its FileId. A client whose timer ran out since it connected isn't called served. Does nothing.
+/// its FileId. A client whose timer ran out since it connected isn't called served. Where the
+/// setup is allowed, the record has the contents of the server, and a reply on its way that tells a file's bytes has
+/// those that the file had where the reply was sent. Does nothing.
 pub fn runs_are_lawful()
     ensures servers { ServersOfRunsAreSound }
     ensures contents { ContentsOfRunsFit }
@@ -16,4 +19,6 @@ pub fn runs_are_lawful()
     ensures file_ids { FileIdsAreCounted }
     ensures opens { OpensAreTold }
     ensures timers { TimersAreTold }
+    ensures record { ContentsAreTold }
+    ensures replies { RepliesAreOfTheirPlaces }
 {}

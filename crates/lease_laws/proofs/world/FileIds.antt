@@ -32,17 +32,17 @@ use Rattle.lease_laws.proofs.world.Runs.{stepped_server}
 
 -- ---- outs as facts
 
-abbrev fact_told : Out → Fact
+abbrev pub fact_told : Out → Fact
 fact_told (Out.Sent client reply) = Fact.Sent client
 fact_told (Out.Opened file client) = Fact.Opened file client
 fact_told (Out.Changed file client number patch) = Fact.Changed file client number patch
 
 -- the past once outs were delivered
-abbrev told : List Fact → List Out → List Fact
+abbrev pub told : List Fact → List Out → List Fact
 told past [] = past
 told past (out ∷ outs) = told (fact_told out ∷ past) outs
 
-told_append : (past : List Fact) (outs more : List Out) → told past (outs ++ more) ≡ told (told past outs) more
+pub told_append : (past : List Fact) (outs more : List Out) → told past (outs ++ more) ≡ told (told past outs) more
 told_append past [] more = refl
 told_append past (out ∷ outs) more = told_append (fact_told out ∷ past) outs more
 
@@ -52,7 +52,7 @@ delivered_past world (Out.Sent client reply) = refl
 delivered_past world (Out.Opened file client) = refl
 delivered_past world (Out.Changed file client number patch) = refl
 
-all_delivered_past : (world : World) (outs : List Out) → (all_delivered world outs).past ≡ told world.past outs
+pub all_delivered_past : (world : World) (outs : List Out) → (all_delivered world outs).past ≡ told world.past outs
 unfolding all_delivered
 all_delivered_past world [] = refl
 all_delivered_past world (out ∷ outs) = all_delivered_past (delivered world out) outs
@@ -60,16 +60,16 @@ all_delivered_past world (out ∷ outs) = all_delivered_past (delivered world ou
 
 -- ---- the FileIds of a server, by a past
 
-record IsCounted (past : List Fact) (server : Server) : Type 0 where
-  last : server.last_id ≡ opened_count past
-  opens : (one : Open) → Among one server.opens → was_opened one.file_id one.file one.client past ≡ true
+pub record IsCounted (past : List Fact) (server : Server) : Type 0 where
+  pub last : server.last_id ≡ opened_count past
+  pub opens : (one : Open) → Among one server.opens → was_opened one.file_id one.file one.client past ≡ true
 
 -- two pasts tell of the same opens
-record SameOpens (past : List Fact) (new : List Fact) : Type 0 where
-  count : opened_count new ≡ opened_count past
-  was : (place file client : ℕ) → was_opened place file client new ≡ was_opened place file client past
+pub record SameOpens (past : List Fact) (new : List Fact) : Type 0 where
+  pub count : opened_count new ≡ opened_count past
+  pub was : (place file client : ℕ) → was_opened place file client new ≡ was_opened place file client past
 
-same_counted : (past new : List Fact) (server : Server) → SameOpens past new → IsCounted past server
+pub same_counted : (past new : List Fact) (server : Server) → SameOpens past new → IsCounted past server
     → IsCounted new server
 same_counted past new server same c = record {
   last = c.last ∙ sym same.count;
@@ -138,7 +138,7 @@ grant_counted past before after g c = record {
       (g.from one a);
 }
 
-step_counted : (base : List Fact) (step : SmallStep) (progress : Progress) → IsSound progress.server
+pub step_counted : (base : List Fact) (step : SmallStep) (progress : Progress) → IsSound progress.server
     → IsGuarded step progress.server → IsCounted (told base progress.outs) progress.server
     → IsCounted (told base (step_taken step progress).outs) (step_taken step progress).server
 step_counted base step progress s may c = ⊎_elim quiet grant (step-told step progress)
@@ -222,7 +222,7 @@ begun_same server (Call.Scavenge file_id) = if_cases (AllSame server)
     (list_any (is_left_behind file_id) server.opens) _ (begun server)
     (λ e. (refl, left_same server (is_left_behind file_id))) (λ e. (refl, here server))
 
-begun_counted : (past : List Fact) (server : Server) (call : Call) → IsCounted past server
+pub begun_counted : (past : List Fact) (server : Server) (call : Call) → IsCounted past server
     → IsCounted past (call_begun server call).server
 unfolding AllSame
 begun_counted past server call c = let same = begun_same server call in record {
@@ -232,7 +232,7 @@ begun_counted past server call c = let same = begun_same server call in record {
 }
 
 -- any call
-called_counted : (past : List Fact) (server : Server) (call : Call) → IsSound server → WaitsWell server
+pub called_counted : (past : List Fact) (server : Server) (call : Call) → IsSound server → WaitsWell server
     → IsCounted past server → IsCounted (told past (called server call).outs) (called server call).server
 called_counted past server call s w c =
     let start = call_begun server call in
@@ -244,13 +244,13 @@ called_counted past server call s w c =
 
 -- ---- worlds
 
-record IsCountedWorld (world : World) : Type 0 where
-  sound : IsSound world.server
-  waits : WaitsWell world.server
-  counted : IsCounted world.past world.server
+pub record IsCountedWorld (world : World) : Type 0 where
+  pub sound : IsSound world.server
+  pub waits : WaitsWell world.server
+  pub counted : IsCounted world.past world.server
 
 -- facts of the world tell of no open
-world_fact_same : (past : List Fact) (fact : Fact) → IsOfWorld fact → SameOpens past (fact ∷ past)
+pub world_fact_same : (past : List Fact) (fact : Fact) → IsOfWorld fact → SameOpens past (fact ∷ past)
 unfolding opened_count was_opened
 world_fact_same past (Fact.Joined client) of = record { count = refl; was = λ place file c. refl }
 world_fact_same past (Fact.Dropped client) of = record { count = refl; was = λ place file c. refl }
@@ -260,7 +260,7 @@ world_fact_same past (Fact.Strayed client) of = record { count = refl; was = λ 
 world_fact_same past (_) of = absurd of
 
 -- nor do notes
-note_same : (past : List Fact) (client : ℕ) (note : Note) → SameOpens past (fact_of client note ∷ past)
+pub note_same : (past : List Fact) (client : ℕ) (note : Note) → SameOpens past (fact_of client note ∷ past)
 unfolding opened_count was_opened
 note_same past client (Note.Settled number outcome) = record { count = refl; was = λ place file c. refl }
 note_same past client (Note.Wrote file number patch buffered) = record { count = refl; was = λ place at c. refl }
@@ -294,7 +294,7 @@ served_counted world call s w c =
     (subst (λ x. IsCounted (told world.past progress.outs) x) (sym (served-server world progress))
     (called_counted world.past world.server call s w c))
 
-counted_kept : IsKept IsCountedWorld
+pub counted_kept : IsKept IsCountedWorld
 counted_kept = record {
   messages = λ world requests replies links p.
       record { sound = p.sound; waits = p.waits; counted = p.counted };
@@ -323,7 +323,7 @@ starts_open [] all = refl
 starts_open (Fact.Start file bytes ∷ past) all = starts_open past all
 starts_open (_ ∷ past) all = let c : ⊥ = cc in absurd c
 
-first_counted : (setup : Setup) → IsCountedWorld (first_world setup)
+pub first_counted : (setup : Setup) → IsCountedWorld (first_world setup)
 unfolding first_world new_server
 first_counted setup = record {
   sound = new_server-sound setup.files;
@@ -335,7 +335,7 @@ first_counted setup = record {
   };
 }
 
-run_counted : (setup : Setup) (events : List Event) → IsCountedWorld (after (first_world setup) events)
+pub run_counted : (setup : Setup) (events : List Event) → IsCountedWorld (after (first_world setup) events)
 run_counted setup events = after-kept IsCountedWorld counted_kept (first_world setup) events (first_counted setup)
 
 pub file_ids_are_counted : FileIdsAreCounted

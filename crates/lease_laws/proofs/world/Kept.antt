@@ -167,7 +167,7 @@ applied-kept P k world (Event.Scavenge client file) p =
 applied-kept P k world (Event.Raw client request) p = strayed-kept P k world client request (world.links client) p
 
 -- any event
-happens-kept : (P : World → Type 0) → IsKept P → (world : World) (event : Event) → P world → P (happens world event)
+pub happens-kept : (P : World → Type 0) → IsKept P → (world : World) (event : Event) → P world → P (happens world event)
 unfolding happens
 happens-kept P k world event p = if_either P (has_client world (client_of event)) (applied world event) world
     (applied-kept P k world event p) p

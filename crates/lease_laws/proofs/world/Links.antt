@@ -41,7 +41,7 @@ use Rattle.lease_laws.proofs.world.Runs.{stepped_server, stepped_clients}
 
 -- ---- one client, and the others
 
-by_client : (P : ℕ → Type 0) (client c : ℕ) → P client → (c ≢ client → (client == c) ≡ false → P c) → P c
+pub by_client : (P : ℕ → Type 0) (client c : ℕ) → P client → (c ≢ client → (client == c) ≡ false → P c) → P c
 by_client P client c here there = either (client == c)
     (λ same. subst P (eqb-true client c same) here)
     (λ other. there (λ e. clash (client == c) (eq-eqb client c (sym e)) other) other)

@@ -238,7 +238,7 @@ either_contents : (b : Bool) (x y : Progress) (contents : ℕ → List ℕ) → 
 either_contents true x y contents e f = e
 either_contents false x y contents e f = f
 
-begun_contents : (server : Server) (call : Call) → (call_begun server call).server.contents ≡ server.contents
+pub begun_contents : (server : Server) (call : Call) → (call_begun server call).server.contents ≡ server.contents
 unfolding join joined client_forgotten opens_disconnected opens_dropped with_opens key_expired
 begun_contents server (Call.Join client) =
     either_contents (server.present client) (begun server) (joined client (begun server)) server.contents refl refl

@@ -1,5 +1,6 @@
 use Rattle.lease_laws.proofs.world.Beliefs.{beliefs_of_runs}
 use Rattle.lease_laws.proofs.world.FileIds.{file_ids_are_counted, opens_are_told}
+use Rattle.lease_laws.proofs.world.InStep.{contents_are_told, replies_are_of_their_places}
 use Rattle.lease_laws.proofs.world.Links.{links_of_runs}
 use Rattle.lease_laws.proofs.world.Timers.{timers_are_told}
 use Rattle.lease_laws.proofs.world.Runs.{servers_of_runs, contents_of_runs_fit}
@@ -25,3 +26,9 @@ returns-clause-opens c = opens_are_told
 
 pub returns-clause-timers : goal.returns-clause-timers
 returns-clause-timers c = timers_are_told
+
+pub returns-clause-record : goal.returns-clause-record
+returns-clause-record c = contents_are_told
+
+pub returns-clause-replies : goal.returns-clause-replies
+returns-clause-replies c = replies_are_of_their_places
