@@ -1,0 +1,4 @@
+pub mod Leases
+pub mod Looks
+pub mod Requests
+pub mod Table
