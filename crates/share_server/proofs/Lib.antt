@@ -1,2 +1,4 @@
+pub mod Joining
 pub mod NewTables
 pub mod Places
+pub mod Standing

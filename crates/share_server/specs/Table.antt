@@ -1,6 +1,7 @@
 -- What a server knows as plain lists, and the server of the rules that they stand for.
 use Rattle.std.specs.Prelude.{ℕ, zero, suc, Option, None, List, [], ◌∷◌, length, map, if◌then◌else◌, ◌==◌}
 use Rattle.std.specs.List.{list_any, slice_get}
+use Rattle.lease_state.specs.declared.number.ClientNo.{ClientNo}
 use Rattle.lease_model.specs.values.Keys.{Key, key_eq}
 use Rattle.lease_model.specs.values.Tables.{numbered}
 use Rattle.lease_model.specs.server.State.{Server, Open, Lease, Held, no_lease, with_number}
@@ -20,7 +21,7 @@ pub record Table : Type 0 where
   pub files : List File
   pub opens : List Open
   pub leases : List KeyedLease
-  pub present : List ℕ
+  pub present : List ClientNo
   pub expired : List Key
   pub last_id : ℕ
 
@@ -41,7 +42,7 @@ server_of table = record {
   opens = table.opens;
   leases = lease_at table.leases;
   held = λ file. (numbered no_file table.files file).held;
-  present = λ client. list_any (λ one. one == client) table.present;
+  present = λ client. list_any (λ one. one.0 == client) table.present;
   expired = λ key. list_any (key_eq key) table.expired;
   last_id = table.last_id;
 }

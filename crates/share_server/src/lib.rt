@@ -4,14 +4,19 @@
 //! every server keeps the laws of leases and opens, as the invariant of its type.
 #![tactic(auto)]
 
+mod calls;
 mod key;
 mod lease;
 mod open;
+mod out;
+mod outs;
 mod request;
 mod server;
 mod state;
 mod tables;
 #[cfg(test)]
 mod tests;
+mod want;
 
+pub use out::Out;
 pub use server::Server;

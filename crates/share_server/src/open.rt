@@ -1,7 +1,11 @@
 ghost use Rattle.std.specs.Prelude.{◌≡◌};
 ghost use Rattle.lease_model.specs.server.State.{has_key, has_own_key};
 ghost use Rattle.lease_model.specs.server.Allowed.{is_other_on, conflicts_on};
-ghost use Rattle.share_server.specs.Looks.{is_left_by};
+ghost use Rattle.lease_model.specs.server.Attempt.{is_left_open};
+ghost use Rattle.lease_model.specs.server.Calls.{is_left_behind};
+ghost use Rattle.lease_model.specs.server.Findings.{awaits};
+ghost use Rattle.lease_model.specs.server.Naming.{key_of_open};
+ghost use Rattle.share_server.specs.Looks.{is_left_by, is_connected_as, is_elsewhere};
 
 use crate::key::Key;
 use lease_state::{Access, ClientNo, FileId, FileNo, LeaseKey, Share};
@@ -82,5 +86,63 @@ impl Open {
         ensures { result ≡ is_left_by client.0 file.0 self.now }
     {
         self.client == client && self.file == file && !self.connected
+    }
+
+    /// The key of the open; `None` for an open without an RqLs context.
+    pub fn key(&self) -> Option<Key>
+        ensures { result ≡ key_of_open self.now }
+    {
+        match self.lease_key {
+            Some(bytes) => Some(Key {
+                client: self.client,
+                bytes,
+            }),
+            None => None,
+        }
+    }
+
+    /// Whether the open is the client's connected open of this FileId.
+    pub fn is_connected_as(&self, client: ClientNo, fid: FileId) -> bool
+        ensures { result ≡ is_connected_as client.0 fid.0 self.now }
+    {
+        self.file_id == fid && self.client == client && self.connected
+    }
+
+    /// Whether a reconnect of this client under this key may name the open (MS-SMB2 3.3.5.9.7).
+    #[tactic(auto, unfolding(lease_model::specs::server::Findings::awaits))]
+    pub fn awaits(&self, client: ClientNo, file: FileNo, own: Option<Key>, fid: FileId) -> bool
+        ensures { result ≡ awaits client.0 file.0 own fid.0 self.now }
+    {
+        match own {
+            Some(key) => {
+                self.file_id == fid
+                    && !self.connected
+                    && self.client == client
+                    && self.file == file
+                    && self.has_key(key)
+            }
+            None => false,
+        }
+    }
+
+    /// Whether the open has the key and is on another file.
+    pub fn is_elsewhere(&self, key: Key, file: FileNo) -> bool
+        ensures { result ≡ is_elsewhere key file.0 self.now }
+    {
+        self.has_key(key) && self.file != file
+    }
+
+    /// Whether the open has the key and its client is away.
+    pub fn is_left_open(&self, key: Key) -> bool
+        ensures { result ≡ is_left_open key self.now }
+    {
+        self.has_key(key) && !self.connected
+    }
+
+    /// Whether the open has this FileId and its client is away.
+    pub fn is_left_behind(&self, fid: FileId) -> bool
+        ensures { result ≡ is_left_behind fid.0 self.now }
+    {
+        self.file_id == fid && !self.connected
     }
 }

@@ -1,13 +1,17 @@
-ghost use Rattle.std.specs.Prelude.{◌≡◌, IfOk};
+ghost use Rattle.std.specs.Prelude.{◌≡◌, true, IfOk, IsOk};
 ghost use Rattle.std.specs.Option.{option_map};
 ghost use Rattle.lease_state.specs.State.{state_of};
 ghost use Rattle.lease_model.specs.server.Allowed as grants;
+ghost use Rattle.lease_model.specs.server.Calls as rules;
 ghost use Rattle.lease_model.specs.server.Naming.{key_of, key_under};
 ghost use Rattle.lease_model.specs.server.Queries as queries;
 ghost use Rattle.lease_model.specs.server.State.{new_server};
+ghost use Rattle.share_server.specs.Outs.{IsAfter};
 ghost use Rattle.share_server.specs.Table.{server_of};
 
+use crate::calls;
 use crate::key::Key;
+use crate::out::Out;
 use crate::tables::Tables;
 use lease_laws::laws_of_servers;
 use lease_state::{ClientNo, Content, FileId, FileNo, LeaseKey, LeaseState, Memory};
@@ -45,6 +49,23 @@ impl Server {
         laws_of_servers();
         let tables = Tables::new(alloc, files)?;
         Ok(Server { tables })
+    }
+
+    /// A client connects (MS-SMB2 3.3.5.1). The keys of its leases whose timer ran out may be granted
+    /// states again (own). Where the client is connected nothing changes, and nothing is given out.
+    ///
+    /// # Errors
+    ///
+    /// `Memory` where there is none left, and never where the client is connected.
+    pub fn join(self, client: ClientNo) -> Result<(Server, Vec<Out>), Memory>
+        ensures after { IfOk result (λ r. IsAfter r.0 r.1.items (rules.join (server_of self) client.0)) }
+        ensures idle { (server_of self).present client.0 ≡ true → IsOk result }
+    {
+        laws_of_servers();
+        let Server { mut tables } = self;
+        calls::join(&mut tables, client)?;
+        let outs = Vec::new(tables.alloc());
+        Ok((Server { tables }, outs))
     }
 
     /// What the server may grant (own): the granted form of the wanted state, without

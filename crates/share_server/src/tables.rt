@@ -1,4 +1,4 @@
-ghost use Rattle.std.specs.Prelude.{◌≡◌, IfOk, map};
+ghost use Rattle.std.specs.Prelude.{◌≡◌, ◌==◌, IfOk, map, filter, not};
 ghost use Rattle.lease_model.specs.server.State.{with_number};
 ghost use Rattle.share_server.specs.Table.{fresh_file};
 
@@ -10,6 +10,8 @@ use crate::state::without_write;
 use lease_state::{Access, ClientNo, Content, FileId, FileNo, LeaseState, Memory, Share};
 use std::alloc::{AllocError, Global};
 use std::marker::Model;
+
+mod looks;
 
 /// The last number that a file can have (own): those of one byte.
 const LAST_FILE_NUMBER: usize = 255;
@@ -56,7 +58,6 @@ pub struct Tables {
 }
 
 impl Model for Tables {
-    ghost use Rattle.std.specs.Prelude.{map};
     ghost use Rattle.share_server.specs.Table as table;
 
     ghost Value = { table.Table };
@@ -65,20 +66,22 @@ impl Model for Tables {
       files = tables.files.items;
       opens = tables.opens.items;
       leases = tables.leases.items;
-      present = map (λ client. client.0) tables.present.items;
+      present = tables.present.items;
       expired = tables.expired.items;
       last_id = tables.last_id;
     } };
 }
 
 impl Tables {
-    ghost use Rattle.std.specs.Prelude.{◌≡◌, IfOk};
+    ghost use Rattle.std.specs.Prelude.{◌≡◌, [], IfOk, OnOk};
     ghost use Rattle.std.specs.List.{list_any};
     ghost use Rattle.std.specs.Option.{option_map};
     ghost use Rattle.lease_state.specs.State.{state_of};
     ghost use Rattle.lease_model.specs.server.Allowed as allowed;
+    ghost use Rattle.lease_model.specs.server.Calls.{joined};
     ghost use Rattle.lease_model.specs.server.Queries as queries;
     ghost use Rattle.share_server.specs.Leases.{lease_of};
+    ghost use Rattle.share_server.specs.Outs.{progress_of};
     ghost use Rattle.share_server.specs.Table.{server_of, file_at, new_table};
 
     /// The tables of files with these contents, in order, of which those past the last file number
@@ -96,6 +99,31 @@ impl Tables {
             expired: Vec::new(alloc),
             last_id: 0,
         })
+    }
+
+    /// The allocator of the tables.
+    pub fn alloc(&self) -> Global {
+        *self.opens.allocator()
+    }
+
+    /// Whether the server has the client's connection.
+    pub fn is_present(&self, client: ClientNo) -> bool
+        ensures { result ≡ (server_of self.now).present client.0 }
+    {
+        self.present.iter().any(|one| one.0 == client.0)
+    }
+
+    /// The client's connection comes, and its keys are no longer expired.
+    ///
+    /// # Errors
+    ///
+    /// `Memory` where there is none left for the list of connections.
+    pub fn join(&mut self, client: ClientNo) -> Result<(), Memory>
+        ensures { OnOk result (progress_of self.new [] ≡ joined client.0 (progress_of self.old [])) }
+    {
+        self.present.push(client)?;
+        forget_expired(&mut self.expired, client);
+        Ok(())
     }
 
     /// The file of a number; `None` where there is none.
@@ -177,4 +205,11 @@ fn files_of(alloc: Global, contents: Vec<Content>) -> Result<Vec<File>, AllocErr
         .into_iter()
         .map(|content| File::new(alloc, content))
         .collect(alloc)
+}
+
+// Keeps the keys of other clients.
+fn forget_expired(expired: &mut Vec<Key>, client: ClientNo)
+    ensures { expired.new.items ≡ filter (λ key. not (key.client == client.0)) expired.old.items }
+{
+    expired.retain(|key| key.client != client);
 }

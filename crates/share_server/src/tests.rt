@@ -40,3 +40,17 @@ fn a_new_server_has_its_files_and_nothing_else(rt: HostRuntime) -> Result<(), Fa
     }
     Ok(())
 }
+
+#[test]
+fn a_client_joins_once(rt: HostRuntime) -> Result<(), Fail> {
+    let server = two_files(rt.alloc())?;
+    let (server, outs) = server.join(ClientNo(1))?;
+    assert!(rt; outs.is_empty());
+    let (server, outs) = server.join(ClientNo(1))?;
+    assert!(rt; outs.is_empty());
+    assert_eq!(rt;
+        server.content(FileNo(1)).ok_or("file 1")?,
+        b"abc".as_slice()
+    );
+    Ok(())
+}
