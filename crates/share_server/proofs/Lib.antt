@@ -1,4 +1,5 @@
 pub mod Joining
+pub mod LeaseTable
 pub mod NewTables
 pub mod Places
 pub mod Standing

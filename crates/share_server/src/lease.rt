@@ -2,9 +2,7 @@ ghost use Rattle.std.specs.Prelude.{◌≡◌};
 ghost use Rattle.lease_model.specs.server.State.{is_breaking, no_lease};
 ghost use Rattle.share_server.specs.Leases.{lease_of};
 
-use crate::key::Key;
 use lease_state::LeaseState;
-use std::marker::Model;
 
 /// A lease (MS-SMB2 3.3.1.12): its state and, while it is breaking, the state that it is broken to.
 #[derive(Clone, Copy, Debug)]
@@ -30,20 +28,4 @@ impl Lease {
     {
         self.broken_to.is_some()
     }
-}
-
-/// A lease with its key.
-#[derive(Debug, Drop)]
-pub struct KeyedLease {
-    pub key: Key,
-    pub lease: Lease,
-}
-
-impl Model for KeyedLease {
-    ghost use Rattle.share_server.specs.Table as table;
-    ghost use Rattle.share_server.specs.Leases.{lease_of};
-
-    ghost Value = { table.KeyedLease };
-
-    ghost view = { λ one. record { key = one.key; lease = lease_of one.lease } };
 }

@@ -7,6 +7,7 @@
 mod calls;
 mod key;
 mod lease;
+mod leases;
 mod open;
 mod out;
 mod outs;

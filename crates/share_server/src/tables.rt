@@ -3,7 +3,8 @@ ghost use Rattle.lease_model.specs.server.State.{with_number};
 ghost use Rattle.share_server.specs.Table.{fresh_file};
 
 use crate::key::Key;
-use crate::lease::{KeyedLease, Lease};
+use crate::lease::Lease;
+use crate::leases::Leases;
 use crate::open::Open;
 use crate::request::Held;
 use crate::state::without_write;
@@ -48,7 +49,7 @@ impl File {
 pub struct Tables {
     files: Vec<File>,
     opens: Vec<Open>,
-    leases: Vec<KeyedLease>,
+    leases: Leases,
     /// The clients whose connection the server has.
     present: Vec<ClientNo>,
     /// The keys whose break timer ran out since their client joined.
@@ -65,7 +66,7 @@ impl Model for Tables {
     ghost view = { λ tables. record {
       files = tables.files.items;
       opens = tables.opens.items;
-      leases = tables.leases.items;
+      leases = tables.leases;
       present = tables.present.items;
       expired = tables.expired.items;
       last_id = tables.last_id;
@@ -94,7 +95,7 @@ impl Tables {
         Ok(Tables {
             files: files_of(alloc, contents)?,
             opens: Vec::new(alloc),
-            leases: Vec::new(alloc),
+            leases: Leases::new(alloc),
             present: Vec::new(alloc),
             expired: Vec::new(alloc),
             last_id: 0,
@@ -148,12 +149,7 @@ impl Tables {
     pub fn lease(&self, key: Key) -> Lease
         ensures { lease_of result ≡ (server_of self.now).leases key }
     {
-        for one in &self.leases {
-            if key.is(one.key) {
-                return one.lease;
-            }
-        }
-        Lease::none()
+        self.leases.of(key)
     }
 
     /// Whether an open on the file has another key than the request.
