@@ -1,3 +1,4 @@
+pub mod Closing
 pub mod Leases
 pub mod Looks
 pub mod Outs

@@ -2,6 +2,8 @@ ghost use Rattle.std.specs.Prelude.{◌≡◌, [], filter, OnOk};
 ghost use Rattle.std.specs.List.{list_any};
 ghost use Rattle.lease_model.specs.server.State.{has_key};
 ghost use Rattle.lease_model.specs.values.Tables.{put_key};
+ghost use Rattle.lease_model.specs.server.Naming.{key_of_open};
+ghost use Rattle.share_server.specs.Closing.{lease_under};
 ghost use Rattle.share_server.specs.Leases.{lease_of};
 ghost use Rattle.share_server.specs.Table.{lease_at, leases_under, has_another_key, is_under};
 
@@ -63,6 +65,16 @@ impl Leases {
             }
         }
         Lease::none()
+    }
+
+    /// The lease under which an open stands.
+    pub fn under(&self, one: &Open) -> Lease
+        ensures { lease_of result ≡ lease_under (lease_at self.now) (key_of_open one.now) }
+    {
+        match one.key() {
+            Some(key) => self.of(key),
+            None => Lease::none(),
+        }
     }
 
     /// Puts a lease under the key.

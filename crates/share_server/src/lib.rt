@@ -5,6 +5,7 @@
 #![tactic(auto)]
 
 mod calls;
+mod closing;
 mod key;
 mod lease;
 mod leases;

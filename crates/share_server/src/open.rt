@@ -2,12 +2,16 @@ ghost use Rattle.std.specs.Prelude.{◌≡◌};
 ghost use Rattle.lease_model.specs.server.State.{has_key, has_own_key};
 ghost use Rattle.lease_model.specs.server.Allowed.{is_other_on, conflicts_on};
 ghost use Rattle.lease_model.specs.server.Attempt.{is_left_open};
-ghost use Rattle.lease_model.specs.server.Calls.{is_left_behind};
+ghost use Rattle.lease_model.specs.server.Calls.{is_left_behind, disconnected};
+ghost use Rattle.lease_model.specs.server.Grant.{connected_again};
 ghost use Rattle.lease_model.specs.server.Findings.{awaits};
 ghost use Rattle.lease_model.specs.server.Naming.{key_of_open};
+ghost use Rattle.share_server.specs.Closing.{outlives_under};
+ghost use Rattle.share_server.specs.Leases.{lease_of};
 ghost use Rattle.share_server.specs.Looks.{is_left_by, is_connected_as, is_elsewhere};
 
 use crate::key::Key;
+use crate::lease::Lease;
 use lease_state::{Access, ClientNo, FileId, FileNo, LeaseKey, Share};
 use std::marker::Model;
 
@@ -144,5 +148,31 @@ impl Open {
         ensures { result ≡ is_left_behind fid.0 self.now }
     {
         self.file_id == fid && !self.connected
+    }
+
+    /// Whether the open, which stands under this lease, outlives its client's connection (own;
+    /// MS-SMB2 3.3.7.1).
+    pub fn outlives_connection(&self, lease: Lease) -> bool
+        ensures { result ≡ outlives_under (lease_of lease) self.now }
+    {
+        self.durable && lease.state.caches_handles() && !lease.is_breaking()
+    }
+
+    /// The open is no longer connected, if it is one of the client's.
+    pub fn disconnect(&mut self, client: ClientNo)
+        ensures { self.new ≡ disconnected client.0 self.old }
+    {
+        if self.client == client {
+            self.connected = false;
+        }
+    }
+
+    /// The open is connected again, if it has this FileId.
+    pub fn connect_again(&mut self, fid: FileId)
+        ensures { self.new ≡ connected_again fid.0 self.old }
+    {
+        if self.file_id == fid {
+            self.connected = true;
+        }
     }
 }

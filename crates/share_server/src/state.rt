@@ -4,6 +4,13 @@ ghost use Rattle.lease_model.specs.values.LeaseStates as model;
 
 use lease_state::LeaseState;
 
+/// Whether the state holds something.
+pub fn holds_any(state: LeaseState) -> bool
+    ensures { result ≡ model.holds_any (state_of state) }
+{
+    state.caches_reads() || state.caches_writes() || state.caches_handles()
+}
+
 /// The state without `WRITE_CACHING`.
 pub fn without_write(state: LeaseState) -> LeaseState
     ensures { state_of result ≡ model.without_write (state_of state) }

@@ -12,7 +12,9 @@ use lease_state::{Access, ClientNo, Content, FileId, FileNo, LeaseState, Memory,
 use std::alloc::{AllocError, Global};
 use std::marker::Model;
 
+mod changes;
 mod looks;
+mod wants;
 
 /// The last number that a file can have (own): those of one byte.
 const LAST_FILE_NUMBER: usize = 255;

@@ -1,0 +1,81 @@
+ghost use Rattle.std.specs.Prelude.{◌≡◌, ◌+◌, ◌<◌, ◌^◌, ◌++◌, [], ◌∷◌, true, not, filter, map, OnOk};
+ghost use Rattle.lease_model.specs.server.Calls.{disconnected};
+ghost use Rattle.lease_model.specs.server.Grant.{connected_again};
+ghost use Rattle.lease_model.specs.server.Progress.{with_lease, with_opens};
+ghost use Rattle.lease_model.specs.values.Lists.{without};
+ghost use Rattle.lease_model.specs.values.Tables.{put_key};
+ghost use Rattle.share_server.specs.Closing.{closes};
+ghost use Rattle.share_server.specs.Leases.{lease_of};
+ghost use Rattle.share_server.specs.Table.{server_of, lease_at};
+
+use crate::closing::Closing;
+use crate::key::Key;
+use crate::lease::Lease;
+use crate::leases::Leases;
+use crate::open::Open;
+use crate::tables::Tables;
+use lease_state::{ClientNo, FileId, Memory};
+
+impl Tables {
+    /// Puts a lease under the key.
+    ///
+    /// # Errors
+    ///
+    /// `Memory` where there is none left for the list of leases.
+    pub fn put_lease(&mut self, key: Key, lease: Lease) -> Result<(), Memory>
+        ensures { OnOk result (server_of self.new ≡ with_lease (server_of self.old) key (lease_of lease)) }
+    {
+        self.leases.put(key, lease)
+    }
+
+    /// Closes opens; with its last open a lease is gone (MS-SMB2 3.3.5.10).
+    #[tactic(auto, unfolding(lease_model::specs::server::Progress::with_opens))]
+    pub fn close(&mut self, closing: Closing)
+        ensures { server_of self.new ≡ with_opens (server_of self.old)
+            (without (closes closing (server_of self.old).leases) (server_of self.old).opens) }
+    {
+        drop_opens(&mut self.opens, &self.leases, closing);
+        self.leases.keep_under(&self.opens);
+    }
+
+    /// The client's opens are no longer connected.
+    pub fn disconnect(&mut self, client: ClientNo)
+        ensures { server_of self.new ≡ record (server_of self.old) {
+          opens = map (disconnected client.0) (server_of self.old).opens;
+        } }
+    {
+        disconnect(&mut self.opens, client);
+    }
+
+    /// The open of this FileId is connected again.
+    pub fn connect_again(&mut self, fid: FileId)
+        ensures { server_of self.new ≡ record (server_of self.old) {
+          opens = map (connected_again fid.0) (server_of self.old).opens;
+        } }
+    {
+        connect_again(&mut self.opens, fid);
+    }
+}
+
+// Keeps the opens that aren't closed.
+fn drop_opens(opens: &mut Vec<Open>, leases: &Leases, closing: Closing)
+    ensures { opens.new.items ≡ filter (λ one. not (closes closing (lease_at leases.now) one)) opens.old.items }
+{
+    opens.retain(|one| !closing.closes(leases, one));
+}
+
+fn disconnect(opens: &mut Vec<Open>, client: ClientNo)
+    ensures { opens.new.items ≡ map (disconnected client.0) opens.old.items }
+{
+    for one in opens.iter_mut() {
+        one.disconnect(client);
+    }
+}
+
+fn connect_again(opens: &mut Vec<Open>, fid: FileId)
+    ensures { opens.new.items ≡ map (connected_again fid.0) opens.old.items }
+{
+    for one in opens.iter_mut() {
+        one.connect_again(fid);
+    }
+}
