@@ -1,3 +1,4 @@
+pub mod Expiring
 pub mod Joining
 pub mod LeaseTable
 pub mod NewTables

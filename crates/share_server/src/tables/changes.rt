@@ -38,6 +38,44 @@ impl Tables {
         self.leases.keep_under(&self.opens);
     }
 
+    /// The timer of the key ran out.
+    ///
+    /// # Errors
+    ///
+    /// `Memory` where there is none left for the list of such keys.
+    pub fn expire(&mut self, key: Key) -> Result<(), Memory>
+        ensures { OnOk result (server_of self.new ≡ record (server_of self.old) {
+          expired = put_key (server_of self.old).expired key true;
+        }) }
+    {
+        self.expired.push(key)?;
+        Ok(())
+    }
+
+    /// The FileId given last; 0 before the first.
+    pub fn last_id(&self) -> u64
+        ensures { result ≡ (server_of self.now).last_id }
+    {
+        self.last_id
+    }
+
+    /// One more open, which has the next FileId.
+    ///
+    /// # Errors
+    ///
+    /// `Memory` where there is none left for the list of opens.
+    pub fn add_open(&mut self, one: Open) -> Result<(), Memory>
+        requires { (server_of self.old).last_id + 1 < 2 ^ 64 }
+        ensures { OnOk result (server_of self.new ≡ record (server_of self.old) {
+          opens = (server_of self.old).opens ++ one ∷ [];
+          last_id = (server_of self.old).last_id + 1;
+        }) }
+    {
+        self.opens.push(one)?;
+        self.last_id += 1;
+        Ok(())
+    }
+
     /// The client's opens are no longer connected.
     pub fn disconnect(&mut self, client: ClientNo)
         ensures { server_of self.new ≡ record (server_of self.old) {
