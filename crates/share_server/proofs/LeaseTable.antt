@@ -1,9 +1,9 @@
 -- The list of leases with a lease put under a key, and without the leases whose key no open has.
-use Rattle.std.proofs.Common.{◌≡◌, ℕ, Bool, true, false, cond, not, List, [], ◌∷◌, ◌++◌, refl, ap, sym, ◌∙◌, arith}
+use Rattle.std.proofs.Common.{◌≡◌, true, false, List, [], ◌∷◌, ◌++◌, refl, ap, sym, ◌∙◌, arith}
 use Rattle.std.proofs.Math.Path.{fun_ext}
 use Rattle.std.specs.Prelude.{filter, if◌then◌else◌}
 use Rattle.std.specs.List.{list_any}
-use Rattle.lease_laws.proofs.server.Keys.{key_eq-same, key_eq-refl}
+use Rattle.lease_laws.proofs.server.Keys.{key_eq-same}
 use Rattle.lease_model.specs.server.State.{Open, Lease, no_lease, has_key}
 use Rattle.lease_model.specs.values.Keys.{Key, key_eq}
 use Rattle.lease_model.specs.values.Tables.{put_key}

@@ -1,4 +1,5 @@
 pub mod Expiring
+pub mod FilePlaces
 pub mod Joining
 pub mod LeaseTable
 pub mod NewTables

@@ -1,5 +1,5 @@
 -- What a call leaves behind stands for what the rules come to, and keeps the laws of servers.
-use Rattle.std.proofs.Common.{◌≡◌, List, [], map, sym, ap, ◌∙◌, subst}
+use Rattle.std.proofs.Common.{◌≡◌, List, map, sym, ap, ◌∙◌, subst}
 use Rattle.lease_laws.specs.server.Laws.{IsSound}
 use Rattle.lease_model.specs.messages.Replies as model
 use Rattle.lease_model.specs.server.Calls.{Call, called}

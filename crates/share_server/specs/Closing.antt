@@ -1,5 +1,5 @@
 -- Which opens are closed together, by the leases that there are.
-use Rattle.std.specs.Prelude.{ℕ, Bool, ◌==◌, ◌&&◌, not}
+use Rattle.std.specs.Prelude.{Bool, ◌==◌, ◌&&◌, not}
 use Rattle.lease_model.specs.server.Attempt.{is_left_open}
 use Rattle.lease_model.specs.server.Calls.{is_left_behind}
 use Rattle.lease_model.specs.server.Naming.{key_under}

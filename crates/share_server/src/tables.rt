@@ -1,4 +1,4 @@
-ghost use Rattle.std.specs.Prelude.{◌≡◌, ◌==◌, IfOk, map, filter, not};
+ghost use Rattle.std.specs.Prelude.{◌≡◌, ◌==◌, ◌++◌, [], ◌∷◌, IfOk, OnOk, map, filter, not};
 ghost use Rattle.lease_model.specs.server.State.{with_number};
 ghost use Rattle.share_server.specs.Table.{fresh_file};
 
@@ -43,6 +43,14 @@ impl File {
             content,
             held: Vec::new(alloc),
         }
+    }
+
+    /// The request waits behind the others.
+    fn hold(&mut self, one: Held) -> Result<(), Memory>
+        ensures { OnOk result (self.new ≡ record self.old { held = self.old.held ++ one ∷ [] }) }
+    {
+        self.held.push(one)?;
+        Ok(())
     }
 }
 

@@ -3,7 +3,8 @@ ghost use Rattle.lease_model.specs.server.Calls.{disconnected};
 ghost use Rattle.lease_model.specs.server.Grant.{connected_again};
 ghost use Rattle.lease_model.specs.server.Progress.{with_lease, with_opens};
 ghost use Rattle.lease_model.specs.values.Lists.{without};
-ghost use Rattle.lease_model.specs.values.Tables.{put_key};
+ghost use Rattle.lease_model.specs.server.State.{has_file};
+ghost use Rattle.lease_model.specs.values.Tables.{put, put_key};
 ghost use Rattle.share_server.specs.Closing.{closes};
 ghost use Rattle.share_server.specs.Leases.{lease_of};
 ghost use Rattle.share_server.specs.Table.{server_of, lease_at};
@@ -13,8 +14,9 @@ use crate::key::Key;
 use crate::lease::Lease;
 use crate::leases::Leases;
 use crate::open::Open;
+use crate::request::Held;
 use crate::tables::Tables;
-use lease_state::{ClientNo, FileId, Memory};
+use lease_state::{ClientNo, FileId, FileNo, Memory};
 
 impl Tables {
     /// Puts a lease under the key.
@@ -36,6 +38,22 @@ impl Tables {
     {
         drop_opens(&mut self.opens, &self.leases, closing);
         self.leases.keep_under(&self.opens);
+    }
+
+    /// The request waits on the file, behind those that wait there.
+    ///
+    /// # Errors
+    ///
+    /// `Memory` where there is none left for the file's queue.
+    pub fn hold(&mut self, file: FileNo, one: Held) -> Result<(), Memory>
+        requires { has_file (server_of self.old) file.0 ≡ true }
+        ensures { OnOk result (server_of self.new ≡ record (server_of self.old) {
+          held = put (server_of self.old).held file.0 ((server_of self.old).held file.0 ++ one ∷ []);
+        }) }
+    {
+        let index = usize::from(file.0) - 1;
+        self.files[index].hold(one)?;
+        Ok(())
     }
 
     /// The timer of the key ran out.
