@@ -1,0 +1,26 @@
+-- The code's requests, whose create contexts were read, as the definitions see them.
+use Rattle.std.specs.Prelude.{Some}
+use Rattle.std.specs.Option.{option_map}
+use Rattle.lease_state.specs.State.{state_of}
+use Rattle.lease_state.specs.declared.key.LeaseKey.{LeaseKey}
+use Rattle.lease_state.specs.declared.state.LeaseState.{LeaseState}
+use Rattle.lease_wire.specs.declared.create.CreateAsk as wire
+use Rattle.lease_model.specs.messages.Requests as model
+use Rattle.share_server.specs.declared.request.FileRequest as code
+
+abbrev pub lease_asked : LeaseKey × LeaseState → model.LeaseOf
+lease_asked lease = record { key = lease.0.0; state = state_of lease.1 }
+
+abbrev pub ask_of : wire.CreateAsk → model.CreateAsk
+ask_of ask = record {
+  lease = option_map lease_asked ask.lease;
+  durable = ask.durable;
+  reconnect = option_map (λ file_id. file_id.0) ask.reconnect;
+}
+
+abbrev pub file_request_of : code.FileRequest → model.FileRequest
+file_request_of (code.TheVariants.Create file access share ask) =
+    model.FileRequest.Create file.0 access share (Some (ask_of ask))
+file_request_of (code.TheVariants.Read fid) = model.FileRequest.Read fid.0
+file_request_of (code.TheVariants.Write fid number patch) = model.FileRequest.Write fid.0 number patch
+file_request_of (code.TheVariants.Close fid) = model.FileRequest.Close fid.0
