@@ -7,7 +7,8 @@ use Rattle.std.specs.Prelude.{unwrap_or}
 use Rattle.lease_model.specs.values.Tables.{numbered}
 use Rattle.lease_model.specs.client.State.{Client, Entry, closed_entry, new_client}
 
-pub closed_more : (files : ℕ) → replicate files (closed_entry []) ++ closed_entry [] ∷ [] ≡ replicate (files + 1) (closed_entry [])
+pub closed_more : (files : ℕ)
+    → replicate files (closed_entry []) ++ closed_entry [] ∷ [] ≡ replicate (files + 1) (closed_entry [])
 closed_more files = replicate-append-replicate files 1 (closed_entry [])
 
 closed_place : (files n : ℕ)

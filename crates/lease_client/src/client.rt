@@ -1,4 +1,4 @@
-ghost use Rattle.std.specs.Prelude.{◌≡◌, [], IfOk, replicate};
+ghost use Rattle.std.specs.Prelude.{◌≡◌, [], IfOk, IsOk, replicate};
 ghost use Rattle.std.specs.Option.{option_map};
 ghost use Rattle.lease_state.specs.State.{state_of};
 ghost use Rattle.lease_model.specs.client.State as model;
@@ -41,9 +41,10 @@ impl Client {
     ///
     /// # Errors
     ///
-    /// `Memory` where there is none left for the list of files.
+    /// `Memory` where there is none left for the list of files, and never where there are no files.
     pub fn new(alloc: Global, guid: [u8; 16], files: u8) -> Result<Client, Memory>
-        ensures { IfOk result (λ client. client_of client ≡ model.new_client guid files) }
+        ensures new { IfOk result (λ client. client_of client ≡ model.new_client guid files) }
+        ensures no_files { files ≡ 0 → IsOk result }
     {
         Ok(Client {
             guid,
@@ -76,7 +77,8 @@ impl Client {
 // The entries of files that aren't open.
 #[tactic(auto, using(crate::proofs::NewClient::closed_more))]
 fn closed_entries(alloc: Global, files: u8) -> Result<Vec<Entry>, Memory>
-    ensures { IfOk result (λ entries. entries.items ≡ replicate files (model.closed_entry [])) }
+    ensures closed { IfOk result (λ entries. entries.items ≡ replicate files (model.closed_entry [])) }
+    ensures no_files { files ≡ 0 → IsOk result }
 {
     let mut entries = Vec::with_capacity(alloc, usize::from(files))?;
     for _ in 0..files {

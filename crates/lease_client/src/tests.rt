@@ -24,5 +24,7 @@ fn a_new_client_believes_nothing(rt: HostRuntime) -> Result<(), Fail> {
     for file in [0, 1, 2, 3, 255] {
         assert_eq!(rt; client.belief(FileNo(file)), LeaseState::NONE);
     }
+    let idle = Client::new(rt.alloc(), GUID, 0)?;
+    assert_eq!(rt; idle.belief(FileNo(1)), LeaseState::NONE);
     Ok(())
 }
