@@ -1,0 +1,2 @@
+pub mod NewClient
+pub mod Places

@@ -1,0 +1,42 @@
+-- The entries of a new client stand for the client that is new.
+use Rattle.std.proofs.Common.{◌≡◌, ℕ, zero, suc, List, [], ◌∷◌, ◌++◌, ◌+◌, length, false, refl, ap, ◌∙◌, replicate}
+use Rattle.std.proofs.lemmas.List.{length-replicate, replicate-append-replicate}
+use Rattle.std.proofs.Math.Path.{fun_ext}
+use Rattle.std.specs.List.{slice_get}
+use Rattle.std.specs.Prelude.{unwrap_or}
+use Rattle.lease_model.specs.values.Tables.{numbered}
+use Rattle.lease_model.specs.client.State.{Client, Entry, closed_entry, new_client}
+
+pub closed_more : (files : ℕ)
+    → replicate files (closed_entry []) ++ closed_entry [] ∷ [] ≡ replicate (files + 1) (closed_entry [])
+closed_more files = replicate-append-replicate files 1 (closed_entry [])
+
+closed_place : (files n : ℕ)
+    → unwrap_or (slice_get (replicate files (closed_entry [])) n) (closed_entry []) ≡ closed_entry []
+closed_place zero n = refl
+closed_place (suc files) zero = refl
+closed_place (suc files) (suc n) = closed_place files n
+
+closed_number : (files n : ℕ)
+    → numbered (closed_entry []) (replicate files (closed_entry [])) n ≡ closed_entry []
+unfolding numbered
+closed_number files zero = refl
+closed_number files (suc n) = closed_place files n
+
+-- a client that was never connected, by what its files are
+abbrev unconnected : List ℕ → ℕ → (ℕ → Entry) → Client
+unconnected guid files entries =
+    record { guid = guid; files = files; is_online = false; last_number = 0; entries = entries }
+
+unconnected_same : (guid : List ℕ) (files more : ℕ) (entries others : ℕ → Entry) → files ≡ more → entries ≡ others
+    → unconnected guid files entries ≡ unconnected guid more others
+unconnected_same guid files more entries others a b =
+    ap (λ n. unconnected guid n entries) a ∙ ap (λ x. unconnected guid more x) b
+
+pub closed_entries_are_new : (guid : List ℕ) (files : ℕ)
+    → unconnected guid (length (replicate files (closed_entry [])))
+    (numbered (closed_entry []) (replicate files (closed_entry [])))
+    ≡ new_client guid files
+unfolding new_client
+closed_entries_are_new guid files =
+    unconnected_same _ _ _ _ _ (length-replicate files (closed_entry [])) (fun_ext (closed_number files))

@@ -1,0 +1,157 @@
+ghost use Rattle.std.specs.Prelude.{◌≡◌, []};
+ghost use Rattle.lease_state.specs.State.{state_of};
+ghost use Rattle.lease_model.specs.client.State.{closed_entry, belief_of};
+
+use lease_state::{Access, Content, FileId, LeaseState, Patch, Share};
+use std::alloc::Global;
+use std::marker::Model;
+
+/// A write that isn't answered. A buffered one was answered before it was sent.
+#[derive(Debug, Drop)]
+pub struct Pending {
+    pub number: u64,
+    pub patch: Patch,
+    pub buffered: bool,
+}
+
+impl Model for Pending {
+    ghost use Rattle.lease_model.specs.client.State as model;
+
+    ghost Value = { model.Pending };
+
+    ghost view = { λ write. record { number = write.number; patch = write.patch; buffered = write.buffered } };
+}
+
+/// The access and the share of a create that is under way.
+#[derive(Clone, Copy, Debug)]
+pub struct Asked {
+    pub access: Access,
+    pub share: Share,
+}
+
+impl Model for Asked {
+    ghost use Rattle.lease_model.specs.client.State as model;
+
+    ghost Value = { model.Asked };
+
+    ghost view = { λ asked. record { access = asked.access; share = asked.share } };
+
+    ghost inverse = { λ asked. record { access = asked.access; share = asked.share } };
+}
+
+/// What the client knows of its open of a file (MS-SMB2 3.2.1.5, 3.2.1.6).
+#[derive(Debug, Drop)]
+pub struct Live {
+    pub file_id: FileId,
+    pub access: Access,
+    pub share: Share,
+    pub durable: bool,
+    /// What the client believes of the lease's state.
+    pub belief: LeaseState,
+    /// How many handles applications have; with none the entry is parked.
+    pub handles: u32,
+    /// How many Reads aren't answered.
+    pub reads: u32,
+    /// The file as last known.
+    pub base: Option<Content>,
+    /// The buffered writes that aren't sent, in order.
+    pub unsent: Vec<Pending>,
+    /// A second create under the entry's key that asks for more.
+    pub asking: Option<Asked>,
+}
+
+impl Model for Live {
+    ghost use Rattle.lease_state.specs.State.{state_of};
+    ghost use Rattle.lease_model.specs.client.State as model;
+
+    ghost Value = { model.LiveEntry };
+
+    ghost view = { λ live. record {
+      file_id = live.file_id.0;
+      access = live.access;
+      share = live.share;
+      durable = live.durable;
+      belief = state_of live.belief;
+      handles = live.handles;
+      reads = live.reads;
+      base = live.base;
+      unsent = live.unsent.items;
+      asking = live.asking;
+    } };
+}
+
+/// What the client keeps of an open whose connection was lost: the open, and buffered writes.
+#[derive(Debug, Drop)]
+pub struct Parted {
+    pub file_id: FileId,
+    pub access: Access,
+    pub share: Share,
+    pub handles: u32,
+    /// The buffered writes that weren't answered, in order.
+    pub writes: Vec<Pending>,
+}
+
+impl Model for Parted {
+    ghost use Rattle.lease_model.specs.client.State as model;
+
+    ghost Value = { model.Parted };
+
+    ghost view = { λ parted. record {
+      file_id = parted.file_id.0;
+      access = parted.access;
+      share = parted.share;
+      handles = parted.handles;
+      writes = parted.writes.items;
+    } };
+}
+
+/// How far a file is open.
+#[derive(Debug, Drop)]
+pub enum Phase {
+    Closed,
+    /// A create is sent and not answered.
+    Opening { access: Access, share: Share },
+    Live(Live),
+    /// The connection of the open was lost.
+    Offline(Parted),
+    /// A create that names the old open is sent and not answered.
+    Reconnecting(Parted),
+}
+
+/// A file's entry. In every phase the file has its sent, unanswered writes, in order.
+#[derive(Debug, Drop)]
+pub struct Entry {
+    pub phase: Phase,
+    pub sent: Vec<Pending>,
+}
+
+impl Model for Entry {
+    ghost use Rattle.lease_client.specs.Entries.{phase_of};
+    ghost use Rattle.lease_model.specs.client.State as model;
+
+    ghost Value = { model.Entry };
+
+    ghost view = { λ entry. record { phase = phase_of entry.phase; sent = entry.sent.items } };
+}
+
+impl Entry {
+    /// The entry of a file that isn't open. No memory is taken.
+    pub fn closed(alloc: Global) -> Entry
+        ensures { result ≡ closed_entry [] }
+    {
+        Entry {
+            phase: Phase::Closed,
+            sent: Vec::new(alloc),
+        }
+    }
+
+    /// What the client believes of the lease: nothing is cached where the entry isn't live.
+    pub fn belief(&self) -> LeaseState
+        ensures { state_of result ≡ belief_of self.now }
+    {
+        match &self.phase {
+            Phase::Live(live) => live.belief,
+            _ => LeaseState::NONE,
+        }
+    }
+}
