@@ -73,6 +73,7 @@ carried_step world new c links replies sent took keeps up =
   where
     low_by : (n k : ℕ) (xs ys : List (List Fact)) → n ≡ k → xs ≡ ys → k ≤ length ys → n ≤ length xs
     low_by n k xs ys e f low = rw (e, f) low
+
     step_by : (n k : ℕ) (xs ys : List (List Fact)) (q r : List Reply) → n ≡ k → xs ≡ ys → q ≡ r
         → AreInStep c (drop k ys) r → AreInStep c (drop n xs) q
     step_by n k xs ys q r e f g step = rw (e, f, g) step
@@ -88,8 +89,11 @@ sent_in_step world client reply is keeps up =
     let places = sendings client world.past in record {
       low = rw (eq-eqb client client refl, length-append places (world.past ∷ []))
           (let low = was.low in omega (arith, low));
-      in_step = rw (eq-eqb client client refl, put_same world.replies client (world.replies client ++ reply ∷ []),
-          drop_low count places (world.past ∷ []) was.low)
+      in_step = rw (
+        eq-eqb client client refl,
+        put_same world.replies client (world.replies client ++ reply ∷ []),
+        drop_low count places (world.past ∷ []) was.low,
+      )
           (in_step_more client (drop count places) (world.replies client) world.past reply was.in_step is);
     }
 
@@ -160,8 +164,11 @@ took_in_step world client reply queue e keeps c =
     (subst (λ q. AreInStep client (drop (takings client world.past) (sendings client world.past)) q) e was.in_step) in
     record {
       low = rw (eq-eqb client client refl, one_more (takings client world.past)) less.1;
-      in_step = rw (eq-eqb client client refl, one_more (takings client world.past),
-          put_same world.replies client queue) less.0;
+      in_step = rw (
+        eq-eqb client client refl,
+        one_more (takings client world.past),
+        put_same world.replies client queue,
+      ) less.0;
     })
     (λ ne apart. carried_step world new c refl (put_other world.replies client queue c ne) refl (rw (apart) refl)
     (keeps c))
