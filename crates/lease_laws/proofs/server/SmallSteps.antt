@@ -1,5 +1,5 @@
 -- Tries and their ends go by guarded small steps.
-use Rattle.std.proofs.Common.{◌≡◌, inl, inr, refl, sym, ap, ◌∙◌, subst, ℕ, zero, suc, Bool, true, false, not, List, [], ◌∷◌, ◌++◌}
+use Rattle.std.proofs.Common.{◌≡◌, inl, inr, refl, sym, ap, ap₂, ◌∙◌, subst, ℕ, ◌+◌, zero, suc, Bool, true, false, not, List, [], ◌∷◌, ◌++◌, arith}
 use Rattle.std.specs.Prelude.{⊤, if◌then◌else◌, ◌&&◌, Option, Some, None}
 use Rattle.std.specs.List.{list_any}
 use Rattle.lease_state.specs.State.{State, needs_acknowledgment}
@@ -23,7 +23,7 @@ use Rattle.lease_model.specs.values.Patches.{is_within_limit}
 use Rattle.lease_model.specs.values.Sharing.{may_read, may_write}
 use Rattle.lease_laws.specs.server.Enough.{EndsFor}
 use Rattle.lease_laws.specs.server.Laws.{Among, IsSound}
-use Rattle.lease_laws.specs.server.SmallSteps.{SmallStep, step_taken, steps_taken, IsGuarded, AreGuarded, IsOfCall, AreOf, GoesBySteps, IsLowered, MayLower, IsAwaitedAt, MayCreate, HasOpen, MayChange, MayServe, IsGone, MayRefuse, MayEnd}
+use Rattle.lease_laws.specs.server.SmallSteps.{SmallStep, step_taken, steps_taken, IsGuarded, AreGuarded, IsInTurn, AreInTurn, IsOfCall, AreOf, own_count, GoesBySteps, IsLowered, MayLower, IsAwaitedAt, MayCreate, HasOpen, MayChange, MayServe, IsGone, MayRefuse, MayEnd}
 use Rattle.lease_laws.specs.server.Outs.{CachesAlone}
 use Rattle.lease_laws.specs.server.Wanted.{AreInKeyOrder}
 use Rattle.lease_laws.proofs.server.Breaks.{left_present, wants_met-sound}
@@ -39,14 +39,22 @@ use Rattle.lease_laws.proofs.server.Wants.{FindingFits, finding-fits}
 -- ---- lists of steps
 
 -- no step
-pub steps_none : (call : Call) (progress : Progress) → GoesBySteps call progress progress
-steps_none call progress = record { steps = []; are_guarded = tt; are_of = tt; lead = refl }
+pub steps_none : (call : Call) (progress : Progress) → GoesBySteps call 0 progress progress
+steps_none call progress =
+    record { steps = []; are_guarded = tt; are_in_turn = tt; are_of = tt; are_own = refl; lead = refl }
 
 -- one step
 pub step_one : (call : Call) (step : SmallStep) (progress : Progress) → IsGuarded step progress.server
-    → IsOfCall call step → GoesBySteps call progress (step_taken step progress)
-step_one call step progress guard of =
-    record { steps = step ∷ []; are_guarded = (guard, tt); are_of = (of, tt); lead = refl }
+    → IsInTurn step progress.server → IsOfCall call step
+    → GoesBySteps call (own_count (step ∷ [])) progress (step_taken step progress)
+step_one call step progress guard turn of = record {
+  steps = step ∷ [];
+  are_guarded = (guard, tt);
+  are_in_turn = (turn, tt);
+  are_of = (of, tt);
+  are_own = refl;
+  lead = refl;
+}
 
 -- steps, and then others
 taken_append : (first later : List SmallStep) (progress : Progress)
@@ -61,6 +69,24 @@ guarded_append [] later progress g h = h
 guarded_append (step ∷ first) later progress g h =
     (g.0, guarded_append first later (step_taken step progress) g.1 h)
 
+-- have their turns
+in_turn_append : (first later : List SmallStep) (progress : Progress) → AreInTurn first progress
+    → AreInTurn later (steps_taken first progress) → AreInTurn (first ++ later) progress
+in_turn_append [] later progress g h = h
+in_turn_append (step ∷ first) later progress g h =
+    (g.0, in_turn_append first later (step_taken step progress) g.1 h)
+
+-- are counted together
+own_append : (first later : List SmallStep) → own_count (first ++ later) ≡ own_count first + own_count later
+own_append [] later = omega arith
+own_append (SmallStep.Answer client request outcome ∷ first) later = let e = own_append first later in omega (arith, e)
+own_append (SmallStep.Hold file one ∷ first) later = let e = own_append first later in omega (arith, e)
+own_append (SmallStep.Acknowledge client given ∷ first) later = let e = own_append first later in omega (arith, e)
+own_append (SmallStep.AnswerHeld file before one behind outcome ∷ first) later = own_append first later
+own_append (SmallStep.Drop key ∷ first) later = own_append first later
+own_append (SmallStep.Lower key lowered ∷ first) later = own_append first later
+own_append (SmallStep.Begin key lowered ∷ first) later = own_append first later
+
 -- and of one call
 of_append : (call : Call) (first later : List SmallStep) → AreOf call first → AreOf call later
     → AreOf call (first ++ later)
@@ -68,12 +94,16 @@ of_append call [] later o p = p
 of_append call (step ∷ first) later o p = (o.0, of_append call first later o.1 p)
 
 -- two calls under way, one after the other
-pub steps_then : (call : Call) (a b c : Progress) → GoesBySteps call a b → GoesBySteps call b c → GoesBySteps call a c
-steps_then call a b c h k = record {
+pub steps_then : (call : Call) (m n : ℕ) (a b c : Progress) → GoesBySteps call m a b → GoesBySteps call n b c
+    → GoesBySteps call (m + n) a c
+steps_then call m n a b c h k = record {
   steps = h.steps ++ k.steps;
   are_guarded = guarded_append h.steps k.steps a h.are_guarded
       (subst (λ p. AreGuarded k.steps p) h.lead k.are_guarded);
+  are_in_turn = in_turn_append h.steps k.steps a h.are_in_turn
+      (subst (λ p. AreInTurn k.steps p) h.lead k.are_in_turn);
   are_of = of_append call h.steps k.steps h.are_of k.are_of;
+  are_own = own_append h.steps k.steps ∙ ap₂ (λ x y. x + y) h.are_own k.are_own;
   lead = k.lead ∙ ap (λ p. steps_taken k.steps p) h.lead ∙ sym (taken_append h.steps k.steps a);
 }
 
@@ -118,13 +148,13 @@ broken-lowers key lowered progress want other lowers =
 
 -- one want
 want_met-steps : (call : Call) (want : Want) (progress : Progress) → Lowers progress.server want
-    → GoesBySteps call progress (want_met want progress)
+    → GoesBySteps call 0 progress (want_met want progress)
 unfolding want_met lease_broken
 want_met-steps call want progress lowers =
     let dropped = opens_dropped (is_left_open want.key) progress in
-    steps_then call progress dropped (lease_broken want.key want.lowered dropped)
-    (step_one call (SmallStep.Drop want.key) progress tt tt)
-    (if_cases (GoesBySteps call dropped)
+    steps_then call 0 0 progress dropped (lease_broken want.key want.lowered dropped)
+    (step_one call (SmallStep.Drop want.key) progress tt tt tt)
+    (if_cases (GoesBySteps call 0 dropped)
     (has_lease dropped.server want.key && not (is_breaking (dropped.server.leases want.key)))
     (if needs_acknowledgment (dropped.server.leases want.key).state then break_begun want.key want.lowered dropped
     else lease_lowered want.key want.lowered dropped) dropped
@@ -136,10 +166,10 @@ want_met-steps call want progress lowers =
       is_settled = not_parts (is_breaking (dropped.server.leases want.key)) parts.1;
       is_lowered = dropped-lowers (is_left_open want.key) progress want lowers parts.0;
     } in
-    if_cases (GoesBySteps call dropped) (needs_acknowledgment (dropped.server.leases want.key).state)
+    if_cases (GoesBySteps call 0 dropped) (needs_acknowledgment (dropped.server.leases want.key).state)
     (break_begun want.key want.lowered dropped) (lease_lowered want.key want.lowered dropped)
-    (λ n. step_one call (SmallStep.Begin want.key want.lowered) dropped (may, n) tt)
-    (λ n. step_one call (SmallStep.Lower want.key want.lowered) dropped (may, n) tt))
+    (λ n. step_one call (SmallStep.Begin want.key want.lowered) dropped (may, n) tt tt)
+    (λ n. step_one call (SmallStep.Lower want.key want.lowered) dropped (may, n) tt tt))
     (λ t. steps_none call dropped))
 
 -- it leaves the others to be met
@@ -159,11 +189,11 @@ before_apart one other before = not_true (key_eq other one) (λ same.
 -- wants that stand in order
 wants_met-steps : (call : Call) (wants : List Want) (progress : Progress) → AreInKeyOrder wants
     → ((want : Want) → Among want wants → Lowers progress.server want)
-    → GoesBySteps call progress (wants_met wants progress)
+    → GoesBySteps call 0 progress (wants_met wants progress)
 unfolding wants_met
 wants_met-steps call [] progress order lowers = steps_none call progress
 wants_met-steps call (want ∷ wants) progress order lowers =
-    steps_then call progress (want_met want progress) (wants_met wants (want_met want progress))
+    steps_then call 0 0 progress (want_met want progress) (wants_met wants (want_met want progress))
     (want_met-steps call want progress (lowers want (inl refl)))
     (wants_met-steps call wants (want_met want progress) order.1
     (λ other a. want_met-lowers want other progress (before_apart want.key other.key (order.0 other a))
@@ -242,22 +272,22 @@ finding-ordered server client (FileRequest.Close file_id) =
 -- a round
 after_finding-steps : (call : Call) (again : Progress → Tried) (request : FileRequest) (progress : Progress) (found : Finding)
     → FindingFits progress.server found → IsOrdered found → IsSound progress.server
-    → ((next : Progress) → IsSound next.server → GoesBySteps call next (again next).progress)
-    → GoesBySteps call progress (after_finding again request progress found).progress
+    → ((next : Progress) → IsSound next.server → GoesBySteps call 0 next (again next).progress)
+    → GoesBySteps call 0 progress (after_finding again request progress found).progress
 after_finding-steps call again request progress (Finding.Fails status) fits order s more = steps_none call progress
 after_finding-steps call again request progress (Finding.Needs wants) fits order s more =
     let met = wants_met wants progress in
     let go = wants_met-steps call wants progress order (λ want a there. (fits want a).can_lower) in
-    if_cases (λ t. GoesBySteps call progress t.progress) (is_ready request progress.server.leases wants)
+    if_cases (λ t. GoesBySteps call 0 progress t.progress) (is_ready request progress.server.leases wants)
     (ended progress Outcome.Ready) (after_breaks again request wants met)
     (λ r. steps_none call progress)
-    (λ r. if_cases (λ t. GoesBySteps call progress t.progress) (must_wait request met wants)
+    (λ r. if_cases (λ t. GoesBySteps call 0 progress t.progress) (must_wait request met wants)
     (ended met Outcome.Waits) (again met) (λ w. go)
-    (λ w. steps_then call progress met (again met).progress go (more met (wants_met-sound wants progress s fits))))
+    (λ w. steps_then call 0 0 progress met (again met).progress go (more met (wants_met-sound wants progress s fits))))
 
 -- so many rounds
 tried_for-steps : (call : Call) (rounds client : ℕ) (request : FileRequest) (progress : Progress) → IsSound progress.server
-    → GoesBySteps call progress (tried_for rounds client request progress).progress
+    → GoesBySteps call 0 progress (tried_for rounds client request progress).progress
 unfolding tried_for
 tried_for-steps call zero client request progress s = steps_none call progress
 tried_for-steps call (suc rounds) client request progress s = after_finding-steps call (tried_for rounds client request)
@@ -267,7 +297,7 @@ tried_for-steps call (suc rounds) client request progress s = after_finding-step
 
 -- a try
 pub tried-steps : (call : Call) (client : ℕ) (request : FileRequest) (progress : Progress) → IsSound progress.server
-    → GoesBySteps call progress (tried client request progress).progress
+    → GoesBySteps call 0 progress (tried client request progress).progress
 tried-steps call client request progress s = tried_for-steps call 3 client request progress s
 
 -- ---- the end of a try is guarded

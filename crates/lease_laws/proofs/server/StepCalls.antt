@@ -3,23 +3,25 @@ use Rattle.std.proofs.Common.{◌≡◌, inl, inr, refl, sym, ap, ◌∙◌, sub
 use Rattle.std.specs.Prelude.{if◌then◌else◌, Option, Some, None, Result, Ok, Err}
 use Rattle.std.specs.List.{list_any}
 use Rattle.lease_state.specs.declared.status.Status.{Status}
-use Rattle.lease_model.specs.messages.Requests.{FileRequest, Request}
+use Rattle.lease_model.specs.messages.Requests.{FileRequest, Request, CreateAsk}
 use Rattle.lease_model.specs.server.Acknowledge.{acknowledged}
 use Rattle.lease_model.specs.server.Answers.{concluded}
 use Rattle.lease_model.specs.server.Attempt.{Outcome, tried}
-use Rattle.lease_model.specs.server.Calls.{Call, called, join, joined, receive, arrived, arrived_on, file_request_arrived, after_first_try, held_of, file_asked, file_of_open, cut, is_lost, opens_disconnected, client_forgotten, key_expired, expire, scavenge, is_left_behind}
+use Rattle.lease_model.specs.server.Calls.{Call, called, join, joined, receive, arrived, arrived_on, file_request_arrived, after_first_try, held_of, file_asked, file_of_open, file_of_create, cut, is_lost, opens_disconnected, client_forgotten, key_expired, expire, scavenge, is_left_behind}
 use Rattle.lease_model.specs.server.Findings.{connected_open}
 use Rattle.lease_model.specs.server.Passes.{Pass, is_behind, left_waiting, after_try, tried_again, pass_over, one_pass, passes_for, passes, passes_over, all_passes}
 use Rattle.lease_model.specs.server.Progress.{Progress, begun, opens_dropped, request_held}
-use Rattle.lease_model.specs.server.State.{Server, Open, Held, has_key, is_breaking}
+use Rattle.lease_model.specs.server.State.{Server, Open, Held, has_file, has_key, is_breaking}
 use Rattle.lease_model.specs.values.Lists.{numbers_to}
 use Rattle.lease_laws.specs.server.Laws.{Among, IsSound}
-use Rattle.lease_laws.specs.server.SmallSteps.{SmallStep, GoesBySteps, MayEnd, MayRefuse, IsGone, call_begun}
+use Rattle.lease_laws.specs.server.SmallSteps.{SmallStep, GoesBySteps, MayEnd, MayRefuse, IsGone, call_begun, own_steps}
 use Rattle.lease_laws.specs.server.Waiting.{WaitsWell}
 use Rattle.lease_laws.proofs.server.Answers.{acknowledged-sound}
 use Rattle.lease_laws.proofs.server.Calls.{joined-sound}
 use Rattle.lease_laws.proofs.server.Arrivals.{arrived_on-fine, asked_well, acknowledged-held, fine_goes}
 use Rattle.lease_laws.proofs.server.Goes.{acknowledged-goes}
+use Rattle.lease_laws.proofs.server.Held.{SameHeld}
+use Rattle.lease_laws.proofs.server.Keeps.{Keeps, Anywhere}
 use Rattle.lease_laws.proofs.server.Lists.{if_cases, among_behind}
 use Rattle.lease_laws.proofs.server.Orderly.{IsFine, IsTry, any_try, held_well}
 use Rattle.lease_laws.proofs.server.PassWaits.{PassWaits, pass_begun, one_pass-waits, tried_again-waits, passes_for-waits}
@@ -37,23 +39,24 @@ after_try-steps : (call : Call) (start : Progress) (file count : ℕ) (one : Hel
     (progress : Progress) (outcome : Outcome)
     → PassWaits start file count (one ∷ waiting) pass
     → IsTry one.client one.request pass.progress (record { progress = progress; outcome = outcome })
-    → GoesBySteps call pass.progress progress
+    → GoesBySteps call 0 pass.progress progress
     → ((outcome ≡ Outcome.Waits → ⊥) → MayEndAt progress one outcome)
-    → GoesBySteps call pass.progress (after_try file one waiting pass progress outcome).progress
-after_try-steps call start file count one waiting pass progress Outcome.Waits p t go may = go
-after_try-steps call start file count one waiting pass progress (Outcome.Refused status) p t go may =
-    steps_then call pass.progress progress _ go
+    → is_behind one.client pass.passed ≡ false
+    → GoesBySteps call 0 pass.progress (after_try file one waiting pass progress outcome).progress
+after_try-steps call start file count one waiting pass progress Outcome.Waits p t go may turn = go
+after_try-steps call start file count one waiting pass progress (Outcome.Refused status) p t go may turn =
+    steps_then call 0 0 pass.progress progress _ go
     (step_one call (SmallStep.AnswerHeld file pass.passed one waiting (Outcome.Refused status)) progress
-    (ap (λ h. h file) t.held ∙ p.in_pass.is_held, may (λ never. absurd (cc))) tt)
-after_try-steps call start file count one waiting pass progress Outcome.Ready p t go may =
-    steps_then call pass.progress progress _ go
+    (ap (λ h. h file) t.held ∙ p.in_pass.is_held, may (λ never. absurd (cc))) turn tt)
+after_try-steps call start file count one waiting pass progress Outcome.Ready p t go may turn =
+    steps_then call 0 0 pass.progress progress _ go
     (step_one call (SmallStep.AnswerHeld file pass.passed one waiting Outcome.Ready) progress
-    (ap (λ h. h file) t.held ∙ p.in_pass.is_held, may (λ never. absurd (cc))) tt)
+    (ap (λ h. h file) t.held ∙ p.in_pass.is_held, may (λ never. absurd (cc))) turn tt)
 
 -- a held request tried again
 tried_again-steps : (call : Call) (start : Progress) (file count : ℕ) (one : Held) (waiting : List Held) (pass : Pass)
     → PassWaits start file count (one ∷ waiting) pass
-    → GoesBySteps call pass.progress (tried_again file one waiting pass).progress
+    → GoesBySteps call 0 pass.progress (tried_again file one waiting pass).progress
 unfolding tried_again
 tried_again-steps call start file count one waiting pass p =
     let done = tried one.client one.request pass.progress in
@@ -61,53 +64,53 @@ tried_again-steps call start file count one waiting pass p =
     let well = held_well pass.progress.server file one p.fine.orderly
     (subst (λ list. Among one list) (sym p.in_pass.is_held)
     (among_behind one pass.passed (one ∷ waiting) (inl refl))) in
-    if_cases (λ q. GoesBySteps call pass.progress q.progress) (is_behind one.client pass.passed)
+    if_cases (λ q. GoesBySteps call 0 pass.progress q.progress) (is_behind one.client pass.passed)
     (left_waiting one pass pass.progress) (after_try file one waiting pass done.progress done.outcome)
     (λ e. steps_none call pass.progress)
     (λ e. after_try-steps call start file count one waiting pass done.progress done.outcome p t
     (tried-steps call one.client one.request pass.progress p.fine.sound)
-    (λ ends. tried-guarded one.client one.request pass.progress ends (t.goes.ups one.client ∙ well.up)))
+    (λ ends. tried-guarded one.client one.request pass.progress ends (t.goes.ups one.client ∙ well.up)) e)
 
 -- a pass
 pass_over-steps : (call : Call) (start : Progress) (file count : ℕ) (waiting : List Held) (pass : Pass)
     → PassWaits start file count waiting pass
-    → GoesBySteps call pass.progress (pass_over file waiting pass).progress
+    → GoesBySteps call 0 pass.progress (pass_over file waiting pass).progress
 unfolding pass_over
 pass_over-steps call start file count [] pass p = steps_none call pass.progress
 pass_over-steps call start file count (one ∷ waiting) pass p =
     let next = tried_again file one waiting pass in
-    steps_then call pass.progress next.progress (pass_over file waiting next).progress
+    steps_then call 0 0 pass.progress next.progress (pass_over file waiting next).progress
     (tried_again-steps call start file count one waiting pass p)
     (pass_over-steps call start file count waiting next (tried_again-waits start file count one waiting pass p))
 
 -- so many passes over a file
 passes_for-steps : (call : Call) (count file : ℕ) (progress : Progress) → IsFine progress.server
-    → GoesBySteps call progress (passes_for count file progress)
+    → GoesBySteps call 0 progress (passes_for count file progress)
 unfolding passes_for
 passes_for-steps call zero file progress f = steps_none call progress
 passes_for-steps call (suc count) file progress f =
     let pass = one_pass file progress in
     let go = pass_over-steps call progress file (length (progress.server.held file)) (progress.server.held file)
     (record { passed = []; progress = progress; has_answered = false }) (pass_begun file progress f) in
-    if_cases (GoesBySteps call progress) pass.has_answered (passes_for count file pass.progress) pass.progress
-    (λ e. steps_then call progress pass.progress (passes_for count file pass.progress) go
+    if_cases (GoesBySteps call 0 progress) pass.has_answered (passes_for count file pass.progress) pass.progress
+    (λ e. steps_then call 0 0 progress pass.progress (passes_for count file pass.progress) go
     (passes_for-steps call count file pass.progress (one_pass-waits file progress f).fine))
     (λ e. go)
 
 -- passes over files
 passes_over-steps : (call : Call) (files : List ℕ) (progress : Progress) → IsFine progress.server
-    → GoesBySteps call progress (passes_over files progress)
+    → GoesBySteps call 0 progress (passes_over files progress)
 unfolding passes_over
 passes_over-steps call [] progress f = steps_none call progress
 passes_over-steps call (file ∷ files) progress f =
     let next = passes file progress in
-    steps_then call progress next (passes_over files next)
+    steps_then call 0 0 progress next (passes_over files next)
     (passes_for-steps call (length (progress.server.held file) + 1) file progress f)
     (passes_over-steps call files next
     (passes_for-waits (length (progress.server.held file) + 1) file progress (omega arith) f).fine)
 
 -- passes over all files
-all_passes-steps : (call : Call) (progress : Progress) → IsFine progress.server → GoesBySteps call progress (all_passes progress)
+all_passes-steps : (call : Call) (progress : Progress) → IsFine progress.server → GoesBySteps call 0 progress (all_passes progress)
 unfolding all_passes
 all_passes-steps call progress f = passes_over-steps call (numbers_to progress.server.files) progress f
 
@@ -132,54 +135,106 @@ asked-refuses server client (FileRequest.Write file_id number patch) status e =
 asked-refuses server client (FileRequest.Close file_id) status e =
     closed_asked server client file_id status (connected_open server client file_id) refl e
 
+-- a request stays about its file while it is tried
+asked_open : (before after : Server) (client file_id file : ℕ) (one : Option Open) → Keeps Anywhere before after
+    → connected_open before client file_id ≡ one → file_of_open one ≡ Ok file
+    → file_of_open (connected_open after client file_id) ≡ Ok file
+asked_open before after client file_id file None k e never = absurd (cc)
+asked_open before after client file_id file (Some one) k e asked =
+    ap file_of_open (k.finds client file_id one e tt) ∙ asked
+
+asked_create : (before after : Server) (file at : ℕ) (contexts : Option CreateAsk) → after.files ≡ before.files
+    → file_of_create before file contexts ≡ Ok at → file_of_create after file contexts ≡ Ok at
+asked_create before after file at None same never = never
+asked_create before after file at (Some ask) same asked =
+    ap (λ n. if has_file (record before { files = n }) file then Ok file else Err Status.ObjectNameNotFound) same ∙ asked
+
+asked_stays : (before after : Server) (client : ℕ) (request : FileRequest) (file : ℕ) → Keeps Anywhere before after
+    → after.files ≡ before.files → file_asked before client request ≡ Ok file
+    → file_asked after client request ≡ Ok file
+unfolding file_asked
+asked_stays before after client (FileRequest.Create file access share contexts) at k same e =
+    asked_create before after file at contexts same e
+asked_stays before after client (FileRequest.Read file_id) at k same e =
+    asked_open before after client file_id at (connected_open before client file_id) k refl e
+asked_stays before after client (FileRequest.Write file_id number patch) at k same e =
+    asked_open before after client file_id at (connected_open before client file_id) k refl e
+asked_stays before after client (FileRequest.Close file_id) at k same e =
+    asked_open before after client file_id at (connected_open before client file_id) k refl e
+
+no_file : (asked : Result ℕ Status) (status : Status) (file : ℕ) → asked ≡ Err status → asked ≡ Ok file → ⊥
+no_file asked status file e f = cc
+
+one_file : (asked : Result ℕ Status) (file other : ℕ) → asked ≡ Ok file → asked ≡ Ok other → other ≡ file
+one_file asked file other e f = cc
+
+-- no earlier request of the client is held there
+still_first : (client file : ℕ) (request : FileRequest) (before after : Progress) → SameHeld before after
+    → file_asked after.server client request ≡ Ok file → is_behind client (before.server.held file) ≡ false
+    → (other : ℕ) → file_asked after.server client request ≡ Ok other
+    → is_behind client (after.server.held other) ≡ false
+still_first client file request before after same asked first other e =
+    ap (λ held. is_behind client (held other)) same
+    ∙ ap (λ at. is_behind client (before.server.held at)) (one_file (file_asked after.server client request) file other asked e) ∙ first
+
 -- what follows a first try
 first_try-steps : (call : Call) (client file : ℕ) (request : FileRequest) (before : Progress) (progress : Progress) (outcome : Outcome)
     → call ≡ Call.Receive client (Request.OnFile request) → before.server.present client ≡ true
     → IsTry client request before (record { progress = progress; outcome = outcome })
-    → GoesBySteps call before progress
+    → GoesBySteps call 0 before progress
     → ((outcome ≡ Outcome.Waits → ⊥) → MayEndAt progress (held_of client request) outcome)
-    → GoesBySteps call before (after_first_try client file request progress outcome)
-first_try-steps call client file request before progress Outcome.Waits of up t go may =
-    steps_then call before progress (request_held file (held_of client request) progress) go
+    → file_asked before.server client request ≡ Ok file → is_behind client (before.server.held file) ≡ false
+    → GoesBySteps call 1 before (after_first_try client file request progress outcome)
+first_try-steps call client file request before progress Outcome.Waits of up t go may asked first =
+    steps_then call 0 1 before progress (request_held file (held_of client request) progress) go
     (step_one call (SmallStep.Hold file (held_of client request)) progress
-    (t.goes.ups client ∙ up, inl (t.waits refl)) of)
-first_try-steps call client file request before progress (Outcome.Refused status) of up t go may =
-    steps_then call before progress (concluded client request progress (Outcome.Refused status)) go
-    (step_one call (SmallStep.Answer client request (Outcome.Refused status)) progress (may (λ never. absurd (cc))) of)
-first_try-steps call client file request before progress Outcome.Ready of up t go may =
-    steps_then call before progress (concluded client request progress Outcome.Ready) go
-    (step_one call (SmallStep.Answer client request Outcome.Ready) progress (may (λ never. absurd (cc))) of)
+    (t.goes.ups client ∙ up, inl (t.waits refl))
+    (asked_stays before.server progress.server client request file t.keeps t.goes.files asked) of)
+first_try-steps call client file request before progress (Outcome.Refused status) of up t go may asked first =
+    steps_then call 0 1 before progress (concluded client request progress (Outcome.Refused status)) go
+    (step_one call (SmallStep.Answer client request (Outcome.Refused status)) progress
+    (may (λ never. absurd (cc)))
+    (still_first client file request before progress t.held
+    (asked_stays before.server progress.server client request file t.keeps t.goes.files asked) first) of)
+first_try-steps call client file request before progress Outcome.Ready of up t go may asked first =
+    steps_then call 0 1 before progress (concluded client request progress Outcome.Ready) go
+    (step_one call (SmallStep.Answer client request Outcome.Ready) progress
+    (may (λ never. absurd (cc)))
+    (still_first client file request before progress t.held
+    (asked_stays before.server progress.server client request file t.keeps t.goes.files asked) first) of)
 
 -- a request that comes
 arrived_on-steps : (call : Call) (client : ℕ) (request : FileRequest) (progress : Progress) (asked : Result ℕ Status)
     → call ≡ Call.Receive client (Request.OnFile request) → IsFine progress.server → progress.server.present client ≡ true
     → file_asked progress.server client request ≡ asked
-    → GoesBySteps call progress (arrived_on client request progress asked)
+    → GoesBySteps call 1 progress (arrived_on client request progress asked)
 arrived_on-steps call client request progress (Err status) of f up e =
     step_one call (SmallStep.Answer client request (Outcome.Refused status)) progress
-    (up, asked-refuses progress.server client request status e) of
+    (up, asked-refuses progress.server client request status e) (λ file asked. absurd (no_file (file_asked progress.server client request) status file e asked))
+    of
 arrived_on-steps call client request progress (Ok file) of f up e =
     let done = tried client request progress in
     let t = any_try client request progress f.sound in
-    if_cases (GoesBySteps call progress) (is_behind client (progress.server.held file))
+    if_cases (GoesBySteps call 1 progress) (is_behind client (progress.server.held file))
     (request_held file (held_of client request) progress)
     (after_first_try client file request done.progress done.outcome)
-    (λ behind. step_one call (SmallStep.Hold file (held_of client request)) progress (up, inr behind) of)
+    (λ behind. step_one call (SmallStep.Hold file (held_of client request)) progress
+    (up, inr behind) e of)
     (λ first. first_try-steps call client file request progress done.progress done.outcome of up t
     (tried-steps call client request progress f.sound)
-    (λ ends. tried-guarded client request progress ends (t.goes.ups client ∙ up)))
+    (λ ends. tried-guarded client request progress ends (t.goes.ups client ∙ up)) e first)
 
 -- and finds its own file
 asked-steps : (call : Call) (client : ℕ) (request : FileRequest) (progress : Progress)
     → call ≡ Call.Receive client (Request.OnFile request) → IsFine progress.server → progress.server.present client ≡ true
-    → GoesBySteps call progress (arrived_on client request progress (file_asked progress.server client request))
+    → GoesBySteps call 1 progress (arrived_on client request progress (file_asked progress.server client request))
 asked-steps call client request progress of f up =
     arrived_on-steps call client request progress (file_asked progress.server client request) of f up refl
 
 -- a request about a file
 file_request-steps : (call : Call) (client : ℕ) (request : FileRequest) (progress : Progress)
     → call ≡ Call.Receive client (Request.OnFile request) → IsFine progress.server → progress.server.present client ≡ true
-    → GoesBySteps call progress (file_request_arrived client request progress)
+    → GoesBySteps call 1 progress (file_request_arrived client request progress)
 file_request-steps call client (FileRequest.Create file access share contexts) progress of f up =
     asked-steps call client (FileRequest.Create file access share contexts) progress of f up
 file_request-steps call client (FileRequest.Read file_id) progress of f up =
@@ -189,19 +244,19 @@ file_request-steps call client (FileRequest.Write file_id number patch) progress
 file_request-steps call client (FileRequest.Close file_id) progress of f up =
     let request = FileRequest.Close file_id in
     let after = arrived_on client request progress (file_asked progress.server client request) in
-    steps_then call progress after (all_passes after) (asked-steps call client request progress of f up)
+    steps_then call 1 0 progress after (all_passes after) (asked-steps call client request progress of f up)
     (all_passes-steps call after (arrived_on-fine client request progress (file_asked progress.server client request) f
     (asked_well client request progress f up)))
 
 -- any request
 arrived-steps : (call : Call) (client : ℕ) (request : Request) (progress : Progress)
     → call ≡ Call.Receive client request → IsFine progress.server → progress.server.present client ≡ true
-    → GoesBySteps call progress (arrived client request progress)
+    → GoesBySteps call 1 progress (arrived client request progress)
 unfolding arrived
 arrived-steps call client (Request.Acknowledge given) progress of f up =
     let after = acknowledged client given progress in
-    steps_then call progress after (all_passes after)
-    (step_one call (SmallStep.Acknowledge client given) progress up of)
+    steps_then call 1 0 progress after (all_passes after)
+    (step_one call (SmallStep.Acknowledge client given) progress up tt of)
     (all_passes-steps call after (fine_goes progress after f (acknowledged-sound client given progress f.sound)
     (acknowledged-goes client given progress) (acknowledged-held client given progress)))
 arrived-steps call client (Request.OnFile request) progress of f up =
@@ -211,22 +266,28 @@ arrived-steps call client (Request.OnFile request) progress of f up =
 
 -- a call that applies or doesn't
 either_steps : (call : Call) (b : Bool) (start : Progress) (after : Progress) (nothing : Progress)
-    → (b ≡ true → GoesBySteps call start after) → GoesBySteps call (if b then start else nothing) (if b then after else nothing)
+    → (b ≡ true → GoesBySteps call 0 start after)
+    → GoesBySteps call 0 (if b then start else nothing) (if b then after else nothing)
 either_steps call true start after nothing go = go refl
 either_steps call false start after nothing go = steps_none call nothing
 
 -- a request received
 receive-steps : (call : Call) (server : Server) (client : ℕ) (request : Request)
     → call ≡ Call.Receive client request → IsFine server
-    → GoesBySteps call (begun server) (receive server client request)
+    → GoesBySteps call (if server.present client then 1 else 0) (begun server) (receive server client request)
 unfolding receive
-receive-steps call server client request of f = if_cases (GoesBySteps call (begun server)) (server.present client)
-    (arrived client request (begun server)) (begun server)
-    (λ up. arrived-steps call client request (begun server) of f up) (λ away. steps_none call (begun server))
+receive-steps call server client request of f = received (server.present client)
+    (λ up. arrived-steps call client request (begun server) of f up)
+  where
+    received : (b : Bool) → (b ≡ true → GoesBySteps call 1 (begun server) (arrived client request (begun server)))
+        → GoesBySteps call (if b then 1 else 0) (begun server)
+        (if b then arrived client request (begun server) else begun server)
+    received true go = go refl
+    received false go = steps_none call (begun server)
 
 -- every call
 pub called-steps : (server : Server) (call : Call) → IsSound server → WaitsWell server
-    → GoesBySteps call (call_begun server call) (called server call)
+    → GoesBySteps call (own_steps server call) (call_begun server call) (called server call)
 unfolding cut expire scavenge
 called-steps server (Call.Join client) s w = steps_none (Call.Join client) (join server client)
 called-steps server (Call.Receive client request) s w =

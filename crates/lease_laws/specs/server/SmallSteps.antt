@@ -1,6 +1,6 @@
 -- The small steps of a server, each with its guard, that is what must hold for it to be taken; and calls
 -- as lists of them.
-use Rattle.std.specs.Prelude.{◌≡◌, ◌⊎◌, ⊤, ℕ, true, false, Option, Some, None, List, [], ◌∷◌, ◌++◌, if◌then◌else◌}
+use Rattle.std.specs.Prelude.{◌≡◌, ◌⊎◌, ⊤, ℕ, suc, true, false, Option, Some, None, Ok, List, [], ◌∷◌, ◌++◌, if◌then◌else◌}
 use Rattle.std.specs.List.{list_any}
 use Rattle.lease_state.specs.Access.{conflict}
 use Rattle.lease_state.specs.State.{State, needs_acknowledgment, granted_form_of, is_state_within}
@@ -12,7 +12,7 @@ use Rattle.lease_model.specs.messages.Requests.{FileRequest, Request, LeaseOf}
 use Rattle.lease_model.specs.server.Acknowledge.{acknowledged}
 use Rattle.lease_model.specs.server.Answers.{concluded}
 use Rattle.lease_model.specs.server.Attempt.{Outcome, is_left_open}
-use Rattle.lease_model.specs.server.Calls.{Call, called, join, is_lost, opens_disconnected, client_forgotten, key_expired, is_left_behind}
+use Rattle.lease_model.specs.server.Calls.{Call, called, join, file_asked, is_lost, opens_disconnected, client_forgotten, key_expired, is_left_behind}
 use Rattle.lease_model.specs.server.Findings.{awaits, connected_open}
 use Rattle.lease_model.specs.server.Naming.{own_key}
 use Rattle.lease_model.specs.server.Passes.{is_behind}
@@ -169,12 +169,40 @@ abbrev pub AreOf : Call → List SmallStep → Type 0
 AreOf call [] = ⊤
 AreOf call (step ∷ steps) = IsOfCall call step × AreOf call steps
 
--- a call under way goes on by guarded steps
-pub record GoesBySteps (call : Call) (before : Progress) (after : Progress) : Type 0 where
+-- Requests have their turn. One that is answered as it comes has no earlier one of its client held on its
+-- file, nor has one that was held; and one is held on its own file.
+abbrev pub IsInTurn : SmallStep → Server → Type 0
+IsInTurn (SmallStep.Answer client request outcome) server = (file : ℕ)
+    → file_asked server client request ≡ Ok file → is_behind client (server.held file) ≡ false
+IsInTurn (SmallStep.AnswerHeld file before one behind outcome) server = is_behind one.client before ≡ false
+IsInTurn (SmallStep.Hold file one) server = file_asked server one.client one.request ≡ Ok file
+IsInTurn step server = ⊤
+
+abbrev pub AreInTurn : List SmallStep → Progress → Type 0
+AreInTurn [] progress = ⊤
+AreInTurn (step ∷ steps) progress = IsInTurn step progress.server × AreInTurn steps (step_taken step progress)
+
+-- how many steps answer, hold or judge what comes
+abbrev pub own_count : List SmallStep → ℕ
+own_count [] = 0
+own_count (SmallStep.Answer client request outcome ∷ steps) = suc (own_count steps)
+own_count (SmallStep.Hold file one ∷ steps) = suc (own_count steps)
+own_count (SmallStep.Acknowledge client given ∷ steps) = suc (own_count steps)
+own_count (_ ∷ steps) = own_count steps
+
+-- a call under way goes on by guarded steps, so many of which answer, hold or judge what comes
+pub record GoesBySteps (call : Call) (own : ℕ) (before : Progress) (after : Progress) : Type 0 where
   pub steps : List SmallStep
   pub are_guarded : AreGuarded steps before
+  pub are_in_turn : AreInTurn steps before
   pub are_of : AreOf call steps
+  pub are_own : own_count steps ≡ own
   pub lead : after ≡ steps_taken steps before
+
+-- what comes is answered, held or judged once
+abbrev pub own_steps : Server → Call → ℕ
+own_steps server (Call.Receive client request) = if server.present client then 1 else 0
+own_steps server call = 0
 
 -- The part of a call that comes before any request is looked at. It gives nothing out.
 abbrev pub call_begun : Server → Call → Progress
@@ -196,7 +224,7 @@ call_begun server (Call.Scavenge file_id) =
 -- Every call goes by guarded small steps.
 abbrev pub CallsGoBySteps : Type 0
 CallsGoBySteps = (server : Server) (call : Call) → IsSound server → WaitsWell server
-    → GoesBySteps call (call_begun server call) (called server call)
+    → GoesBySteps call (own_steps server call) (call_begun server call) (called server call)
 
 -- and its first part gives nothing out
 abbrev pub CallsBeginInSilence : Type 0
