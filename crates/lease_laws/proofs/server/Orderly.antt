@@ -78,7 +78,7 @@ pub record IsFine (server : Server) : Type 0 where
   pub orderly : IsOrderly server
 
 -- held requests that are the same are held well
-same_well : (before after : Progress) → IsOrderly before.server → SameHeld before after
+pub same_well : (before after : Progress) → IsOrderly before.server → SameHeld before after
     → (file : ℕ) (one : Held) → Among one (after.server.held file) → IsHeldWell before.server file one
 same_well before after o same file one a = held_well before.server file one o
     (subst (λ held. Among one (held file)) same a)

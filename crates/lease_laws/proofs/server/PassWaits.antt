@@ -61,7 +61,7 @@ held_left-other file left progress other away = held_left-cases (λ held. held �
     (λ same. absurd (away same)) refl
 
 -- what is on the list without one is on it
-among_more : (x y : Held) (xs ys : List Held) → Among x (xs ++ ys) → Among x (xs ++ y ∷ ys)
+pub among_more : (x y : Held) (xs ys : List Held) → Among x (xs ++ ys) → Among x (xs ++ y ∷ ys)
 among_more x y xs ys a = ⊎_elim (λ h. among_before x xs (y ∷ ys) h) (λ h. among_behind x xs (y ∷ ys) (inr h))
     (among_append x xs ys a)
 

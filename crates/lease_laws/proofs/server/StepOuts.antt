@@ -162,7 +162,7 @@ acknowledged-out client (Some given) progress =
 
 -- ---- each step's outs find their clients and are short
 
-abbrev IsFine : Server → Out → Type 0
+abbrev pub IsFine : Server → Out → Type 0
 IsFine server out = IsToPresent server out × IsShort out
 
 -- what a request gives out
@@ -212,7 +212,7 @@ break_fine server key lowered up may =
         ((Decides-eqb key.client client).0 (and_parts (key.client == client) (bytes_eq key.bytes bytes) k).0) ∙ p
 
 -- each step
-step_fine : (step : SmallStep) (progress : Progress) → OpensUp progress.server
+pub step_fine : (step : SmallStep) (progress : Progress) → OpensUp progress.server
     → IsGuarded step progress.server
     → GoOn (IsFine progress.server) progress.outs (step_taken step progress).outs
 unfolding lease_lowered break_begun

@@ -47,7 +47,7 @@ by_client P client c here there = either (client == c)
     (λ other. there (λ e. clash (client == c) (eq-eqb client c (sym e)) other) other)
 
 -- where nothing of a client changes it stays tied
-carried : (world new : World) (c : ℕ) → new.server.present c ≡ world.server.present c
+pub carried : (world new : World) (c : ℕ) → new.server.present c ≡ world.server.present c
     → new.links c ≡ world.links c → new.requests c ≡ world.requests c → new.replies c ≡ world.replies c
     → is_served c new.past ≡ is_served c world.past → sendings c new.past ≡ sendings c world.past
     → takings c new.past ≡ takings c world.past → IsTied world c → IsTied new c
@@ -112,16 +112,16 @@ delivered_links world (Out.Sent client reply) = refl
 delivered_links world (Out.Opened file client) = refl
 delivered_links world (Out.Changed file client number patch) = refl
 
-outs_links : (world : World) (outs : List Out) → (all_delivered world outs).links ≡ world.links
+pub outs_links : (world : World) (outs : List Out) → (all_delivered world outs).links ≡ world.links
 unfolding all_delivered
 outs_links world [] = refl
 outs_links world (out ∷ outs) = outs_links (delivered world out) outs ∙ delivered_links world out
 
-served_links : (world : World) (progress : Progress) → (served world progress).links ≡ world.links
+pub served_links : (world : World) (progress : Progress) → (served world progress).links ≡ world.links
 unfolding served
 served_links world progress = outs_links (record world { server = progress.server }) progress.outs
 
-all_tied : (world : World) (server : Server) (outs : List Out)
+pub all_tied : (world : World) (server : Server) (outs : List Out)
     → ((c : ℕ) → server.present c ≡ is_up (world.links c)) → EachOut (IsToPresent server) outs
     → ((c : ℕ) → IsTied world c) → (c : ℕ) → IsTied (all_delivered world outs) c
 unfolding all_delivered
@@ -180,7 +180,7 @@ sent_idle Link.Up queue requests idle e = absurd (true≢false e)
 sent_idle Link.Down queue requests idle e = idle e
 sent_idle Link.Cut queue requests idle e = idle e
 
-sent_tied : (world : World) (client : ℕ) (requests : List Request) (c : ℕ) → IsTied world c
+pub sent_tied : (world : World) (client : ℕ) (requests : List Request) (c : ℕ) → IsTied world c
     → IsTied (requests_sent world client requests) c
 unfolding requests_sent
 sent_tied world client requests c t = by_client (λ d. IsTied world d → IsTied (requests_sent world client requests) d)
@@ -196,7 +196,7 @@ sent_tied world client requests c t = by_client (λ d. IsTied world d → IsTied
     (λ ne apart u. carried world (requests_sent world client requests) c refl refl
     (put_other world.requests client _ c ne) refl refl refl refl u) t
 
-stepped_tied : (world : World) (client : ℕ) (step : Step) → ((c : ℕ) → IsTied world c) → (c : ℕ)
+pub stepped_tied : (world : World) (client : ℕ) (step : Step) → ((c : ℕ) → IsTied world c) → (c : ℕ)
     → IsTied (stepped_in world client step) c
 unfolding stepped_in
 stepped_tied world client step tied c =
@@ -204,14 +204,14 @@ stepped_tied world client step tied c =
     noted_tied (requests_sent new client step.requests) client step.notes c
     (sent_tied new client step.requests c (carried world new c refl refl refl refl refl refl refl (tied c)))
 
-stepped_links : (world : World) (client : ℕ) (step : Step) → (stepped_in world client step).links ≡ world.links
+pub stepped_links : (world : World) (client : ℕ) (step : Step) → (stepped_in world client step).links ≡ world.links
 unfolding stepped_in requests_sent
 stepped_links world client step = noted_links
     (requests_sent (record world { clients = put world.clients client step.client }) client step.requests) client
     step.notes
 
 -- the client that steps is online as its link says, and so are the others
-stepped_online : (world : World) (client : ℕ) (step : Step)
+pub stepped_online : (world : World) (client : ℕ) (step : Step)
     → step.client.is_online ≡ not (is_down (world.links client))
     → ((c : ℕ) → c ≢ client → IsOnline world c) → (c : ℕ) → IsOnline (stepped_in world client step) c
 stepped_online world client step here there c = by_client (IsOnline (stepped_in world client step)) client c
@@ -225,7 +225,7 @@ stepped_online world client step here there c = by_client (IsOnline (stepped_in 
 -- ---- links that change
 
 -- a link that isn't up becomes another one that isn't
-relinked : (world : World) (client : ℕ) (link : Link) → is_up (world.links client) ≡ false → is_up link ≡ false
+pub relinked : (world : World) (client : ℕ) (link : Link) → is_up (world.links client) ≡ false → is_up link ≡ false
     → ((c : ℕ) → IsTied world c) → (c : ℕ) → IsTied (record world { links = put world.links client link }) c
 relinked world client link down idle tied c =
     by_client (IsTied (record world { links = put world.links client link })) client c

@@ -1,0 +1,4 @@
+pub mod Events
+pub mod Ground
+pub mod Moves
+pub mod Shift

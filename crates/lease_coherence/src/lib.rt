@@ -1,0 +1,6 @@
+//! Every run is safe: public functions with an empty body whose contracts carry the parts of that theorem.
+#![tactic(auto)]
+
+mod parts;
+
+pub use parts::nothing_yet;
