@@ -1,3 +1,4 @@
+pub mod Deeds
 pub mod Events
 pub mod Ground
 pub mod Moves

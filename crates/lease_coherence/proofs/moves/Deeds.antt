@@ -1,0 +1,334 @@
+-- What a step of the server does in a world: each of its forms, with what is known of it. Whatever holds after each
+-- form holds after every step.
+use Rattle.std.proofs.Common.{◌≡◌, ◌⊎◌, inl, inr, ℕ, ◌+◌, Bool, true, false, List, [], ◌∷◌, ◌++◌, Option, Some, None, refl, sym, subst}
+use Rattle.std.specs.Prelude.{if◌then◌else◌, ◌==◌, ◌&&◌, Ok, map}
+use Rattle.lease_state.specs.Content.{patch as patched}
+use Rattle.lease_state.specs.State.{State, granted_form_of, is_state_within, needs_acknowledgment}
+use Rattle.lease_state.specs.declared.access.Access.{Access}
+use Rattle.lease_state.specs.declared.access.Share.{Share}
+use Rattle.lease_state.specs.declared.patch.Patch.{Patch}
+use Rattle.lease_state.specs.declared.status.Status.{Status}
+use Rattle.lease_model.specs.messages.Replies.{Reply}
+use Rattle.lease_model.specs.messages.Requests.{FileRequest, Request, CreateAsk, LeaseOf}
+use Rattle.lease_model.specs.records.Facts.{Fact}
+use Rattle.lease_model.specs.server.Acknowledge.{acknowledged, judged, break_ended}
+use Rattle.lease_model.specs.server.Answers.{concluded, answered, created, closed, changed, read_done, on_open}
+use Rattle.lease_model.specs.server.Attempt.{Outcome, is_left_open}
+use Rattle.lease_model.specs.server.Calls.{held_of, file_asked}
+use Rattle.lease_model.specs.server.Findings.{connected_open}
+use Rattle.lease_model.specs.server.Grant.{granted, granted_with, lease_after, lease_put, lease_given, new_open, reconnected, connected_again, standing_lease}
+use Rattle.lease_model.specs.server.Naming.{key_of, own_key}
+use Rattle.lease_model.specs.server.Passes.{is_behind}
+use Rattle.lease_model.specs.server.Progress.{Progress, begun, with_opens, with_lease, break_notice, opens_dropped, lease_lowered, break_begun, request_held, held_left, refused, refusal_of}
+use Rattle.lease_model.specs.server.State.{Open, Held, Lease, has_file, has_lease}
+use Rattle.lease_model.specs.values.Keys.{Key}
+use Rattle.lease_model.specs.values.Limits.{last_file_id}
+use Rattle.lease_model.specs.values.Lists.{without}
+use Rattle.lease_model.specs.values.Sharing.{may_read}
+use Rattle.lease_model.specs.values.Tables.{put}
+use Rattle.lease_model.specs.world.Events.{served}
+use Rattle.lease_model.specs.world.World.{World, delivered, all_delivered}
+use Rattle.lease_laws.specs.server.SmallSteps.{SmallStep, IsFree, IsAwaitedAt, MayCreate, MayChange, MayServe, MayRefuse, MayEnd, MayLower, MayHold, IsInTurn}
+use Rattle.lease_coherence.proofs.moves.Moves.{IsNext, IsOldest, popped, moved}
+
+-- ---- where a request that is answered comes from
+
+abbrev pub with_held : World → ℕ → List Held → World
+with_held world file left =
+    record world { server = record world.server { held = put world.server.held file left } }
+
+-- it is the oldest of its client, with no earlier one held on its file
+pub record HasArrived (world : World) (off : World) (client : ℕ) (request : FileRequest) : Type 0 where
+  pub oldest : IsOldest world client (Request.OnFile request)
+  pub is_off : off ≡ popped world client
+  pub in_turn : (file : ℕ) → file_asked world.server client request ≡ Ok file
+      → is_behind client (world.server.held file) ≡ false
+
+-- or the first of its client that is held on a file
+pub record WasHeld (world : World) (off : World) (client : ℕ) (request : FileRequest) : Type 0 where
+  pub file : ℕ
+  pub before : List Held
+  pub behind : List Held
+  pub held : world.server.held file ≡ before ++ held_of client request ∷ behind
+  pub is_off : off ≡ with_held world file (before ++ behind)
+  pub in_turn : is_behind client before ≡ false
+
+-- `off` is the world in which it is taken off
+pub record IsSource (world : World) (off : World) (client : ℕ) (request : FileRequest) : Type 0 where
+  pub up : world.server.present client ≡ true
+  pub from : HasArrived world off client request ⊎ WasHeld world off client request
+
+-- ---- what is done
+
+-- a reply is sent
+abbrev pub told_to : World → ℕ → Reply → World
+told_to world client reply = record world {
+  replies = put world.replies client (world.replies client ++ reply ∷ []);
+  past = Fact.Sent client ∷ world.past;
+}
+
+-- a new open is made
+abbrev pub granted_in : World → ℕ → ℕ → Access → Share → CreateAsk → Lease → World
+granted_in world client file access share ask lease = record world {
+  server = record (lease_put world.server client ask.lease lease) {
+    opens = world.server.opens
+        ++ new_open world.server client file access share ask.lease ask.durable lease ∷ [];
+    last_id = world.server.last_id + 1;
+  };
+  replies = put world.replies client (world.replies client
+      ++ Reply.Created file (world.server.last_id + 1) (Some (record {
+    lease = lease_given ask.lease lease;
+    durable = ask.durable && lease.state.handle;
+  })) ∷ []);
+  past = Fact.Sent client ∷ Fact.Opened file client ∷ world.past;
+}
+
+-- a durable open is connected again
+abbrev pub reconnected_in : World → ℕ → ℕ → CreateAsk → ℕ → World
+reconnected_in world client file ask file_id = told_to
+    (record world { server = record world.server { opens = map (connected_again file_id) world.server.opens } })
+    client (Reply.Created file file_id (Some (record {
+      lease = lease_given ask.lease (standing_lease world.server client ask.lease);
+      durable = false;
+    })))
+
+-- a file is changed
+abbrev pub changed_in : World → ℕ → ℕ → ℕ → ℕ → Patch → World
+changed_in world client file file_id number patch = record world {
+  server = record world.server {
+    contents = put world.server.contents file (patched (world.server.contents file) patch);
+  };
+  replies = put world.replies client (world.replies client ++ Reply.WriteDone file_id number ∷ []);
+  past = Fact.Sent client ∷ Fact.Changed file client number patch ∷ world.past;
+}
+
+-- opens are closed
+abbrev pub without_opens : World → (Open → Bool) → World
+without_opens world test =
+    record world { server = with_opens world.server (without test world.server.opens) }
+
+-- a lease is put, and its client is told
+abbrev pub leased_in : World → Key → Lease → Reply → World
+leased_in world key lease reply =
+    told_to (record world { server = with_lease world.server key lease }) key.client reply
+
+-- a request is held
+abbrev pub held_in : World → ℕ → Held → World
+held_in world file one = with_held world file (world.server.held file ++ one ∷ [])
+
+-- ---- forms
+
+pub record HasDeeds (world : World) (P : World → Type 0) : Type 0 where
+  pub refused : (off : World) (client : ℕ) (request : FileRequest) (status : Status)
+      → IsSource world off client request → MayRefuse off.server client request status
+      → P (told_to off client (refusal_of request status))
+  pub full : (off : World) (client file : ℕ) (access : Access) (share : Share) (ask : CreateAsk)
+      → IsSource world off client (FileRequest.Create file access share (Some ask))
+      → P (told_to off client (Reply.CreateFailed file Status.InsufficientResources))
+  pub granted : (off : World) (client file : ℕ) (access : Access) (share : Share) (ask : CreateAsk)
+      → IsSource world off client (FileRequest.Create file access share (Some ask)) → ask.reconnect ≡ None
+      → has_file off.server file ≡ true
+      → IsFree off.server.opens off.server.leases (own_key client ask.lease) file access share
+      → P (granted_in off client file access share ask (lease_after off.server client file ask.lease))
+  pub reconnected : (off : World) (client file : ℕ) (access : Access) (share : Share) (ask : CreateAsk) (file_id : ℕ)
+      → IsSource world off client (FileRequest.Create file access share (Some ask)) → ask.reconnect ≡ Some file_id
+      → has_file off.server file ≡ true → IsAwaitedAt off.server client file (own_key client ask.lease) file_id
+      → P (reconnected_in off client file ask file_id)
+  pub read : (off : World) (client file_id : ℕ) (one : Open) → IsSource world off client (FileRequest.Read file_id)
+      → connected_open off.server client file_id ≡ Some one → may_read one.access ≡ true
+      → P (told_to off client (Reply.ReadDone file_id (off.server.contents one.file)))
+  pub changed : (off : World) (client file_id number : ℕ) (patch : Patch) (one : Open)
+      → IsSource world off client (FileRequest.Write file_id number patch)
+      → connected_open off.server client file_id ≡ Some one → MayChange off.server patch one
+      → P (changed_in off client one.file file_id number patch)
+  pub closed : (off : World) (client file_id : ℕ) (one : Open) → IsSource world off client (FileRequest.Close file_id)
+      → connected_open off.server client file_id ≡ Some one
+      → P (told_to (without_opens off (λ other. other.file_id == file_id)) client (Reply.Closed file_id))
+  pub ack_failed : (client : ℕ) (given : Option LeaseOf) (status : Status)
+      → IsOldest world client (Request.Acknowledge given) → world.server.present client ≡ true
+      → P (told_to (popped world client) client (Reply.AckFailed status))
+  pub ack_done : (client : ℕ) (given : LeaseOf) (lowered : State)
+      → IsOldest world client (Request.Acknowledge (Some given)) → world.server.present client ≡ true
+      → has_lease world.server (key_of client given.key) ≡ true
+      → (world.server.leases (key_of client given.key)).broken_to ≡ Some lowered
+      → is_state_within given.state lowered ≡ true
+      → P (leased_in (popped world client) (key_of client given.key)
+      (record { state = granted_form_of given.state; broken_to = None })
+      (Reply.AckDone (Some (record { key = given.key; state = granted_form_of given.state }))))
+  pub hold : (file : ℕ) (one : Held) → IsOldest world one.client (Request.OnFile one.request)
+      → MayHold world.server file one → IsInTurn (SmallStep.Hold file one) world.server
+      → P (held_in (popped world one.client) file one)
+  pub drop : (key : Key) → P (without_opens world (is_left_open key))
+  pub lower : (key : Key) (lowered : State) → MayLower world.server key lowered
+      → needs_acknowledgment (world.server.leases key).state ≡ false
+      → P (leased_in world key (record { state = lowered; broken_to = None })
+      (break_notice key (world.server.leases key).state lowered))
+  pub begin : (key : Key) (lowered : State) → MayLower world.server key lowered
+      → needs_acknowledgment (world.server.leases key).state ≡ true
+      → P (leased_in world key (record { state = (world.server.leases key).state; broken_to = Some lowered })
+      (break_notice key (world.server.leases key).state lowered))
+
+-- ---- every step has one of them
+
+create_deed : (world off : World) (P : World → Type 0) → HasDeeds world P → (client file : ℕ) (access : Access)
+    (share : Share) (ask : CreateAsk) (again : Option ℕ) → ask.reconnect ≡ again
+    → IsSource world off client (FileRequest.Create file access share (Some ask))
+    → has_file off.server file ≡ true → MayCreate off.server client file access share ask.lease again
+    → P (served off (created client file access share ask.lease ask.durable again (begun off.server)))
+unfolding granted granted_with reconnected served all_delivered delivered
+create_deed world off P h client file access share ask None e source on may =
+    if_both (off.server.last_id == last_file_id) _ _
+    (h.full off client file access share ask source) (h.granted off client file access share ask source e on may)
+  where
+    if_both : (b : Bool) (x y : Progress) → P (served off x) → P (served off y) → P (served off (if b then x else y))
+    if_both true x y p q = p
+    if_both false x y p q = q
+create_deed world off P h client file access share ask (Some file_id) e source on may =
+    h.reconnected off client file access share ask file_id source e on may
+
+contexts_deed : (world off : World) (P : World → Type 0) → HasDeeds world P → (client file : ℕ) (access : Access)
+    (share : Share) (contexts : Option CreateAsk)
+    → IsSource world off client (FileRequest.Create file access share contexts)
+    → MayServe off.server client (FileRequest.Create file access share contexts)
+    → P (served off (concluded client (FileRequest.Create file access share contexts) (begun off.server) Outcome.Ready))
+unfolding answered
+contexts_deed world off P h client file access share None source may = absurd may
+contexts_deed world off P h client file access share (Some ask) source may =
+    create_deed world off P h client file access share ask ask.reconnect refl source may.0 may.1
+
+-- by the open that was found
+open_found : (off : World) (P : World → Type 0) (found : Option Open) (one : Open) (done : ℕ → Progress → Progress)
+    → found ≡ Some one → P (served off (done one.file (begun off.server)))
+    → P (served off (on_open found done (begun off.server)))
+open_found off P found one done e p =
+    subst (λ o. P (served off (on_open o done (begun off.server)))) (sym e) p
+
+request_deed : (world off : World) (P : World → Type 0) → HasDeeds world P → (client : ℕ) (request : FileRequest)
+    (outcome : Outcome) → IsSource world off client request → MayEnd off.server client request outcome
+    → P (served off (concluded client request (begun off.server) outcome))
+unfolding refused answered changed closed opens_dropped served all_delivered delivered
+request_deed world off P h client request (Outcome.Refused status) source may =
+    h.refused off client request status source may.1
+request_deed world off P h client request Outcome.Waits source may = absurd may
+request_deed world off P h client (FileRequest.Create file access share contexts) Outcome.Ready source may =
+    contexts_deed world off P h client file access share contexts source may.1
+request_deed world off P h client (FileRequest.Read file_id) Outcome.Ready source may =
+    let has = may.1 in open_found off P (connected_open off.server client file_id) has.one
+    (λ file. read_done client file file_id) has.found
+    (h.read off client file_id has.one source has.found has.allowed)
+request_deed world off P h client (FileRequest.Write file_id number patch) Outcome.Ready source may =
+    let has = may.1 in open_found off P (connected_open off.server client file_id) has.one
+    (λ file. changed client file file_id number patch) has.found
+    (h.changed off client file_id number patch has.one source has.found has.allowed)
+request_deed world off P h client (FileRequest.Close file_id) Outcome.Ready source may =
+    let has = may.1 in open_found off P (connected_open off.server client file_id) has.one
+    (λ file. closed client file_id) has.found
+    (h.closed off client file_id has.one source has.found)
+
+-- an acknowledgment is judged
+judged_deed : (world : World) (P : World → Type 0) → HasDeeds world P → (client : ℕ) (given : LeaseOf)
+    (lowered : Option State) → IsOldest world client (Request.Acknowledge (Some given))
+    → world.server.present client ≡ true → has_lease world.server (key_of client given.key) ≡ true
+    → (world.server.leases (key_of client given.key)).broken_to ≡ lowered
+    → P (served (popped world client) (judged (key_of client given.key) given.state lowered (begun world.server)))
+unfolding break_ended served all_delivered delivered
+judged_deed world P h client given None oldest up there e = h.ack_failed client (Some given) Status.Unsuccessful oldest up
+judged_deed world P h client given (Some lowered) oldest up there e = either_way (is_state_within given.state lowered) _ _
+    (λ w. h.ack_done client given lowered oldest up there e w)
+    (h.ack_failed client (Some given) Status.RequestNotAccepted oldest up)
+  where
+    either_way : (b : Bool) (x y : Progress) → (b ≡ true → P (served (popped world client) x))
+        → P (served (popped world client) y) → P (served (popped world client) (if b then x else y))
+    either_way true x y p q = p refl
+    either_way false x y p q = q
+
+acknowledged_deed : (world : World) (P : World → Type 0) → HasDeeds world P → (client : ℕ) (given : Option LeaseOf)
+    → IsOldest world client (Request.Acknowledge given) → world.server.present client ≡ true
+    → P (served (popped world client) (acknowledged client given (begun world.server)))
+unfolding acknowledged served all_delivered delivered
+acknowledged_deed world P h client None oldest up = h.ack_failed client None Status.InvalidParameter oldest up
+acknowledged_deed world P h client (Some given) oldest up =
+    either_way (has_lease world.server (key_of client given.key)) _ _
+    (λ there. judged_deed world P h client given (world.server.leases (key_of client given.key)).broken_to oldest up
+    there refl)
+    (h.ack_failed client (Some given) Status.ObjectNameNotFound oldest up)
+  where
+    either_way : (b : Bool) (x y : Progress) → (b ≡ true → P (served (popped world client) x))
+        → P (served (popped world client) y) → P (served (popped world client) (if b then x else y))
+    either_way true x y p q = p refl
+    either_way false x y p q = q
+
+-- any step
+pub step_deed : (world : World) (P : World → Type 0) → HasDeeds world P → (step : SmallStep) → IsNext world step
+    → P (moved world step)
+unfolding held_left request_held opens_dropped lease_lowered break_begun served all_delivered delivered
+step_deed world P h (SmallStep.Answer client request outcome) next =
+    request_deed world (popped world client) P h client request outcome
+    (record {
+      up = up_of outcome next.guarded;
+      from = inl (record { oldest = next.due; is_off = refl; in_turn = next.in_turn });
+    }) next.guarded
+  where
+    up_of : (o : Outcome) → MayEnd world.server client request o → world.server.present client ≡ true
+    up_of (Outcome.Refused status) may = may.0
+    up_of Outcome.Waits may = absurd may
+    up_of Outcome.Ready may = may.0
+step_deed world P h (SmallStep.AnswerHeld file before one behind outcome) next =
+    request_deed world (with_held world file (before ++ behind)) P h one.client one.request outcome
+    (record {
+      up = up_of outcome next.guarded.1;
+      from = inr (record {
+        file = file;
+        before = before;
+        behind = behind;
+        held = next.guarded.0;
+        is_off = refl;
+        in_turn = next.in_turn;
+      });
+    }) (same_end outcome one.request next.guarded.1)
+  where
+    up_of : (o : Outcome) → MayEnd world.server one.client one.request o → world.server.present one.client ≡ true
+    up_of (Outcome.Refused status) may = may.0
+    up_of Outcome.Waits may = absurd may
+    up_of Outcome.Ready may = may.0
+
+    same_create : (f : ℕ) (access : Access) (share : Share) (lease : Option LeaseOf) (again : Option ℕ)
+        → MayCreate world.server one.client f access share lease again
+        → MayCreate (with_held world file (before ++ behind)).server one.client f access share lease again
+    same_create f access share lease None may = may
+    same_create f access share lease (Some file_id) may =
+        record { one = may.one; is_there = may.is_there; waits = may.waits }
+
+    same_serve : (r : FileRequest) → MayServe world.server one.client r
+        → MayServe (with_held world file (before ++ behind)).server one.client r
+    same_serve (FileRequest.Create f access share None) may = absurd may
+    same_serve (FileRequest.Create f access share (Some ask)) may =
+        (may.0, same_create f access share ask.lease ask.reconnect may.1)
+    same_serve (FileRequest.Read file_id) may =
+        record { one = may.one; found = may.found; allowed = may.allowed }
+    same_serve (FileRequest.Write file_id number patch) may = record {
+      one = may.one;
+      found = may.found;
+      allowed = record { may = may.allowed.may; fits = may.allowed.fits; alone = may.allowed.alone };
+    }
+    same_serve (FileRequest.Close file_id) may =
+        record { one = may.one; found = may.found; allowed = may.allowed }
+
+    same_refuse : (r : FileRequest) (status : Status) → MayRefuse world.server one.client r status
+        → MayRefuse (with_held world file (before ++ behind)).server one.client r status
+    same_refuse (FileRequest.Create f access share contexts) status may = tt
+    same_refuse (FileRequest.Read file_id) status may = may
+    same_refuse (FileRequest.Write file_id number patch) status may = may
+    same_refuse (FileRequest.Close file_id) status may = may
+
+    same_end : (o : Outcome) (r : FileRequest) → MayEnd world.server one.client r o
+        → MayEnd (with_held world file (before ++ behind)).server one.client r o
+    same_end (Outcome.Refused status) r may = (may.0, same_refuse r status may.1)
+    same_end Outcome.Waits r may = absurd may
+    same_end Outcome.Ready r may = (may.0, same_serve r may.1)
+step_deed world P h (SmallStep.Acknowledge client given) next =
+    acknowledged_deed world P h client given next.due next.guarded
+step_deed world P h (SmallStep.Hold file one) next = h.hold file one next.due next.guarded next.in_turn
+step_deed world P h (SmallStep.Drop key) next = h.drop key
+step_deed world P h (SmallStep.Lower key lowered) next = h.lower key lowered next.guarded.0 next.guarded.1
+step_deed world P h (SmallStep.Begin key lowered) next = h.begin key lowered next.guarded.0 next.guarded.1
