@@ -1,0 +1,270 @@
+-- What a reply makes of a client: each of the forms, with what is known of it. Whatever holds of each form holds of
+-- every reply.
+use Rattle.std.proofs.Common.{◌≡◌, ◌⊎◌, inl, inr, ℕ, Bool, true, false, List, [], ◌∷◌, ◌++◌, length, Option, Some, None, refl, sym, ap, ◌∙◌, subst, ◌==◌}
+use Rattle.std.specs.Prelude.{⊤, is_some, not, ◌&&◌, nat_le, bytes_eq, find, if◌then◌else◌}
+use Rattle.std.proofs.lemmas.Bool.{eqb-true}
+use Rattle.lease_state.specs.declared.access.Access.{Access}
+use Rattle.lease_state.specs.declared.access.Share.{Share}
+use Rattle.lease_state.specs.declared.content.TheConstants.{FILE_LIMIT}
+use Rattle.lease_state.specs.declared.status.Status.{Status}
+use Rattle.lease_model.specs.client.Commanded.{is_asking}
+use Rattle.lease_model.specs.client.Commands.{Note, Settlement}
+use Rattle.lease_model.specs.client.State.{Client, Entry, LiveEntry, Asked, Parted, Pending, Phase, closed_entry, live_entry, lease_key}
+use Rattle.lease_model.specs.client.Step.{Step, Turn, turned, quiet_step}
+use Rattle.lease_model.specs.client.Taken.{taken, on_file, file_where, is_key_of, break_turn, broken, break_on, parked_closed, belief_lowered, create_answered, created_on, created_on_live, created_for, opened_turn, reconnected_turn, promoted_turn, promoted_belief, first_belief, still_open, failed_turn, create_failed, failed_on, create_failed_on_live, create_failed_for, read_answered, read_on, read_turn, reads_under, one_read_less, read_failed, read_failed_on, read_failed_turn, is_file_closed, closed_by_server, has_sent, write_done, write_done_turn, write_failed, write_failed_in, sent_without}
+use Rattle.lease_model.specs.messages.Replies.{Reply, BreakNotice, CreateAnswer}
+use Rattle.lease_model.specs.values.LeaseStates.{meet}
+use Rattle.lease_model.specs.values.Lists.{numbers_to}
+use Rattle.lease_laws.proofs.server.Lists.{if_cases, and_parts, not_parts, find_has}
+use Rattle.lease_coherence.proofs.clients.Commands.{sent_of}
+
+-- the entry has a create under way
+abbrev pub has_asked : Phase → Bool
+has_asked Phase.Closed = false
+has_asked (Phase.Opening access share) = true
+has_asked (Phase.Live live) = is_asking live
+has_asked (Phase.Offline parted) = false
+has_asked (Phase.Reconnecting parted) = true
+
+abbrev pub is_live : Phase → Bool
+is_live (Phase.Live live) = true
+is_live phase = false
+
+-- why a reply is passed over
+abbrev pub PassesOver : Client → Reply → Type 0
+PassesOver client (Reply.Created file file_id None) = ⊤
+PassesOver client (Reply.Created file file_id (Some answer)) = has_asked (client.entries file).phase ≡ false
+PassesOver client (Reply.CreateFailed file status) = has_asked (client.entries file).phase ≡ false
+PassesOver client (Reply.ReadDone file_id bytes) = (nat_le (length bytes) FILE_LIMIT ≡ false)
+    ⊎ (file_where client (λ file. reads_under file_id (client.entries file).phase) ≡ None)
+PassesOver client (Reply.ReadFailed file_id status) =
+    file_where client (λ file. reads_under file_id (client.entries file).phase) ≡ None
+PassesOver client (Reply.WriteDone file_id number) = file_where client (has_sent client number) ≡ None
+PassesOver client (Reply.WriteFailed file_id number status) = file_where client (has_sent client number) ≡ None
+PassesOver client (Reply.Break None) = ⊤
+PassesOver client (Reply.Break (Some notice)) = (file_where client (is_key_of client notice.key) ≡ None)
+    ⊎ ((file : ℕ) × (file_where client (is_key_of client notice.key) ≡ Some file)
+    × (is_live (client.entries file).phase ≡ false))
+PassesOver client reply = ⊤
+
+-- ---- the forms
+
+pub record HasTakes (client : Client) (P : Reply → Step → Type 0) : Type 0 where
+  pub passed : (reply : Reply) → PassesOver client reply → P reply (quiet_step client)
+  pub broken : (file : ℕ) (notice : BreakNotice) (live : LiveEntry)
+      → file_where client (is_key_of client notice.key) ≡ Some file
+      → (client.entries file).phase ≡ Phase.Live live
+      → P (Reply.Break (Some notice))
+      (turned client file (break_turn live (sent_of client file) notice (meet live.belief notice.lowered)))
+  pub opened : (file file_id : ℕ) (answer : CreateAnswer) (access : Access) (share : Share)
+      → (client.entries file).phase ≡ Phase.Opening access share
+      → P (Reply.Created file file_id (Some answer)) (turned client file
+      (opened_turn file_id access share (sent_of client file) answer (first_belief client file answer)))
+  pub reconnected : (file file_id : ℕ) (answer : CreateAnswer) (parted : Parted)
+      → (client.entries file).phase ≡ Phase.Reconnecting parted
+      → P (Reply.Created file file_id (Some answer)) (turned client file
+      (reconnected_turn parted (sent_of client file) (first_belief client file answer)))
+  pub promoted : (file file_id : ℕ) (answer : CreateAnswer) (live : LiveEntry) (asked : Asked)
+      → (client.entries file).phase ≡ Phase.Live live → live.asking ≡ Some asked
+      → P (Reply.Created file file_id (Some answer)) (turned client file
+      (promoted_turn live (sent_of client file) asked file_id answer.durable
+      (promoted_belief (lease_key client.guid file) live.belief answer.lease)))
+  pub not_opened : (file : ℕ) (status : Status) (access : Access) (share : Share)
+      → (client.entries file).phase ≡ Phase.Opening access share
+      → P (Reply.CreateFailed file status) (turned client file (failed_turn status (sent_of client file) []))
+  pub not_reconnected : (file : ℕ) (status : Status) (parted : Parted)
+      → (client.entries file).phase ≡ Phase.Reconnecting parted
+      → P (Reply.CreateFailed file status)
+      (turned client file (failed_turn status (sent_of client file) parted.writes))
+  pub not_promoted : (file : ℕ) (status : Status) (live : LiveEntry) (asked : Asked)
+      → (client.entries file).phase ≡ Phase.Live live → live.asking ≡ Some asked
+      → P (Reply.CreateFailed file status) (turned client file
+      (still_open (live_entry (record live { asking = None }) (sent_of client file)) [] status))
+  pub read : (file file_id : ℕ) (bytes : List ℕ) (live : LiveEntry) → (client.entries file).phase ≡ Phase.Live live
+      → live.file_id ≡ file_id → (live.reads == 0) ≡ false
+      → P (Reply.ReadDone file_id bytes) (turned client file (read_turn live (sent_of client file) bytes))
+  pub not_read : (file file_id : ℕ) (status : Status) (live : LiveEntry)
+      → (client.entries file).phase ≡ Phase.Live live → live.file_id ≡ file_id → (live.reads == 0) ≡ false
+      → P (Reply.ReadFailed file_id status)
+      (turned client file (read_failed_turn live (sent_of client file) status))
+  pub written : (file file_id number : ℕ) → has_sent client number file ≡ true
+      → P (Reply.WriteDone file_id number)
+      (turned client file (write_done_turn number (client.entries file)))
+  pub not_written : (file file_id number : ℕ) (status : Status) → has_sent client number file ≡ true
+      → P (Reply.WriteFailed file_id number status) (turned client file
+      (write_failed_in file_id number status (sent_without number (sent_of client file)) (client.entries file).phase))
+
+-- ---- every reply has one of them
+
+pub found_so : (client : Client) (test : ℕ → Bool) (file : ℕ) → file_where client test ≡ Some file → test file ≡ true
+found_so client test file e = (find_has test file (numbers_to client.files) e).1
+
+break_take : (client : Client) (P : Reply → Step → Type 0) → HasTakes client P → (file : ℕ) (notice : BreakNotice)
+    → file_where client (is_key_of client notice.key) ≡ Some file → (phase : Phase)
+    → (client.entries file).phase ≡ phase
+    → P (Reply.Break (Some notice)) (break_on client file notice (sent_of client file) phase)
+break_take client P h file notice at Phase.Closed e =
+    h.passed (Reply.Break (Some notice)) (inr (file, at, ap is_live e))
+break_take client P h file notice at (Phase.Opening access share) e =
+    h.passed (Reply.Break (Some notice)) (inr (file, at, ap is_live e))
+break_take client P h file notice at (Phase.Live live) e = h.broken file notice live at e
+break_take client P h file notice at (Phase.Offline parted) e =
+    h.passed (Reply.Break (Some notice)) (inr (file, at, ap is_live e))
+break_take client P h file notice at (Phase.Reconnecting parted) e =
+    h.passed (Reply.Break (Some notice)) (inr (file, at, ap is_live e))
+
+broken_take : (client : Client) (P : Reply → Step → Type 0) → HasTakes client P → (notice : Option BreakNotice)
+    → P (Reply.Break notice) (broken client notice)
+unfolding broken
+broken_take client P h None = h.passed (Reply.Break None) tt
+broken_take client P h (Some notice) = on_found (file_where client (is_key_of client notice.key)) refl
+  where
+    on_found : (found : Option ℕ) → file_where client (is_key_of client notice.key) ≡ found
+        → P (Reply.Break (Some notice)) (on_file client found
+        (λ file. break_on client file notice (client.entries file).sent (client.entries file).phase))
+    on_found None e = h.passed (Reply.Break (Some notice)) (inl e)
+    on_found (Some file) e = break_take client P h file notice e (client.entries file).phase refl
+
+live_create : (client : Client) (P : Reply → Step → Type 0) → HasTakes client P → (file file_id : ℕ)
+    (answer : CreateAnswer) (live : LiveEntry) → (client.entries file).phase ≡ Phase.Live live
+    → (asking : Option Asked) → live.asking ≡ asking
+    → P (Reply.Created file file_id (Some answer))
+    (created_for client file live (sent_of client file) file_id answer asking)
+live_create client P h file file_id answer live e None a =
+    h.passed (Reply.Created file file_id (Some answer)) (ap has_asked e ∙ idle live.asking a)
+  where
+    idle : (asking : Option Asked) → asking ≡ None → is_some asking ≡ false
+    idle None e = refl
+    idle (Some x) e = let c : ⊥ = cc in absurd c
+live_create client P h file file_id answer live e (Some asked) a = h.promoted file file_id answer live asked e a
+
+create_take : (client : Client) (P : Reply → Step → Type 0) → HasTakes client P → (file file_id : ℕ)
+    (answer : CreateAnswer) (phase : Phase) → (client.entries file).phase ≡ phase
+    → P (Reply.Created file file_id (Some answer)) (created_on client file file_id answer (sent_of client file) phase)
+unfolding created_on_live
+create_take client P h file file_id answer Phase.Closed e =
+    h.passed (Reply.Created file file_id (Some answer)) (ap has_asked e)
+create_take client P h file file_id answer (Phase.Opening access share) e = h.opened file file_id answer access share e
+create_take client P h file file_id answer (Phase.Live live) e =
+    live_create client P h file file_id answer live e live.asking refl
+create_take client P h file file_id answer (Phase.Offline parted) e =
+    h.passed (Reply.Created file file_id (Some answer)) (ap has_asked e)
+create_take client P h file file_id answer (Phase.Reconnecting parted) e = h.reconnected file file_id answer parted e
+
+created_take : (client : Client) (P : Reply → Step → Type 0) → HasTakes client P → (file file_id : ℕ)
+    (contexts : Option CreateAnswer)
+    → P (Reply.Created file file_id contexts) (create_answered client file file_id contexts)
+unfolding create_answered
+created_take client P h file file_id None = h.passed (Reply.Created file file_id None) tt
+created_take client P h file file_id (Some answer) =
+    create_take client P h file file_id answer (client.entries file).phase refl
+
+live_fails : (client : Client) (P : Reply → Step → Type 0) → HasTakes client P → (file : ℕ) (status : Status)
+    (live : LiveEntry) → (client.entries file).phase ≡ Phase.Live live → (asking : Option Asked) → live.asking ≡ asking
+    → P (Reply.CreateFailed file status) (create_failed_for client file live (sent_of client file) status asking)
+live_fails client P h file status live e None a =
+    h.passed (Reply.CreateFailed file status) (ap has_asked e ∙ idle live.asking a)
+  where
+    idle : (asking : Option Asked) → asking ≡ None → is_some asking ≡ false
+    idle None e = refl
+    idle (Some x) e = let c : ⊥ = cc in absurd c
+live_fails client P h file status live e (Some asked) a = h.not_promoted file status live asked e a
+
+failed_take : (client : Client) (P : Reply → Step → Type 0) → HasTakes client P → (file : ℕ) (status : Status)
+    (phase : Phase) → (client.entries file).phase ≡ phase
+    → P (Reply.CreateFailed file status) (failed_on client file status (sent_of client file) phase)
+unfolding create_failed_on_live
+failed_take client P h file status Phase.Closed e = h.passed (Reply.CreateFailed file status) (ap has_asked e)
+failed_take client P h file status (Phase.Opening access share) e = h.not_opened file status access share e
+failed_take client P h file status (Phase.Live live) e = live_fails client P h file status live e live.asking refl
+failed_take client P h file status (Phase.Offline parted) e = h.passed (Reply.CreateFailed file status) (ap has_asked e)
+failed_take client P h file status (Phase.Reconnecting parted) e = h.not_reconnected file status parted e
+
+-- an entry that reads under the FileId is live
+reads_so : (phase : Phase) (file_id : ℕ) (P : Type 0) → reads_under file_id phase ≡ true
+    → ((live : LiveEntry) → phase ≡ Phase.Live live → live.file_id ≡ file_id → (live.reads == 0) ≡ false → P) → P
+reads_so Phase.Closed file_id P e k = let c : ⊥ = cc in absurd c
+reads_so (Phase.Opening access share) file_id P e k = let c : ⊥ = cc in absurd c
+reads_so (Phase.Live live) file_id P e k =
+    let parts = and_parts (live.file_id == file_id) (not (live.reads == 0)) e in
+    k live refl (eqb-true live.file_id file_id parts.0)
+    (not_parts (live.reads == 0) parts.1)
+reads_so (Phase.Offline parted) file_id P e k = let c : ⊥ = cc in absurd c
+reads_so (Phase.Reconnecting parted) file_id P e k = let c : ⊥ = cc in absurd c
+
+read_take : (client : Client) (P : Reply → Step → Type 0) → HasTakes client P → (file_id : ℕ) (bytes : List ℕ)
+    → P (Reply.ReadDone file_id bytes) (read_answered client file_id bytes)
+unfolding read_answered
+read_take client P h file_id bytes = if_cases (P (Reply.ReadDone file_id bytes)) (nat_le (length bytes) FILE_LIMIT) _
+    (quiet_step client)
+    (λ fits. on_found (file_where client (λ file. reads_under file_id (client.entries file).phase)) refl)
+    (λ long. h.passed (Reply.ReadDone file_id bytes) (inl long))
+  where
+    on_found : (found : Option ℕ)
+        → file_where client (λ file. reads_under file_id (client.entries file).phase) ≡ found
+        → P (Reply.ReadDone file_id bytes) (on_file client found
+        (λ file. read_on client file bytes (client.entries file).sent (client.entries file).phase))
+    on_found None e = h.passed (Reply.ReadDone file_id bytes) (inr e)
+    on_found (Some file) e = reads_so (client.entries file).phase file_id _
+        (found_so client (λ file. reads_under file_id (client.entries file).phase) file e)
+        (λ live is id some. subst
+        (λ phase. P (Reply.ReadDone file_id bytes) (read_on client file bytes (client.entries file).sent phase))
+        (sym is) (h.read file file_id bytes live is id some))
+
+fail_take : (client : Client) (P : Reply → Step → Type 0) → HasTakes client P → (file_id : ℕ) (status : Status)
+    → P (Reply.ReadFailed file_id status) (read_failed client file_id status)
+unfolding read_failed
+fail_take client P h file_id status =
+    on_found (file_where client (λ file. reads_under file_id (client.entries file).phase)) refl
+  where
+    on_found : (found : Option ℕ)
+        → file_where client (λ file. reads_under file_id (client.entries file).phase) ≡ found
+        → P (Reply.ReadFailed file_id status) (on_file client found
+        (λ file. read_failed_on client file status (client.entries file).sent (client.entries file).phase))
+    on_found None e = h.passed (Reply.ReadFailed file_id status) e
+    on_found (Some file) e = reads_so (client.entries file).phase file_id _
+        (found_so client (λ file. reads_under file_id (client.entries file).phase) file e)
+        (λ live is id some. subst
+        (λ phase. P (Reply.ReadFailed file_id status)
+        (read_failed_on client file status (client.entries file).sent phase))
+        (sym is) (h.not_read file file_id status live is id some))
+
+done_take : (client : Client) (P : Reply → Step → Type 0) → HasTakes client P → (file_id number : ℕ)
+    → P (Reply.WriteDone file_id number) (write_done client number)
+unfolding write_done
+done_take client P h file_id number = on_found (file_where client (has_sent client number)) refl
+  where
+    on_found : (found : Option ℕ) → file_where client (has_sent client number) ≡ found
+        → P (Reply.WriteDone file_id number) (on_file client found
+        (λ file. turned client file (write_done_turn number (client.entries file))))
+    on_found None e = h.passed (Reply.WriteDone file_id number) e
+    on_found (Some file) e = h.written file file_id number (found_so client (has_sent client number) file e)
+
+write_take : (client : Client) (P : Reply → Step → Type 0) → HasTakes client P → (file_id number : ℕ)
+    (status : Status) → P (Reply.WriteFailed file_id number status) (write_failed client file_id number status)
+unfolding write_failed
+write_take client P h file_id number status = on_found (file_where client (has_sent client number)) refl
+  where
+    on_found : (found : Option ℕ) → file_where client (has_sent client number) ≡ found
+        → P (Reply.WriteFailed file_id number status) (on_file client found
+        (λ file. turned client file (write_failed_in file_id number status
+        (sent_without number (client.entries file).sent) (client.entries file).phase)))
+    on_found None e = h.passed (Reply.WriteFailed file_id number status) e
+    on_found (Some file) e =
+        h.not_written file file_id number status (found_so client (has_sent client number) file e)
+
+pub any_reply : (client : Client) (P : Reply → Step → Type 0) → HasTakes client P → (reply : Reply)
+    → P reply (taken client reply)
+unfolding taken create_failed
+any_reply client P h (Reply.Created file file_id contexts) = created_take client P h file file_id contexts
+any_reply client P h (Reply.CreateFailed file status) =
+    failed_take client P h file status (client.entries file).phase refl
+any_reply client P h (Reply.ReadDone file_id bytes) = read_take client P h file_id bytes
+any_reply client P h (Reply.ReadFailed file_id status) = fail_take client P h file_id status
+any_reply client P h (Reply.WriteDone file_id number) = done_take client P h file_id number
+any_reply client P h (Reply.WriteFailed file_id number status) = write_take client P h file_id number status
+any_reply client P h (Reply.Closed file_id) = h.passed (Reply.Closed file_id) tt
+any_reply client P h (Reply.CloseFailed file_id status) = h.passed (Reply.CloseFailed file_id status) tt
+any_reply client P h (Reply.Break notice) = broken_take client P h notice
+any_reply client P h (Reply.AckDone response) = h.passed (Reply.AckDone response) tt
+any_reply client P h (Reply.AckFailed status) = h.passed (Reply.AckFailed status) tt
