@@ -1,2 +1,4 @@
 pub mod clients
 pub mod moves
+pub mod records
+pub mod wellformed

@@ -9,12 +9,13 @@ use Rattle.lease_state.specs.declared.content.TheConstants.{FILE_LIMIT}
 use Rattle.lease_state.specs.declared.status.Status.{Status}
 use Rattle.lease_model.specs.client.Commanded.{is_asking}
 use Rattle.lease_model.specs.client.Commands.{Note, Settlement}
-use Rattle.lease_model.specs.client.State.{Client, Entry, LiveEntry, Asked, Parted, Pending, Phase, closed_entry, live_entry, lease_key}
+use Rattle.lease_model.specs.client.State.{Client, Entry, LiveEntry, Asked, Parted, Pending, Phase, closed_entry, live_entry, lease_key, knows_file}
 use Rattle.lease_model.specs.client.Step.{Step, Turn, turned, quiet_step}
 use Rattle.lease_model.specs.client.Taken.{taken, on_file, file_where, is_key_of, break_turn, broken, break_on, parked_closed, belief_lowered, create_answered, created_on, created_on_live, created_for, opened_turn, reconnected_turn, promoted_turn, promoted_belief, first_belief, still_open, failed_turn, create_failed, failed_on, create_failed_on_live, create_failed_for, read_answered, read_on, read_turn, reads_under, one_read_less, read_failed, read_failed_on, read_failed_turn, is_file_closed, closed_by_server, has_sent, write_done, write_done_turn, write_failed, write_failed_in, sent_without}
 use Rattle.lease_model.specs.messages.Replies.{Reply, BreakNotice, CreateAnswer}
 use Rattle.lease_model.specs.values.LeaseStates.{meet}
 use Rattle.lease_model.specs.values.Lists.{numbers_to}
+use Rattle.lease_laws.proofs.client.InFiles.{found_known}
 use Rattle.lease_laws.proofs.server.Lists.{if_cases, and_parts, not_parts, find_has}
 use Rattle.lease_coherence.proofs.clients.Commands.{sent_of}
 
@@ -87,10 +88,11 @@ pub record HasTakes (client : Client) (P : Reply → Step → Type 0) : Type 0 w
       → (client.entries file).phase ≡ Phase.Live live → live.file_id ≡ file_id → (live.reads == 0) ≡ false
       → P (Reply.ReadFailed file_id status)
       (turned client file (read_failed_turn live (sent_of client file) status))
-  pub written : (file file_id number : ℕ) → has_sent client number file ≡ true
+  pub written : (file file_id number : ℕ) → has_sent client number file ≡ true → knows_file client file ≡ true
       → P (Reply.WriteDone file_id number)
       (turned client file (write_done_turn number (client.entries file)))
   pub not_written : (file file_id number : ℕ) (status : Status) → has_sent client number file ≡ true
+      → knows_file client file ≡ true
       → P (Reply.WriteFailed file_id number status) (turned client file
       (write_failed_in file_id number status (sent_without number (sent_of client file)) (client.entries file).phase))
 
@@ -239,6 +241,7 @@ done_take client P h file_id number = on_found (file_where client (has_sent clie
         (λ file. turned client file (write_done_turn number (client.entries file))))
     on_found None e = h.passed (Reply.WriteDone file_id number) e
     on_found (Some file) e = h.written file file_id number (found_so client (has_sent client number) file e)
+        (found_known client (has_sent client number) file e)
 
 write_take : (client : Client) (P : Reply → Step → Type 0) → HasTakes client P → (file_id number : ℕ)
     (status : Status) → P (Reply.WriteFailed file_id number status) (write_failed client file_id number status)
@@ -252,6 +255,7 @@ write_take client P h file_id number status = on_found (file_where client (has_s
     on_found None e = h.passed (Reply.WriteFailed file_id number status) e
     on_found (Some file) e =
         h.not_written file file_id number status (found_so client (has_sent client number) file e)
+        (found_known client (has_sent client number) file e)
 
 pub any_reply : (client : Client) (P : Reply → Step → Type 0) → HasTakes client P → (reply : Reply)
     → P reply (taken client reply)

@@ -146,7 +146,7 @@ commanded_in client command c = if_known (knows_file client (file_of command)) _
 -- ---- messages
 
 -- the numbers to n are at least 1 and at most n
-numbers_known : (n file : ℕ) → Among file (numbers_to n) → (nat_le 1 file && nat_le file n) ≡ true
+pub numbers_known : (n file : ℕ) → Among file (numbers_to n) → (nat_le 1 file && nat_le file n) ≡ true
 numbers_known zero file a = absurd a
 numbers_known (suc n) file a = ⊎_elim
     (λ earlier. higher file n (numbers_known n file earlier))
@@ -160,7 +160,7 @@ numbers_known (suc n) file a = ⊎_elim
     highest m = grind arith
 
 -- the file that is found is known
-found_known : (client : Client) (test : ℕ → Bool) (file : ℕ) → file_where client test ≡ Some file
+pub found_known : (client : Client) (test : ℕ → Bool) (file : ℕ) → file_where client test ≡ Some file
     → knows_file client file ≡ true
 found_known client test file e = numbers_known client.files file
     (find_has test file (numbers_to client.files) e).0

@@ -1,0 +1,215 @@
+-- The notes of a client name files that it knows, and writes that end within the limit.
+use Rattle.std.proofs.Common.{◌≡◌, ◌≢◌, ℕ, ◌+◌, ◌≤◌, ◌<◌, Bool, true, false, List, [], ◌∷◌, ◌++◌, flat_map, Option, Some, None, refl, sym, ap, ◌∙◌, subst, arith, ◌⊎◌, inl, inr, ⊎_elim, ◌==◌}
+use Rattle.std.specs.Prelude.{⊤, ◌&&◌, ◌||◌, not, nat_le, if◌then◌else◌}
+use Rattle.std.proofs.lemmas.Bool.{eq-eqb, eqb-true}
+use Rattle.lease_state.specs.State.{State}
+use Rattle.lease_state.specs.declared.access.Access.{Access}
+use Rattle.lease_state.specs.declared.access.Share.{Share}
+use Rattle.lease_state.specs.declared.status.Status.{Status}
+use Rattle.lease_model.specs.client.Calls.{ClientCall, client_called}
+use Rattle.lease_model.specs.client.Commands.{Note, Settlement}
+use Rattle.lease_model.specs.client.Connection.{all_turned, noticed, connection_made, notice_turn, connect_turn, live_noticed, live_parted}
+use Rattle.lease_model.specs.client.State.{Client, Entry, LiveEntry, Parted, Pending, Phase, belief_of, knows_file, lease_key}
+use Rattle.lease_model.specs.client.Step.{Step, Turn, turned, believes_noted, settled_as}
+use Rattle.lease_model.specs.client.Commanded.{cached_read, opened_anew, write_buffered, write_sent, flush_on_live}
+use Rattle.lease_model.specs.client.Taken.{file_where, read_failed_turn, is_file_closed, closed_by_server, write_failed_in, is_key_of, has_sent, break_turn, parked_closed, belief_lowered, opened_turn, reconnected_turn, promoted_turn, promoted_belief, first_belief, read_turn, write_done_turn, sent_without}
+use Rattle.lease_model.specs.messages.Replies.{Reply, BreakNotice}
+use Rattle.lease_model.specs.values.LeaseStates.{same_state, meet}
+use Rattle.lease_model.specs.values.Lists.{numbers_to}
+use Rattle.lease_model.specs.values.Patches.{is_within_limit}
+use Rattle.lease_laws.specs.client.Laws.{IsSoundClient}
+use Rattle.lease_laws.specs.server.Laws.{Among}
+use Rattle.lease_laws.proofs.client.InFiles.{numbers_known, found_known}
+use Rattle.lease_laws.proofs.server.Lists.{if_cases, either, and_both, not_false, find_has, has_any}
+use Rattle.lease_coherence.proofs.clients.Commands.{HasCommands, any_command, sent_of}
+use Rattle.lease_coherence.proofs.clients.Takes.{HasTakes, any_reply}
+
+abbrev pub EachNote : (Note → Type 0) → List Note → Type 0
+EachNote P [] = ⊤
+EachNote P (note ∷ notes) = P note × EachNote P notes
+
+pub notes_append : (P : Note → Type 0) (notes more : List Note) → EachNote P notes → EachNote P more
+    → EachNote P (notes ++ more)
+notes_append P [] more each others = others
+notes_append P (note ∷ notes) more each others = (each.0, notes_append P notes more each.1 others)
+
+abbrev pub IsFineNote : Client → Note → Type 0
+IsFineNote client (Note.Settled number outcome) = ⊤
+IsFineNote client (Note.Wrote file number patch buffered) =
+    (knows_file client file ≡ true) × (is_within_limit patch ≡ true)
+IsFineNote client (Note.Believes file state) = knows_file client file ≡ true
+IsFineNote client (Note.CachedRead file bytes) = knows_file client file ≡ true
+
+pub settled_fine : (client : Client) (outcome : Settlement) (writes : List Pending)
+    → EachNote (IsFineNote client) (settled_as outcome writes)
+settled_fine client outcome [] = tt
+settled_fine client outcome (write ∷ writes) = (tt, settled_fine client outcome writes)
+
+believed_fine : (client : Client) (file : ℕ) (old new : State) → knows_file client file ≡ true
+    → EachNote (IsFineNote client) (believes_noted file old new)
+believed_fine client file old new known = if_cases (EachNote (IsFineNote client)) (same_state old new) []
+    (Note.Believes file new ∷ []) (λ same. tt) (λ other. (known, tt))
+
+-- a turn that settles writes
+turned_fine : (client : Client) (file : ℕ) (turn : Turn) → knows_file client file ≡ true
+    → EachNote (IsFineNote client) turn.settled → EachNote (IsFineNote client) (turned client file turn).notes
+unfolding turned
+turned_fine client file turn known each = notes_append (IsFineNote client) turn.settled _ each
+    (believed_fine client file (belief_of (client.entries file)) (belief_of turn.entry) known)
+
+abbrev HasFineNotes : Client → Step → Type 0
+HasFineNotes client step = EachNote (IsFineNote client) step.notes
+
+commands_fine : (client : Client) → HasCommands client (HasFineNotes client)
+unfolding cached_read opened_anew write_buffered write_sent flush_on_live
+commands_fine client = record {
+  refused = λ refusal. tt;
+  opening = λ file terms is on. turned_fine client file _ is.known tt;
+  added = λ file live is. turned_fine client file _ is.known tt;
+  asked = λ file live terms is idle some. turned_fine client file _ is.known tt;
+  anew = λ file live terms is idle none. turned_fine client file _ is.known tt;
+  fewer = λ file live is more. turned_fine client file _ is.known tt;
+  parked = λ file live is idle done stays. turned_fine client file _ is.known tt;
+  closed = λ file live is idle done goes. turned_fine client file _ is.known tt;
+  cached = λ file live base is reads has. (is.known, tt);
+  read = λ file live is idle. turned_fine client file _ is.known tt;
+  buffered = λ file live patch is fits caches. ((is.known, fits), tt);
+  written = λ file live patch is fits sends. ((is.known, fits), tt);
+  flushed = λ file live is. turned_fine client file _ is.known tt;
+}
+
+-- a file whose entry isn't closed is known
+pub known_open : (client : Client) (file : ℕ) → IsSoundClient client
+    → ((client.entries file).phase ≡ Phase.Closed → ⊥) → knows_file client file ≡ true
+known_open client file s open_phase =
+    not_false (knows_file client file) (λ unknown. open_phase (s.in_files file unknown))
+
+read_failed_fine : (client : Client) (file : ℕ) (live : LiveEntry) (status : Status) → knows_file client file ≡ true
+    → EachNote (IsFineNote client)
+    (turned client file (read_failed_turn live (sent_of client file) status)).notes
+unfolding read_failed_turn closed_by_server
+read_failed_fine client file live status known = turned_fine client file _ known
+    (if_cases (λ (t : Turn). EachNote (IsFineNote client) t.settled) (is_file_closed status) _ _
+    (λ gone. settled_fine client Settlement.Failed live.unsent) (λ there. tt))
+
+write_failed_fine : (client : Client) (file_id number : ℕ) (status : Status) (sent : List Pending) (phase : Phase)
+    → EachNote (IsFineNote client) (write_failed_in file_id number status sent phase).settled
+unfolding closed_by_server
+write_failed_fine client file_id number status sent Phase.Closed = (tt, tt)
+write_failed_fine client file_id number status sent (Phase.Opening access share) = (tt, tt)
+write_failed_fine client file_id number status sent (Phase.Live live) =
+    if_cases (λ (t : Turn). EachNote (IsFineNote client) t.settled)
+    (is_file_closed status && live.file_id == file_id) _ _
+    (λ gone. (tt, settled_fine client Settlement.Failed live.unsent)) (λ there. (tt, tt))
+write_failed_fine client file_id number status sent (Phase.Offline parted) = (tt, tt)
+write_failed_fine client file_id number status sent (Phase.Reconnecting parted) = (tt, tt)
+
+break_fine : (client : Client) (live : LiveEntry) (sent : List Pending) (notice : BreakNotice) (new : State)
+    → EachNote (IsFineNote client) (break_turn live sent notice new).settled
+unfolding break_turn parked_closed belief_lowered
+break_fine client live sent notice new = if_cases (λ (t : Turn). EachNote (IsFineNote client) t.settled)
+    (live.handles == 0 && (live.belief.handle && not new.handle)) _ _ (λ parked. tt) (λ stays. tt)
+
+either_fine : (client : Client) (b : Bool) (outcome : Settlement) (writes : List Pending)
+    → EachNote (IsFineNote client) (if b then [] else settled_as outcome writes)
+either_fine client b outcome writes = if_cases (EachNote (IsFineNote client)) b [] (settled_as outcome writes)
+    (λ keeps. tt) (λ loses. settled_fine client outcome writes)
+
+takes_fine : (client : Client) → IsSoundClient client → HasTakes client (λ reply step. HasFineNotes client step)
+unfolding opened_turn reconnected_turn promoted_turn read_turn write_done_turn
+takes_fine client s = record {
+  passed = λ reply why. tt;
+  broken = λ file notice live at is. turned_fine client file _
+      (found_known client (is_key_of client notice.key) file at)
+      (break_fine client live (sent_of client file) notice (meet live.belief notice.lowered));
+  opened = λ file file_id answer access share is. turned_fine client file _ (open_known file (λ e. no_opening access share (sym is ∙ e))) tt;
+  reconnected = λ file file_id answer parted is. turned_fine client file _
+      (open_known file (λ e. no_parted parted (sym is ∙ e)))
+      (either_fine client (first_belief client file answer).write Settlement.Lost parted.writes);
+  promoted = λ file file_id answer live asked is asks. turned_fine client file _
+      (open_known file (λ e. no_live live (sym is ∙ e)))
+      (either_fine client (promoted_belief (lease_key client.guid file) live.belief answer.lease).write
+      Settlement.Failed live.unsent);
+  not_opened = λ file status access share is. turned_fine client file _
+      (open_known file (λ e. no_opening access share (sym is ∙ e))) tt;
+  not_reconnected = λ file status parted is. turned_fine client file _
+      (open_known file (λ e. no_parted parted (sym is ∙ e))) (settled_fine client Settlement.Lost parted.writes);
+  not_promoted = λ file status live asked is asks. turned_fine client file _
+      (open_known file (λ e. no_live live (sym is ∙ e))) tt;
+  read = λ file file_id bytes live is id some. turned_fine client file _
+      (open_known file (λ e. no_live live (sym is ∙ e))) tt;
+  not_read = λ file file_id status live is id some. read_failed_fine client file live status
+      (open_known file (λ e. no_live live (sym is ∙ e)));
+  written = λ file file_id number at known. turned_fine client file _ known (tt, tt);
+  not_written = λ file file_id number status at known. turned_fine client file _ known
+      (write_failed_fine client file_id number status (sent_without number (sent_of client file))
+      (client.entries file).phase);
+}
+  where
+    open_known : (file : ℕ) → ((client.entries file).phase ≡ Phase.Closed → ⊥) → knows_file client file ≡ true
+    open_known file never = known_open client file s never
+
+    no_opening : (access : Access) (share : Share) → Phase.Opening access share ≡ Phase.Closed → ⊥
+    no_opening access share e = cc
+
+    no_live : (live : LiveEntry) → Phase.Live live ≡ Phase.Closed → ⊥
+    no_live live e = cc
+
+    no_parted : (parted : Parted) → Phase.Reconnecting parted ≡ Phase.Closed → ⊥
+    no_parted parted e = cc
+
+-- every entry has a turn
+each_fine : (client : Client) (turn : ℕ → Entry → Turn) (count : ℕ)
+    → ((file : ℕ) → EachNote (IsFineNote client) (turn file (client.entries file)).settled)
+    → (files : List ℕ) → ((file : ℕ) → Among file files → knows_file client file ≡ true)
+    → EachNote (IsFineNote client) (flat_map
+    (λ file. (turn file (client.entries file)).settled
+    ++ believes_noted file (belief_of (client.entries file)) (belief_of (turn file (client.entries file)).entry)) files)
+each_fine client turn count settled [] known = tt
+each_fine client turn count settled (file ∷ files) known = notes_append (IsFineNote client) _ _
+    (notes_append (IsFineNote client) (turn file (client.entries file)).settled _ (settled file)
+    (believed_fine client file (belief_of (client.entries file)) (belief_of (turn file (client.entries file)).entry)
+    (known file (inl refl))))
+    (each_fine client turn count settled files (λ f a. known f (inr a)))
+
+all_fine : (client : Client) (online : Bool) (turn : ℕ → Entry → Turn)
+    → ((file : ℕ) → EachNote (IsFineNote client) (turn file (client.entries file)).settled)
+    → EachNote (IsFineNote client) (all_turned client online turn).notes
+unfolding all_turned
+all_fine client online turn settled = each_fine client turn client.files settled (numbers_to client.files)
+    (λ file a. numbers_known client.files file a)
+
+notice_fine : (client : Client) (sent : List Pending) (phase : Phase)
+    → EachNote (IsFineNote client) (notice_turn sent phase).settled
+unfolding live_noticed live_parted
+notice_fine client sent Phase.Closed = settled_fine client Settlement.Unknown sent
+notice_fine client sent (Phase.Opening access share) = settled_fine client Settlement.Unknown sent
+notice_fine client sent (Phase.Live live) = if_cases (λ (t : Turn). EachNote (IsFineNote client) t.settled)
+    live.durable _ _
+    (λ lasts. if_cases (λ (t : Turn). EachNote (IsFineNote client) t.settled) live.belief.write _ _
+    (λ caches. settled_fine client Settlement.Unknown _) (λ not. settled_fine client Settlement.Unknown _))
+    (λ ends. settled_fine client Settlement.Unknown _)
+notice_fine client sent (Phase.Offline parted) = settled_fine client Settlement.Unknown sent
+notice_fine client sent (Phase.Reconnecting parted) = settled_fine client Settlement.Unknown sent
+
+connect_fine : (client : Client) (file : ℕ) (sent : List Pending) (phase : Phase)
+    → EachNote (IsFineNote client) (connect_turn client file sent phase).settled
+connect_fine client file sent Phase.Closed = tt
+connect_fine client file sent (Phase.Opening access share) = tt
+connect_fine client file sent (Phase.Live live) = tt
+connect_fine client file sent (Phase.Offline parted) = tt
+connect_fine client file sent (Phase.Reconnecting parted) = tt
+
+-- any call
+pub call_fine : (client : Client) (call : ClientCall) → IsSoundClient client
+    → EachNote (IsFineNote client) (client_called client call).notes
+unfolding noticed connection_made
+call_fine client (ClientCall.Commanded command) s =
+    any_command client (HasFineNotes client) (commands_fine client) command
+call_fine client (ClientCall.Taken reply) s =
+    any_reply client (λ r step. HasFineNotes client step) (takes_fine client s) reply
+call_fine client ClientCall.Noticed s = all_fine client false (λ file entry. notice_turn entry.sent entry.phase)
+    (λ file. notice_fine client (client.entries file).sent (client.entries file).phase)
+call_fine client ClientCall.Connected s = all_fine client true
+    (λ file entry. connect_turn client file entry.sent entry.phase)
+    (λ file. connect_fine client file (client.entries file).sent (client.entries file).phase)
