@@ -3,4 +3,4 @@
 
 mod parts;
 
-pub use parts::nothing_yet;
+pub use parts::runs_are_well_formed;

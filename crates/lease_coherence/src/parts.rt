@@ -1,7 +1,8 @@
-ghost use Rattle.std.specs.Prelude.{◌≡◌};
-/// Does nothing.
-pub fn nothing_yet(one: u32) -> u32
-    ensures same { result ≡ one }
-{
-    one
-}
+ghost use Rattle.lease_coherence.specs.Parts.{RunsAreWellFormed};
+
+/// Where the setup is allowed, the record of every run is well formed: a file is started once and before any other fact
+/// names it, a message that is taken was sent before, a patch ends within the limit of a file, and a client uses the
+/// number of a write once. Does nothing.
+pub fn runs_are_well_formed()
+    ensures facts { RunsAreWellFormed }
+{}

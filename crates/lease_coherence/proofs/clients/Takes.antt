@@ -1,17 +1,16 @@
 -- What a reply makes of a client: each of the forms, with what is known of it. Whatever holds of each form holds of
 -- every reply.
-use Rattle.std.proofs.Common.{◌≡◌, ◌⊎◌, inl, inr, ℕ, Bool, true, false, List, [], ◌∷◌, ◌++◌, length, Option, Some, None, refl, sym, ap, ◌∙◌, subst, ◌==◌}
-use Rattle.std.specs.Prelude.{⊤, is_some, not, ◌&&◌, nat_le, bytes_eq, find, if◌then◌else◌}
+use Rattle.std.proofs.Common.{◌≡◌, ◌⊎◌, inl, inr, ℕ, Bool, true, false, List, [], length, Option, Some, None, refl, sym, ap, ◌∙◌, subst, ◌==◌}
+use Rattle.std.specs.Prelude.{⊤, is_some, not, nat_le}
 use Rattle.std.proofs.lemmas.Bool.{eqb-true}
 use Rattle.lease_state.specs.declared.access.Access.{Access}
 use Rattle.lease_state.specs.declared.access.Share.{Share}
 use Rattle.lease_state.specs.declared.content.TheConstants.{FILE_LIMIT}
 use Rattle.lease_state.specs.declared.status.Status.{Status}
 use Rattle.lease_model.specs.client.Commanded.{is_asking}
-use Rattle.lease_model.specs.client.Commands.{Note, Settlement}
-use Rattle.lease_model.specs.client.State.{Client, Entry, LiveEntry, Asked, Parted, Pending, Phase, closed_entry, live_entry, lease_key, knows_file}
-use Rattle.lease_model.specs.client.Step.{Step, Turn, turned, quiet_step}
-use Rattle.lease_model.specs.client.Taken.{taken, on_file, file_where, is_key_of, break_turn, broken, break_on, parked_closed, belief_lowered, create_answered, created_on, created_on_live, created_for, opened_turn, reconnected_turn, promoted_turn, promoted_belief, first_belief, still_open, failed_turn, create_failed, failed_on, create_failed_on_live, create_failed_for, read_answered, read_on, read_turn, reads_under, one_read_less, read_failed, read_failed_on, read_failed_turn, is_file_closed, closed_by_server, has_sent, write_done, write_done_turn, write_failed, write_failed_in, sent_without}
+use Rattle.lease_model.specs.client.State.{Client, LiveEntry, Asked, Parted, Phase, live_entry, lease_key, knows_file}
+use Rattle.lease_model.specs.client.Step.{Step, turned, quiet_step}
+use Rattle.lease_model.specs.client.Taken.{taken, on_file, file_where, is_key_of, break_turn, broken, break_on, create_answered, created_on, created_on_live, created_for, opened_turn, reconnected_turn, promoted_turn, promoted_belief, first_belief, still_open, failed_turn, create_failed, failed_on, create_failed_on_live, create_failed_for, read_answered, read_on, read_turn, reads_under, read_failed, read_failed_on, read_failed_turn, has_sent, write_done, write_done_turn, write_failed, write_failed_in, sent_without}
 use Rattle.lease_model.specs.messages.Replies.{Reply, BreakNotice, CreateAnswer}
 use Rattle.lease_model.specs.values.LeaseStates.{meet}
 use Rattle.lease_model.specs.values.Lists.{numbers_to}

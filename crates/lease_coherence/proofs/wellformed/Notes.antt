@@ -1,7 +1,6 @@
 -- The notes of a client name files that it knows, and writes that end within the limit.
-use Rattle.std.proofs.Common.{◌≡◌, ◌≢◌, ℕ, ◌+◌, ◌≤◌, ◌<◌, Bool, true, false, List, [], ◌∷◌, ◌++◌, flat_map, Option, Some, None, refl, sym, ap, ◌∙◌, subst, arith, ◌⊎◌, inl, inr, ⊎_elim, ◌==◌}
-use Rattle.std.specs.Prelude.{⊤, ◌&&◌, ◌||◌, not, nat_le, if◌then◌else◌}
-use Rattle.std.proofs.lemmas.Bool.{eq-eqb, eqb-true}
+use Rattle.std.proofs.Common.{◌≡◌, ℕ, Bool, true, false, List, [], ◌∷◌, ◌++◌, flat_map, refl, sym, ◌∙◌, inl, inr, ◌==◌}
+use Rattle.std.specs.Prelude.{⊤, ◌&&◌, not, if◌then◌else◌}
 use Rattle.lease_state.specs.State.{State}
 use Rattle.lease_state.specs.declared.access.Access.{Access}
 use Rattle.lease_state.specs.declared.access.Share.{Share}
@@ -12,15 +11,15 @@ use Rattle.lease_model.specs.client.Connection.{all_turned, noticed, connection_
 use Rattle.lease_model.specs.client.State.{Client, Entry, LiveEntry, Parted, Pending, Phase, belief_of, knows_file, lease_key}
 use Rattle.lease_model.specs.client.Step.{Step, Turn, turned, believes_noted, settled_as}
 use Rattle.lease_model.specs.client.Commanded.{cached_read, opened_anew, write_buffered, write_sent, flush_on_live}
-use Rattle.lease_model.specs.client.Taken.{file_where, read_failed_turn, is_file_closed, closed_by_server, write_failed_in, is_key_of, has_sent, break_turn, parked_closed, belief_lowered, opened_turn, reconnected_turn, promoted_turn, promoted_belief, first_belief, read_turn, write_done_turn, sent_without}
-use Rattle.lease_model.specs.messages.Replies.{Reply, BreakNotice}
+use Rattle.lease_model.specs.client.Taken.{read_failed_turn, is_file_closed, closed_by_server, write_failed_in, is_key_of, break_turn, parked_closed, belief_lowered, opened_turn, reconnected_turn, promoted_turn, promoted_belief, first_belief, read_turn, write_done_turn, sent_without}
+use Rattle.lease_model.specs.messages.Replies.{BreakNotice}
 use Rattle.lease_model.specs.values.LeaseStates.{same_state, meet}
 use Rattle.lease_model.specs.values.Lists.{numbers_to}
 use Rattle.lease_model.specs.values.Patches.{is_within_limit}
 use Rattle.lease_laws.specs.client.Laws.{IsSoundClient}
 use Rattle.lease_laws.specs.server.Laws.{Among}
 use Rattle.lease_laws.proofs.client.InFiles.{numbers_known, found_known}
-use Rattle.lease_laws.proofs.server.Lists.{if_cases, either, and_both, not_false, find_has, has_any}
+use Rattle.lease_laws.proofs.server.Lists.{if_cases, not_false}
 use Rattle.lease_coherence.proofs.clients.Commands.{HasCommands, any_command, sent_of}
 use Rattle.lease_coherence.proofs.clients.Takes.{HasTakes, any_reply}
 

@@ -292,13 +292,13 @@ numbered_found files (suc place) =
     next : (n : ℕ) → suc n ≡ 1 + n
     next n = omega arith
 
-take_all : {X : Type 0} (count : ℕ) (xs : List X) → length xs ≤ count → take count xs ≡ xs
+pub take_all : {X : Type 0} (count : ℕ) (xs : List X) → length xs ≤ count → take count xs ≡ xs
 take_all zero [] low = refl
 take_all zero (x ∷ xs) low = absurd (omega (arith, low))
 take_all (suc count) [] low = refl
 take_all (suc count) (x ∷ xs) low = ap (λ ys. x ∷ ys) (take_all count xs (omega (arith, low)))
 
-few_files : (files : List (List ℕ)) → nat_le (length files) files_limit ≡ true → length files ≤ last_file_number
+pub few_files : (files : List (List ℕ)) → nat_le (length files) files_limit ≡ true → length files ≤ last_file_number
 unfolding files_limit last_file_number
 few_files files e = grind arith
 

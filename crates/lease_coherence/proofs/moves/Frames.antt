@@ -1,0 +1,42 @@
+-- What moves leave alone, in words that every part of the theorem uses.
+use Rattle.std.proofs.Common.{◌≡◌, ⊎_elim, ℕ, List, [], ◌∷◌, ◌++◌, Option, Some, None, refl, sym, subst}
+use Rattle.lease_model.specs.client.Commands.{Note}
+use Rattle.lease_model.specs.client.Step.{Step}
+use Rattle.lease_model.specs.messages.Requests.{FileRequest, LeaseOf}
+use Rattle.lease_model.specs.server.Grant.{lease_put}
+use Rattle.lease_model.specs.server.State.{Server, Held, Lease}
+use Rattle.lease_model.specs.values.Tables.{put}
+use Rattle.lease_model.specs.world.Events.{stepped_in}
+use Rattle.lease_model.specs.world.World.{World, happened, requests_sent, noted, fact_of}
+use Rattle.lease_coherence.proofs.moves.Deeds.{IsSource, with_held}
+use Rattle.lease_coherence.proofs.moves.Moves.{popped}
+use Rattle.lease_coherence.proofs.records.Later.{past_noted}
+
+-- a lease that is put changes no other part of the server
+pub lease_put_rest : (server : Server) (client : ℕ) (asked : Option LeaseOf) (lease : Lease) (P : Server → Type 0)
+    → ((leases : _) → P (record server { leases = leases })) → P (lease_put server client asked lease)
+lease_put_rest server client None lease P each = each server.leases
+lease_put_rest server client (Some asked) lease P each = each _
+
+-- the world in which a request is taken off
+pub from_source : (world off : World) (client : ℕ) (request : FileRequest) (P : World → Type 0)
+    → IsSource world off client request → P (popped world client)
+    → ((file : ℕ) (left : List Held) → P (with_held world file left)) → P off
+from_source world off client request P source arrived held = ⊎_elim
+    (λ a. subst P (sym a.is_off) arrived)
+    (λ h. subst P (sym h.is_off) (held h.file (h.before ++ h.behind)))
+    source.from
+
+-- what notes make of the record
+noted_past : (world : World) (client : ℕ) (notes : List Note)
+    → (noted world client notes).past ≡ past_noted client world.past notes
+unfolding noted
+noted_past world client [] = refl
+noted_past world client (note ∷ notes) = noted_past (happened world (fact_of client note)) client notes
+
+pub stepped_past : (world : World) (client : ℕ) (step : Step)
+    → (stepped_in world client step).past ≡ past_noted client world.past step.notes
+unfolding stepped_in requests_sent
+stepped_past world client step = noted_past
+    (requests_sent (record world { clients = put world.clients client step.client }) client step.requests) client
+    step.notes
