@@ -1,4 +1,5 @@
 pub mod clients
 pub mod moves
+pub mod names
 pub mod records
 pub mod wellformed

@@ -1,0 +1,3 @@
+pub mod Clients
+pub mod Names
+pub mod Words

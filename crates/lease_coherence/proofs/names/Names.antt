@@ -1,0 +1,329 @@
+-- In every run, all that a client names that hasn't strayed was told of before; so a write that it settles as done was
+-- accepted.
+use Rattle.std.proofs.Common.{◌≡◌, ◌≢◌, ◌⊎◌, inl, inr, ⊎_elim, ℕ, ◌+◌, Bool, true, false, not, List, [], ◌∷◌, ◌++◌, map, reverse, Option, Some, None, refl, sym, ap, ◌∙◌, subst, true≢false, ◌==◌}
+use Rattle.std.specs.Prelude.{⊤, ◌&&◌, ◌||◌}
+use Rattle.std.proofs.lemmas.Bool.{eq-eqb, eqb-true}
+use Rattle.std.proofs.lemmas.List.{reverse-reverse}
+use Rattle.lease_state.specs.declared.access.Access.{Access}
+use Rattle.lease_state.specs.declared.access.Share.{Share}
+use Rattle.lease_state.specs.declared.patch.Patch.{Patch}
+use Rattle.lease_state.specs.declared.status.Status.{Status}
+use Rattle.lease_model.specs.client.Calls.{ClientCall, client_called}
+use Rattle.lease_model.specs.client.Commanded.{commanded}
+use Rattle.lease_model.specs.client.Commands.{Note, Settlement}
+use Rattle.lease_model.specs.client.State.{Client, new_client, lease_key}
+use Rattle.lease_model.specs.client.Taken.{taken}
+use Rattle.lease_model.specs.messages.Replies.{Reply}
+use Rattle.lease_model.specs.messages.Requests.{FileRequest, Request, CreateAsk, LeaseOf}
+use Rattle.lease_model.specs.records.Facts.{Fact}
+use Rattle.lease_model.specs.records.Past.{has_strayed, has_written, is_accepted}
+use Rattle.lease_model.specs.records.Safe.{EachFact, NoFalseDone}
+use Rattle.lease_model.specs.server.Calls.{held_of, disconnected, is_lost, joined, key_expired, opens_disconnected, client_forgotten, is_left_behind}
+use Rattle.lease_model.specs.server.Attempt.{is_left_open}
+use Rattle.lease_model.specs.server.Findings.{awaits}
+use Rattle.lease_model.specs.server.Grant.{connected_again, asked_key, lease_after, lease_put, new_open}
+use Rattle.lease_model.specs.server.Naming.{own_key}
+use Rattle.lease_model.specs.server.Progress.{opens_dropped, with_opens, refusal_of}
+use Rattle.lease_model.specs.server.State.{Server, Open, Held, new_server}
+use Rattle.lease_model.specs.values.Keys.{Key}
+use Rattle.lease_model.specs.values.Lists.{without}
+use Rattle.lease_model.specs.values.Tables.{put}
+use Rattle.lease_model.specs.world.Allowed.{is_allowed_setup}
+use Rattle.lease_model.specs.world.Events.{Event, stepped_in, after, recorded}
+use Rattle.lease_model.specs.world.World.{World, Setup, Link, first_world, requests_sent, sent_over, noted, fact_of, happened}
+use Rattle.lease_laws.specs.server.Laws.{Among}
+use Rattle.lease_laws.specs.world.FileIds.{opened_count, was_opened}
+use Rattle.lease_laws.proofs.client.Forms.{commanded-stays, taken-stays}
+use Rattle.lease_laws.proofs.client.Thin.{put_same, put_other}
+use Rattle.lease_laws.proofs.server.Lists.{if_cases, either, clash, and_parts, and_both, true_or, among_append, among_behind, among_filter, among_map, find_has}
+use Rattle.lease_laws.proofs.server.PassWaits.{among_more}
+use Rattle.lease_laws.proofs.world.Links.{by_client}
+use Rattle.lease_laws.proofs.world.Runs.{stepped_server, stepped_clients}
+use Rattle.lease_coherence.proofs.moves.Deeds.{HasDeeds, IsSource, step_deed, told_to, with_held, held_in, granted_in, reconnected_in, changed_in}
+use Rattle.lease_coherence.proofs.moves.Events.{Ground, IsMoved}
+use Rattle.lease_coherence.proofs.moves.Frames.{lease_put_rest, stepped_past}
+use Rattle.lease_coherence.proofs.moves.Ground.{among_put}
+use Rattle.lease_coherence.proofs.moves.Moves.{IsOldest, rest_of, popped}
+use Rattle.lease_coherence.proofs.names.Clients.{IsStepNamed, IsCallNamed, IsTrueDone, HasNames, call_named}
+use Rattle.lease_coherence.proofs.names.Words.{WasOpenedOn, WasWrittenOn, IsOwnCreate, IsNamedOnFile, IsNamedRequest, IsNamedReply, IsNamedEntry, IsOwnOpen, IsNamedAt, IsNamed, Each, each_append, each_weaker, each_rest, on_file_later, request_later, reply_later, entry_later, opened_once}
+use Rattle.lease_coherence.proofs.records.Later.{IsLater, later_same, later_then, later_fact, later_two, later_noted, past_noted}
+use Rattle.lease_coherence.proofs.wellformed.Notes.{EachNote}
+
+-- ---- one client's part of a world
+
+-- what changes elsewhere, or only grows older
+at_later : (world new : World) (client : ℕ) → IsLater world.past new.past → new.clients client ≡ world.clients client
+    → Each (IsNamedRequest client (world.clients client).guid world.past) (new.requests client)
+    → ((file : ℕ) (one : Held) → Among one (new.server.held file) → one.client ≡ client
+    → IsNamedOnFile client (world.clients client).guid world.past one.request)
+    → ((one : Open) → Among one new.server.opens → one.client ≡ client → IsOwnOpen (world.clients client).guid one)
+    → Each (IsNamedReply client new.past) (new.replies client) → IsNamedAt world client → IsNamedAt new client
+at_later world new client later same requests held opens replies n = record {
+  requests = subst (λ (m : Client). Each (IsNamedRequest client m.guid new.past) (new.requests client)) (sym same)
+      (each_weaker (IsNamedRequest client (world.clients client).guid world.past)
+      (IsNamedRequest client (world.clients client).guid new.past) (new.requests client)
+      (λ request r. request_later client (world.clients client).guid world.past new.past later request r) requests);
+  held = λ file one a own.
+      subst (λ (m : Client). IsNamedOnFile client m.guid new.past one.request) (sym same)
+      (on_file_later client (world.clients client).guid world.past new.past later one.request (held file one a own));
+  opens = λ one a own. subst (λ (m : Client). IsOwnOpen m.guid one) (sym same) (opens one a own);
+  replies = replies;
+  entries = λ file. subst (λ (m : Client). IsNamedEntry client file new.past (m.entries file)) (sym same)
+      (entry_later client file world.past new.past later ((world.clients client).entries file) (n.entries file));
+}
+
+replies_later : (client : ℕ) (past new : List Fact) (replies : List Reply) → IsLater past new
+    → Each (IsNamedReply client past) replies → Each (IsNamedReply client new) replies
+replies_later client past new replies l each = each_weaker (IsNamedReply client past) (IsNamedReply client new) replies
+    (λ reply r. reply_later client past new l reply r) each
+
+-- a reply is sent, and opens and the record change
+told_named : (world new : World) (client : ℕ) (reply : Reply) (c : ℕ) → IsLater world.past new.past
+    → new.clients ≡ world.clients → new.requests ≡ world.requests
+    → ((file : ℕ) (one : Held) → Among one (new.server.held file) → Among one (world.server.held file))
+    → ((one : Open) → Among one new.server.opens → one.client ≡ c → IsOwnOpen (world.clients c).guid one)
+    → new.replies ≡ put world.replies client (world.replies client ++ reply ∷ [])
+    → (client ≡ c → IsNamedReply c new.past reply) → IsNamedAt world c → IsNamedAt new c
+told_named world new client reply c later clients requests held opens replies named n =
+    at_later world new c later (ap (λ (t : ℕ → Client). t c) clients)
+    (subst (λ (q : ℕ → List Request). Each (IsNamedRequest c (world.clients c).guid world.past) (q c)) (sym requests)
+    n.requests)
+    (λ file one a own. n.held file one (held file one a) own) opens
+    (subst (λ (r : ℕ → List Reply). Each (IsNamedReply c new.past) (r c)) (sym replies)
+    (by_client (λ d. (client ≡ d → IsNamedReply d new.past reply) → Each (IsNamedReply d new.past) (world.replies d)
+    → Each (IsNamedReply d new.past) (put world.replies client (world.replies client ++ reply ∷ []) d)) client c
+    (λ here old. subst (Each (IsNamedReply client new.past)) (sym (put_same world.replies client _))
+    (each_append (IsNamedReply client new.past) (world.replies client) (reply ∷ []) old (here refl, tt)))
+    (λ ne apart here old. subst (Each (IsNamedReply c new.past)) (sym (put_other world.replies client _ c ne)) old)
+    named (replies_later c world.past new.past (world.replies c) later n.replies))) n
+
+-- a request is taken off
+off_named : (world off : World) (client : ℕ) (request : FileRequest) (c : ℕ) → IsSource world off client request
+    → IsNamedAt world c
+    → IsNamedAt off c × (c ≡ client → IsNamedOnFile c (off.clients c).guid off.past request)
+off_named world off client request c source n = ⊎_elim
+    (λ a. subst (λ o. IsNamedAt o c × (c ≡ client → IsNamedOnFile c (o.clients c).guid o.past request)) (sym a.is_off)
+    (at_later world (popped world client) c (later_same world.past) refl
+    (by_client (λ d. Each (IsNamedRequest d (world.clients d).guid world.past) (world.requests d)
+    → Each (IsNamedRequest d (world.clients d).guid world.past)
+    (put world.requests client (rest_of (world.requests client)) d)) client c
+    (λ each. subst (Each (IsNamedRequest client (world.clients client).guid world.past))
+    (sym (put_same world.requests client _)) (each_rest _ (world.requests client) each))
+    (λ ne apart each. subst (Each (IsNamedRequest c (world.clients c).guid world.past))
+    (sym (put_other world.requests client _ c ne)) each) n.requests)
+    n.held n.opens n.replies n,
+    (λ same. first_of (ap world.requests same ∙ a.oldest.is_first) n.requests)))
+    (λ h. subst (λ o. IsNamedAt o c × (c ≡ client → IsNamedOnFile c (o.clients c).guid o.past request)) (sym h.is_off)
+    (at_later world (with_held world h.file (h.before ++ h.behind)) c (later_same world.past) refl n.requests
+    (λ file one a own. ⊎_elim (λ old. n.held file one old own)
+    (λ left. n.held h.file one (subst (λ (l : List Held). Among one l) (sym h.held)
+    (among_more one _ h.before h.behind left.1)) own)
+    (among_put world.server.held h.file (h.before ++ h.behind) file one a))
+    n.opens n.replies n,
+    (λ same. n.held h.file (held_of client request) (subst (λ (l : List Held). Among (held_of client request) l)
+    (sym h.held) (among_behind (held_of client request) h.before (held_of client request ∷ h.behind) (inl refl)))
+    (sym same))))
+    source.from
+  where
+    first_of : {queue : List Request} → world.requests c ≡ Request.OnFile request ∷ queue
+        → Each (IsNamedRequest c (world.clients c).guid world.past) (world.requests c)
+        → IsNamedOnFile c (world.clients c).guid world.past request
+    first_of e each = (subst (Each (IsNamedRequest c (world.clients c).guid world.past)) e each).0
+
+-- ---- steps of the server
+
+-- a failure names nothing
+refusal_named : (client : ℕ) (past : List Fact) (request : FileRequest) (status : Status)
+    → IsNamedReply client past (refusal_of request status)
+refusal_named client past (FileRequest.Create file access share contexts) status = tt
+refusal_named client past (FileRequest.Read file_id) status = tt
+refusal_named client past (FileRequest.Write file_id number patch) status = tt
+refusal_named client past (FileRequest.Close file_id) status = tt
+
+-- one reply, and nothing else
+reply_named : (world : World) (client : ℕ) (reply : Reply) (c : ℕ) → IsNamedReply c (Fact.Sent client ∷ world.past) reply
+    → IsNamedAt world c → IsNamedAt (told_to world client reply) c
+reply_named world client reply c named n = told_named world (told_to world client reply) client reply c
+    (later_fact world.past (Fact.Sent client)) refl refl (λ file one a. a) n.opens refl (λ same. named) n
+
+-- in the part of a world from which a request was taken off, FileIds are counted as in the whole
+record IsCountedOff (off : World) : Type 0 where
+  last : off.server.last_id ≡ opened_count off.past
+  opens : (one : Open) → Among one off.server.opens → was_opened one.file_id one.file one.client off.past ≡ true
+
+off_counted : (world off : World) (client : ℕ) (request : FileRequest) → IsSource world off client request
+    → Ground world → IsCountedOff off
+off_counted world off client request source g = ⊎_elim
+    (λ a. subst IsCountedOff (sym a.is_off) (record { last = g.counted.last; opens = g.counted.opens }))
+    (λ h. subst IsCountedOff (sym h.is_off) (record { last = g.counted.last; opens = g.counted.opens }))
+    source.from
+
+just_opened : (file client : ℕ) (past : List Fact)
+    → was_opened (opened_count past + 1) file client (Fact.Sent client ∷ Fact.Opened file client ∷ past) ≡ true
+unfolding was_opened
+just_opened file client past = true_or _ (was_opened (opened_count past + 1) file client past)
+    (and_both _ _ (eq-eqb (opened_count past + 1) (opened_count past + 1) refl)
+    (and_both _ _ (eq-eqb file file refl) (eq-eqb client client refl)))
+
+just_accepted : (file client number : ℕ) (patch : Patch) (past : List Fact)
+    → has_written client file number patch past ≡ true
+    → is_accepted client number (Fact.Sent client ∷ Fact.Changed file client number patch ∷ past) ≡ true
+unfolding is_accepted
+just_accepted file client number patch past written = true_or _ (is_accepted client number past)
+    (and_both _ _ (and_both _ _ (eq-eqb client client refl) (eq-eqb number number refl)) written)
+
+-- a new open under the key of its create
+new_own : (guid : List ℕ) (past : List Fact) (client file : ℕ) (ask : CreateAsk) → IsOwnCreate client guid past file ask
+    → asked_key ask.lease ≡ Some (lease_key guid file)
+new_own guid past client file ask own = ap asked_key own.asks ∙ ap (λ k. Some k) own.key
+
+granted_named : (off : World) (client file : ℕ) (access : Access) (share : Share) (ask : CreateAsk) (c : ℕ)
+    → IsCountedOff off
+    → (c ≡ client → IsNamedOnFile c (off.clients c).guid off.past (FileRequest.Create file access share (Some ask)))
+    → IsNamedAt off c
+    → IsNamedAt (granted_in off client file access share ask (lease_after off.server client file ask.lease)) c
+granted_named off client file access share ask c counted own n =
+    let lease = lease_after off.server client file ask.lease in
+    told_named off (granted_in off client file access share ask lease) client _ c
+    (later_two off.past (Fact.Opened file client) (Fact.Sent client)) refl refl
+    (λ at one a. lease_put_rest off.server client ask.lease lease (λ s. Among one (s.held at) → Among one (off.server.held at))
+    (λ l x. x) a)
+    (λ one a mine. ⊎_elim (λ old. n.opens one old mine)
+    (λ new. ⊎_elim (λ same. subst (IsOwnOpen (off.clients c).guid) (sym same)
+    (new_own (off.clients c).guid off.past c file ask
+    (own (sym mine ∙ ap (λ (o : Open). o.client) same)))) (λ none. absurd none) new)
+    (among_append one off.server.opens
+    (new_open off.server client file access share ask.lease ask.durable lease ∷ []) a))
+    refl
+    (λ same. subst (λ d. was_opened (off.server.last_id + 1) file d
+    (Fact.Sent client ∷ Fact.Opened file client ∷ off.past) ≡ true) same
+    (subst (λ n. was_opened (n + 1) file client (Fact.Sent client ∷ Fact.Opened file client ∷ off.past) ≡ true)
+    (sym counted.last) (just_opened file client off.past))) n
+
+-- the parts of what a test found
+awaits_parts : (client file : ℕ) (own : Option Key) (file_id : ℕ) (one : Open)
+    → awaits client file own file_id one ≡ true
+    → (one.file_id ≡ file_id) × ((one.client ≡ client) × (one.file ≡ file))
+unfolding awaits
+awaits_parts client file None file_id one e = absurd (true≢false (sym e))
+awaits_parts client file (Some key) file_id one e =
+    let a = and_parts _ _ e in
+    let b = and_parts _ _ a.0 in
+    let d = and_parts _ _ b.0 in
+    let f = and_parts _ _ d.0 in
+    (eqb-true one.file_id file_id f.0, (eqb-true one.client client d.1, eqb-true one.file file b.1))
+
+open_parts : (client file_id : ℕ) (one : Open)
+    → (one.file_id == file_id && one.client == client && one.connected) ≡ true
+    → (one.file_id ≡ file_id) × ((one.client ≡ client) × (one.connected ≡ true))
+open_parts client file_id one e =
+    let a = and_parts _ _ e in
+    let b = and_parts _ _ a.0 in
+    (eqb-true one.file_id file_id b.0, (eqb-true one.client client b.1, a.1))
+
+again_own : (guid : List ℕ) (file_id : ℕ) (opens : List Open) (one : Open)
+    → Among one (map (connected_again file_id) opens)
+    → ((x : Open) → Among x opens → x.client ≡ one.client → IsOwnOpen guid x) → IsOwnOpen guid one
+again_own guid file_id opens one a each =
+    let x = among_map (connected_again file_id) one opens a in
+    if_cases (λ o. one ≡ o → IsOwnOpen guid one) ((x.0).file_id == file_id) (record (x.0) { connected = true }) (x.0)
+    (λ here same. subst (IsOwnOpen guid) (sym same)
+    (each x.0 x.1 (sym (ap (λ (o : Open). o.client) same))))
+    (λ there same. subst (IsOwnOpen guid) (sym same)
+    (each x.0 x.1 (sym (ap (λ (o : Open). o.client) same)))) x.2
+
+deeds_named : (world : World) → Ground world → IsNamed world
+    → HasDeeds world (λ new. (c : ℕ) → has_strayed c world.past ≡ false → IsNamedAt new c)
+unfolding with_opens
+deeds_named world g named = record {
+  refused = λ off client request status source may c good.
+      reply_named off client (refusal_of request status) c (refusal_named c _ request status)
+      (off_named world off client request c source (named c good)).0;
+  full = λ off client file access share ask source c good.
+      reply_named off client (Reply.CreateFailed file Status.InsufficientResources) c tt
+      (off_named world off client _ c source (named c good)).0;
+  granted = λ off client file access share ask source none on free c good.
+      let n = off_named world off client (FileRequest.Create file access share (Some ask)) c source (named c good) in
+      granted_named off client file access share ask c (off_counted world off client _ source g) n.1 n.0;
+  reconnected = λ off client file access share ask file_id source again on waits c good.
+      let n = off_named world off client (FileRequest.Create file access share (Some ask)) c source (named c good) in
+      let parts = awaits_parts client file (own_key client ask.lease) file_id waits.one waits.waits in
+      told_named off (reconnected_in off client file ask file_id) client _ c
+      (later_fact off.past (Fact.Sent client)) refl refl (λ at one a. a)
+      (λ one a mine. again_own (off.clients c).guid file_id off.server.opens one a
+      (λ x b same. n.0.opens x b (same ∙ mine))) refl
+      (λ same. (later_fact off.past (Fact.Sent client)).opened file_id file c
+      (subst (λ d. was_opened file_id file d off.past ≡ true) (parts.1.0 ∙ same)
+      (subst (λ f. was_opened file_id f (waits.one).client off.past ≡ true) parts.1.1
+      (subst (λ i. was_opened i (waits.one).file (waits.one).client off.past ≡ true) parts.0
+      ((off_counted world off client _ source g).opens waits.one waits.is_there))))) n.0;
+  read = λ off client file_id one source found may c good.
+      reply_named off client (Reply.ReadDone file_id (off.server.contents one.file)) c tt
+      (off_named world off client _ c source (named c good)).0;
+  changed = λ off client file_id number patch one source found may c good.
+      let n = off_named world off client (FileRequest.Write file_id number patch) c source (named c good) in
+      let there = find_has _ one off.server.opens found in
+      let parts = open_parts client file_id one there.1 in
+      told_named off (changed_in off client one.file file_id number patch) client _ c
+      (later_two off.past (Fact.Changed one.file client number patch) (Fact.Sent client)) refl refl (λ at x a. a)
+      n.0.opens refl
+      (λ same. let asked = n.1 (sym same) in
+      subst (λ d. is_accepted d number (Fact.Sent client ∷ Fact.Changed one.file client number patch ∷ off.past) ≡ true)
+      same
+      (just_accepted one.file client number patch off.past
+      (subst (λ f. has_written client f number patch off.past ≡ true)
+      (opened_once file_id asked.file c one.file one.client off.past asked.opened
+      (subst (λ i. was_opened i one.file one.client off.past ≡ true) parts.0
+      ((off_counted world off client _ source g).opens one there.0)))
+      (subst (λ d. has_written d asked.file number patch off.past ≡ true) (sym same) asked.written)))) n.0;
+  closed = λ off client file_id one source found c good.
+      let n = off_named world off client (FileRequest.Close file_id) c source (named c good) in
+      told_named off _ client (Reply.Closed file_id) c (later_fact off.past (Fact.Sent client)) refl refl
+      (λ at x a. a)
+      (λ x a mine. n.0.opens x (among_filter (λ o. not (o.file_id == file_id)) x off.server.opens a).0 mine) refl
+      (λ same. tt) n.0;
+  ack_failed = λ client given status oldest up c good.
+      reply_named (popped world client) client (Reply.AckFailed status) c tt (popped_named world client c (named c good));
+  ack_done = λ client given lowered oldest up there breaks within c good.
+      let n = popped_named world client c (named c good) in
+      told_named (popped world client) _ client _ c (later_fact world.past (Fact.Sent client)) refl refl
+      (λ at x a. a) n.opens refl (λ same. tt) n;
+  hold = λ file one oldest may turn c good. held_named world file one c oldest (named c good);
+  drop = λ key c good. let n = named c good in
+      at_later world _ c (later_same world.past) refl n.requests n.held
+      (λ x a mine. n.opens x (among_filter (λ o. not (is_left_open key o)) x world.server.opens a).0 mine)
+      n.replies n;
+  lower = λ key lowered may light c good. let n = named c good in
+      told_named world _ key.client _ c (later_fact world.past (Fact.Sent key.client)) refl refl
+      (λ at x a. a) n.opens refl (λ same. tt) n;
+  begin = λ key lowered may heavy c good. let n = named c good in
+      told_named world _ key.client _ c (later_fact world.past (Fact.Sent key.client)) refl refl
+      (λ at x a. a) n.opens refl (λ same. tt) n;
+}
+  where
+    popped_named : (w : World) (client c : ℕ) → IsNamedAt w c → IsNamedAt (popped w client) c
+    popped_named w client c n = at_later w (popped w client) c (later_same w.past) refl
+        (by_client (λ d. Each (IsNamedRequest d (w.clients d).guid w.past) (w.requests d)
+        → Each (IsNamedRequest d (w.clients d).guid w.past)
+        (put w.requests client (rest_of (w.requests client)) d)) client c
+        (λ each. subst (Each (IsNamedRequest client (w.clients client).guid w.past))
+        (sym (put_same w.requests client (rest_of (w.requests client))))
+        (each_rest (IsNamedRequest client (w.clients client).guid w.past) (w.requests client) each))
+        (λ ne apart each. subst (Each (IsNamedRequest c (w.clients c).guid w.past))
+        (sym (put_other w.requests client (rest_of (w.requests client)) c ne)) each) n.requests)
+        n.held n.opens n.replies n
+
+    held_named : (w : World) (file : ℕ) (one : Held) (c : ℕ) → IsOldest w one.client (Request.OnFile one.request)
+        → IsNamedAt w c → IsNamedAt (held_in (popped w one.client) file one) c
+    held_named w file one c oldest n =
+        let p = popped_named w one.client c n in
+        at_later (popped w one.client) (held_in (popped w one.client) file one) c (later_same w.past) refl p.requests
+        (λ at x a own. ⊎_elim (λ old. n.held at x old own)
+        (λ new. ⊎_elim (λ old. n.held file x old own)
+        (λ last. ⊎_elim (λ same. subst (λ (h : Held). IsNamedOnFile c (w.clients c).guid w.past h.request) (sym same)
+        (subst (Each (IsNamedRequest c (w.clients c).guid w.past))
+        (ap w.requests (sym own ∙ ap (λ (h : Held). h.client) same) ∙ oldest.is_first) n.requests).0)
+        (λ none. absurd none) last)
+        (among_append x (w.server.held file) (one ∷ []) new.1))
+        (among_put w.server.held file (w.server.held file ++ one ∷ []) at x a))
+        p.opens p.replies p
