@@ -1,3 +1,4 @@
 pub mod Clients
+pub mod Done
 pub mod Names
 pub mod Words

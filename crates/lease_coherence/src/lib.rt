@@ -3,4 +3,4 @@
 
 mod parts;
 
-pub use parts::runs_are_well_formed;
+pub use parts::{nothing_is_falsely_done, runs_are_well_formed};

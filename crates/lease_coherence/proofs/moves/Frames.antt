@@ -7,7 +7,7 @@ use Rattle.lease_model.specs.server.Grant.{lease_put}
 use Rattle.lease_model.specs.server.State.{Server, Held, Lease}
 use Rattle.lease_model.specs.values.Tables.{put}
 use Rattle.lease_model.specs.world.Events.{stepped_in}
-use Rattle.lease_model.specs.world.World.{World, happened, requests_sent, noted, fact_of}
+use Rattle.lease_model.specs.world.World.{World, happened, requests_sent, sent_over, noted, fact_of}
 use Rattle.lease_coherence.proofs.moves.Deeds.{IsSource, with_held}
 use Rattle.lease_coherence.proofs.moves.Moves.{popped}
 use Rattle.lease_coherence.proofs.records.Later.{past_noted}
@@ -38,5 +38,29 @@ pub stepped_past : (world : World) (client : ℕ) (step : Step)
     → (stepped_in world client step).past ≡ past_noted client world.past step.notes
 unfolding stepped_in requests_sent
 stepped_past world client step = noted_past
+    (requests_sent (record world { clients = put world.clients client step.client }) client step.requests) client
+    step.notes
+
+-- notes change no queue
+noted_requests : (world : World) (client : ℕ) (notes : List Note) → (noted world client notes).requests ≡ world.requests
+unfolding noted
+noted_requests world client [] = refl
+noted_requests world client (note ∷ notes) = noted_requests (happened world (fact_of client note)) client notes
+
+noted_replies : (world : World) (client : ℕ) (notes : List Note) → (noted world client notes).replies ≡ world.replies
+unfolding noted
+noted_replies world client [] = refl
+noted_replies world client (note ∷ notes) = noted_replies (happened world (fact_of client note)) client notes
+
+pub stepped_requests : (world : World) (client : ℕ) (step : Step) → (stepped_in world client step).requests
+    ≡ put world.requests client (sent_over (world.links client) (world.requests client) step.requests)
+unfolding stepped_in requests_sent
+stepped_requests world client step = noted_requests
+    (requests_sent (record world { clients = put world.clients client step.client }) client step.requests) client
+    step.notes
+
+pub stepped_replies : (world : World) (client : ℕ) (step : Step) → (stepped_in world client step).replies ≡ world.replies
+unfolding stepped_in requests_sent
+stepped_replies world client step = noted_replies
     (requests_sent (record world { clients = put world.clients client step.client }) client step.requests) client
     step.notes

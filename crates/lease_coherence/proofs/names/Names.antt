@@ -52,7 +52,7 @@ use Rattle.lease_coherence.proofs.wellformed.Notes.{EachNote}
 -- ---- one client's part of a world
 
 -- what changes elsewhere, or only grows older
-at_later : (world new : World) (client : ℕ) → IsLater world.past new.past → new.clients client ≡ world.clients client
+pub at_later : (world new : World) (client : ℕ) → IsLater world.past new.past → new.clients client ≡ world.clients client
     → Each (IsNamedRequest client (world.clients client).guid world.past) (new.requests client)
     → ((file : ℕ) (one : Held) → Among one (new.server.held file) → one.client ≡ client
     → IsNamedOnFile client (world.clients client).guid world.past one.request)
@@ -72,13 +72,13 @@ at_later world new client later same requests held opens replies n = record {
       (entry_later client file world.past new.past later ((world.clients client).entries file) (n.entries file));
 }
 
-replies_later : (client : ℕ) (past new : List Fact) (replies : List Reply) → IsLater past new
+pub replies_later : (client : ℕ) (past new : List Fact) (replies : List Reply) → IsLater past new
     → Each (IsNamedReply client past) replies → Each (IsNamedReply client new) replies
 replies_later client past new replies l each = each_weaker (IsNamedReply client past) (IsNamedReply client new) replies
     (λ reply r. reply_later client past new l reply r) each
 
 -- a reply is sent, and opens and the record change
-told_named : (world new : World) (client : ℕ) (reply : Reply) (c : ℕ) → IsLater world.past new.past
+pub told_named : (world new : World) (client : ℕ) (reply : Reply) (c : ℕ) → IsLater world.past new.past
     → new.clients ≡ world.clients → new.requests ≡ world.requests
     → ((file : ℕ) (one : Held) → Among one (new.server.held file) → Among one (world.server.held file))
     → ((one : Open) → Among one new.server.opens → one.client ≡ c → IsOwnOpen (world.clients c).guid one)
@@ -98,7 +98,7 @@ told_named world new client reply c later clients requests held opens replies na
     named (replies_later c world.past new.past (world.replies c) later n.replies))) n
 
 -- a request is taken off
-off_named : (world off : World) (client : ℕ) (request : FileRequest) (c : ℕ) → IsSource world off client request
+pub off_named : (world off : World) (client : ℕ) (request : FileRequest) (c : ℕ) → IsSource world off client request
     → IsNamedAt world c
     → IsNamedAt off c × (c ≡ client → IsNamedOnFile c (off.clients c).guid off.past request)
 off_named world off client request c source n = ⊎_elim
@@ -147,11 +147,11 @@ reply_named world client reply c named n = told_named world (told_to world clien
     (later_fact world.past (Fact.Sent client)) refl refl (λ file one a. a) n.opens refl (λ same. named) n
 
 -- in the part of a world from which a request was taken off, FileIds are counted as in the whole
-record IsCountedOff (off : World) : Type 0 where
-  last : off.server.last_id ≡ opened_count off.past
-  opens : (one : Open) → Among one off.server.opens → was_opened one.file_id one.file one.client off.past ≡ true
+pub record IsCountedOff (off : World) : Type 0 where
+  pub last : off.server.last_id ≡ opened_count off.past
+  pub opens : (one : Open) → Among one off.server.opens → was_opened one.file_id one.file one.client off.past ≡ true
 
-off_counted : (world off : World) (client : ℕ) (request : FileRequest) → IsSource world off client request
+pub off_counted : (world off : World) (client : ℕ) (request : FileRequest) → IsSource world off client request
     → Ground world → IsCountedOff off
 off_counted world off client request source g = ⊎_elim
     (λ a. subst IsCountedOff (sym a.is_off) (record { last = g.counted.last; opens = g.counted.opens }))
@@ -201,7 +201,7 @@ granted_named off client file access share ask c counted own n =
     (sym counted.last) (just_opened file client off.past))) n
 
 -- the parts of what a test found
-awaits_parts : (client file : ℕ) (own : Option Key) (file_id : ℕ) (one : Open)
+pub awaits_parts : (client file : ℕ) (own : Option Key) (file_id : ℕ) (one : Open)
     → awaits client file own file_id one ≡ true
     → (one.file_id ≡ file_id) × ((one.client ≡ client) × (one.file ≡ file))
 unfolding awaits
@@ -213,7 +213,7 @@ awaits_parts client file (Some key) file_id one e =
     let f = and_parts _ _ d.0 in
     (eqb-true one.file_id file_id f.0, (eqb-true one.client client d.1, eqb-true one.file file b.1))
 
-open_parts : (client file_id : ℕ) (one : Open)
+pub open_parts : (client file_id : ℕ) (one : Open)
     → (one.file_id == file_id && one.client == client && one.connected) ≡ true
     → (one.file_id ≡ file_id) × ((one.client ≡ client) × (one.connected ≡ true))
 open_parts client file_id one e =
@@ -232,7 +232,7 @@ again_own guid file_id opens one a each =
     (λ there same. subst (IsOwnOpen guid) (sym same)
     (each x.0 x.1 (sym (ap (λ (o : Open). o.client) same)))) x.2
 
-deeds_named : (world : World) → Ground world → IsNamed world
+pub deeds_named : (world : World) → Ground world → IsNamed world
     → HasDeeds world (λ new. (c : ℕ) → has_strayed c world.past ≡ false → IsNamedAt new c)
 unfolding with_opens
 deeds_named world g named = record {

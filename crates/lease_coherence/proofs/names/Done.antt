@@ -1,0 +1,336 @@
+-- Every move keeps what clients name, and so no write is settled as done that wasn't accepted.
+use Rattle.std.proofs.Common.{◌≡◌, ◌≢◌, ◌⊎◌, inl, inr, ⊎_elim, ℕ, ◌+◌, Bool, true, false, not, List, [], ◌∷◌, ◌++◌, map, filter, reverse, Option, Some, None, refl, sym, ap, ◌∙◌, subst, true≢false, ◌==◌}
+use Rattle.std.specs.Prelude.{⊤}
+use Rattle.std.proofs.lemmas.Bool.{eq-eqb, eqb-true}
+use Rattle.std.proofs.lemmas.List.{reverse-reverse}
+use mathlib.Core.List.{reverse_aux}
+use Rattle.lease_model.specs.client.Calls.{ClientCall, client_called}
+use Rattle.lease_model.specs.client.Commands.{Note, Settlement}
+use Rattle.lease_model.specs.client.Connection.{noticed, connection_made, all_turned}
+use Rattle.lease_model.specs.client.State.{Client, new_client}
+use Rattle.lease_model.specs.client.Step.{Step}
+use Rattle.lease_model.specs.messages.Replies.{Reply, Out}
+use Rattle.lease_model.specs.messages.Requests.{Request}
+use Rattle.lease_model.specs.records.Facts.{Fact}
+use Rattle.lease_model.specs.records.Past.{has_strayed, is_accepted}
+use Rattle.lease_model.specs.records.Safe.{EachFact, NoFalseDone}
+use Rattle.lease_model.specs.server.Calls.{disconnected, is_lost, joined, key_expired, opens_disconnected, client_forgotten, is_left_behind}
+use Rattle.lease_model.specs.server.Progress.{begun, opens_dropped, with_opens}
+use Rattle.lease_model.specs.server.State.{Server, Open, Held, has_key, new_server}
+use Rattle.lease_model.specs.values.Lists.{without}
+use Rattle.lease_model.specs.values.Tables.{put}
+use Rattle.lease_model.specs.world.Allowed.{is_allowed_setup}
+use Rattle.lease_model.specs.world.Events.{Event, stepped_in, after, recorded, machine_key}
+use Rattle.lease_model.specs.world.World.{World, Setup, Link, first_world, starts_from, requests_sent, sent_over, fact_of, happened}
+use Rattle.lease_laws.specs.server.Laws.{Among}
+use Rattle.lease_laws.specs.server.SmallSteps.{SmallStep, step_taken}
+use Rattle.lease_laws.specs.world.Links.{is_up}
+use Rattle.lease_laws.proofs.client.Forms.{commanded-stays, taken-stays}
+use Rattle.lease_laws.proofs.client.Thin.{put_same, put_other}
+use Rattle.lease_laws.proofs.server.Lists.{if_cases, either, clash, among_filter, among_map, true_or}
+use Rattle.lease_laws.proofs.world.FileIds.{told, fact_told}
+use Rattle.lease_laws.proofs.world.Links.{by_client}
+use Rattle.lease_laws.proofs.world.Runs.{stepped_server, stepped_clients}
+use Rattle.lease_coherence.specs.Parts.{NothingIsFalselyDone}
+use Rattle.lease_coherence.proofs.moves.Deeds.{step_deed}
+use Rattle.lease_coherence.proofs.moves.Events.{Ground, IsMoved, Both, carried_both, runs_have, cut_off, timed_out, left_behind, come_back, connected, reply_gone, strayed}
+use Rattle.lease_coherence.proofs.moves.Frames.{stepped_past, stepped_requests, stepped_replies}
+use Rattle.lease_coherence.proofs.moves.Ground.{ground_carried, first_ground, moved_past}
+use Rattle.lease_coherence.proofs.moves.Moves.{IsNext, moved}
+use Rattle.lease_coherence.proofs.names.Clients.{IsStepNamed, IsCallNamed, IsTrueDone, HasNames, call_named}
+use Rattle.lease_coherence.proofs.names.Names.{at_later, replies_later, deeds_named}
+use Rattle.lease_coherence.proofs.names.Words.{IsNamedRequest, IsNamedReply, IsNamedEntry, IsOwnOpen, IsNamedOnFile, IsNamedAt, IsNamed, Each, each_append, each_weaker, each_rest, request_later, on_file_later, entry_later}
+use Rattle.lease_coherence.proofs.records.Later.{IsLater, later_same, later_then, later_fact, later_told, later_noted, past_noted}
+use Rattle.lease_coherence.proofs.wellformed.Notes.{EachNote}
+
+-- ---- names over the other moves
+
+-- a client makes a step
+sent_each : (P : Request → Type 0) (link : Link) (queue requests : List Request) → Each P queue
+    → Each P requests → Each P (sent_over link queue requests)
+sent_each P Link.Up queue requests old new = each_append P queue requests old new
+sent_each P Link.Down queue requests old new = old
+sent_each P Link.Cut queue requests old new = old
+
+-- the client that steps
+here_named : (world : World) (client : ℕ) (call : ClientCall)
+    → (client_called (world.clients client) call).client.guid ≡ (world.clients client).guid
+    → IsCallNamed client world.past call → IsNamedAt world client
+    → IsNamedAt (stepped_in world client (client_called (world.clients client) call)) client
+here_named world client call same named n =
+    let machine = world.clients client in
+    let step = client_called machine call in
+    let next = stepped_in world client step in
+    let s = call_named client machine world.past call n.entries named in
+    let new = past_noted client world.past step.notes in
+    let later = later_noted client world.past step.notes in
+    let past = sym (stepped_past world client step) in
+    let server = sym (stepped_server world client step) in
+    let mine : next.clients client ≡ step.client =
+        ap (λ (t : ℕ → Client). t client) (stepped_clients world client step) ∙ put_same world.clients client step.client in
+    let guid : machine.guid ≡ (next.clients client).guid = sym (ap (λ (m : Client). m.guid) mine ∙ same) in
+    record {
+      requests = subst (λ (q : ℕ → List Request). Each (IsNamedRequest client (next.clients client).guid next.past) (q client))
+          (sym (stepped_requests world client step))
+          (subst (Each (IsNamedRequest client (next.clients client).guid next.past))
+          (sym (put_same world.requests client _))
+          (subst (λ p. Each (IsNamedRequest client (next.clients client).guid p)
+          (sent_over (world.links client) (world.requests client) step.requests)) past
+          (subst (λ g. Each (IsNamedRequest client g new)
+          (sent_over (world.links client) (world.requests client) step.requests)) guid
+          (sent_each (IsNamedRequest client machine.guid new) (world.links client) (world.requests client) step.requests
+          (each_weaker (IsNamedRequest client machine.guid world.past) (IsNamedRequest client machine.guid new)
+          (world.requests client)
+          (λ request r. request_later client machine.guid world.past new later request r) n.requests)
+          s.requests))));
+      held = λ file one a own.
+          subst (λ p. IsNamedOnFile client (next.clients client).guid p one.request) past
+          (subst (λ g. IsNamedOnFile client g new one.request) guid
+          (on_file_later client machine.guid world.past new later one.request
+          (n.held file one (subst (λ (x : Server). Among one (x.held file)) (sym server) a) own)));
+      opens = λ one a own. subst (λ g. IsOwnOpen g one) guid
+          (n.opens one (subst (λ (x : Server). Among one x.opens) (sym server) a) own);
+      replies = subst (λ (r : ℕ → List Reply). Each (IsNamedReply client next.past) (r client))
+          (sym (stepped_replies world client step))
+          (subst (λ p. Each (IsNamedReply client p) (world.replies client)) past
+          (replies_later client world.past new (world.replies client) later n.replies));
+      entries = λ file. subst (λ (m : Client). IsNamedEntry client file next.past (m.entries file)) (sym mine)
+          (subst (λ p. IsNamedEntry client file p (step.client.entries file)) past (s.entries file));
+    }
+
+-- any other
+there_named : (world : World) (client : ℕ) (step : Step) (c : ℕ) → c ≢ client → IsNamedAt world c
+    → IsNamedAt (stepped_in world client step) c
+there_named world client step c ne n =
+    let next = stepped_in world client step in
+    let new = past_noted client world.past step.notes in
+    let later : IsLater world.past next.past = subst (IsLater world.past) (sym (stepped_past world client step))
+        (later_noted client world.past step.notes) in
+    let server = stepped_server world client step in
+    at_later world next c later
+    (ap (λ (t : ℕ → Client). t c) (stepped_clients world client step) ∙ put_other world.clients client step.client c ne)
+    (subst (Each (IsNamedRequest c (world.clients c).guid world.past))
+    (sym (ap (λ (q : ℕ → List Request). q c) (stepped_requests world client step) ∙ put_other world.requests client _ c ne))
+    n.requests)
+    (λ file one a own. n.held file one (subst (λ (x : Server). Among one (x.held file)) server a) own)
+    (λ one a own. n.opens one (subst (λ (x : Server). Among one x.opens) server a) own)
+    (subst (λ (r : ℕ → List Reply). Each (IsNamedReply c next.past) (r c)) (sym (stepped_replies world client step))
+    (replies_later c world.past next.past (world.replies c) later n.replies)) n
+
+was_good : (world : World) (client : ℕ) (step : Step) (d : ℕ)
+    → has_strayed d (stepped_in world client step).past ≡ false → has_strayed d world.past ≡ false
+was_good world client step d e = (later_noted client world.past step.notes).strayed d
+    (subst (λ past. has_strayed d past ≡ false) (stepped_past world client step) e)
+
+stepped_named : (world : World) (client : ℕ) (call : ClientCall)
+    → (client_called (world.clients client) call).client.guid ≡ (world.clients client).guid
+    → (has_strayed client world.past ≡ false → IsCallNamed client world.past call) → IsNamed world
+    → IsNamed (stepped_in world client (client_called (world.clients client) call))
+stepped_named world client call same named n c good =
+    let step = client_called (world.clients client) call in
+    let was = was_good world client step c good in
+    by_client (λ d. has_strayed d world.past ≡ false → IsNamedAt (stepped_in world client step) d) client c
+    (λ fine. here_named world client call same (named fine) (n client fine))
+    (λ ne apart fine. there_named world client step c ne (n c fine)) was
+
+-- queues that are emptied
+emptied : {X : Type 0} (P : ℕ → X → Type 0) (table : ℕ → List X) (client c : ℕ) → Each (P c) (table c)
+    → Each (P c) (put table client [] c)
+emptied {X} P table client c each = by_client (λ d. Each (P d) (table d) → Each (P d) (put table client [] d)) client c
+    (λ old. subst (Each (P client)) (sym (put_same table client [])) tt)
+    (λ ne apart old. subst (Each (P c)) (sym (put_other table client [] c ne)) old) each
+
+cut_named : (world : World) (client : ℕ) → IsNamed world → IsNamed (cut_off world client)
+unfolding client_forgotten opens_disconnected opens_dropped with_opens
+cut_named world client n c good =
+    let later = later_fact world.past (Fact.Dropped client) in
+    let m = n c (later.strayed c good) in
+    at_later world (cut_off world client) c later refl
+    (emptied (λ d. IsNamedRequest d (world.clients d).guid world.past) world.requests client c m.requests)
+    (λ file one a own. m.held file one (among_filter (λ h. not (h.client == client)) one (world.server.held file) a).0 own)
+    (λ one a own.
+    let x = among_map (disconnected client) one (without (is_lost world.server client) world.server.opens) a in
+    let b = (among_filter (λ o. not (is_lost world.server client o)) x.0 world.server.opens x.1).0 in
+    if_cases (λ o. one ≡ o → IsOwnOpen (world.clients c).guid one) ((x.0).client == client)
+    (record (x.0) { connected = false }) (x.0)
+    (λ here same. subst (IsOwnOpen (world.clients c).guid) (sym same)
+    (m.opens x.0 b (sym (ap (λ (o : Open). o.client) same) ∙ own)))
+    (λ there same. subst (IsOwnOpen (world.clients c).guid) (sym same)
+    (m.opens x.0 b (sym (ap (λ (o : Open). o.client) same) ∙ own))) x.2)
+    (emptied (λ d. IsNamedReply d (Fact.Dropped client ∷ world.past)) world.replies client c
+    (replies_later c world.past _ (world.replies c) later m.replies)) m
+
+timer_named : (world : World) (client file : ℕ) → IsNamed world → IsNamed (timed_out world client file)
+unfolding key_expired opens_dropped with_opens
+timer_named world client file n c good =
+    let later = later_fact world.past (Fact.Expired client file) in
+    let m = n c (later.strayed c good) in
+    at_later world (timed_out world client file) c later refl m.requests m.held
+    (λ one a own. m.opens one
+    (among_filter (λ o. not (has_key (machine_key world client file) o)) one world.server.opens a).0 own)
+    (replies_later c world.past _ (world.replies c) later m.replies) m
+
+scavenge_named : (world : World) (file_id : ℕ) → IsNamed world → IsNamed (left_behind world file_id)
+unfolding opens_dropped with_opens
+scavenge_named world file_id n c good = let m = n c good in
+    at_later world (left_behind world file_id) c (later_same world.past) refl m.requests m.held
+    (λ one a own. m.opens one (among_filter (λ o. not (is_left_behind file_id o)) one world.server.opens a).0 own)
+    m.replies m
+
+back_named : (world : World) (client : ℕ) → IsNamed world → IsNamed (come_back world client)
+unfolding joined
+back_named world client n c good =
+    let later = later_fact world.past (Fact.Joined client) in
+    let m = n c (later.strayed c good) in
+    at_later world (come_back world client) c later refl m.requests m.held m.opens
+    (replies_later c world.past _ (world.replies c) later m.replies) m
+
+gone_named : (world : World) (client : ℕ) (reply : Reply) (queue : List Reply) → world.replies client ≡ reply ∷ queue
+    → IsNamed world → IsNamed (reply_gone world client queue)
+gone_named world client reply queue first n c good =
+    let later = later_fact world.past (Fact.Took client) in
+    let m = n c (later.strayed c good) in
+    at_later world (reply_gone world client queue) c later refl m.requests m.held m.opens
+    (by_client (λ d. Each (IsNamedReply d (Fact.Took client ∷ world.past)) (world.replies d)
+    → Each (IsNamedReply d (Fact.Took client ∷ world.past)) (put world.replies client queue d)) client c
+    (λ old. subst (Each (IsNamedReply client (Fact.Took client ∷ world.past))) (sym (put_same world.replies client queue))
+    (subst (Each (IsNamedReply client (Fact.Took client ∷ world.past))) first old).1)
+    (λ ne apart old. subst (Each (IsNamedReply c (Fact.Took client ∷ world.past)))
+    (sym (put_other world.replies client queue c ne)) old)
+    (replies_later c world.past _ (world.replies c) later m.replies)) m
+
+strayed_named : (world : World) (client : ℕ) (request : Request) → IsNamed world → IsNamed (strayed world client request)
+unfolding requests_sent has_strayed
+strayed_named world client request n c good =
+    let later = later_fact world.past (Fact.Strayed client) in
+    let m = n c (later.strayed c good) in
+    at_later world (strayed world client request) c later refl
+    (either (client == c)
+    (λ same. clash (has_strayed c (Fact.Strayed client ∷ world.past)) (true_or (client == c) (has_strayed c world.past) same) good)
+    (λ apart. subst (Each (IsNamedRequest c (world.clients c).guid world.past))
+    (sym (put_other world.requests client _ c (λ e. clash (client == c) (eq-eqb client c (sym e)) apart))) m.requests))
+    m.held m.opens (replies_later c world.past _ (world.replies c) later m.replies) m
+
+-- ---- nothing is falsely done
+
+abbrev IsTrue : World → Type 0
+IsTrue world = IsNamed world × EachFact NoFalseDone world.past
+
+told_true : (past : List Fact) (outs : List Out) → EachFact NoFalseDone past → EachFact NoFalseDone (told past outs)
+told_true past [] each = each
+told_true past (Out.Sent client reply ∷ outs) each = told_true (Fact.Sent client ∷ past) outs (tt, each)
+told_true past (Out.Opened file client ∷ outs) each = told_true (Fact.Opened file client ∷ past) outs (tt, each)
+told_true past (Out.Changed file client number patch ∷ outs) each =
+    told_true (Fact.Changed file client number patch ∷ past) outs (tt, each)
+
+moved_true : (world : World) (step : SmallStep) → Ground world → IsNext world step → IsTrue world
+    → IsTrue (moved world step)
+moved_true world step g next t = (
+  λ c good. step_deed world (λ new. (d : ℕ) → has_strayed d world.past ≡ false → IsNamedAt new d)
+      (deeds_named world g t.0) step next c
+      ((later_told world.past (step_taken step (begun world.server)).outs).strayed c
+      (subst (λ past. has_strayed c past ≡ false) (moved_past world step) good)),
+  subst (EachFact NoFalseDone) (sym (moved_past world step))
+      (told_true world.past (step_taken step (begun world.server)).outs t.1),
+)
+
+noted_true : (client : ℕ) (first past : List Fact) (notes : List Note) → IsLater first past
+    → (has_strayed client first ≡ false → EachNote (IsTrueDone client first) notes) → EachFact NoFalseDone past
+    → EachFact NoFalseDone (past_noted client past notes)
+noted_true client first past [] later each facts = facts
+noted_true client first past (Note.Settled number Settlement.Done ∷ notes) later each facts =
+    let fact = Fact.Settled client number Settlement.Done in
+    noted_true client first (fact ∷ past) notes
+    (later_then first past (fact ∷ past) later (later_fact past fact)) (λ good. (each good).1)
+    (λ good. later.accepted client number (each (later.strayed client good)).0, facts)
+noted_true client first past (Note.Settled number Settlement.Failed ∷ notes) later each facts =
+    let fact = Fact.Settled client number Settlement.Failed in
+    noted_true client first (fact ∷ past) notes
+    (later_then first past (fact ∷ past) later (later_fact past fact)) (λ good. (each good).1) (tt, facts)
+noted_true client first past (Note.Settled number Settlement.Unknown ∷ notes) later each facts =
+    let fact = Fact.Settled client number Settlement.Unknown in
+    noted_true client first (fact ∷ past) notes
+    (later_then first past (fact ∷ past) later (later_fact past fact)) (λ good. (each good).1) (tt, facts)
+noted_true client first past (Note.Settled number Settlement.Lost ∷ notes) later each facts =
+    let fact = Fact.Settled client number Settlement.Lost in
+    noted_true client first (fact ∷ past) notes
+    (later_then first past (fact ∷ past) later (later_fact past fact)) (λ good. (each good).1) (tt, facts)
+noted_true client first past (Note.Wrote file number patch buffered ∷ notes) later each facts =
+    let fact = Fact.Wrote client file number patch buffered in
+    noted_true client first (fact ∷ past) notes
+    (later_then first past (fact ∷ past) later (later_fact past fact)) (λ good. (each good).1) (tt, facts)
+noted_true client first past (Note.Believes file state ∷ notes) later each facts =
+    let fact = Fact.Believes client file state in
+    noted_true client first (fact ∷ past) notes
+    (later_then first past (fact ∷ past) later (later_fact past fact)) (λ good. (each good).1) (tt, facts)
+noted_true client first past (Note.CachedRead file bytes ∷ notes) later each facts =
+    let fact = Fact.CachedRead client file bytes in
+    noted_true client first (fact ∷ past) notes
+    (later_then first past (fact ∷ past) later (later_fact past fact)) (λ good. (each good).1) (tt, facts)
+
+stepped_true : (world : World) (client : ℕ) (call : ClientCall)
+    → (client_called (world.clients client) call).client.guid ≡ (world.clients client).guid
+    → (has_strayed client world.past ≡ false → IsCallNamed client world.past call) → IsTrue world
+    → IsTrue (stepped_in world client (client_called (world.clients client) call))
+stepped_true world client call same named t =
+    let step = client_called (world.clients client) call in (
+      stepped_named world client call same named t.0,
+      subst (EachFact NoFalseDone) (sym (stepped_past world client step))
+          (noted_true client world.past world.past step.notes (later_same world.past)
+          (λ good. (call_named client (world.clients client) world.past call (t.0 client good).entries (named good)).done)
+          t.1),
+    )
+
+pub true_moves : IsMoved Ground IsTrue
+unfolding noticed connection_made all_turned requests_sent
+true_moves = record {
+  step = λ world step g next t. moved_true world step g next t;
+  cut = λ world client g up t. (cut_named world client t.0, (tt, t.1));
+  timer = λ world client file g on breaks t. (timer_named world client file t.0, (tt, t.1));
+  scavenge = λ world file_id g t. (scavenge_named world file_id t.0, t.1);
+  connect = λ world client g down t. stepped_true (come_back world client) client ClientCall.Connected refl
+      (λ good. tt) (back_named world client t.0, (tt, t.1));
+  command = λ world client command g t. stepped_true world client (ClientCall.Commanded command)
+      (commanded-stays (world.clients client) command).guid (λ good. tt) t;
+  take = λ world client reply queue g first t. stepped_true (reply_gone world client queue) client
+      (ClientCall.Taken reply) (taken-stays (world.clients client) reply).guid
+      (λ good. let later = later_fact world.past (Fact.Took client) in
+      (replies_later client world.past (Fact.Took client ∷ world.past) (reply ∷ queue) later
+      (subst (Each (IsNamedReply client world.past)) first (t.0 client (later.strayed client good)).replies)).0)
+      (gone_named world client reply queue first t.0, (tt, t.1));
+  notice = λ world client g cut t. stepped_true (record world { links = put world.links client Link.Down }) client
+      ClientCall.Noticed refl (λ good. tt)
+      (λ c good. let m = t.0 c good in
+      at_later world (record world { links = put world.links client Link.Down }) c (later_same world.past) refl
+      m.requests m.held m.opens m.replies m, t.1);
+  stray = λ world client request g up t. (strayed_named world client request t.0, (tt, t.1));
+}
+
+-- ---- where runs begin, and every run
+
+starts_true : (first : ℕ) (files : List (List ℕ)) (past : List Fact) → EachFact NoFalseDone past
+    → EachFact NoFalseDone (reverse_aux (starts_from first files) past)
+unfolding starts_from
+starts_true first [] past each = each
+starts_true first (bytes ∷ files) past each = starts_true (first + 1) files (Fact.Start first bytes ∷ past) (tt, each)
+
+first_true : (setup : Setup) → IsTrue (first_world setup)
+unfolding first_world new_server new_client
+first_true setup = (
+  λ c good. record {
+    requests = tt;
+    held = λ file one a own. absurd a;
+    opens = λ one a own. absurd a;
+    replies = tt;
+    entries = λ file. record { sent = tt; phase = tt };
+  },
+  starts_true 1 setup.files [] tt,
+)
+
+pub run_true : (setup : Setup) (events : List Event) → Both Ground IsTrue (after (first_world setup) events)
+run_true setup events = runs_have (Both Ground IsTrue) (λ world both. both.0)
+    (carried_both Ground IsTrue ground_carried true_moves) setup (first_ground setup, first_true setup) events
+
+pub nothing_is_falsely_done : NothingIsFalselyDone
+nothing_is_falsely_done setup events allowed = subst (EachFact NoFalseDone)
+    (sym (reverse-reverse (after (first_world setup) events).past)) (run_true setup events).1.1
