@@ -1,5 +1,6 @@
 pub mod Deeds
 pub mod Events
+pub mod Foreign
 pub mod Frames
 pub mod Ground
 pub mod Moves

@@ -1,0 +1,344 @@
+-- What others do leaves a client's part of a world alone: its queues, its requests that are held, its opens and its
+-- leases. So what is said of one client has to be shown for its own moves alone.
+use Rattle.std.proofs.Common.{◌≡◌, ◌≢◌, ◌⊎◌, inl, inr, ⊎_elim, ℕ, ◌+◌, Bool, true, false, not, List, [], ◌∷◌, ◌++◌, map, filter, Option, Some, None, refl, sym, ap, ◌∙◌, subst, true≢false, ◌==◌}
+use Rattle.std.specs.Prelude.{⊤, ◌&&◌, ◌||◌, bytes_eq, if◌then◌else◌}
+use Rattle.std.specs.List.{list_any}
+use Rattle.std.proofs.lemmas.Bool.{eq-eqb, eqb-true}
+use Rattle.lease_state.specs.State.{State, granted_form_of, is_state_within, needs_acknowledgment}
+use Rattle.lease_state.specs.declared.access.Access.{Access}
+use Rattle.lease_state.specs.declared.access.Share.{Share}
+use Rattle.lease_state.specs.declared.patch.Patch.{Patch}
+use Rattle.lease_state.specs.declared.status.Status.{Status}
+use Rattle.lease_model.specs.client.Calls.{ClientCall, client_called}
+use Rattle.lease_model.specs.client.Commanded.{commanded}
+use Rattle.lease_model.specs.client.Commands.{Command}
+use Rattle.lease_model.specs.client.Connection.{noticed, connection_made}
+use Rattle.lease_model.specs.client.State.{Client}
+use Rattle.lease_model.specs.client.Step.{Step}
+use Rattle.lease_model.specs.client.Taken.{taken}
+use Rattle.lease_model.specs.messages.Replies.{Reply, Out}
+use Rattle.lease_model.specs.messages.Requests.{FileRequest, Request, CreateAsk, LeaseOf}
+use Rattle.lease_model.specs.records.Facts.{Fact}
+use Rattle.lease_model.specs.records.Past.{has_strayed}
+use Rattle.lease_model.specs.server.Attempt.{is_left_open}
+use Rattle.lease_model.specs.server.Calls.{held_of, disconnected, is_lost, joined, key_expired, opens_disconnected, client_forgotten, is_left_behind}
+use Rattle.lease_model.specs.server.Findings.{connected_open, awaits}
+use Rattle.lease_model.specs.server.Grant.{connected_again, lease_after, lease_put, new_open}
+use Rattle.lease_model.specs.server.Naming.{key_of, own_key}
+use Rattle.lease_model.specs.server.Progress.{begun, opens_dropped, with_opens, break_notice, refusal_of}
+use Rattle.lease_model.specs.server.Queries.{breaking}
+use Rattle.lease_model.specs.server.State.{Server, Open, Held, Lease, no_lease, is_key, has_key, has_file, has_lease}
+use Rattle.lease_model.specs.values.Keys.{Key}
+use Rattle.lease_model.specs.values.Lists.{without}
+use Rattle.lease_model.specs.values.Sharing.{may_read}
+use Rattle.lease_model.specs.values.Tables.{put, put_key}
+use Rattle.lease_model.specs.world.Events.{stepped_in, machine_key}
+use Rattle.lease_model.specs.world.World.{World, Link, happened, requests_sent, sent_over}
+use Rattle.lease_laws.specs.server.Laws.{Among}
+use Rattle.lease_laws.specs.server.SmallSteps.{SmallStep, step_taken, IsFree, IsAwaitedAt, MayChange, MayRefuse, MayLower, MayHold, IsInTurn}
+use Rattle.lease_laws.proofs.client.Thin.{put_same, put_other}
+use Rattle.lease_laws.proofs.server.Keys.{put_key-cases}
+use Rattle.lease_laws.proofs.server.Lists.{if_cases, either, clash, and_parts, not_true, not_parts, among_append, among_before, among_filter, among_filtered, among_map, any_has, has_any, true_or}
+use Rattle.lease_laws.proofs.world.Links.{by_client, stepped_links}
+use Rattle.lease_laws.proofs.world.Runs.{stepped_server, stepped_clients}
+use Rattle.lease_coherence.proofs.moves.Deeds.{HasDeeds, IsSource, HasArrived, WasHeld, step_deed, with_held, told_to, granted_in, reconnected_in, changed_in, without_opens, leased_in, held_in}
+use Rattle.lease_coherence.proofs.moves.Events.{Ground, IsMoved, cut_off, timed_out, left_behind, come_back, connected, reply_gone, reply_taken, noticed_by, strayed}
+use Rattle.lease_coherence.proofs.moves.Frames.{stepped_past, stepped_requests, stepped_replies}
+use Rattle.lease_coherence.proofs.moves.Ground.{moved_past}
+use Rattle.lease_coherence.proofs.moves.Moves.{IsNext, IsOldest, rest_of, popped, moved}
+use Rattle.lease_coherence.proofs.records.Later.{IsLater, later_same, later_then, later_fact, later_two, later_told, later_noted, past_noted}
+use Rattle.lease_laws.proofs.world.FileIds.{told}
+
+-- the requests of a client among those that are held
+abbrev pub held_by : ℕ → List Held → List Held
+held_by client held = filter (λ one. one.client == client) held
+
+-- a client's part of a world stays as it is
+pub record IsUnmoved (world : World) (new : World) (client : ℕ) : Type 0 where
+  pub later : IsLater world.past new.past
+  pub machine : new.clients client ≡ world.clients client
+  pub link : new.links client ≡ world.links client
+  pub requests : new.requests client ≡ world.requests client
+  pub replies : new.replies client ≡ world.replies client
+  pub held : (file : ℕ) → held_by client (new.server.held file) ≡ held_by client (world.server.held file)
+  pub kept : (one : Open) → one.client ≡ client → Among one world.server.opens → Among one new.server.opens
+  pub from : (one : Open) → one.client ≡ client → Among one new.server.opens → Among one world.server.opens
+  pub leases : (key : Key) → key.client ≡ client → new.server.leases key ≡ world.server.leases key
+  pub expired : (key : Key) → key.client ≡ client → new.server.expired key ≡ world.server.expired key
+
+pub unmoved_same : (world : World) (client : ℕ) → IsUnmoved world world client
+unmoved_same world client = record {
+  later = later_same world.past;
+  machine = refl;
+  link = refl;
+  requests = refl;
+  replies = refl;
+  held = λ file. refl;
+  kept = λ one own a. a;
+  from = λ one own a. a;
+  leases = λ key own. refl;
+  expired = λ key own. refl;
+}
+
+pub unmoved_then : (a b c : World) (client : ℕ) → IsUnmoved a b client → IsUnmoved b c client → IsUnmoved a c client
+unmoved_then a b c client h k = record {
+  later = later_then a.past b.past c.past h.later k.later;
+  machine = k.machine ∙ h.machine;
+  link = k.link ∙ h.link;
+  requests = k.requests ∙ h.requests;
+  replies = k.replies ∙ h.replies;
+  held = λ file. k.held file ∙ h.held file;
+  kept = λ one own x. k.kept one own (h.kept one own x);
+  from = λ one own x. h.from one own (k.from one own x);
+  leases = λ key own. k.leases key own ∙ h.leases key own;
+  expired = λ key own. k.expired key own ∙ h.expired key own;
+}
+
+-- ---- words
+
+pub apart : (a b : ℕ) → a ≢ b → (a == b) ≡ false
+apart a b ne = not_true (a == b) (λ e. ne (eqb-true a b e))
+
+chosen_not : {X : Type 0} (b : Bool) (x y : X) → b ≡ false → (if b then x else y) ≡ y
+chosen_not true x y e = let c : ⊥ = cc in absurd c
+chosen_not false x y e = refl
+
+-- one of another client is taken off, or put behind
+pub filter_off : (test : Held → Bool) (before behind : List Held) (one : Held) → test one ≡ false
+    → filter test (before ++ behind) ≡ filter test (before ++ one ∷ behind)
+filter_off test [] behind one e = sym (chosen_not (test one) (one ∷ filter test behind) (filter test behind) e)
+filter_off test (x ∷ before) behind one e = ap (λ l. if test x then x ∷ l else l) (filter_off test before behind one e)
+
+pub filter_last : (test : Held → Bool) (held : List Held) (one : Held) → test one ≡ false
+    → filter test (held ++ one ∷ []) ≡ filter test held
+filter_last test [] one e = chosen_not (test one) (one ∷ []) [] e
+filter_last test (x ∷ held) one e = ap (λ l. if test x then x ∷ l else l) (filter_last test held one e)
+
+filter_twice : (test keep : Held → Bool) (held : List Held) → ((x : Held) → test x ≡ true → keep x ≡ true)
+    → filter test (filter keep held) ≡ filter test held
+filter_twice test keep [] stays = refl
+filter_twice test keep (x ∷ held) stays = if_cases
+    (λ l. filter test l ≡ filter test (x ∷ held)) (keep x) (x ∷ filter keep held) (filter keep held)
+    (λ kept. ap (λ l. if test x then x ∷ l else l) (filter_twice test keep held stays))
+    (λ gone. filter_twice test keep held stays
+    ∙ sym (chosen_not (test x) (x ∷ filter test held) (filter test held)
+    (not_true (test x) (λ passes. clash (keep x) (stays x passes) gone))))
+
+-- a key's client is that of its open
+pub key_client : (key : Key) (one : Open) → has_key key one ≡ true → key.client ≡ one.client
+key_client key one e = parts one.lease_key e
+  where
+    parts : (bytes : Option (List ℕ)) → is_key key one.client bytes ≡ true → key.client ≡ one.client
+    parts None never = absurd (true≢false (sym never))
+    parts (Some bytes) e = eqb-true key.client one.client (and_parts _ _ e).0
+
+-- leases of a client's keys stay where its opens do
+pub leases_stay : (world : World) (opens : List Open) (client : ℕ) → Ground world
+    → ((one : Open) → one.client ≡ client → Among one world.server.opens → Among one opens)
+    → (key : Key) → key.client ≡ client → (with_opens world.server opens).leases key ≡ world.server.leases key
+unfolding with_opens
+leases_stay world opens client g kept key own = if_cases (λ l. l ≡ world.server.leases key)
+    (list_any (has_key key) opens) (world.server.leases key) no_lease (λ there. refl)
+    (λ gone. sym (g.fine.sound.no_open key (not_true (list_any (has_key key) world.server.opens)
+    (λ was. let x = any_has (has_key key) world.server.opens was in
+    clash (list_any (has_key key) opens)
+    (has_any (has_key key) x.0 opens (kept x.0 (sym (key_client key x.0 x.2) ∙ own) x.1) x.2) gone))))
+
+-- ---- steps of the server for another
+
+unmoved_told : (world : World) (client : ℕ) (reply : Reply) (c : ℕ) → client ≢ c
+    → IsUnmoved world (told_to world client reply) c
+unmoved_told world client reply c ne = let s = unmoved_same world c in record {
+  later = later_fact world.past (Fact.Sent client);
+  machine = refl;
+  link = refl;
+  requests = refl;
+  replies = put_other world.replies client _ c (λ e. ne (sym e));
+  held = s.held;
+  kept = s.kept;
+  from = s.from;
+  leases = s.leases;
+  expired = s.expired;
+}
+
+unmoved_popped : (world : World) (client c : ℕ) → client ≢ c → IsUnmoved world (popped world client) c
+unmoved_popped world client c ne = let s = unmoved_same world c in record {
+  later = s.later;
+  machine = refl;
+  link = refl;
+  requests = put_other world.requests client _ c (λ e. ne (sym e));
+  replies = refl;
+  held = s.held;
+  kept = s.kept;
+  from = s.from;
+  leases = s.leases;
+  expired = s.expired;
+}
+
+-- the requests held on a file change by one of another client
+unmoved_held : (world : World) (file : ℕ) (left : List Held) (c : ℕ)
+    → held_by c left ≡ held_by c (world.server.held file) → IsUnmoved world (with_held world file left) c
+unfolding put
+unmoved_held world file left c same = let s = unmoved_same world c in record {
+  later = s.later;
+  machine = refl;
+  link = refl;
+  requests = refl;
+  replies = refl;
+  held = λ at. if_cases (λ l. held_by c l ≡ held_by c (world.server.held at)) (at == file) left (world.server.held at)
+      (λ here. same ∙ ap (λ n. held_by c (world.server.held n)) (sym (eqb-true at file here))) (λ there. refl);
+  kept = s.kept;
+  from = s.from;
+  leases = s.leases;
+  expired = s.expired;
+}
+
+pub unmoved_off : (world off : World) (client : ℕ) (request : FileRequest) (c : ℕ)
+    → IsSource world off client request → client ≢ c → IsUnmoved world off c
+unmoved_off world off client request c source ne = ⊎_elim
+    (λ a. subst (λ o. IsUnmoved world o c) (sym a.is_off) (unmoved_popped world client c ne))
+    (λ h. subst (λ o. IsUnmoved world o c) (sym h.is_off)
+    (unmoved_held world h.file (h.before ++ h.behind) c
+    (filter_off (λ one. one.client == c) h.before h.behind (held_of client request) (apart client c ne)
+    ∙ ap (held_by c) (sym h.held))))
+    source.from
+
+-- the server of the part from which a request was taken off is known as the whole one is
+pub off_ground : (world off : World) (client : ℕ) (request : FileRequest) → IsSource world off client request
+    → Ground world → (key : Key) → list_any (has_key key) off.server.opens ≡ false → off.server.leases key ≡ no_lease
+off_ground world off client request source g = ⊎_elim
+    (λ a. subst (λ o. (key : Key) → list_any (has_key key) o.server.opens ≡ false → o.server.leases key ≡ no_lease)
+    (sym a.is_off) (λ key e. g.fine.sound.no_open key e))
+    (λ h. subst (λ o. (key : Key) → list_any (has_key key) o.server.opens ≡ false → o.server.leases key ≡ no_lease)
+    (sym h.is_off) (λ key e. g.fine.sound.no_open key e))
+    source.from
+
+-- opens of others change
+unmoved_opens : (world : World) (opens : List Open) (c : ℕ)
+    → ((key : Key) → list_any (has_key key) world.server.opens ≡ false → world.server.leases key ≡ no_lease)
+    → ((one : Open) → one.client ≡ c → Among one world.server.opens → Among one opens)
+    → ((one : Open) → one.client ≡ c → Among one opens → Among one world.server.opens)
+    → IsUnmoved world (record world { server = with_opens world.server opens }) c
+unfolding with_opens
+unmoved_opens world opens c law kept from = let s = unmoved_same world c in record {
+  later = s.later;
+  machine = refl;
+  link = refl;
+  requests = refl;
+  replies = refl;
+  held = s.held;
+  kept = kept;
+  from = from;
+  leases = λ key own. if_cases (λ l. l ≡ world.server.leases key)
+      (list_any (has_key key) opens) (world.server.leases key) no_lease (λ there. refl)
+      (λ gone. sym (law key (not_true (list_any (has_key key) world.server.opens)
+      (λ was. let x = any_has (has_key key) world.server.opens was in
+      clash (list_any (has_key key) opens)
+      (has_any (has_key key) x.0 opens (kept x.0 (sym (key_client key x.0 x.2) ∙ own) x.1) x.2) gone))));
+  expired = s.expired;
+}
+
+-- opens of others are dropped
+pub unmoved_without : (world : World) (test : Open → Bool) (c : ℕ)
+    → ((key : Key) → list_any (has_key key) world.server.opens ≡ false → world.server.leases key ≡ no_lease)
+    → ((one : Open) → one.client ≡ c → Among one world.server.opens → test one ≡ false)
+    → IsUnmoved world (without_opens world test) c
+unmoved_without world test c law stays = unmoved_opens world (without test world.server.opens) c law
+    (λ one own a. among_filtered (λ x. not (test x)) one world.server.opens a (flip (test one) (stays one own a)))
+    (λ one own a. (among_filter (λ x. not (test x)) one world.server.opens a).0)
+  where
+    flip : (b : Bool) → b ≡ false → not b ≡ true
+    flip true e = let x : ⊥ = cc in absurd x
+    flip false e = refl
+
+-- a lease of another
+unmoved_leased : (world : World) (key : Key) (lease : Lease) (reply : Reply) (c : ℕ) → key.client ≢ c
+    → IsUnmoved world (leased_in world key lease reply) c
+unmoved_leased world key lease reply c ne = let s = unmoved_same world c in record {
+  later = later_fact world.past (Fact.Sent key.client);
+  machine = refl;
+  link = refl;
+  requests = refl;
+  replies = put_other world.replies key.client _ c (λ e. ne (sym e));
+  held = s.held;
+  kept = s.kept;
+  from = s.from;
+  leases = λ other own. put_key-cases (λ l. l ≡ world.server.leases other) world.server.leases key lease other
+      (λ same. absurd (ne (sym (ap (λ (k : Key). k.client) same) ∙ own))) (λ there. refl);
+  expired = s.expired;
+}
+
+unmoved_granted : (world : World) (client file : ℕ) (access : Access) (share : Share) (ask : CreateAsk) (lease : Lease)
+    (c : ℕ) → client ≢ c → IsUnmoved world (granted_in world client file access share ask lease) c
+unmoved_granted world client file access share ask lease c ne = let s = unmoved_same world c in record {
+  later = later_two world.past (Fact.Opened file client) (Fact.Sent client);
+  machine = refl;
+  link = refl;
+  requests = refl;
+  replies = put_other world.replies client _ c (λ e. ne (sym e));
+  held = λ at. held_same ask.lease at;
+  kept = λ one own a. among_before one world.server.opens _ a;
+  from = λ one own a. ⊎_elim (λ old. old)
+      (λ new. ⊎_elim (λ same. absurd (ne (sym (ap (λ (o : Open). o.client) same) ∙ own))) (λ none. absurd none) new)
+      (among_append one world.server.opens
+      (new_open world.server client file access share ask.lease ask.durable lease ∷ []) a);
+  leases = λ key own. lease_same ask.lease key own;
+  expired = λ key own. expired_same ask.lease key;
+}
+  where
+    held_same : (asked : Option LeaseOf) (at : ℕ)
+        → held_by c ((lease_put world.server client asked lease).held at) ≡ held_by c (world.server.held at)
+    held_same None at = refl
+    held_same (Some x) at = refl
+
+    expired_same : (asked : Option LeaseOf) (key : Key)
+        → (lease_put world.server client asked lease).expired key ≡ world.server.expired key
+    expired_same None key = refl
+    expired_same (Some x) key = refl
+
+    lease_same : (asked : Option LeaseOf) (key : Key) → key.client ≡ c
+        → (lease_put world.server client asked lease).leases key ≡ world.server.leases key
+    lease_same None key own = refl
+    lease_same (Some x) key own = put_key-cases (λ l. l ≡ world.server.leases key) world.server.leases
+        (key_of client x.key) lease key
+        (λ same. absurd (ne (sym (ap (λ (k : Key). k.client) same) ∙ own))) (λ there. refl)
+
+-- an open that stays as it is while others are mapped
+pub map_kept : (f : Open → Open) (one : Open) (opens : List Open) → f one ≡ one → Among one opens → Among one (map f opens)
+map_kept f one [] same a = absurd a
+map_kept f one (x ∷ opens) same a =
+    ⊎_elim (λ e. inl (sym same ∙ ap f e)) (λ later. inr (map_kept f one opens same later)) a
+
+unmoved_mapped : (world : World) (f : Open → Open) (c : ℕ)
+    → ((one : Open) → one.client ≡ c → Among one world.server.opens → f one ≡ one)
+    → ((one : Open) → (f one).client ≡ one.client)
+    → IsUnmoved world (record world { server = record world.server { opens = map f world.server.opens } }) c
+unmoved_mapped world f c same client = let s = unmoved_same world c in record {
+  later = s.later;
+  machine = refl;
+  link = refl;
+  requests = refl;
+  replies = refl;
+  held = s.held;
+  kept = λ one own a. map_kept f one world.server.opens (same one own a) a;
+  from = λ one own a. let x = among_map f one world.server.opens a in
+      let mine = sym (client x.0) ∙ sym (ap (λ (o : Open). o.client) x.2) ∙ own in
+      subst (λ o. Among o world.server.opens) (sym (x.2 ∙ same x.0 mine x.1)) x.1;
+  leases = s.leases;
+  expired = s.expired;
+}
+
+unmoved_content : (world : World) (client file file_id number : ℕ) (patch : Patch) (c : ℕ) → client ≢ c
+    → IsUnmoved world (changed_in world client file file_id number patch) c
+unmoved_content world client file file_id number patch c ne = let s = unmoved_same world c in record {
+  later = later_two world.past (Fact.Changed file client number patch) (Fact.Sent client);
+  machine = refl;
+  link = refl;
+  requests = refl;
+  replies = put_other world.replies client _ c (λ e. ne (sym e));
+  held = s.held;
+  kept = s.kept;
+  from = s.from;
+  leases = s.leases;
+  expired = s.expired;
+}
