@@ -4,4 +4,5 @@ pub mod Foreign
 pub mod Frames
 pub mod Ground
 pub mod Moves
+pub mod Own
 pub mod Shift

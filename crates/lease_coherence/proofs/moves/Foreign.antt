@@ -114,7 +114,7 @@ pub filter_last : (test : Held → Bool) (held : List Held) (one : Held) → tes
 filter_last test [] one e = chosen_not (test one) (one ∷ []) [] e
 filter_last test (x ∷ held) one e = ap (λ l. if test x then x ∷ l else l) (filter_last test held one e)
 
-filter_twice : (test keep : Held → Bool) (held : List Held) → ((x : Held) → test x ≡ true → keep x ≡ true)
+pub filter_twice : (test keep : Held → Bool) (held : List Held) → ((x : Held) → test x ≡ true → keep x ≡ true)
     → filter test (filter keep held) ≡ filter test held
 filter_twice test keep [] stays = refl
 filter_twice test keep (x ∷ held) stays = if_cases
@@ -146,7 +146,7 @@ leases_stay world opens client g kept key own = if_cases (λ l. l ≡ world.serv
 
 -- ---- steps of the server for another
 
-unmoved_told : (world : World) (client : ℕ) (reply : Reply) (c : ℕ) → client ≢ c
+pub unmoved_told : (world : World) (client : ℕ) (reply : Reply) (c : ℕ) → client ≢ c
     → IsUnmoved world (told_to world client reply) c
 unmoved_told world client reply c ne = let s = unmoved_same world c in record {
   later = later_fact world.past (Fact.Sent client);
@@ -161,7 +161,7 @@ unmoved_told world client reply c ne = let s = unmoved_same world c in record {
   expired = s.expired;
 }
 
-unmoved_popped : (world : World) (client c : ℕ) → client ≢ c → IsUnmoved world (popped world client) c
+pub unmoved_popped : (world : World) (client c : ℕ) → client ≢ c → IsUnmoved world (popped world client) c
 unmoved_popped world client c ne = let s = unmoved_same world c in record {
   later = s.later;
   machine = refl;
@@ -176,7 +176,7 @@ unmoved_popped world client c ne = let s = unmoved_same world c in record {
 }
 
 -- the requests held on a file change by one of another client
-unmoved_held : (world : World) (file : ℕ) (left : List Held) (c : ℕ)
+pub unmoved_held : (world : World) (file : ℕ) (left : List Held) (c : ℕ)
     → held_by c left ≡ held_by c (world.server.held file) → IsUnmoved world (with_held world file left) c
 unfolding put
 unmoved_held world file left c same = let s = unmoved_same world c in record {
@@ -214,7 +214,7 @@ off_ground world off client request source g = ⊎_elim
     source.from
 
 -- opens of others change
-unmoved_opens : (world : World) (opens : List Open) (c : ℕ)
+pub unmoved_opens : (world : World) (opens : List Open) (c : ℕ)
     → ((key : Key) → list_any (has_key key) world.server.opens ≡ false → world.server.leases key ≡ no_lease)
     → ((one : Open) → one.client ≡ c → Among one world.server.opens → Among one opens)
     → ((one : Open) → one.client ≡ c → Among one opens → Among one world.server.opens)
@@ -252,7 +252,7 @@ unmoved_without world test c law stays = unmoved_opens world (without test world
     flip false e = refl
 
 -- a lease of another
-unmoved_leased : (world : World) (key : Key) (lease : Lease) (reply : Reply) (c : ℕ) → key.client ≢ c
+pub unmoved_leased : (world : World) (key : Key) (lease : Lease) (reply : Reply) (c : ℕ) → key.client ≢ c
     → IsUnmoved world (leased_in world key lease reply) c
 unmoved_leased world key lease reply c ne = let s = unmoved_same world c in record {
   later = later_fact world.past (Fact.Sent key.client);
@@ -268,7 +268,7 @@ unmoved_leased world key lease reply c ne = let s = unmoved_same world c in reco
   expired = s.expired;
 }
 
-unmoved_granted : (world : World) (client file : ℕ) (access : Access) (share : Share) (ask : CreateAsk) (lease : Lease)
+pub unmoved_granted : (world : World) (client file : ℕ) (access : Access) (share : Share) (ask : CreateAsk) (lease : Lease)
     (c : ℕ) → client ≢ c → IsUnmoved world (granted_in world client file access share ask lease) c
 unmoved_granted world client file access share ask lease c ne = let s = unmoved_same world c in record {
   later = later_two world.past (Fact.Opened file client) (Fact.Sent client);
@@ -309,7 +309,7 @@ map_kept f one [] same a = absurd a
 map_kept f one (x ∷ opens) same a =
     ⊎_elim (λ e. inl (sym same ∙ ap f e)) (λ later. inr (map_kept f one opens same later)) a
 
-unmoved_mapped : (world : World) (f : Open → Open) (c : ℕ)
+pub unmoved_mapped : (world : World) (f : Open → Open) (c : ℕ)
     → ((one : Open) → one.client ≡ c → Among one world.server.opens → f one ≡ one)
     → ((one : Open) → (f one).client ≡ one.client)
     → IsUnmoved world (record world { server = record world.server { opens = map f world.server.opens } }) c
@@ -328,7 +328,7 @@ unmoved_mapped world f c same client = let s = unmoved_same world c in record {
   expired = s.expired;
 }
 
-unmoved_content : (world : World) (client file file_id number : ℕ) (patch : Patch) (c : ℕ) → client ≢ c
+pub unmoved_content : (world : World) (client file file_id number : ℕ) (patch : Patch) (c : ℕ) → client ≢ c
     → IsUnmoved world (changed_in world client file file_id number patch) c
 unmoved_content world client file file_id number patch c ne = let s = unmoved_same world c in record {
   later = later_two world.past (Fact.Changed file client number patch) (Fact.Sent client);

@@ -226,3 +226,26 @@ opened_once place file client other by (Fact.Opened of_file opener ∷ past) e f
     above : (n : ℕ) → place ≡ n + 1 → place ≤ n → ⊥
     above n e h = omega (arith, e, h)
 opened_once place file client other by (_ ∷ past) e f = opened_once place file client other by past e f
+
+-- and to one client
+pub opened_by : (place file client other by : ℕ) (past : List Fact) → was_opened place file client past ≡ true
+    → was_opened place other by past ≡ true → client ≡ by
+unfolding was_opened opened_count
+opened_by place file client other by [] e f = absurd (true≢false (sym e))
+opened_by place file client other by (Fact.Opened of_file opener ∷ past) e f = ⊎_elim
+    (λ now. ⊎_elim
+    (λ again. sym (eqb-true opener client (and_parts _ _ (and_parts _ _ now).1).1)
+    ∙ eqb-true opener by (and_parts _ _ (and_parts _ _ again).1).1)
+    (λ before. absurd (above (opened_count past) (eqb-true place (opened_count past + 1) (and_parts _ _ now).0)
+    (opened_within place other by past before)))
+    (or_true _ (was_opened place other by past) f))
+    (λ before. ⊎_elim
+    (λ again. absurd (above (opened_count past) (eqb-true place (opened_count past + 1) (and_parts _ _ again).0)
+    (opened_within place file client past before)))
+    (λ earlier. opened_by place file client other by past before earlier)
+    (or_true _ (was_opened place other by past) f))
+    (or_true _ (was_opened place file client past) e)
+  where
+    above : (n : ℕ) → place ≡ n + 1 → place ≤ n → ⊥
+    above n e h = omega (arith, e, h)
+opened_by place file client other by (_ ∷ past) e f = opened_by place file client other by past e f
