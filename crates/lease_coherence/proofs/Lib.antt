@@ -1,4 +1,5 @@
 pub mod clients
+pub mod creates
 pub mod moves
 pub mod names
 pub mod records

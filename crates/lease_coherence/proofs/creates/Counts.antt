@@ -1,0 +1,121 @@
+-- How many creates of a file are under way: asked, held, or answered and not yet taken.
+use Rattle.std.proofs.Common.{◌≡◌, ◌≢◌, ◌⊎◌, inl, inr, ⊎_elim, ℕ, ◌+◌, Bool, true, false, List, [], ◌∷◌, ◌++◌, filter, flat_map, Option, Some, None, refl, sym, ap, ap₂, ◌∙◌, subst, arith, true≢false, ◌==◌}
+use Rattle.std.specs.Prelude.{⊤, if◌then◌else◌}
+use Rattle.std.proofs.lemmas.Bool.{eq-eqb, eqb-true}
+use Rattle.lease_state.specs.declared.status.Status.{Status}
+use Rattle.lease_model.specs.client.State.{Pending, Phase}
+use Rattle.lease_model.specs.client.Step.{write_requests}
+use Rattle.lease_model.specs.messages.Replies.{Reply}
+use Rattle.lease_model.specs.messages.Requests.{FileRequest, Request}
+use Rattle.lease_model.specs.server.Progress.{refusal_of}
+use Rattle.lease_model.specs.server.State.{Held}
+use Rattle.lease_model.specs.world.World.{World}
+use Rattle.lease_laws.specs.server.Laws.{Among}
+use Rattle.lease_laws.proofs.server.Lists.{if_cases, either}
+use Rattle.lease_coherence.proofs.clients.Takes.{has_asked}
+use Rattle.lease_coherence.proofs.moves.Foreign.{held_by}
+
+abbrev pub one_if : Bool → ℕ
+one_if true = 1
+one_if false = 0
+
+abbrev pub create_of : ℕ → FileRequest → ℕ
+create_of file (FileRequest.Create other access share contexts) = one_if (other == file)
+create_of file request = 0
+
+abbrev pub creates : ℕ → List Request → ℕ
+creates file [] = 0
+creates file (Request.OnFile request ∷ queue) = create_of file request + creates file queue
+creates file (Request.Acknowledge given ∷ queue) = creates file queue
+
+abbrev pub held_creates : ℕ → List Held → ℕ
+held_creates file [] = 0
+held_creates file (one ∷ held) = create_of file one.request + held_creates file held
+
+abbrev pub answer_of : ℕ → Reply → ℕ
+answer_of file (Reply.Created other file_id contexts) = one_if (other == file)
+answer_of file (Reply.CreateFailed other status) = one_if (other == file)
+answer_of file reply = 0
+
+abbrev pub answers : ℕ → List Reply → ℕ
+answers file [] = 0
+answers file (reply ∷ queue) = answer_of file reply + answers file queue
+
+abbrev pub under_way : World → ℕ → ℕ → ℕ
+under_way world client file = creates file (world.requests client)
+    + held_creates file (held_by client (world.server.held file)) + answers file (world.replies client)
+
+-- ---- sums
+
+three : (a b c : ℕ) → a + (b + c) ≡ a + b + c
+three a b c = omega arith
+
+pub creates_append : (file : ℕ) (queue more : List Request)
+    → creates file (queue ++ more) ≡ creates file queue + creates file more
+creates_append file [] more = omega arith
+creates_append file (Request.OnFile request ∷ queue) more =
+    ap (λ n. create_of file request + n) (creates_append file queue more)
+    ∙ three (create_of file request) (creates file queue) (creates file more)
+creates_append file (Request.Acknowledge given ∷ queue) more = creates_append file queue more
+
+pub answers_append : (file : ℕ) (queue more : List Reply)
+    → answers file (queue ++ more) ≡ answers file queue + answers file more
+answers_append file [] more = omega arith
+answers_append file (reply ∷ queue) more = ap (λ n. answer_of file reply + n) (answers_append file queue more)
+    ∙ three (answer_of file reply) (answers file queue) (answers file more)
+
+pub answers_last : (file : ℕ) (queue : List Reply) (reply : Reply)
+    → answers file (queue ++ reply ∷ []) ≡ answers file queue + answer_of file reply
+answers_last file queue reply = answers_append file queue (reply ∷ []) ∙ none (answers file queue) (answer_of file reply)
+  where
+    none : (a b : ℕ) → a + (b + 0) ≡ a + b
+    none a b = omega arith
+
+-- one of the client's that is held, among the others
+pub held_among : (file client : ℕ) (before behind : List Held) (one : Held) → (one.client == client) ≡ true
+    → held_creates file (held_by client (before ++ one ∷ behind))
+    ≡ create_of file one.request + held_creates file (held_by client (before ++ behind))
+held_among file client [] behind one own = if_cases
+    (λ l. held_creates file l ≡ create_of file one.request + held_creates file (held_by client behind))
+    (one.client == client) (one ∷ held_by client behind) (held_by client behind)
+    (λ e. refl) (λ e. absurd (true≢false (sym own ∙ e)))
+held_among file client (x ∷ before) behind one own = if_cases
+    (λ l. held_creates file l ≡ create_of file one.request + held_creates file (held_by client (x ∷ before ++ behind)))
+    (x.client == client) (x ∷ held_by client (before ++ one ∷ behind)) (held_by client (before ++ one ∷ behind))
+    (λ mine. ap (λ n. create_of file x.request + n) (held_among file client before behind one own)
+    ∙ swap (create_of file x.request) (create_of file one.request)
+    (held_creates file (held_by client (before ++ behind)))
+    ∙ ap (λ (l : List Held). create_of file one.request + held_creates file l)
+    (sym (chosen (x.client == client) (x ∷ held_by client (before ++ behind)) (held_by client (before ++ behind)) mine)))
+    (λ other. held_among file client before behind one own
+    ∙ ap (λ (l : List Held). create_of file one.request + held_creates file l)
+    (sym (unchosen (x.client == client) (x ∷ held_by client (before ++ behind)) (held_by client (before ++ behind)) other)))
+  where
+    swap : (a b c : ℕ) → a + (b + c) ≡ b + (a + c)
+    swap a b c = omega arith
+
+    chosen : (b : Bool) (x y : List Held) → b ≡ true → (if b then x else y) ≡ x
+    chosen true x y e = refl
+    chosen false x y e = let c : ⊥ = cc in absurd c
+
+    unchosen : (b : Bool) (x y : List Held) → b ≡ false → (if b then x else y) ≡ y
+    unchosen true x y e = let c : ⊥ = cc in absurd c
+    unchosen false x y e = refl
+
+-- ---- messages
+
+-- a request that is refused is answered as what it was
+pub refusal_answers : (file : ℕ) (request : FileRequest) (status : Status)
+    → answer_of file (refusal_of request status) ≡ create_of file request
+refusal_answers file (FileRequest.Create other access share contexts) status = refl
+refusal_answers file (FileRequest.Read file_id) status = refl
+refusal_answers file (FileRequest.Write file_id number patch) status = refl
+refusal_answers file (FileRequest.Close file_id) status = refl
+
+-- writes are no creates
+pub writes_create : (file file_id : ℕ) (writes : List Pending) → creates file (write_requests file_id writes) ≡ 0
+writes_create file file_id [] = refl
+writes_create file file_id (write ∷ writes) = ap (λ n. 0 + n) (writes_create file file_id writes) ∙ none
+  where
+    none : 0 + 0 ≡ 0
+    none = omega arith

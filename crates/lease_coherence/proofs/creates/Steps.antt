@@ -1,0 +1,275 @@
+-- What a client's step adds to the creates under way, and what it takes.
+use Rattle.std.proofs.Common.{◌≡◌, ◌≢◌, ◌⊎◌, inl, inr, ⊎_elim, ℕ, suc, ◌+◌, ◌≤◌, Bool, true, false, List, [], ◌∷◌, ◌++◌, flat_map, Option, Some, None, refl, sym, ap, ap₂, ◌∙◌, subst, arith, true≢false, ◌==◌}
+use Rattle.std.specs.Prelude.{⊤, is_some, ◌&&◌, not, if◌then◌else◌}
+use Rattle.std.proofs.lemmas.Bool.{eq-eqb, eqb-true}
+use Rattle.lease_state.specs.State.{State}
+use Rattle.lease_state.specs.declared.status.Status.{Status}
+use Rattle.lease_model.specs.client.Commanded.{is_asking, next_write, cached_read, opened_anew, write_buffered, write_sent, flush_on_live, wrote_step}
+use Rattle.lease_model.specs.client.Commands.{Answer}
+use Rattle.lease_model.specs.client.Connection.{all_turned, connection_made, connect_turn}
+use Rattle.lease_model.specs.client.State.{Client, Entry, LiveEntry, Asked, Parted, Pending, Phase}
+use Rattle.lease_model.specs.client.Step.{Step, Turn, turned, write_requests}
+use Rattle.lease_model.specs.client.Taken.{break_turn, parked_closed, belief_lowered, acknowledgment, flushed, opened_turn, reconnected_turn, promoted_turn, read_turn, read_failed_turn, is_file_closed, closed_by_server, without_open, phase_with, write_done_turn, write_failed_in}
+use Rattle.lease_model.specs.messages.Replies.{Reply, BreakNotice}
+use Rattle.lease_model.specs.messages.Requests.{FileRequest, Request}
+use Rattle.lease_model.specs.records.Facts.{Fact}
+use Rattle.lease_model.specs.values.Lists.{numbers_to}
+use Rattle.lease_model.specs.values.Tables.{put}
+use Rattle.lease_laws.proofs.client.Thin.{put_same, put_other}
+use Rattle.lease_laws.proofs.server.Lists.{if_cases, either, clash, and_parts}
+use Rattle.lease_laws.proofs.world.Links.{by_client}
+use Rattle.lease_coherence.proofs.clients.Commands.{HasCommands, IsEntry, sent_of}
+use Rattle.lease_coherence.proofs.clients.Takes.{HasTakes, PassesOver, has_asked}
+use Rattle.lease_coherence.proofs.creates.Counts.{one_if, creates, create_of, creates_append, answer_of, writes_create}
+use Rattle.lease_coherence.proofs.names.Words.{IsNamedReply}
+
+-- the creates under way that an entry stands for
+abbrev pub asked_by : Client → ℕ → ℕ
+asked_by client file = one_if (has_asked (client.entries file).phase)
+
+-- a step of the client: so many creates were answered to it
+abbrev pub IsCountedStep : Client → (ℕ → ℕ) → Step → Type 0
+IsCountedStep client answered step = (file : ℕ)
+    → answered file + asked_by step.client file ≡ creates file step.requests + asked_by client file
+
+abbrev pub none_answered : ℕ → ℕ
+none_answered file = 0
+
+-- a turn of one file
+turned_counts : (client : Client) (answered : ℕ → ℕ) (file : ℕ) (turn : Turn)
+    → ((other : ℕ) → other ≢ file → answered other ≡ creates other turn.requests)
+    → answered file + one_if (has_asked turn.entry.phase) ≡ creates file turn.requests + asked_by client file
+    → IsCountedStep client answered (turned client file turn)
+unfolding turned
+turned_counts client answered file turn others here other = by_client
+    (λ f. answered f + one_if (has_asked (put client.entries file turn.entry f).phase)
+    ≡ creates f turn.requests + asked_by client f) file other
+    (subst (λ (e : Entry). answered file + one_if (has_asked e.phase) ≡ creates file turn.requests + asked_by client file)
+    (sym (put_same client.entries file turn.entry)) here)
+    (λ ne apart. ap₂ (λ (n : ℕ) (e : Entry). n + one_if (has_asked e.phase)) (others other ne)
+    (put_other client.entries file turn.entry other ne))
+
+-- one that sends no create
+quiet_turn : (client : Client) (file : ℕ) (turn : Turn) → ((other : ℕ) → creates other turn.requests ≡ 0)
+    → has_asked turn.entry.phase ≡ has_asked (client.entries file).phase
+    → IsCountedStep client none_answered (turned client file turn)
+quiet_turn client file turn none same = turned_counts client none_answered file turn
+    (λ other ne. sym (none other))
+    (ap (λ b. 0 + one_if b) same ∙ ap (λ n. n + asked_by client file) (sym (none file)))
+
+is_one : (file : ℕ) → one_if (file == file) ≡ 1
+is_one file = ap one_if (eq-eqb file file refl)
+
+is_none : (file other : ℕ) → other ≢ file → one_if (file == other) ≡ 0
+is_none file other ne = if_cases (λ b. (file == other) ≡ b → one_if (file == other) ≡ 0) (file == other) true false
+    (λ same e. absurd (ne (sym (eqb-true file other same)))) (λ apart e. ap one_if apart) refl_of
+  where
+    refl_of : (file == other) ≡ (if (file == other) then true else false)
+    refl_of = either (file == other) (λ e. rw (e) refl) (λ e. rw (e) refl)
+
+-- ---- commands
+
+-- the turn of an entry that asks
+asking_turn : (client : Client) (file : ℕ) (turn : Turn) → has_asked (client.entries file).phase ≡ false
+    → has_asked turn.entry.phase ≡ true → ((other : ℕ) → creates other turn.requests ≡ one_if (file == other))
+    → IsCountedStep client none_answered (turned client file turn)
+asking_turn client file turn idle asks sends = turned_counts client none_answered file turn
+    (λ other ne. sym (sends other ∙ is_none file other ne))
+    (ap (λ b. 0 + one_if b) asks ∙ one_more
+    ∙ sym (ap₂ (λ n b. n + one_if b) (sends file ∙ is_one file) idle))
+  where
+    one_more : 0 + 1 ≡ 1 + 0
+    one_more = omega arith
+
+phase_idle : (client : Client) (file : ℕ) (live : LiveEntry) → (client.entries file).phase ≡ Phase.Live live
+    → is_asking live ≡ false → has_asked (client.entries file).phase ≡ false
+phase_idle client file live is idle = ap has_asked is ∙ idle
+
+close_none : (file file_id : ℕ) (writes : List Pending)
+    → creates file (write_requests file_id writes ++ Request.OnFile (FileRequest.Close file_id) ∷ []) ≡ 0
+close_none file file_id writes = creates_append file (write_requests file_id writes) _
+    ∙ ap (λ n. n + (0 + 0)) (writes_create file file_id writes) ∙ none
+  where
+    none : 0 + (0 + 0) ≡ 0
+    none = omega arith
+
+wrote_counts : (client : Client) (file : ℕ) (entry : Entry) (answer : Answer) (requests : List Request) (write : Pending)
+    → ((other : ℕ) → creates other requests ≡ 0)
+    → has_asked entry.phase ≡ has_asked (client.entries file).phase
+    → IsCountedStep client none_answered (wrote_step client file entry answer requests write)
+wrote_counts client file entry answer requests write none same other = by_client
+    (λ f. 0 + one_if (has_asked (put client.entries file entry f).phase) ≡ creates f requests + asked_by client f) file other
+    (subst (λ (e : Entry). 0 + one_if (has_asked e.phase) ≡ creates file requests + asked_by client file)
+    (sym (put_same client.entries file entry))
+    (ap₂ (λ n b. n + one_if b) (sym (none file)) same))
+    (λ ne apart. ap₂ (λ (n : ℕ) (e : Entry). n + one_if (has_asked e.phase)) (sym (none other))
+    (put_other client.entries file entry other ne))
+
+pub commands_count : (client : Client) → HasCommands client (IsCountedStep client none_answered)
+unfolding cached_read opened_anew write_buffered write_sent flush_on_live
+commands_count client = record {
+  refused = λ refusal file. refl;
+  opening = λ file terms is on. asking_turn client file _ (ap has_asked is.is_so) refl
+      (λ other. plus_none (one_if (file == other)));
+  added = λ file live is. quiet_turn client file _ (λ other. refl) (sym (ap has_asked is.is_so));
+  asked = λ file live terms is idle some. asking_turn client file _ (phase_idle client file live is.is_so idle) refl
+      (λ other. plus_none (one_if (file == other)));
+  anew = λ file live terms is idle none. asking_turn client file _ (phase_idle client file live is.is_so idle) refl
+      (λ other. creates_append other (write_requests live.file_id live.unsent) _
+      ∙ ap (λ n. n + (0 + (one_if (file == other) + 0))) (writes_create other live.file_id live.unsent)
+      ∙ plus_more (one_if (file == other)));
+  fewer = λ file live is more. quiet_turn client file _ (λ other. refl) (sym (ap has_asked is.is_so));
+  parked = λ file live is idle done stays. quiet_turn client file _ (λ other. refl)
+      (sym (ap has_asked is.is_so));
+  closed = λ file live is idle done goes. quiet_turn client file _
+      (λ other. close_none other live.file_id live.unsent) (sym (phase_idle client file live is.is_so idle));
+  cached = λ file live base is reads has other. refl;
+  read = λ file live is idle. quiet_turn client file _ (λ other. plus_zero) (sym (ap has_asked is.is_so));
+  buffered = λ file live patch is fits caches. wrote_counts client file _ Answer.Done [] (next_write client patch true) (λ other. refl)
+      (sym (ap has_asked is.is_so));
+  written = λ file live patch is fits sends. wrote_counts client file _ Answer.Waiting
+      (Request.OnFile (FileRequest.Write live.file_id (client.last_number + 1) patch) ∷ [])
+      (next_write client patch false) (λ other. plus_zero)
+      (sym (ap has_asked is.is_so));
+  flushed = λ file live is. quiet_turn client file _ (λ other. writes_create other live.file_id live.unsent)
+      (sym (ap has_asked is.is_so));
+}
+  where
+    plus_none : (n : ℕ) → n + 0 ≡ n
+    plus_none n = omega arith
+
+    plus_more : (n : ℕ) → 0 + (0 + (n + 0)) ≡ n
+    plus_more n = omega arith
+
+    plus_zero : 0 + 0 ≡ 0
+    plus_zero = omega arith
+
+-- ---- replies
+
+abbrev pub IsCountedTake : ℕ → Client → List Fact → Reply → Step → Type 0
+IsCountedTake c client past reply step = IsNamedReply c past reply
+    → ((file : ℕ) → answer_of file reply ≤ asked_by client file)
+    → IsCountedStep client (λ file. answer_of file reply) step
+
+-- a turn that answers a create
+answered_turn : (client : Client) (file : ℕ) (turn : Turn) → has_asked (client.entries file).phase ≡ true
+    → has_asked turn.entry.phase ≡ false → ((other : ℕ) → creates other turn.requests ≡ 0)
+    → IsCountedStep client (λ other. one_if (file == other)) (turned client file turn)
+answered_turn client file turn asked done none = turned_counts client (λ other. one_if (file == other)) file turn
+    (λ other ne. is_none file other ne ∙ sym (none other))
+    (ap₂ (λ n b. n + one_if b) (is_one file) done ∙ one_less ∙ sym (ap₂ (λ n b. n + one_if b) (none file) asked))
+  where
+    one_less : 1 + 0 ≡ 0 + 1
+    one_less = omega arith
+
+break_counts : (client : Client) (file : ℕ) (notice : BreakNotice) (live : LiveEntry) (new : State)
+    → (client.entries file).phase ≡ Phase.Live live → ((live.handles == 0) ≡ true → is_asking live ≡ false)
+    → IsCountedStep client none_answered (turned client file (break_turn live (sent_of client file) notice new))
+unfolding break_turn parked_closed belief_lowered
+break_counts client file notice live new is parked_idle =
+    if_cases (λ turn. IsCountedStep client none_answered (turned client file turn))
+    (live.handles == 0 && (live.belief.handle && not new.handle)) _ _
+    (λ parked. quiet_turn client file _ (λ other. close_none other live.file_id live.unsent)
+    (sym (phase_idle client file live is
+    (parked_idle (and_parts (live.handles == 0) _ parked).0))))
+    (λ stays. quiet_turn client file _
+    (λ other. creates_append other (write_requests live.file_id (flushed live.belief new live.unsent)) _
+    ∙ ap₂ (λ a b. a + b) (writes_create other live.file_id (flushed live.belief new live.unsent))
+    (ack_none other notice.ack_required) ∙ zeros)
+    (sym (ap has_asked is)))
+  where
+    ack_none : (other : ℕ) (b : Bool)
+        → creates other (if b then Request.Acknowledge (Some (record { key = notice.key; state = new })) ∷ [] else []) ≡ 0
+    ack_none other true = refl
+    ack_none other false = refl
+
+    zeros : 0 + 0 ≡ 0
+    zeros = omega arith
+
+-- an entry whose open is gone asks as before
+open_gone : (asking : Option Asked) (sent : List Pending) → has_asked (without_open asking sent).phase ≡ is_some asking
+open_gone None sent = refl
+open_gone (Some asked) sent = refl
+
+read_failed_counts : (client : Client) (file : ℕ) (live : LiveEntry) (status : Status)
+    → (client.entries file).phase ≡ Phase.Live live
+    → IsCountedStep client none_answered (turned client file (read_failed_turn live (sent_of client file) status))
+unfolding read_failed_turn closed_by_server
+read_failed_counts client file live status is =
+    if_cases (λ turn. IsCountedStep client none_answered (turned client file turn)) (is_file_closed status) _ _
+    (λ gone. quiet_turn client file _ (λ other. refl)
+    (open_gone live.asking (sent_of client file) ∙ sym (ap has_asked is)))
+    (λ there. quiet_turn client file _ (λ other. refl) (sym (ap has_asked is)))
+
+write_failed_counts : (client : Client) (file file_id number : ℕ) (status : Status) (sent : List Pending)
+    (phase : Phase) → (client.entries file).phase ≡ phase
+    → IsCountedStep client none_answered (turned client file (write_failed_in file_id number status sent phase))
+unfolding closed_by_server
+write_failed_counts client file file_id number status sent Phase.Closed is =
+    quiet_turn client file _ (λ other. refl) (sym (ap has_asked is))
+write_failed_counts client file file_id number status sent (Phase.Opening access share) is =
+    quiet_turn client file _ (λ other. refl) (sym (ap has_asked is))
+write_failed_counts client file file_id number status sent (Phase.Live live) is =
+    if_cases (λ turn. IsCountedStep client none_answered (turned client file turn))
+    (is_file_closed status && live.file_id == file_id) _ _
+    (λ gone. quiet_turn client file _ (λ other. refl) (open_gone live.asking sent ∙ sym (ap has_asked is)))
+    (λ there. quiet_turn client file _ (λ other. refl) (sym (ap has_asked is)))
+write_failed_counts client file file_id number status sent (Phase.Offline parted) is =
+    quiet_turn client file _ (λ other. refl) (sym (ap has_asked is))
+write_failed_counts client file file_id number status sent (Phase.Reconnecting parted) is =
+    quiet_turn client file _ (λ other. refl) (sym (ap has_asked is))
+
+phase_with_asks : (write : Option Pending) (phase : Phase) → has_asked (phase_with write phase) ≡ has_asked phase
+phase_with_asks write Phase.Closed = refl
+phase_with_asks write (Phase.Opening access share) = refl
+phase_with_asks write (Phase.Live live) = refl
+phase_with_asks write (Phase.Offline parted) = refl
+phase_with_asks write (Phase.Reconnecting parted) = refl
+
+-- a create's answer isn't passed over
+passed_none : (client : Client) (file : ℕ) → has_asked (client.entries file).phase ≡ false
+    → ((other : ℕ) → one_if (file == other) ≤ asked_by client other) → ⊥
+passed_none client file idle low = above (subst (λ n. n ≤ asked_by client file) (is_one file) (low file)) (ap one_if idle)
+  where
+    above : {n : ℕ} → 1 ≤ n → n ≡ 0 → ⊥
+    above {n} h e = omega (arith, h, e)
+
+passed_counts : (c : ℕ) (client : Client) (past : List Fact) (reply : Reply)
+    → PassesOver client reply → IsNamedReply c past reply
+    → ((file : ℕ) → answer_of file reply ≤ asked_by client file) → (file : ℕ)
+    → answer_of file reply + asked_by client file ≡ creates file [] + asked_by client file
+passed_counts c client past (Reply.Created at file_id None) why named low file = absurd named
+passed_counts c client past (Reply.Created at file_id (Some answer)) why named low file =
+    absurd (passed_none client at why low)
+passed_counts c client past (Reply.CreateFailed at status) why named low file = absurd (passed_none client at why low)
+passed_counts c client past (_) why named low file = refl
+
+pub takes_count : (c : ℕ) (client : Client) (past : List Fact)
+    → ((file : ℕ) (live : LiveEntry) → (client.entries file).phase ≡ Phase.Live live → (live.handles == 0) ≡ true
+    → is_asking live ≡ false)
+    → HasTakes client (IsCountedTake c client past)
+unfolding opened_turn reconnected_turn promoted_turn read_turn write_done_turn
+takes_count c client past parked = record {
+  passed = λ reply why named low file. passed_counts c client past reply why named low file;
+  broken = λ file notice live at is named low. break_counts client file notice live _ is (parked file live is);
+  opened = λ file file_id answer access share is named low. answered_turn client file _ (ap has_asked is) refl
+      (λ other. refl);
+  reconnected = λ file file_id answer parted is named low. answered_turn client file _ (ap has_asked is) refl
+      (λ other. refl);
+  promoted = λ file file_id answer live asked is asks named low. answered_turn client file _
+      (ap has_asked is ∙ ap is_some asks) refl (λ other. zeros);
+  not_opened = λ file status access share is named low. answered_turn client file _ (ap has_asked is) refl (λ other. refl);
+  not_reconnected = λ file status parted is named low. answered_turn client file _ (ap has_asked is) refl (λ other. refl);
+  not_promoted = λ file status live asked is asks named low. answered_turn client file _
+      (ap has_asked is ∙ ap is_some asks) refl (λ other. refl);
+  read = λ file file_id bytes live is id some named low. quiet_turn client file _ (λ other. refl)
+      (sym (ap has_asked is));
+  not_read = λ file file_id status live is id some named low. read_failed_counts client file live status is;
+  written = λ file file_id number at known named low. quiet_turn client file _ (λ other. refl)
+      (phase_with_asks _ (client.entries file).phase);
+  not_written = λ file file_id number status at known named low.
+      write_failed_counts client file file_id number status _ (client.entries file).phase refl;
+}
+  where
+    zeros : 0 + 0 ≡ 0
+    zeros = omega arith
