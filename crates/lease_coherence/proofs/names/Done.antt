@@ -213,8 +213,8 @@ strayed_named world client request n c good =
 
 -- ---- nothing is falsely done
 
-abbrev IsTrue : World → Type 0
-IsTrue world = IsNamed world × EachFact NoFalseDone world.past
+abbrev pub HasTrueNames : World → Type 0
+HasTrueNames world = IsNamed world × EachFact NoFalseDone world.past
 
 told_true : (past : List Fact) (outs : List Out) → EachFact NoFalseDone past → EachFact NoFalseDone (told past outs)
 told_true past [] each = each
@@ -223,8 +223,8 @@ told_true past (Out.Opened file client ∷ outs) each = told_true (Fact.Opened f
 told_true past (Out.Changed file client number patch ∷ outs) each =
     told_true (Fact.Changed file client number patch ∷ past) outs (tt, each)
 
-moved_true : (world : World) (step : SmallStep) → Ground world → IsNext world step → IsTrue world
-    → IsTrue (moved world step)
+moved_true : (world : World) (step : SmallStep) → Ground world → IsNext world step → HasTrueNames world
+    → HasTrueNames (moved world step)
 moved_true world step g next t = (
   λ c good. step_deed world (λ new. (d : ℕ) → has_strayed d world.past ≡ false → IsNamedAt new d)
       (deeds_named world g t.0) step next c
@@ -270,8 +270,8 @@ noted_true client first past (Note.CachedRead file bytes ∷ notes) later each f
 
 stepped_true : (world : World) (client : ℕ) (call : ClientCall)
     → (client_called (world.clients client) call).client.guid ≡ (world.clients client).guid
-    → (has_strayed client world.past ≡ false → IsCallNamed client world.past call) → IsTrue world
-    → IsTrue (stepped_in world client (client_called (world.clients client) call))
+    → (has_strayed client world.past ≡ false → IsCallNamed client world.past call) → HasTrueNames world
+    → HasTrueNames (stepped_in world client (client_called (world.clients client) call))
 stepped_true world client call same named t =
     let step = client_called (world.clients client) call in (
       stepped_named world client call same named t.0,
@@ -281,7 +281,7 @@ stepped_true world client call same named t =
           t.1),
     )
 
-pub true_moves : IsMoved Ground IsTrue
+pub true_moves : IsMoved Ground HasTrueNames
 unfolding noticed connection_made all_turned requests_sent
 true_moves = record {
   step = λ world step g next t. moved_true world step g next t;
@@ -314,7 +314,7 @@ unfolding starts_from
 starts_true first [] past each = each
 starts_true first (bytes ∷ files) past each = starts_true (first + 1) files (Fact.Start first bytes ∷ past) (tt, each)
 
-first_true : (setup : Setup) → IsTrue (first_world setup)
+first_true : (setup : Setup) → HasTrueNames (first_world setup)
 unfolding first_world new_server new_client
 first_true setup = (
   λ c good. record {
@@ -327,9 +327,9 @@ first_true setup = (
   starts_true 1 setup.files [] tt,
 )
 
-pub run_true : (setup : Setup) (events : List Event) → Both Ground IsTrue (after (first_world setup) events)
-run_true setup events = runs_have (Both Ground IsTrue) (λ world both. both.0)
-    (carried_both Ground IsTrue ground_carried true_moves) setup (first_ground setup, first_true setup) events
+pub run_true : (setup : Setup) (events : List Event) → Both Ground HasTrueNames (after (first_world setup) events)
+run_true setup events = runs_have (Both Ground HasTrueNames) (λ world both. both.0)
+    (carried_both Ground HasTrueNames ground_carried true_moves) setup (first_ground setup, first_true setup) events
 
 pub nothing_is_falsely_done : NothingIsFalselyDone
 nothing_is_falsely_done setup events allowed = subst (EachFact NoFalseDone)
