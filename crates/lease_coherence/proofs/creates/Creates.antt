@@ -22,7 +22,7 @@ use Rattle.lease_model.specs.values.Lists.{numbers_to}
 use Rattle.lease_model.specs.values.Tables.{put}
 use Rattle.lease_model.specs.world.Events.{stepped_in}
 use Rattle.lease_model.specs.world.World.{World, Link, sent_over}
-use Rattle.lease_laws.specs.client.Laws.{IsSoundEntry, IsSoundLive}
+use Rattle.lease_laws.specs.client.Laws.{IsSoundEntry, IsSoundPhase, IsSoundLive}
 use Rattle.lease_laws.specs.server.Laws.{Among}
 use Rattle.lease_laws.specs.server.SmallSteps.{SmallStep, IsInTurn}
 use Rattle.lease_laws.specs.server.Waiting.{IsAbout}
@@ -232,3 +232,148 @@ hold_at world at one oldest turn a =
 
     stays : (q q1 r h h1 n t : ℕ) → q ≡ n + r → n ≡ 0 → q1 ≡ r → h1 ≡ h → q1 + h1 + t ≡ q + h + t
     stays q q1 r h h1 n t e z f i = omega (arith, e, z, f, i)
+
+-- ---- steps of the client
+
+up_link : (link : Link) → is_up link ≡ true → link ≡ Link.Up
+up_link Link.Up e = refl
+up_link Link.Down e = absurd (true≢false (sym e))
+up_link Link.Cut e = absurd (true≢false (sym e))
+
+-- the queues of a client whose link is up, after a step of it
+stepped_under_way : (world : World) (client : ℕ) (step : Step) → is_up (world.links client) ≡ true → (file : ℕ)
+    → under_way (stepped_in world client step) client file ≡ under_way world client file + creates file step.requests
+stepped_under_way world client step up file = whole _ _ _ _ _ _ _
+    (ap (λ (q : ℕ → List Request). creates file (q client)) (stepped_requests world client step)
+    ∙ ap (λ (q : List Request). creates file q) (put_same world.requests client _)
+    ∙ ap (λ link. creates file (sent_over link (world.requests client) step.requests)) (up_link (world.links client) up)
+    ∙ creates_append file (world.requests client) step.requests)
+    (ap (λ (s : Server). held_creates file (held_by client (s.held file))) (stepped_server world client step))
+    (ap (λ (r : ℕ → List Reply). answers file (r client)) (stepped_replies world client step))
+  where
+    whole : (q q1 h h1 a a1 n : ℕ) → q1 ≡ q + n → h1 ≡ h → a1 ≡ a → q1 + h1 + a1 ≡ q + h + a + n
+    whole q q1 h h1 a a1 n e f i = omega (arith, e, f, i)
+
+stepped_machine : (world : World) (client : ℕ) (step : Step) → (stepped_in world client step).clients client ≡ step.client
+stepped_machine world client step =
+    ap (λ (t : ℕ → Client). t client) (stepped_clients world client step) ∙ put_same world.clients client step.client
+
+command_at : (world : World) (client : ℕ) (step : Step) → IsCountedStep (world.clients client) none_answered step
+    → IsCountedAt world client → IsCountedAt (stepped_in world client step) client
+command_at world client step counts a up file =
+    let was = ap (λ (l : ℕ → Link). is_up (l client)) (sym (stepped_links world client step)) ∙ up in
+    whole _ _ _ _ _ (stepped_under_way world client step was file) (a was file) (counts file)
+    ∙ ap (λ (m : Client). asked_by m file) (sym (stepped_machine world client step))
+  where
+    whole : (u u1 n b b1 : ℕ) → u1 ≡ u + n → u ≡ b → 0 + b1 ≡ n + b → u1 ≡ b1
+    whole u u1 n b b1 e f i = omega (arith, e, f, i)
+
+-- a parked entry doesn't ask
+parked_idle : (online : Bool) (entry : Entry) (live : LiveEntry) → IsSoundEntry online entry
+    → entry.phase ≡ Phase.Live live → (live.handles == 0) ≡ true → is_asking live ≡ false
+parked_idle online entry live sound is none =
+    let s = subst (λ p. IsSoundPhase online entry.sent p) is sound in
+    not_true (is_asking live) (λ asks. above live.handles (s.1.asking_with_handles asks) (eqb-true live.handles 0 none))
+  where
+    above : (n : ℕ) → 1 ≤ n → n ≡ 0 → ⊥
+    above n h e = omega (arith, h, e)
+
+take_at : (world : World) (client : ℕ) (reply : Reply) (queue : List Reply) → Ground world
+    → world.replies client ≡ reply ∷ queue → IsNamedReply client (Fact.Took client ∷ world.past) reply
+    → IsCountedAt world client → IsCountedAt (reply_taken world client reply queue) client
+take_at world client reply queue g first named a up file =
+    let machine = world.clients client in
+    let gone = reply_gone world client queue in
+    let step = taken machine reply in
+    let was : is_up (world.links client) ≡ true =
+        ap (λ (l : ℕ → Link). is_up (l client)) (sym (stepped_links gone client step)) ∙ up in
+    let counts = any_reply machine (IsCountedTake client machine (Fact.Took client ∷ world.past))
+    (takes_count client machine (Fact.Took client ∷ world.past)
+    (λ f live is none. parked_idle machine.is_online (machine.entries f) live ((g.clients client).entries f) is none))
+    reply named
+    (λ f. low _ _ _ _ _ _ (a was f) (ap (λ (q : List Reply). answers f q) first)) in
+    whole _ _ _ _ _ _ _ _ _ _ (stepped_under_way gone client step was file)
+    (ap (λ (q : List Reply). answers file q) (put_same world.replies client queue)) (a was file)
+    (ap (λ (q : List Reply). answers file q) first) (counts file)
+    ∙ ap (λ (m : Client). asked_by m file) (sym (stepped_machine gone client step))
+  where
+    low : (q h x n b m : ℕ) → q + h + x ≡ b → x ≡ n + m → n ≤ b
+    low q h x n b m e f = omega (arith, e, f)
+
+    whole : (q h x y n m b b1 u z : ℕ) → u ≡ q + h + y + n → y ≡ z → q + h + x ≡ b → x ≡ m + z
+        → m + b1 ≡ n + b → u ≡ b1
+    whole q h x y n m b b1 u z e i j k l = omega (arith, e, i, j, k, l)
+
+-- ---- connections
+
+-- the creates that one entry sends where its client connects
+abbrev sends_again : Client → ℕ → ℕ
+sends_again client file =
+    one_if (has_asked (connect_turn client file (client.entries file).sent (client.entries file).phase).entry.phase)
+
+neither : (b : Bool) → (n : ℕ) → n ≡ 0 → n ≡ (if b then 0 else 0)
+neither true n e = e
+neither false n e = e
+
+one : (b : Bool) → one_if b + 0 ≡ (if b then 1 else 0)
+one true = omega arith
+one false = omega arith
+
+connect_sends : (client : Client) (file other : ℕ) (sent : List Pending) (phase : Phase) → has_asked phase ≡ false
+    → creates other (connect_turn client file sent phase).requests
+    ≡ (if file == other then one_if (has_asked (connect_turn client file sent phase).entry.phase) else 0)
+connect_sends client file other sent Phase.Closed idle = neither (file == other) 0 refl
+connect_sends client file other sent (Phase.Opening access share) never = absurd (true≢false never)
+connect_sends client file other sent (Phase.Live live) idle =
+    neither (file == other) 0 refl ∙ ap (λ b. if file == other then one_if b else 0) (sym idle)
+connect_sends client file other sent (Phase.Offline parted) idle = one (file == other)
+connect_sends client file other sent (Phase.Reconnecting parted) never = absurd (true≢false never)
+
+-- in files that are numbered, each sends once
+all_send : (client : Client) (file : ℕ) → ((f : ℕ) → has_asked (client.entries f).phase ≡ false) → (count : ℕ)
+    → creates file (flat_map (λ f. (connect_turn client f (client.entries f).sent (client.entries f).phase).requests)
+    (numbers_to count)) ≡ (if nat_le 1 file && nat_le file count then sends_again client file else 0)
+all_send client file idle zero = none (nat_le 1 file) (nat_le file 0) (low file)
+  where
+    none : (a b : Bool) → (a && b) ≡ false → 0 ≡ (if a && b then sends_again client file else 0)
+    none a b e = sym (rw (e) refl)
+
+    low : (n : ℕ) → (nat_le 1 n && nat_le n 0) ≡ false
+    low n = grind arith
+all_send client file idle (suc count) =
+    let turn : ℕ → List Request = λ f. (connect_turn client f (client.entries f).sent (client.entries f).phase).requests in
+    ap (creates file) (flat_map-append turn (numbers_to count) (suc count ∷ []))
+    ∙ creates_append file (flat_map turn (numbers_to count)) (flat_map turn (suc count ∷ []))
+    ∙ ap₂ (λ a b. a + b) (all_send client file idle count)
+    (ap (creates file) (append_none (turn (suc count)))
+    ∙ connect_sends client (suc count) file (client.entries (suc count)).sent (client.entries (suc count)).phase
+    (idle (suc count)))
+    ∙ either (suc count == file)
+    (λ here. let e = eqb-true (suc count) file here in
+    ap₂ (λ (a b : Bool). (if a then sends_again client file else 0)
+    + (if b then sends_again client (suc count) else 0)) (below count file e) here
+    ∙ ap (λ n. 0 + sends_again client n) e ∙ zero_plus (sends_again client file)
+    ∙ sym (rw (within count file e) refl))
+    (λ there. ap (λ (b : Bool). (if nat_le 1 file && nat_le file count then sends_again client file else 0)
+    + (if b then sends_again client (suc count) else 0)) there
+    ∙ plus_zero _ ∙ ap (λ (b : Bool). if b then sends_again client file else 0)
+    (further count file (λ e. clash (suc count == file) (eq-eqb (suc count) file e) there)))
+  where
+    append_none : {X : Type 0} (xs : List X) → xs ++ [] ≡ xs
+    append_none [] = refl
+    append_none (x ∷ xs) = ap (λ ys. x ∷ ys) (append_none xs)
+
+    zero_plus : (n : ℕ) → 0 + n ≡ n
+    zero_plus n = omega arith
+
+    plus_zero : (n : ℕ) → n + 0 ≡ n
+    plus_zero n = omega arith
+
+    below : (m n : ℕ) → suc m ≡ n → (nat_le 1 n && nat_le n m) ≡ false
+    below m n e = grind arith
+
+    within : (m n : ℕ) → suc m ≡ n → (nat_le 1 n && nat_le n (suc m)) ≡ true
+    within m n e = grind arith
+
+    further : (m n : ℕ) → suc m ≢ n → (nat_le 1 n && nat_le n m) ≡ (nat_le 1 n && nat_le n (suc m))
+    further m n ne = either (suc m == n) (λ e. absurd (ne (eqb-true (suc m) n e))) (λ e. grind arith)
