@@ -3,10 +3,11 @@ use Rattle.std.proofs.Common.{◌≡◌, ◌≢◌, ◌⊎◌, inl, inr, ⊎_eli
 use Rattle.std.specs.Prelude.{⊤, ◌&&◌, nat_le, Ok, Err, Result, if◌then◌else◌}
 use Rattle.std.proofs.lemmas.Bool.{eq-eqb, eqb-true}
 use Rattle.std.proofs.lemmas.Grind.{flat_map-append}
+use Rattle.lease_state.specs.State.{granted_form_of}
 use Rattle.lease_state.specs.declared.status.Status.{Status}
 use Rattle.lease_model.specs.client.Calls.{ClientCall, client_called}
 use Rattle.lease_model.specs.client.Commanded.{is_asking, commanded}
-use Rattle.lease_model.specs.client.Connection.{all_turned, connection_made, connect_turn}
+use Rattle.lease_model.specs.client.Connection.{all_turned, noticed, connection_made, connect_turn}
 use Rattle.lease_model.specs.client.State.{Client, Entry, LiveEntry, Pending, Phase, knows_file}
 use Rattle.lease_model.specs.client.Step.{Step}
 use Rattle.lease_model.specs.client.Taken.{taken}
@@ -16,7 +17,8 @@ use Rattle.lease_model.specs.records.Facts.{Fact}
 use Rattle.lease_model.specs.records.Past.{has_strayed}
 use Rattle.lease_model.specs.server.Calls.{held_of, file_asked, file_of_create, joined, key_expired}
 use Rattle.lease_model.specs.server.Grant.{lease_after}
-use Rattle.lease_model.specs.server.Progress.{opens_dropped, with_opens, refusal_of}
+use Rattle.lease_model.specs.server.Naming.{key_of}
+use Rattle.lease_model.specs.server.Progress.{opens_dropped, with_opens, break_notice, refusal_of}
 use Rattle.lease_model.specs.server.State.{Server, Held, has_file}
 use Rattle.lease_model.specs.values.Lists.{numbers_to}
 use Rattle.lease_model.specs.values.Tables.{put}
@@ -35,14 +37,15 @@ use Rattle.lease_coherence.proofs.clients.Commands.{any_command}
 use Rattle.lease_coherence.proofs.clients.Takes.{any_reply, has_asked}
 use Rattle.lease_coherence.proofs.creates.Counts.{one_if, creates, create_of, held_creates, answers, answer_of, under_way, creates_append, answers_last, held_among, refusal_answers}
 use Rattle.lease_coherence.proofs.creates.Steps.{asked_by, none_answered, IsCountedStep, IsCountedTake, commands_count, takes_count}
-use Rattle.lease_coherence.proofs.moves.Deeds.{IsSource, HasArrived, WasHeld, with_held, told_to, held_in}
-use Rattle.lease_coherence.proofs.moves.Events.{Ground, Both, come_back, reply_gone, reply_taken}
+use Rattle.lease_coherence.proofs.moves.Deeds.{IsSource, HasArrived, WasHeld, with_held, told_to, held_in, granted_in, reconnected_in, changed_in, without_opens, leased_in, granted_reply, reconnected_reply, done_reply}
+use Rattle.lease_coherence.proofs.moves.Events.{Ground, Both, timed_out, come_back, connected, reply_gone, reply_taken}
 use Rattle.lease_coherence.proofs.moves.Foreign.{IsUnmoved, held_by, filter_last}
 use Rattle.lease_coherence.proofs.moves.Frames.{lease_put_rest, stepped_past, stepped_requests, stepped_replies}
 use Rattle.lease_coherence.proofs.moves.Moves.{IsOldest, rest_of, popped}
 use Rattle.lease_coherence.proofs.moves.Own.{IsOwnMoved}
 use Rattle.lease_coherence.proofs.names.Done.{HasTrueNames}
-use Rattle.lease_coherence.proofs.names.Words.{IsNamedReply, IsNamedAt, Each}
+use Rattle.lease_coherence.proofs.names.Words.{IsNamedReply, IsNamedAt, Each, reply_later}
+use Rattle.lease_coherence.proofs.records.Later.{later_fact}
 
 abbrev pub IsCountedAt : World → ℕ → Type 0
 IsCountedAt world client = is_up (world.links client) ≡ true → (file : ℕ)
@@ -377,3 +380,137 @@ all_send client file idle (suc count) =
 
     further : (m n : ℕ) → suc m ≢ n → (nat_le 1 n && nat_le n m) ≡ (nat_le 1 n && nat_le n (suc m))
     further m n ne = either (suc m == n) (λ e. absurd (ne (eqb-true (suc m) n e))) (λ e. grind arith)
+
+-- of no client that is away is a request held
+none_pass : {X : Type 0} (test : X → Bool) (xs : List X) → ((x : X) → Among x xs → test x ≡ false) → filter test xs ≡ []
+none_pass test [] none = refl
+none_pass test (x ∷ xs) none = if_cases (λ l. l ≡ []) (test x) (x ∷ filter test xs) (filter test xs)
+    (λ passes. clash (test x) passes (none x (inl refl))) (λ fails. none_pass test xs (λ y a. none y (inr a)))
+
+pub none_held : (world : World) (client : ℕ) → Ground world → is_up (world.links client) ≡ false → (file : ℕ)
+    → held_by client (world.server.held file) ≡ []
+none_held world client g down file = none_pass (λ one. one.client == client) (world.server.held file)
+    (λ one a. not_true (one.client == client) (λ own. clash (world.server.present client)
+    (subst (λ c. world.server.present c ≡ true) (eqb-true one.client client own) (g.fine.orderly.held_up file one a))
+    ((g.tied client).present ∙ down)))
+
+-- an entry of a client that isn't connected hasn't asked
+pub away_idle : (online : Bool) (entry : Entry) → online ≡ false → IsSoundEntry online entry
+    → has_asked entry.phase ≡ false
+away_idle online entry off sound = by_phase entry.phase refl
+  where
+    by_phase : (phase : Phase) → entry.phase ≡ phase → has_asked entry.phase ≡ false
+    by_phase Phase.Closed is = ap has_asked is
+    by_phase (Phase.Opening access share) is =
+        clash online (subst (λ p. IsSoundPhase online entry.sent p) is sound) off
+    by_phase (Phase.Live live) is =
+        clash online (subst (λ p. IsSoundPhase online entry.sent p) is sound).0 off
+    by_phase (Phase.Offline parted) is = ap has_asked is
+    by_phase (Phase.Reconnecting parted) is =
+        clash online (subst (λ p. IsSoundPhase online entry.sent p) is sound).0 off
+
+unknown_idle : (client : Client) (file : ℕ) → (client.entries file).phase ≡ Phase.Closed → 0 ≡ sends_again client file
+unknown_idle client file closed =
+    ap (λ p. one_if (has_asked (connect_turn client file (client.entries file).sent p).entry.phase)) (sym closed)
+
+connect_at : (world : World) (client : ℕ) → Ground world → world.links client ≡ Link.Down
+    → IsCountedAt (connected world client) client
+unfolding joined connection_made all_turned
+connect_at world client g down up file =
+    let machine = world.clients client in
+    let back = come_back world client in
+    let step = connection_made machine in
+    let is_off : is_up (world.links client) ≡ false = ap is_up down in
+    let online : machine.is_online ≡ false = g.online client ∙ ap (λ l. not (is_down l)) down in
+    let idle : (f : ℕ) → has_asked (machine.entries f).phase ≡ false =
+        λ f. away_idle machine.is_online (machine.entries f) online ((g.clients client).entries f) in
+    whole _ _ _ _ _ _
+    (stepped_under_way back client step (ap is_up (put_same world.links client Link.Up)) file)
+    (ap (λ (q : List Request). creates file q) ((g.tied client).requests is_off))
+    (ap (λ (l : List Held). held_creates file l) (none_held world client g is_off file))
+    (ap (λ (q : List Reply). answers file q) ((g.tied client).replies is_off))
+    (all_send machine file idle machine.files)
+    ∙ either (knows_file machine file)
+    (λ known. rw (known) refl)
+    (λ unknown. rw (unknown) (unknown_idle machine file ((g.clients client).in_files file unknown)))
+    ∙ ap (λ (m : Client). asked_by m file) (sym (stepped_machine back client step))
+  where
+    whole : (u q h a n m : ℕ) → u ≡ q + h + a + n → q ≡ 0 → h ≡ 0 → a ≡ 0 → n ≡ m → u ≡ m
+    whole u q h a n m e f i j k = omega (arith, e, f, i, j, k)
+
+-- ---- all moves
+
+unmoved_at : (world new : World) (c : ℕ) → IsUnmoved world new c → IsCountedAt world c → IsCountedAt new c
+unmoved_at world new c u a = same_counts world new c u.link u.machine
+    (λ file. ap₂ (λ (q : List Request) (l : List Held). creates file q + held_creates file l + answers file (new.replies c))
+    u.requests (u.held file)
+    ∙ ap (λ (q : List Reply). creates file (world.requests c) + held_creates file (held_by c (world.server.held file))
+    + answers file q) u.replies) a
+
+abbrev pub HasNames : World → Type 0
+HasNames = Both Ground HasTrueNames
+
+pub creates_move : IsOwnMoved HasNames IsCountedAt
+unfolding with_opens key_expired opens_dropped
+creates_move = record {
+  unmoved = λ world new c v good u a. unmoved_at world new c u a;
+  refused = λ world off c request status v good source may a.
+      replied_at world off (told_to off c (refusal_of request status)) c request (refusal_of request status) v.0 source
+      refl refl refl refl refl (λ file. refusal_answers file request status) a;
+  full = λ world off c file access share ask v good source a.
+      replied_at world off (told_to off c (Reply.CreateFailed file Status.InsufficientResources)) c
+      (FileRequest.Create file access share (Some ask)) (Reply.CreateFailed file Status.InsufficientResources) v.0 source
+      refl refl refl refl refl (λ f. refl) a;
+  granted = λ world off c file access share ask v good source none on free a.
+      let lease = lease_after off.server c file ask.lease in
+      replied_at world off (granted_in off c file access share ask lease) c
+      (FileRequest.Create file access share (Some ask)) (granted_reply off.server file ask lease) v.0 source
+      refl refl refl
+      (lease_put_rest off.server c ask.lease (lease_after off.server c file ask.lease)
+      (λ s. s.held ≡ off.server.held) (λ l. refl)) refl (λ f. refl) a;
+  reconnected = λ world off c file access share ask file_id v good source again on waits a.
+      replied_at world off (reconnected_in off c file ask file_id) c (FileRequest.Create file access share (Some ask))
+      (reconnected_reply off.server c file ask file_id) v.0 source refl refl refl refl refl (λ f. refl) a;
+  read = λ world off c file_id one v good source found may a.
+      replied_at world off (told_to off c (Reply.ReadDone file_id (off.server.contents one.file))) c
+      (FileRequest.Read file_id) (Reply.ReadDone file_id (off.server.contents one.file)) v.0 source refl refl refl refl refl (λ f. refl) a;
+  changed = λ world off c file_id number patch one v good source found may a.
+      replied_at world off (changed_in off c one.file file_id number patch) c
+      (FileRequest.Write file_id number patch) (Reply.WriteDone file_id number) v.0 source refl refl refl refl refl (λ f. refl) a;
+  closed = λ world off c file_id one v good source found a.
+      replied_at world off (told_to (without_opens off (λ other. other.file_id == file_id)) c (Reply.Closed file_id)) c
+      (FileRequest.Close file_id) (Reply.Closed file_id) v.0 source refl refl refl refl refl
+      (λ f. refl) a;
+  ack_failed = λ world c given status v good oldest a. told_at world (told_to (popped world c) c (Reply.AckFailed status)) c
+      (Reply.AckFailed status) refl refl
+      (ack_off world c given oldest) refl refl (λ f. refl) a;
+  ack_done = λ world c given lowered v good oldest there breaks within a. told_at world
+      (leased_in (popped world c) (key_of c given.key) (record { state = granted_form_of given.state; broken_to = None })
+      (done_reply given)) c (done_reply given) refl refl
+      (ack_off world c (Some given) oldest) refl refl (λ f. refl) a;
+  hold = λ world file one v good oldest may turn a. hold_at world file one oldest turn a;
+  dropped = λ world c test v good away a. same_counts world (without_opens world test) c refl refl (λ file. refl) a;
+  lower = λ world key lowered v good may light a. told_at world
+      (leased_in world key (record { state = lowered; broken_to = None })
+      (break_notice key (world.server.leases key).state lowered)) key.client
+      (break_notice key (world.server.leases key).state lowered) refl refl (λ f. refl) refl refl
+      (λ f. refl) a;
+  begin = λ world key lowered v good may heavy a. told_at world
+      (leased_in world key (record { state = (world.server.leases key).state; broken_to = Some lowered })
+      (break_notice key (world.server.leases key).state lowered)) key.client
+      (break_notice key (world.server.leases key).state lowered) refl refl (λ f. refl) refl refl
+      (λ f. refl) a;
+  cut = λ world c v good up a on file. absurd (true≢false (sym on ∙ ap is_up (put_same world.links c Link.Cut)));
+  timer = λ world c file v good on breaks a. same_counts world (timed_out world c file) c refl refl (λ f. refl) a;
+  connect = λ world c v good down a. connect_at world c v.0 down;
+  command = λ world c command v good a. command_at world c (commanded (world.clients c) command)
+      (any_command (world.clients c) (IsCountedStep (world.clients c) none_answered)
+      (commands_count (world.clients c)) command) a;
+  take = λ world c reply queue v good first a. take_at world c reply queue v.0 first
+      (reply_later c world.past (Fact.Took c ∷ world.past) (later_fact world.past (Fact.Took c)) reply
+      (subst (Each (IsNamedReply c world.past)) first ((v.1.0 c good).replies)).0) a;
+  notice = λ world c v good cut a on file. absurd (true≢false (sym on
+      ∙ ap (λ (l : ℕ → Link). is_up (l c)) (stepped_links (record world { links = put world.links c Link.Down }) c
+      (noticed (world.clients c)))
+      ∙ ap is_up (put_same world.links c Link.Down)));
+}

@@ -20,7 +20,7 @@ use Rattle.lease_model.specs.server.Grant.{granted, granted_with, lease_after, l
 use Rattle.lease_model.specs.server.Naming.{key_of, own_key}
 use Rattle.lease_model.specs.server.Passes.{is_behind}
 use Rattle.lease_model.specs.server.Progress.{Progress, begun, with_opens, with_lease, break_notice, opens_dropped, lease_lowered, break_begun, request_held, held_left, refused, refusal_of}
-use Rattle.lease_model.specs.server.State.{Open, Held, Lease, has_file, has_lease}
+use Rattle.lease_model.specs.server.State.{Server, Open, Held, Lease, has_file, has_lease}
 use Rattle.lease_model.specs.values.Keys.{Key}
 use Rattle.lease_model.specs.values.Limits.{last_file_id}
 use Rattle.lease_model.specs.values.Lists.{without}
@@ -66,6 +66,23 @@ told_to world client reply = record world {
   replies = put world.replies client (world.replies client ++ reply ∷ []);
   past = Fact.Sent client ∷ world.past;
 }
+
+-- what a create is answered
+abbrev pub granted_reply : Server → ℕ → CreateAsk → Lease → Reply
+granted_reply server file ask lease = Reply.Created file (server.last_id + 1) (Some (record {
+  lease = lease_given ask.lease lease;
+  durable = ask.durable && lease.state.handle;
+}))
+
+abbrev pub reconnected_reply : Server → ℕ → ℕ → CreateAsk → ℕ → Reply
+reconnected_reply server client file ask file_id = Reply.Created file file_id (Some (record {
+  lease = lease_given ask.lease (standing_lease server client ask.lease);
+  durable = false;
+}))
+
+-- what an acknowledgment is answered
+abbrev pub done_reply : LeaseOf → Reply
+done_reply given = Reply.AckDone (Some (record { key = given.key; state = granted_form_of given.state }))
 
 -- a new open is made
 abbrev pub granted_in : World → ℕ → ℕ → Access → Share → CreateAsk → Lease → World
