@@ -3,4 +3,5 @@ pub mod creates
 pub mod moves
 pub mod names
 pub mod records
+pub mod standing
 pub mod wellformed
