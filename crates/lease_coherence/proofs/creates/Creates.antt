@@ -238,7 +238,7 @@ hold_at world at one oldest turn a =
 
 -- ---- steps of the client
 
-up_link : (link : Link) → is_up link ≡ true → link ≡ Link.Up
+pub up_link : (link : Link) → is_up link ≡ true → link ≡ Link.Up
 up_link Link.Up e = refl
 up_link Link.Down e = absurd (true≢false (sym e))
 up_link Link.Cut e = absurd (true≢false (sym e))
@@ -257,7 +257,7 @@ stepped_under_way world client step up file = whole _ _ _ _ _ _ _
     whole : (q q1 h h1 a a1 n : ℕ) → q1 ≡ q + n → h1 ≡ h → a1 ≡ a → q1 + h1 + a1 ≡ q + h + a + n
     whole q q1 h h1 a a1 n e f i = omega (arith, e, f, i)
 
-stepped_machine : (world : World) (client : ℕ) (step : Step) → (stepped_in world client step).clients client ≡ step.client
+pub stepped_machine : (world : World) (client : ℕ) (step : Step) → (stepped_in world client step).clients client ≡ step.client
 stepped_machine world client step =
     ap (λ (t : ℕ → Client). t client) (stepped_clients world client step) ∙ put_same world.clients client step.client
 
