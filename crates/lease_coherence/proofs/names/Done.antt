@@ -185,7 +185,7 @@ back_named world client n c good =
     at_later world (come_back world client) c later refl m.requests m.held m.opens
     (replies_later c world.past _ (world.replies c) later m.replies) m
 
-gone_named : (world : World) (client : ℕ) (reply : Reply) (queue : List Reply) → world.replies client ≡ reply ∷ queue
+pub gone_named : (world : World) (client : ℕ) (reply : Reply) (queue : List Reply) → world.replies client ≡ reply ∷ queue
     → IsNamed world → IsNamed (reply_gone world client queue)
 gone_named world client reply queue first n c good =
     let later = later_fact world.past (Fact.Took client) in
@@ -314,7 +314,7 @@ unfolding starts_from
 starts_true first [] past each = each
 starts_true first (bytes ∷ files) past each = starts_true (first + 1) files (Fact.Start first bytes ∷ past) (tt, each)
 
-first_true : (setup : Setup) → HasTrueNames (first_world setup)
+pub first_true : (setup : Setup) → HasTrueNames (first_world setup)
 unfolding first_world new_server new_client
 first_true setup = (
   λ c good. record {

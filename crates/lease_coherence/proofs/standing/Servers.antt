@@ -130,7 +130,7 @@ told_standing world c reply plain s = given_more world (told_to world c reply) c
     (frame_same world (told_to world c reply) c refl refl (λ one own up a. a)
     (λ P a. record { queued = a.queued; held = a.held })) refl (plain_well _ c reply plain) s
 
-refusal_plain : (request : FileRequest) (status : Status) → plain_reply (refusal_of request status)
+pub refusal_plain : (request : FileRequest) (status : Status) → plain_reply (refusal_of request status)
 refusal_plain (FileRequest.Create file access share contexts) status = tt
 refusal_plain (FileRequest.Read file_id) status = tt
 refusal_plain (FileRequest.Write file_id number patch) status = tt
