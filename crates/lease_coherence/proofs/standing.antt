@@ -1,3 +1,4 @@
+pub mod AllRuns
 pub mod Clients
 pub mod Runs
 pub mod Servers

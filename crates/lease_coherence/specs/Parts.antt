@@ -1,10 +1,14 @@
 -- The parts of the theorem that every run is safe.
-use Rattle.std.specs.Prelude.{◌≡◌, true, List, reverse}
+use Rattle.std.specs.Prelude.{◌≡◌, ℕ, true, false, List, reverse}
 use Rattle.lease_model.specs.records.Facts.{Fact}
+use Rattle.lease_model.specs.records.Past.{has_strayed}
 use Rattle.lease_model.specs.records.Safe.{EachFact, WellFormed, NoFalseDone}
 use Rattle.lease_model.specs.world.Allowed.{is_allowed_setup}
-use Rattle.lease_model.specs.world.Events.{Event, recorded}
-use Rattle.lease_model.specs.world.World.{Setup}
+use Rattle.lease_model.specs.world.Events.{Event, after, recorded}
+use Rattle.lease_model.specs.world.World.{World, Setup, first_world}
+use Rattle.lease_coherence.specs.Creates.{IsCountedAt}
+use Rattle.lease_coherence.specs.Names.{IsNamedAt}
+use Rattle.lease_coherence.specs.Standing.{IsUpStanding}
 
 -- what holds of each fact of every run, with the facts before it
 abbrev pub InRuns : (Fact → List Fact → Type 0) → Type 0
@@ -18,3 +22,21 @@ RunsAreWellFormed = InRuns WellFormed
 -- No write of a run is settled as done that wasn't accepted.
 abbrev pub NothingIsFalselyDone : Type 0
 NothingIsFalselyDone = InRuns NoFalseDone
+
+-- ---- what every run has, of each client that hasn't strayed
+
+abbrev pub OfRuns : (World → ℕ → Type 0) → Type 0
+OfRuns A = (setup : Setup) (events : List Event) (client : ℕ)
+    → has_strayed client (after (first_world setup) events).past ≡ false → A (after (first_world setup) events) client
+
+-- All that it names was told of before.
+abbrev pub NamesOfRuns : Type 0
+NamesOfRuns = OfRuns IsNamedAt
+
+-- While its link is up, a create of a file is under way exactly where the file's entry has asked for one.
+abbrev pub CreatesOfRuns : Type 0
+CreatesOfRuns = OfRuns IsCountedAt
+
+-- While its link is up, the open of each live entry and of each grant on its way stands.
+abbrev pub OpensOfRuns : Type 0
+OpensOfRuns = OfRuns IsUpStanding

@@ -2,5 +2,7 @@
 #![tactic(auto)]
 
 mod parts;
+mod structure;
 
 pub use parts::{nothing_is_falsely_done, runs_are_well_formed};
+pub use structure::runs_have_structure;

@@ -7,7 +7,6 @@ use Rattle.lease_state.specs.declared.access.Access.{Access}
 use Rattle.lease_state.specs.declared.access.Share.{Share}
 use Rattle.lease_state.specs.declared.content.TheConstants.{FILE_LIMIT}
 use Rattle.lease_state.specs.declared.status.Status.{Status}
-use Rattle.lease_model.specs.client.Commanded.{is_asking}
 use Rattle.lease_model.specs.client.State.{Client, LiveEntry, Asked, Parted, Phase, live_entry, lease_key, knows_file}
 use Rattle.lease_model.specs.client.Step.{Step, turned, quiet_step}
 use Rattle.lease_model.specs.client.Taken.{taken, on_file, file_where, is_key_of, break_turn, broken, break_on, create_answered, created_on, created_on_live, created_for, opened_turn, reconnected_turn, promoted_turn, promoted_belief, first_belief, still_open, failed_turn, create_failed, failed_on, create_failed_on_live, create_failed_for, read_answered, read_on, read_turn, reads_under, read_failed, read_failed_on, read_failed_turn, has_sent, write_done, write_done_turn, write_failed, write_failed_in, sent_without}
@@ -16,15 +15,8 @@ use Rattle.lease_model.specs.values.LeaseStates.{meet}
 use Rattle.lease_model.specs.values.Lists.{numbers_to}
 use Rattle.lease_laws.proofs.client.InFiles.{found_known}
 use Rattle.lease_laws.proofs.server.Lists.{if_cases, and_parts, not_parts, find_has}
+use Rattle.lease_coherence.specs.Creates.{has_asked}
 use Rattle.lease_coherence.proofs.clients.Commands.{sent_of}
-
--- the entry has a create under way
-abbrev pub has_asked : Phase → Bool
-has_asked Phase.Closed = false
-has_asked (Phase.Opening access share) = true
-has_asked (Phase.Live live) = is_asking live
-has_asked (Phase.Offline parted) = false
-has_asked (Phase.Reconnecting parted) = true
 
 abbrev pub is_live : Phase → Bool
 is_live (Phase.Live live) = true

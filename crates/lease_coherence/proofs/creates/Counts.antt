@@ -1,49 +1,15 @@
 -- How many creates of a file are under way: asked, held, or answered and not yet taken.
-use Rattle.std.proofs.Common.{◌≡◌, ◌≢◌, ◌⊎◌, inl, inr, ⊎_elim, ℕ, ◌+◌, Bool, true, false, List, [], ◌∷◌, ◌++◌, filter, flat_map, Option, Some, None, refl, sym, ap, ap₂, ◌∙◌, subst, arith, true≢false, ◌==◌}
-use Rattle.std.specs.Prelude.{⊤, if◌then◌else◌}
-use Rattle.std.proofs.lemmas.Bool.{eq-eqb, eqb-true}
+use Rattle.std.proofs.Common.{◌≡◌, ℕ, ◌+◌, Bool, true, false, List, [], ◌∷◌, ◌++◌, refl, sym, ap, ◌∙◌, arith, true≢false, ◌==◌}
+use Rattle.std.specs.Prelude.{if◌then◌else◌}
 use Rattle.lease_state.specs.declared.status.Status.{Status}
-use Rattle.lease_model.specs.client.State.{Pending, Phase}
+use Rattle.lease_model.specs.client.State.{Pending}
 use Rattle.lease_model.specs.client.Step.{write_requests}
 use Rattle.lease_model.specs.messages.Replies.{Reply}
 use Rattle.lease_model.specs.messages.Requests.{FileRequest, Request}
 use Rattle.lease_model.specs.server.Progress.{refusal_of}
 use Rattle.lease_model.specs.server.State.{Held}
-use Rattle.lease_model.specs.world.World.{World}
-use Rattle.lease_laws.specs.server.Laws.{Among}
-use Rattle.lease_laws.proofs.server.Lists.{if_cases, either}
-use Rattle.lease_coherence.proofs.clients.Takes.{has_asked}
-use Rattle.lease_coherence.proofs.moves.Foreign.{held_by}
-
-abbrev pub one_if : Bool → ℕ
-one_if true = 1
-one_if false = 0
-
-abbrev pub create_of : ℕ → FileRequest → ℕ
-create_of file (FileRequest.Create other access share contexts) = one_if (other == file)
-create_of file request = 0
-
-abbrev pub creates : ℕ → List Request → ℕ
-creates file [] = 0
-creates file (Request.OnFile request ∷ queue) = create_of file request + creates file queue
-creates file (Request.Acknowledge given ∷ queue) = creates file queue
-
-abbrev pub held_creates : ℕ → List Held → ℕ
-held_creates file [] = 0
-held_creates file (one ∷ held) = create_of file one.request + held_creates file held
-
-abbrev pub answer_of : ℕ → Reply → ℕ
-answer_of file (Reply.Created other file_id contexts) = one_if (other == file)
-answer_of file (Reply.CreateFailed other status) = one_if (other == file)
-answer_of file reply = 0
-
-abbrev pub answers : ℕ → List Reply → ℕ
-answers file [] = 0
-answers file (reply ∷ queue) = answer_of file reply + answers file queue
-
-abbrev pub under_way : World → ℕ → ℕ → ℕ
-under_way world client file = creates file (world.requests client)
-    + held_creates file (held_by client (world.server.held file)) + answers file (world.replies client)
+use Rattle.lease_laws.proofs.server.Lists.{if_cases}
+use Rattle.lease_coherence.specs.Creates.{answer_of, answers, create_of, creates, held_by, held_creates}
 
 -- ---- sums
 

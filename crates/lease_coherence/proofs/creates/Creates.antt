@@ -1,11 +1,10 @@
 -- While a client's link is up, a create of a file is under way exactly where its entry has asked for one.
-use Rattle.std.proofs.Common.{◌≡◌, ◌≢◌, ◌⊎◌, inl, inr, ⊎_elim, ℕ, zero, suc, ◌+◌, ◌≤◌, ◌<◌, Bool, true, false, not, List, [], ◌∷◌, ◌++◌, filter, flat_map, map, Option, Some, None, refl, sym, ap, ap₂, ◌∙◌, subst, arith, true≢false, ◌==◌}
-use Rattle.std.specs.Prelude.{⊤, ◌&&◌, nat_le, Ok, Err, Result, if◌then◌else◌}
+use Rattle.std.proofs.Common.{◌≡◌, ◌≢◌, inl, inr, ⊎_elim, ℕ, zero, suc, ◌+◌, ◌≤◌, Bool, true, false, not, List, [], ◌∷◌, ◌++◌, filter, flat_map, Option, Some, None, refl, sym, ap, ap₂, ◌∙◌, subst, arith, true≢false, ◌==◌}
+use Rattle.std.specs.Prelude.{◌&&◌, nat_le, Ok, Err, Result, if◌then◌else◌}
 use Rattle.std.proofs.lemmas.Bool.{eq-eqb, eqb-true}
 use Rattle.std.proofs.lemmas.Grind.{flat_map-append}
 use Rattle.lease_state.specs.State.{granted_form_of}
 use Rattle.lease_state.specs.declared.status.Status.{Status}
-use Rattle.lease_model.specs.client.Calls.{ClientCall, client_called}
 use Rattle.lease_model.specs.client.Commanded.{is_asking, commanded}
 use Rattle.lease_model.specs.client.Connection.{all_turned, noticed, connection_made, connect_turn}
 use Rattle.lease_model.specs.client.State.{Client, Entry, LiveEntry, Pending, Phase, knows_file}
@@ -14,7 +13,6 @@ use Rattle.lease_model.specs.client.Taken.{taken}
 use Rattle.lease_model.specs.messages.Replies.{Reply}
 use Rattle.lease_model.specs.messages.Requests.{FileRequest, Request, CreateAsk, LeaseOf}
 use Rattle.lease_model.specs.records.Facts.{Fact}
-use Rattle.lease_model.specs.records.Past.{has_strayed}
 use Rattle.lease_model.specs.server.Calls.{held_of, file_asked, file_of_create, joined, key_expired}
 use Rattle.lease_model.specs.server.Grant.{lease_after}
 use Rattle.lease_model.specs.server.Naming.{key_of}
@@ -24,32 +22,30 @@ use Rattle.lease_model.specs.values.Lists.{numbers_to}
 use Rattle.lease_model.specs.values.Tables.{put}
 use Rattle.lease_model.specs.world.Events.{stepped_in}
 use Rattle.lease_model.specs.world.World.{World, Link, sent_over}
-use Rattle.lease_laws.specs.client.Laws.{IsSoundEntry, IsSoundPhase, IsSoundLive}
+use Rattle.lease_laws.specs.client.Laws.{IsSoundEntry, IsSoundPhase}
 use Rattle.lease_laws.specs.server.Laws.{Among}
 use Rattle.lease_laws.specs.server.SmallSteps.{SmallStep, IsInTurn}
 use Rattle.lease_laws.specs.server.Waiting.{IsAbout}
 use Rattle.lease_laws.specs.world.Links.{is_up, is_down}
 use Rattle.lease_laws.proofs.client.Thin.{put_same, put_other}
-use Rattle.lease_laws.proofs.server.Lists.{if_cases, either, clash, not_true, and_parts, among_behind, among_filter}
-use Rattle.lease_laws.proofs.world.Links.{by_client, stepped_links}
+use Rattle.lease_laws.proofs.server.Lists.{if_cases, either, clash, not_true, among_behind}
+use Rattle.lease_laws.proofs.world.Links.{stepped_links}
 use Rattle.lease_laws.proofs.world.Runs.{stepped_server, stepped_clients}
+use Rattle.lease_coherence.specs.Creates.{IsCountedAt, answer_of, answers, asked_by, create_of, creates, has_asked, held_by, held_creates, one_if, under_way}
+use Rattle.lease_coherence.specs.Names.{Each, IsNamedReply}
 use Rattle.lease_coherence.proofs.clients.Commands.{any_command}
-use Rattle.lease_coherence.proofs.clients.Takes.{any_reply, has_asked}
-use Rattle.lease_coherence.proofs.creates.Counts.{one_if, creates, create_of, held_creates, answers, answer_of, under_way, creates_append, answers_last, held_among, refusal_answers}
-use Rattle.lease_coherence.proofs.creates.Steps.{asked_by, none_answered, IsCountedStep, IsCountedTake, commands_count, takes_count}
+use Rattle.lease_coherence.proofs.clients.Takes.{any_reply}
+use Rattle.lease_coherence.proofs.creates.Counts.{creates_append, answers_last, held_among, refusal_answers}
+use Rattle.lease_coherence.proofs.creates.Steps.{none_answered, IsCountedStep, IsCountedTake, commands_count, takes_count}
 use Rattle.lease_coherence.proofs.moves.Deeds.{IsSource, HasArrived, WasHeld, with_held, told_to, held_in, granted_in, reconnected_in, changed_in, without_opens, leased_in, granted_reply, reconnected_reply, done_reply}
 use Rattle.lease_coherence.proofs.moves.Events.{Ground, Both, timed_out, come_back, connected, reply_gone, reply_taken}
-use Rattle.lease_coherence.proofs.moves.Foreign.{IsUnmoved, held_by, filter_last}
-use Rattle.lease_coherence.proofs.moves.Frames.{lease_put_rest, stepped_past, stepped_requests, stepped_replies}
+use Rattle.lease_coherence.proofs.moves.Foreign.{IsUnmoved}
+use Rattle.lease_coherence.proofs.moves.Frames.{lease_put_rest, stepped_requests, stepped_replies}
 use Rattle.lease_coherence.proofs.moves.Moves.{IsOldest, rest_of, popped}
 use Rattle.lease_coherence.proofs.moves.Own.{IsOwnMoved}
 use Rattle.lease_coherence.proofs.names.Done.{HasTrueNames}
-use Rattle.lease_coherence.proofs.names.Words.{IsNamedReply, IsNamedAt, Each, reply_later}
+use Rattle.lease_coherence.proofs.names.Words.{reply_later}
 use Rattle.lease_coherence.proofs.records.Later.{later_fact}
-
-abbrev pub IsCountedAt : World → ℕ → Type 0
-IsCountedAt world client = is_up (world.links client) ≡ true → (file : ℕ)
-    → under_way world client file ≡ asked_by (world.clients client) file
 
 -- the same queues and the same entries
 same_counts : (world new : World) (c : ℕ) → new.links c ≡ world.links c → new.clients c ≡ world.clients c

@@ -1,31 +1,26 @@
 -- What a client's step adds to the creates under way, and what it takes.
-use Rattle.std.proofs.Common.{◌≡◌, ◌≢◌, ◌⊎◌, inl, inr, ⊎_elim, ℕ, suc, ◌+◌, ◌≤◌, Bool, true, false, List, [], ◌∷◌, ◌++◌, flat_map, Option, Some, None, refl, sym, ap, ap₂, ◌∙◌, subst, arith, true≢false, ◌==◌}
-use Rattle.std.specs.Prelude.{⊤, is_some, ◌&&◌, not, if◌then◌else◌}
+use Rattle.std.proofs.Common.{◌≡◌, ◌≢◌, ℕ, ◌+◌, ◌≤◌, Bool, true, false, List, [], ◌∷◌, ◌++◌, Option, Some, None, refl, sym, ap, ap₂, ◌∙◌, subst, arith, ◌==◌}
+use Rattle.std.specs.Prelude.{is_some, ◌&&◌, not, if◌then◌else◌}
 use Rattle.std.proofs.lemmas.Bool.{eq-eqb, eqb-true}
 use Rattle.lease_state.specs.State.{State}
 use Rattle.lease_state.specs.declared.status.Status.{Status}
 use Rattle.lease_model.specs.client.Commanded.{is_asking, next_write, cached_read, opened_anew, write_buffered, write_sent, flush_on_live, wrote_step}
 use Rattle.lease_model.specs.client.Commands.{Answer}
-use Rattle.lease_model.specs.client.Connection.{all_turned, connection_made, connect_turn}
-use Rattle.lease_model.specs.client.State.{Client, Entry, LiveEntry, Asked, Parted, Pending, Phase}
+use Rattle.lease_model.specs.client.State.{Client, Entry, LiveEntry, Asked, Pending, Phase}
 use Rattle.lease_model.specs.client.Step.{Step, Turn, turned, write_requests}
-use Rattle.lease_model.specs.client.Taken.{break_turn, parked_closed, belief_lowered, acknowledgment, flushed, opened_turn, reconnected_turn, promoted_turn, read_turn, read_failed_turn, is_file_closed, closed_by_server, without_open, phase_with, write_done_turn, write_failed_in}
+use Rattle.lease_model.specs.client.Taken.{break_turn, parked_closed, belief_lowered, flushed, opened_turn, reconnected_turn, promoted_turn, read_turn, read_failed_turn, is_file_closed, closed_by_server, without_open, phase_with, write_done_turn, write_failed_in}
 use Rattle.lease_model.specs.messages.Replies.{Reply, BreakNotice}
 use Rattle.lease_model.specs.messages.Requests.{FileRequest, Request}
 use Rattle.lease_model.specs.records.Facts.{Fact}
-use Rattle.lease_model.specs.values.Lists.{numbers_to}
 use Rattle.lease_model.specs.values.Tables.{put}
 use Rattle.lease_laws.proofs.client.Thin.{put_same, put_other}
-use Rattle.lease_laws.proofs.server.Lists.{if_cases, either, clash, and_parts}
+use Rattle.lease_laws.proofs.server.Lists.{if_cases, either, and_parts}
 use Rattle.lease_laws.proofs.world.Links.{by_client}
-use Rattle.lease_coherence.proofs.clients.Commands.{HasCommands, IsEntry, sent_of}
-use Rattle.lease_coherence.proofs.clients.Takes.{HasTakes, PassesOver, has_asked}
-use Rattle.lease_coherence.proofs.creates.Counts.{one_if, creates, create_of, creates_append, answer_of, writes_create}
-use Rattle.lease_coherence.proofs.names.Words.{IsNamedReply}
-
--- the creates under way that an entry stands for
-abbrev pub asked_by : Client → ℕ → ℕ
-asked_by client file = one_if (has_asked (client.entries file).phase)
+use Rattle.lease_coherence.specs.Creates.{answer_of, asked_by, creates, has_asked, one_if}
+use Rattle.lease_coherence.specs.Names.{IsNamedReply}
+use Rattle.lease_coherence.proofs.clients.Commands.{HasCommands, sent_of}
+use Rattle.lease_coherence.proofs.clients.Takes.{HasTakes, PassesOver}
+use Rattle.lease_coherence.proofs.creates.Counts.{creates_append, writes_create}
 
 -- a step of the client: so many creates were answered to it
 abbrev pub IsCountedStep : Client → (ℕ → ℕ) → Step → Type 0

@@ -1,57 +1,33 @@
 -- What others do leaves a client's part of a world alone: its queues, its requests that are held, its opens and its
 -- leases. So what is said of one client has to be shown for its own moves alone.
-use Rattle.std.proofs.Common.{◌≡◌, ◌≢◌, ◌⊎◌, inl, inr, ⊎_elim, ℕ, ◌+◌, Bool, true, false, not, List, [], ◌∷◌, ◌++◌, map, filter, Option, Some, None, refl, sym, ap, ◌∙◌, subst, true≢false, ◌==◌}
-use Rattle.std.specs.Prelude.{⊤, ◌&&◌, ◌||◌, bytes_eq, if◌then◌else◌}
+use Rattle.std.proofs.Common.{◌≡◌, ◌≢◌, inl, inr, ⊎_elim, ℕ, Bool, true, false, not, List, [], ◌∷◌, ◌++◌, map, filter, Option, Some, None, refl, sym, ap, ◌∙◌, subst, true≢false, ◌==◌}
+use Rattle.std.specs.Prelude.{if◌then◌else◌}
 use Rattle.std.specs.List.{list_any}
-use Rattle.std.proofs.lemmas.Bool.{eq-eqb, eqb-true}
-use Rattle.lease_state.specs.State.{State, granted_form_of, is_state_within, needs_acknowledgment}
+use Rattle.std.proofs.lemmas.Bool.{eqb-true}
 use Rattle.lease_state.specs.declared.access.Access.{Access}
 use Rattle.lease_state.specs.declared.access.Share.{Share}
 use Rattle.lease_state.specs.declared.patch.Patch.{Patch}
-use Rattle.lease_state.specs.declared.status.Status.{Status}
-use Rattle.lease_model.specs.client.Calls.{ClientCall, client_called}
-use Rattle.lease_model.specs.client.Commanded.{commanded}
-use Rattle.lease_model.specs.client.Commands.{Command}
-use Rattle.lease_model.specs.client.Connection.{noticed, connection_made}
-use Rattle.lease_model.specs.client.State.{Client}
-use Rattle.lease_model.specs.client.Step.{Step}
-use Rattle.lease_model.specs.client.Taken.{taken}
-use Rattle.lease_model.specs.messages.Replies.{Reply, Out}
-use Rattle.lease_model.specs.messages.Requests.{FileRequest, Request, CreateAsk, LeaseOf}
+use Rattle.lease_model.specs.messages.Replies.{Reply}
+use Rattle.lease_model.specs.messages.Requests.{FileRequest, CreateAsk, LeaseOf}
 use Rattle.lease_model.specs.records.Facts.{Fact}
-use Rattle.lease_model.specs.records.Past.{has_strayed}
-use Rattle.lease_model.specs.server.Attempt.{is_left_open}
-use Rattle.lease_model.specs.server.Calls.{held_of, disconnected, is_lost, joined, key_expired, opens_disconnected, client_forgotten, is_left_behind}
-use Rattle.lease_model.specs.server.Findings.{connected_open, awaits}
-use Rattle.lease_model.specs.server.Grant.{connected_again, lease_after, lease_put, new_open}
-use Rattle.lease_model.specs.server.Naming.{key_of, own_key}
-use Rattle.lease_model.specs.server.Progress.{begun, opens_dropped, with_opens, break_notice, refusal_of}
-use Rattle.lease_model.specs.server.Queries.{breaking}
-use Rattle.lease_model.specs.server.State.{Server, Open, Held, Lease, no_lease, is_key, has_key, has_file, has_lease}
+use Rattle.lease_model.specs.server.Calls.{held_of}
+use Rattle.lease_model.specs.server.Grant.{lease_put, new_open}
+use Rattle.lease_model.specs.server.Naming.{key_of}
+use Rattle.lease_model.specs.server.Progress.{with_opens}
+use Rattle.lease_model.specs.server.State.{Open, Held, Lease, no_lease, is_key, has_key}
 use Rattle.lease_model.specs.values.Keys.{Key}
 use Rattle.lease_model.specs.values.Lists.{without}
-use Rattle.lease_model.specs.values.Sharing.{may_read}
-use Rattle.lease_model.specs.values.Tables.{put, put_key}
-use Rattle.lease_model.specs.world.Events.{stepped_in, machine_key}
-use Rattle.lease_model.specs.world.World.{World, Link, happened, requests_sent, sent_over}
+use Rattle.lease_model.specs.values.Tables.{put}
+use Rattle.lease_model.specs.world.World.{World}
 use Rattle.lease_laws.specs.server.Laws.{Among}
-use Rattle.lease_laws.specs.server.SmallSteps.{SmallStep, step_taken, IsFree, IsAwaitedAt, MayChange, MayRefuse, MayLower, MayHold, IsInTurn}
-use Rattle.lease_laws.proofs.client.Thin.{put_same, put_other}
+use Rattle.lease_laws.proofs.client.Thin.{put_other}
 use Rattle.lease_laws.proofs.server.Keys.{put_key-cases}
-use Rattle.lease_laws.proofs.server.Lists.{if_cases, either, clash, and_parts, not_true, not_parts, among_append, among_before, among_filter, among_filtered, among_map, any_has, has_any, true_or}
-use Rattle.lease_laws.proofs.world.Links.{by_client, stepped_links}
-use Rattle.lease_laws.proofs.world.Runs.{stepped_server, stepped_clients}
-use Rattle.lease_coherence.proofs.moves.Deeds.{HasDeeds, IsSource, HasArrived, WasHeld, step_deed, with_held, told_to, granted_in, reconnected_in, changed_in, without_opens, leased_in, held_in}
-use Rattle.lease_coherence.proofs.moves.Events.{Ground, IsMoved, cut_off, timed_out, left_behind, come_back, connected, reply_gone, reply_taken, noticed_by, strayed}
-use Rattle.lease_coherence.proofs.moves.Frames.{stepped_past, stepped_requests, stepped_replies}
-use Rattle.lease_coherence.proofs.moves.Ground.{moved_past}
-use Rattle.lease_coherence.proofs.moves.Moves.{IsNext, IsOldest, rest_of, popped, moved}
-use Rattle.lease_coherence.proofs.records.Later.{IsLater, later_same, later_then, later_fact, later_two, later_told, later_noted, past_noted}
-use Rattle.lease_laws.proofs.world.FileIds.{told}
-
--- the requests of a client among those that are held
-abbrev pub held_by : ℕ → List Held → List Held
-held_by client held = filter (λ one. one.client == client) held
+use Rattle.lease_laws.proofs.server.Lists.{if_cases, clash, and_parts, not_true, among_append, among_before, among_filter, among_filtered, among_map, any_has, has_any}
+use Rattle.lease_coherence.specs.Creates.{held_by}
+use Rattle.lease_coherence.proofs.moves.Deeds.{IsSource, with_held, told_to, granted_in, changed_in, without_opens, leased_in}
+use Rattle.lease_coherence.proofs.moves.Events.{Ground}
+use Rattle.lease_coherence.proofs.moves.Moves.{popped}
+use Rattle.lease_coherence.proofs.records.Later.{IsLater, later_same, later_then, later_fact, later_two}
 
 -- a client's part of a world stays as it is
 pub record IsUnmoved (world : World) (new : World) (client : ℕ) : Type 0 where

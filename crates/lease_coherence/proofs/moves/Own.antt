@@ -1,7 +1,5 @@
 -- What is said of one client has to be shown for its own moves alone.
-use Rattle.std.proofs.Common.{◌≡◌, ◌≢◌, ◌⊎◌, inl, inr, ⊎_elim, ℕ, Bool, true, false, not, List, [], ◌∷◌, ◌++◌, map, filter, Option, Some, None, refl, sym, ap, ◌∙◌, subst, true≢false, ◌==◌}
-use Rattle.std.specs.Prelude.{⊤, ◌&&◌, ◌||◌, if◌then◌else◌}
-use Rattle.std.specs.List.{list_any}
+use Rattle.std.proofs.Common.{◌≡◌, ◌≢◌, ℕ, Bool, true, false, not, List, [], ◌∷◌, ◌++◌, map, Option, Some, None, refl, sym, ap, ◌∙◌, subst, ◌==◌}
 use Rattle.std.proofs.lemmas.Bool.{eq-eqb, eqb-true}
 use Rattle.lease_state.specs.State.{State, granted_form_of, is_state_within, needs_acknowledgment}
 use Rattle.lease_state.specs.declared.access.Access.{Access}
@@ -10,16 +8,14 @@ use Rattle.lease_state.specs.declared.patch.Patch.{Patch}
 use Rattle.lease_state.specs.declared.status.Status.{Status}
 use Rattle.lease_model.specs.client.Commanded.{commanded}
 use Rattle.lease_model.specs.client.Commands.{Command}
-use Rattle.lease_model.specs.client.Connection.{noticed, connection_made}
 use Rattle.lease_model.specs.client.Step.{Step}
-use Rattle.lease_model.specs.client.Taken.{taken}
 use Rattle.lease_model.specs.messages.Replies.{Reply}
 use Rattle.lease_model.specs.messages.Requests.{FileRequest, Request, CreateAsk, LeaseOf}
 use Rattle.lease_model.specs.records.Facts.{Fact}
 use Rattle.lease_model.specs.records.Past.{has_strayed}
 use Rattle.lease_model.specs.server.Attempt.{is_left_open}
 use Rattle.lease_model.specs.server.Calls.{disconnected, is_lost, joined, key_expired, opens_disconnected, client_forgotten, is_left_behind}
-use Rattle.lease_model.specs.server.Findings.{connected_open, awaits}
+use Rattle.lease_model.specs.server.Findings.{connected_open}
 use Rattle.lease_model.specs.server.Grant.{connected_again, lease_after}
 use Rattle.lease_model.specs.server.Naming.{key_of, own_key}
 use Rattle.lease_model.specs.server.Progress.{begun, opens_dropped, with_opens, break_notice, refusal_of}
@@ -28,27 +24,27 @@ use Rattle.lease_model.specs.server.State.{Server, Open, Held, has_key, has_file
 use Rattle.lease_model.specs.values.Keys.{Key}
 use Rattle.lease_model.specs.values.Lists.{without}
 use Rattle.lease_model.specs.values.Sharing.{may_read}
-use Rattle.lease_model.specs.values.Tables.{put, put_key}
+use Rattle.lease_model.specs.values.Tables.{put}
 use Rattle.lease_model.specs.world.Events.{stepped_in, machine_key}
-use Rattle.lease_model.specs.world.World.{World, Link, happened, requests_sent}
+use Rattle.lease_model.specs.world.World.{World, Link, requests_sent}
 use Rattle.lease_laws.specs.server.Laws.{Among}
 use Rattle.lease_laws.specs.world.FileIds.{was_opened}
 use Rattle.lease_laws.specs.server.SmallSteps.{SmallStep, step_taken, IsFree, IsAwaitedAt, MayChange, MayRefuse, MayLower, MayHold, IsInTurn}
-use Rattle.lease_laws.proofs.client.Thin.{put_same, put_other}
+use Rattle.lease_laws.proofs.client.Thin.{put_other}
 use Rattle.lease_laws.proofs.server.Keys.{put_key-cases}
-use Rattle.lease_laws.proofs.server.Lists.{if_cases, either, clash, and_parts, not_true, not_parts, among_filter, among_filtered, find_has, true_or}
-use Rattle.lease_laws.proofs.world.FileIds.{told}
+use Rattle.lease_laws.proofs.server.Lists.{if_cases, either, clash, and_parts, not_true, not_parts, find_has, true_or}
 use Rattle.lease_laws.proofs.world.Links.{by_client, stepped_links}
 use Rattle.lease_laws.proofs.world.Runs.{stepped_server, stepped_clients}
-use Rattle.lease_coherence.proofs.moves.Deeds.{HasDeeds, IsSource, step_deed, told_to, granted_in, reconnected_in, changed_in, without_opens, leased_in, held_in, with_held}
-use Rattle.lease_coherence.proofs.moves.Events.{Ground, IsMoved, cut_off, timed_out, left_behind, come_back, connected, reply_gone, reply_taken, noticed_by, strayed}
-use Rattle.lease_coherence.proofs.moves.Foreign.{IsUnmoved, unmoved_same, unmoved_then, apart, key_client, held_by, filter_last, filter_twice, unmoved_off, off_ground, unmoved_told, unmoved_popped, unmoved_held, unmoved_opens, unmoved_without, unmoved_leased, unmoved_granted, unmoved_mapped, unmoved_content}
+use Rattle.lease_coherence.specs.Creates.{held_by}
+use Rattle.lease_coherence.proofs.moves.Deeds.{HasDeeds, IsSource, step_deed, told_to, granted_in, reconnected_in, changed_in, without_opens, leased_in, held_in}
+use Rattle.lease_coherence.proofs.moves.Events.{Ground, IsMoved, cut_off, timed_out, come_back, connected, reply_gone, reply_taken, noticed_by, strayed}
+use Rattle.lease_coherence.proofs.moves.Foreign.{IsUnmoved, unmoved_same, unmoved_then, apart, key_client, filter_last, filter_twice, unmoved_off, off_ground, unmoved_told, unmoved_popped, unmoved_held, unmoved_without, unmoved_leased, unmoved_granted, unmoved_mapped, unmoved_content}
 use Rattle.lease_coherence.proofs.moves.Frames.{stepped_past, stepped_requests, stepped_replies}
 use Rattle.lease_coherence.proofs.moves.Ground.{moved_past}
-use Rattle.lease_coherence.proofs.moves.Moves.{IsNext, IsOldest, rest_of, popped, moved}
-use Rattle.lease_coherence.proofs.names.Names.{IsCountedOff, off_counted, awaits_parts, open_parts}
+use Rattle.lease_coherence.proofs.moves.Moves.{IsOldest, popped}
+use Rattle.lease_coherence.proofs.names.Names.{off_counted, awaits_parts, open_parts}
 use Rattle.lease_coherence.proofs.names.Words.{opened_by}
-use Rattle.lease_coherence.proofs.records.Later.{IsLater, later_same, later_then, later_fact, later_told, later_noted}
+use Rattle.lease_coherence.proofs.records.Later.{IsLater, later_then, later_fact, later_told, later_noted}
 
 -- of each client that hasn't strayed
 abbrev pub OfGood : (World → ℕ → Type 0) → World → Type 0

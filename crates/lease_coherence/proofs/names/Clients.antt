@@ -1,6 +1,6 @@
 -- What a client's step names was told of before, and a write that it settles as done was accepted.
-use Rattle.std.proofs.Common.{◌≡◌, ◌≢◌, ℕ, ◌+◌, Bool, true, false, List, [], ◌∷◌, ◌++◌, flat_map, Option, Some, None, refl, sym, ap, ◌∙◌, subst, ◌==◌}
-use Rattle.std.specs.Prelude.{⊤, ◌&&◌, ◌||◌, not, bytes_eq, filter, find, if◌then◌else◌}
+use Rattle.std.proofs.Common.{◌≡◌, ℕ, Bool, true, false, List, [], ◌∷◌, ◌++◌, flat_map, Option, Some, None, refl, sym, subst, ◌==◌}
+use Rattle.std.specs.Prelude.{⊤, ◌&&◌, not, bytes_eq, find, if◌then◌else◌}
 use Rattle.std.proofs.lemmas.Bool.{eq-eqb}
 use Rattle.std.proofs.lemmas.Slice.Eq.{bytes_eq-Decides}
 use Rattle.lease_state.specs.State.{State}
@@ -11,24 +11,25 @@ use Rattle.lease_model.specs.client.Commanded.{create_request, joint_terms, wrot
 use Rattle.lease_model.specs.client.Commands.{Answer, Note, OpenTerms, Settlement}
 use Rattle.lease_model.specs.client.Connection.{all_turned, noticed, connection_made, notice_turn, connect_turn, live_noticed, live_parted, reconnect_request}
 use Rattle.lease_model.specs.client.State.{Client, Entry, LiveEntry, Asked, Parted, Pending, Phase, lease_key, belief_of}
-use Rattle.lease_model.specs.client.Step.{Step, Turn, turned, believes_noted, settled_as, write_requests, refused_step, quiet_step}
-use Rattle.lease_model.specs.client.Taken.{file_where, is_key_of, flushed, unflushed, gives_up, acknowledgment, belief_lowered, parked_closed, break_turn, opened_turn, reconnected_turn, promoted_turn, promoted_belief, first_belief, read_turn, read_failed_turn, is_file_closed, without_open, closed_by_server, is_numbered, base_with, phase_with, write_done_turn, write_failed_in, sent_without}
-use Rattle.lease_model.specs.messages.Replies.{Reply, BreakNotice, CreateAnswer}
+use Rattle.lease_model.specs.client.Step.{Step, Turn, turned, believes_noted, settled_as, write_requests}
+use Rattle.lease_model.specs.client.Taken.{is_key_of, flushed, unflushed, gives_up, acknowledgment, belief_lowered, parked_closed, break_turn, opened_turn, reconnected_turn, promoted_turn, promoted_belief, first_belief, read_turn, read_failed_turn, is_file_closed, without_open, closed_by_server, is_numbered, phase_with, write_done_turn, write_failed_in, sent_without}
+use Rattle.lease_model.specs.messages.Replies.{Reply, BreakNotice}
 use Rattle.lease_model.specs.messages.Requests.{FileRequest, Request}
 use Rattle.lease_model.specs.records.Facts.{Fact}
 use Rattle.lease_model.specs.records.Past.{has_written, is_accepted}
 use Rattle.lease_model.specs.values.LeaseStates.{same_state, meet}
-use Rattle.lease_model.specs.values.Lists.{numbers_to, without}
+use Rattle.lease_model.specs.values.Lists.{numbers_to}
 use Rattle.lease_model.specs.values.Patches.{same_patch}
 use Rattle.lease_model.specs.values.Tables.{put}
 use Rattle.lease_laws.specs.world.FileIds.{was_opened}
 use Rattle.lease_laws.proofs.client.Thin.{put_same, put_other}
 use Rattle.lease_laws.proofs.server.Lists.{if_cases, true_or, and_both}
 use Rattle.lease_laws.proofs.world.Links.{by_client}
-use Rattle.lease_coherence.proofs.clients.Commands.{HasCommands, IsEntry, any_command, sent_of}
+use Rattle.lease_coherence.specs.Names.{Each, IsNamedEntry, IsNamedPhase, IsNamedReply, IsNamedRequest, WasWritten}
+use Rattle.lease_coherence.proofs.clients.Commands.{HasCommands, any_command, sent_of}
 use Rattle.lease_coherence.proofs.clients.Takes.{HasTakes, any_reply, found_so}
-use Rattle.lease_coherence.proofs.names.Words.{WasOpenedOn, WasWrittenOn, IsOwnCreate, IsOwnAck, IsNamedRequest, IsNamedReply, IsNamedPhase, IsNamedEntry, Each, WasWritten, each_append, each_filter, each_without, each_either, request_later, writes_later, entry_later}
-use Rattle.lease_coherence.proofs.records.Later.{IsLater, later_same, later_fact, later_noted, past_noted}
+use Rattle.lease_coherence.proofs.names.Words.{each_append, each_filter, each_without, each_either, request_later, writes_later, entry_later}
+use Rattle.lease_coherence.proofs.records.Later.{IsLater, later_fact, later_noted, past_noted}
 use Rattle.lease_coherence.proofs.wellformed.Notes.{EachNote, notes_append}
 
 -- a write that is settled as done was accepted

@@ -1,7 +1,6 @@
 -- Every move keeps what clients name, and so no write is settled as done that wasn't accepted.
-use Rattle.std.proofs.Common.{◌≡◌, ◌≢◌, ◌⊎◌, inl, inr, ⊎_elim, ℕ, ◌+◌, Bool, true, false, not, List, [], ◌∷◌, ◌++◌, map, filter, reverse, Option, Some, None, refl, sym, ap, ◌∙◌, subst, true≢false, ◌==◌}
-use Rattle.std.specs.Prelude.{⊤}
-use Rattle.std.proofs.lemmas.Bool.{eq-eqb, eqb-true}
+use Rattle.std.proofs.Common.{◌≡◌, ◌≢◌, ℕ, ◌+◌, false, not, List, [], ◌∷◌, refl, sym, ap, ◌∙◌, subst, ◌==◌}
+use Rattle.std.proofs.lemmas.Bool.{eq-eqb}
 use Rattle.std.proofs.lemmas.List.{reverse-reverse}
 use mathlib.Core.List.{reverse_aux}
 use Rattle.lease_model.specs.client.Calls.{ClientCall, client_called}
@@ -12,34 +11,33 @@ use Rattle.lease_model.specs.client.Step.{Step}
 use Rattle.lease_model.specs.messages.Replies.{Reply, Out}
 use Rattle.lease_model.specs.messages.Requests.{Request}
 use Rattle.lease_model.specs.records.Facts.{Fact}
-use Rattle.lease_model.specs.records.Past.{has_strayed, is_accepted}
+use Rattle.lease_model.specs.records.Past.{has_strayed}
 use Rattle.lease_model.specs.records.Safe.{EachFact, NoFalseDone}
 use Rattle.lease_model.specs.server.Calls.{disconnected, is_lost, joined, key_expired, opens_disconnected, client_forgotten, is_left_behind}
 use Rattle.lease_model.specs.server.Progress.{begun, opens_dropped, with_opens}
-use Rattle.lease_model.specs.server.State.{Server, Open, Held, has_key, new_server}
+use Rattle.lease_model.specs.server.State.{Server, Open, has_key, new_server}
 use Rattle.lease_model.specs.values.Lists.{without}
 use Rattle.lease_model.specs.values.Tables.{put}
-use Rattle.lease_model.specs.world.Allowed.{is_allowed_setup}
-use Rattle.lease_model.specs.world.Events.{Event, stepped_in, after, recorded, machine_key}
-use Rattle.lease_model.specs.world.World.{World, Setup, Link, first_world, starts_from, requests_sent, sent_over, fact_of, happened}
+use Rattle.lease_model.specs.world.Events.{Event, stepped_in, after, machine_key}
+use Rattle.lease_model.specs.world.World.{World, Setup, Link, first_world, starts_from, requests_sent, sent_over}
 use Rattle.lease_laws.specs.server.Laws.{Among}
 use Rattle.lease_laws.specs.server.SmallSteps.{SmallStep, step_taken}
-use Rattle.lease_laws.specs.world.Links.{is_up}
 use Rattle.lease_laws.proofs.client.Forms.{commanded-stays, taken-stays}
 use Rattle.lease_laws.proofs.client.Thin.{put_same, put_other}
 use Rattle.lease_laws.proofs.server.Lists.{if_cases, either, clash, among_filter, among_map, true_or}
-use Rattle.lease_laws.proofs.world.FileIds.{told, fact_told}
+use Rattle.lease_laws.proofs.world.FileIds.{told}
 use Rattle.lease_laws.proofs.world.Links.{by_client}
 use Rattle.lease_laws.proofs.world.Runs.{stepped_server, stepped_clients}
+use Rattle.lease_coherence.specs.Names.{Each, IsNamed, IsNamedAt, IsNamedEntry, IsNamedOnFile, IsNamedReply, IsNamedRequest, IsOwnOpen}
 use Rattle.lease_coherence.specs.Parts.{NothingIsFalselyDone}
 use Rattle.lease_coherence.proofs.moves.Deeds.{step_deed}
-use Rattle.lease_coherence.proofs.moves.Events.{Ground, IsMoved, Both, carried_both, runs_have, cut_off, timed_out, left_behind, come_back, connected, reply_gone, strayed}
+use Rattle.lease_coherence.proofs.moves.Events.{Ground, IsMoved, Both, carried_both, runs_have, cut_off, timed_out, left_behind, come_back, reply_gone, strayed}
 use Rattle.lease_coherence.proofs.moves.Frames.{stepped_past, stepped_requests, stepped_replies}
 use Rattle.lease_coherence.proofs.moves.Ground.{ground_carried, first_ground, moved_past}
 use Rattle.lease_coherence.proofs.moves.Moves.{IsNext, moved}
-use Rattle.lease_coherence.proofs.names.Clients.{IsStepNamed, IsCallNamed, IsTrueDone, HasNames, call_named}
+use Rattle.lease_coherence.proofs.names.Clients.{IsCallNamed, IsTrueDone, call_named}
 use Rattle.lease_coherence.proofs.names.Names.{at_later, replies_later, deeds_named}
-use Rattle.lease_coherence.proofs.names.Words.{IsNamedRequest, IsNamedReply, IsNamedEntry, IsOwnOpen, IsNamedOnFile, IsNamedAt, IsNamed, Each, each_append, each_weaker, each_rest, request_later, on_file_later, entry_later}
+use Rattle.lease_coherence.proofs.names.Words.{each_append, each_weaker, request_later, on_file_later}
 use Rattle.lease_coherence.proofs.records.Later.{IsLater, later_same, later_then, later_fact, later_told, later_noted, past_noted}
 use Rattle.lease_coherence.proofs.wellformed.Notes.{EachNote}
 

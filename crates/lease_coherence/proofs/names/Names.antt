@@ -1,53 +1,41 @@
 -- In every run, all that a client names that hasn't strayed was told of before; so a write that it settles as done was
 -- accepted.
-use Rattle.std.proofs.Common.{◌≡◌, ◌≢◌, ◌⊎◌, inl, inr, ⊎_elim, ℕ, ◌+◌, Bool, true, false, not, List, [], ◌∷◌, ◌++◌, map, reverse, Option, Some, None, refl, sym, ap, ◌∙◌, subst, true≢false, ◌==◌}
-use Rattle.std.specs.Prelude.{⊤, ◌&&◌, ◌||◌}
+use Rattle.std.proofs.Common.{◌≡◌, inl, ⊎_elim, ℕ, ◌+◌, true, false, not, List, [], ◌∷◌, ◌++◌, map, Option, Some, None, refl, sym, ap, ◌∙◌, subst, true≢false, ◌==◌}
+use Rattle.std.specs.Prelude.{◌&&◌}
 use Rattle.std.proofs.lemmas.Bool.{eq-eqb, eqb-true}
-use Rattle.std.proofs.lemmas.List.{reverse-reverse}
 use Rattle.lease_state.specs.declared.access.Access.{Access}
 use Rattle.lease_state.specs.declared.access.Share.{Share}
 use Rattle.lease_state.specs.declared.patch.Patch.{Patch}
 use Rattle.lease_state.specs.declared.status.Status.{Status}
-use Rattle.lease_model.specs.client.Calls.{ClientCall, client_called}
-use Rattle.lease_model.specs.client.Commanded.{commanded}
-use Rattle.lease_model.specs.client.Commands.{Note, Settlement}
-use Rattle.lease_model.specs.client.State.{Client, new_client, lease_key}
-use Rattle.lease_model.specs.client.Taken.{taken}
+use Rattle.lease_model.specs.client.State.{Client, lease_key}
 use Rattle.lease_model.specs.messages.Replies.{Reply}
-use Rattle.lease_model.specs.messages.Requests.{FileRequest, Request, CreateAsk, LeaseOf}
+use Rattle.lease_model.specs.messages.Requests.{FileRequest, Request, CreateAsk}
 use Rattle.lease_model.specs.records.Facts.{Fact}
 use Rattle.lease_model.specs.records.Past.{has_strayed, has_written, is_accepted}
-use Rattle.lease_model.specs.records.Safe.{EachFact, NoFalseDone}
-use Rattle.lease_model.specs.server.Calls.{held_of, disconnected, is_lost, joined, key_expired, opens_disconnected, client_forgotten, is_left_behind}
+use Rattle.lease_model.specs.server.Calls.{held_of}
 use Rattle.lease_model.specs.server.Attempt.{is_left_open}
 use Rattle.lease_model.specs.server.Findings.{awaits}
-use Rattle.lease_model.specs.server.Grant.{connected_again, asked_key, lease_after, lease_put, new_open}
+use Rattle.lease_model.specs.server.Grant.{connected_again, asked_key, lease_after, new_open}
 use Rattle.lease_model.specs.server.Naming.{own_key}
-use Rattle.lease_model.specs.server.Progress.{opens_dropped, with_opens, refusal_of}
-use Rattle.lease_model.specs.server.State.{Server, Open, Held, new_server}
+use Rattle.lease_model.specs.server.Progress.{with_opens, refusal_of}
+use Rattle.lease_model.specs.server.State.{Open, Held}
 use Rattle.lease_model.specs.values.Keys.{Key}
-use Rattle.lease_model.specs.values.Lists.{without}
 use Rattle.lease_model.specs.values.Tables.{put}
-use Rattle.lease_model.specs.world.Allowed.{is_allowed_setup}
-use Rattle.lease_model.specs.world.Events.{Event, stepped_in, after, recorded}
-use Rattle.lease_model.specs.world.World.{World, Setup, Link, first_world, requests_sent, sent_over, noted, fact_of, happened}
+use Rattle.lease_model.specs.world.World.{World}
 use Rattle.lease_laws.specs.server.Laws.{Among}
 use Rattle.lease_laws.specs.world.FileIds.{opened_count, was_opened}
-use Rattle.lease_laws.proofs.client.Forms.{commanded-stays, taken-stays}
 use Rattle.lease_laws.proofs.client.Thin.{put_same, put_other}
-use Rattle.lease_laws.proofs.server.Lists.{if_cases, either, clash, and_parts, and_both, true_or, among_append, among_behind, among_filter, among_map, find_has}
+use Rattle.lease_laws.proofs.server.Lists.{if_cases, and_parts, and_both, true_or, among_append, among_behind, among_filter, among_map, find_has}
 use Rattle.lease_laws.proofs.server.PassWaits.{among_more}
 use Rattle.lease_laws.proofs.world.Links.{by_client}
-use Rattle.lease_laws.proofs.world.Runs.{stepped_server, stepped_clients}
-use Rattle.lease_coherence.proofs.moves.Deeds.{HasDeeds, IsSource, step_deed, told_to, with_held, held_in, granted_in, reconnected_in, changed_in}
-use Rattle.lease_coherence.proofs.moves.Events.{Ground, IsMoved}
-use Rattle.lease_coherence.proofs.moves.Frames.{lease_put_rest, stepped_past}
+use Rattle.lease_coherence.specs.Names.{Each, IsNamed, IsNamedAt, IsNamedEntry, IsNamedOnFile, IsNamedReply, IsNamedRequest, IsOwnCreate, IsOwnOpen}
+use Rattle.lease_coherence.proofs.moves.Deeds.{HasDeeds, IsSource, told_to, with_held, held_in, granted_in, reconnected_in, changed_in}
+use Rattle.lease_coherence.proofs.moves.Events.{Ground}
+use Rattle.lease_coherence.proofs.moves.Frames.{lease_put_rest}
 use Rattle.lease_coherence.proofs.moves.Ground.{among_put}
 use Rattle.lease_coherence.proofs.moves.Moves.{IsOldest, rest_of, popped}
-use Rattle.lease_coherence.proofs.names.Clients.{IsStepNamed, IsCallNamed, IsTrueDone, HasNames, call_named}
-use Rattle.lease_coherence.proofs.names.Words.{WasOpenedOn, WasWrittenOn, IsOwnCreate, IsNamedOnFile, IsNamedRequest, IsNamedReply, IsNamedEntry, IsOwnOpen, IsNamedAt, IsNamed, Each, each_append, each_weaker, each_rest, on_file_later, request_later, reply_later, entry_later, opened_once}
-use Rattle.lease_coherence.proofs.records.Later.{IsLater, later_same, later_then, later_fact, later_two, later_noted, past_noted}
-use Rattle.lease_coherence.proofs.wellformed.Notes.{EachNote}
+use Rattle.lease_coherence.proofs.names.Words.{each_append, each_weaker, each_rest, on_file_later, request_later, reply_later, entry_later, opened_once}
+use Rattle.lease_coherence.proofs.records.Later.{IsLater, later_same, later_fact, later_two}
 
 -- ---- one client's part of a world
 

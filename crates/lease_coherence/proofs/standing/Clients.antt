@@ -1,26 +1,23 @@
 -- A client closes only what it gives up with the same step, and asks as its entries say.
-use Rattle.std.proofs.Common.{◌≡◌, ◌≢◌, ◌⊎◌, inl, inr, ⊎_elim, ℕ, suc, ◌+◌, ◌≤◌, Bool, true, false, not, List, [], ◌∷◌, ◌++◌, Option, Some, None, refl, sym, ap, ◌∙◌, subst, arith, true≢false, ◌==◌}
-use Rattle.std.specs.Prelude.{⊤, is_some, ◌&&◌, find, if◌then◌else◌}
-use Rattle.std.proofs.lemmas.Bool.{eq-eqb, eqb-true}
+use Rattle.std.proofs.Common.{◌≡◌, ◌≢◌, ◌⊎◌, inl, inr, ℕ, ◌+◌, true, not, List, [], ◌∷◌, ◌++◌, Option, Some, None, refl, sym, ap, ◌∙◌, subst, ◌==◌}
+use Rattle.std.specs.Prelude.{⊤, is_some, ◌&&◌, if◌then◌else◌}
 use Rattle.lease_state.specs.State.{State}
-use Rattle.lease_state.specs.declared.patch.Patch.{Patch}
 use Rattle.lease_state.specs.declared.status.Status.{Status}
-use Rattle.lease_model.specs.client.Commanded.{is_asking, create_request, joint_terms, next_write, cached_read, opened_anew, write_buffered, write_sent, flush_on_live, wrote_step}
-use Rattle.lease_model.specs.client.Commands.{Answer, OpenTerms}
-use Rattle.lease_model.specs.client.State.{Client, Entry, LiveEntry, Asked, Parted, Pending, Phase, lease_key}
+use Rattle.lease_model.specs.client.Commanded.{create_request, joint_terms, cached_read, opened_anew, write_buffered, write_sent, flush_on_live}
+use Rattle.lease_model.specs.client.State.{Entry, LiveEntry, Asked, Pending, Phase, lease_key}
 use Rattle.lease_model.specs.client.Step.{Step, Turn, turned, write_requests}
-use Rattle.lease_model.specs.client.Taken.{break_turn, parked_closed, belief_lowered, acknowledgment, flushed, unflushed, opened_turn, reconnected_turn, promoted_turn, promoted_belief, first_belief, read_turn, read_failed_turn, is_file_closed, closed_by_server, without_open, is_numbered, phase_with, write_done_turn, write_failed_in}
+use Rattle.lease_model.specs.client.Taken.{break_turn, parked_closed, belief_lowered, acknowledgment, flushed, unflushed, opened_turn, reconnected_turn, promoted_turn, promoted_belief, first_belief, read_turn, read_failed_turn, is_file_closed, closed_by_server, without_open, phase_with, write_done_turn, write_failed_in}
 use Rattle.lease_model.specs.messages.Replies.{Reply, BreakNotice}
 use Rattle.lease_model.specs.messages.Requests.{FileRequest, Request}
 use Rattle.lease_model.specs.values.Tables.{put}
 use Rattle.lease_model.specs.world.World.{World}
-use Rattle.lease_laws.proofs.client.Thin.{put_same, put_other}
-use Rattle.lease_laws.proofs.server.Lists.{if_cases, either, clash, and_parts}
-use Rattle.lease_laws.proofs.world.Links.{by_client}
-use Rattle.lease_coherence.proofs.clients.Commands.{HasCommands, IsEntry, sent_of}
-use Rattle.lease_coherence.proofs.clients.Takes.{HasTakes, has_asked}
-use Rattle.lease_coherence.proofs.names.Words.{Each, each_append, each_weaker}
-use Rattle.lease_coherence.proofs.standing.Words.{AllAsked, Stands, IsNoClose, NotClosed, again_of, AskFits, FitsPhase, GivenWell, PhaseStands}
+use Rattle.lease_laws.proofs.server.Lists.{if_cases}
+use Rattle.lease_coherence.specs.Creates.{has_asked}
+use Rattle.lease_coherence.specs.Names.{Each}
+use Rattle.lease_coherence.specs.Standing.{AllAsked, FitsPhase, GivenWell, IsNoClose, NotClosed, PhaseStands, Stands, again_of}
+use Rattle.lease_coherence.proofs.clients.Commands.{HasCommands, sent_of}
+use Rattle.lease_coherence.proofs.clients.Takes.{HasTakes}
+use Rattle.lease_coherence.proofs.names.Words.{each_append, each_weaker}
 
 -- an entry isn't under this FileId
 abbrev pub IsNotUnder : ℕ → Phase → Type 0

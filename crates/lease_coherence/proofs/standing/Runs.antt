@@ -1,53 +1,51 @@
 -- Every move keeps standing what stands.
-use Rattle.std.proofs.Common.{◌≡◌, ◌≢◌, ◌⊎◌, inl, inr, ⊎_elim, ℕ, suc, ◌+◌, ◌≤◌, Bool, true, false, not, List, [], ◌∷◌, ◌++◌, filter, flat_map, Option, Some, None, refl, sym, ap, ap₂, ◌∙◌, subst, arith, true≢false, ◌==◌}
-use Rattle.std.specs.Prelude.{⊤, if◌then◌else◌}
-use Rattle.std.proofs.lemmas.Bool.{eq-eqb, eqb-true}
+use Rattle.std.proofs.Common.{◌≡◌, inl, inr, ⊎_elim, ℕ, ◌+◌, true, false, not, List, [], ◌∷◌, ◌++◌, flat_map, Some, refl, sym, ap, ◌∙◌, subst, arith, true≢false, ◌==◌}
+use Rattle.std.proofs.lemmas.Bool.{eq-eqb}
 use Rattle.lease_state.specs.declared.status.Status.{Status}
 use Rattle.lease_model.specs.client.Commanded.{commanded}
 use Rattle.lease_model.specs.client.Connection.{noticed, connection_made, all_turned, connect_turn}
-use Rattle.lease_model.specs.client.State.{Client, Entry, LiveEntry, Parted, Pending, Phase}
+use Rattle.lease_model.specs.client.State.{Client, Pending, Phase}
 use Rattle.lease_model.specs.client.Step.{Step}
 use Rattle.lease_model.specs.client.Taken.{taken}
 use Rattle.lease_model.specs.messages.Replies.{Reply}
-use Rattle.lease_model.specs.messages.Requests.{FileRequest, Request, CreateAsk}
+use Rattle.lease_model.specs.messages.Requests.{FileRequest, Request}
 use Rattle.lease_model.specs.records.Facts.{Fact}
 use Rattle.lease_model.specs.records.Past.{has_strayed}
 use Rattle.lease_model.specs.server.Naming.{key_of}
 use Rattle.lease_model.specs.server.Progress.{break_notice, refusal_of}
 use Rattle.lease_model.specs.server.Calls.{joined}
-use Rattle.lease_model.specs.server.State.{Server, Open, Held}
+use Rattle.lease_model.specs.server.State.{Server, Held}
 use Rattle.lease_model.specs.values.Lists.{numbers_to}
 use Rattle.lease_model.specs.values.Tables.{put}
-use Rattle.lease_model.specs.world.Events.{Event, stepped_in, after}
-use Rattle.lease_model.specs.world.World.{World, Setup, Link, first_world, sent_over}
-use Rattle.lease_laws.specs.client.Laws.{IsSoundEntry, IsSoundPhase}
+use Rattle.lease_model.specs.world.Events.{stepped_in}
+use Rattle.lease_model.specs.world.World.{World, Link, sent_over}
+use Rattle.lease_laws.specs.client.Laws.{IsSoundPhase}
 use Rattle.lease_laws.specs.server.Laws.{Among}
 use Rattle.lease_laws.specs.server.Waiting.{IsAbout}
 use Rattle.lease_laws.specs.world.Links.{is_up, is_down}
 use Rattle.lease_laws.proofs.client.Forms.{commanded-stays, taken-stays}
-use Rattle.lease_laws.proofs.client.Thin.{put_same, put_other}
-use Rattle.lease_laws.proofs.server.Lists.{if_cases, either, clash, not_true, among_filtered}
-use Rattle.lease_laws.proofs.world.Links.{by_client, stepped_links}
-use Rattle.lease_laws.proofs.world.Runs.{stepped_server, stepped_clients}
+use Rattle.lease_laws.proofs.client.Thin.{put_same}
+use Rattle.lease_laws.proofs.server.Lists.{clash, among_filtered}
+use Rattle.lease_laws.proofs.world.Links.{stepped_links}
+use Rattle.lease_laws.proofs.world.Runs.{stepped_server}
+use Rattle.lease_coherence.specs.Creates.{IsCountedAt, answer_of, answers, create_of, creates, has_asked, held_by, held_creates, one_if}
+use Rattle.lease_coherence.specs.Names.{Each}
+use Rattle.lease_coherence.specs.Standing.{AllAsked, AskFits, FitsPhase, GivenWell, IsNoClose, IsStandingAt, IsUpStanding, NotClosed, PhaseStands, Stands, again_of}
 use Rattle.lease_coherence.proofs.clients.Commands.{any_command}
-use Rattle.lease_coherence.proofs.clients.Takes.{any_reply, has_asked}
-use Rattle.lease_coherence.proofs.creates.Counts.{one_if, creates, create_of, held_creates, answers, answer_of, under_way}
-use Rattle.lease_coherence.proofs.creates.Creates.{IsCountedAt, HasNames, creates_move, none_held, off_rest, stepped_machine}
+use Rattle.lease_coherence.proofs.clients.Takes.{any_reply}
+use Rattle.lease_coherence.proofs.creates.Creates.{HasNames, none_held, off_rest, stepped_machine}
 use Rattle.lease_coherence.proofs.moves.Deeds.{IsSource, done_reply}
 use Rattle.lease_coherence.proofs.moves.Moves.{popped}
-use Rattle.lease_coherence.proofs.moves.Events.{Ground, Both, carried_both, runs_have, come_back, connected, reply_gone, reply_taken}
-use Rattle.lease_coherence.proofs.moves.Foreign.{held_by}
+use Rattle.lease_coherence.proofs.moves.Events.{Ground, Both, come_back, connected, reply_gone}
 use Rattle.lease_coherence.proofs.moves.Frames.{stepped_requests, stepped_replies}
-use Rattle.lease_coherence.proofs.moves.Ground.{ground_carried, first_ground}
-use Rattle.lease_coherence.proofs.moves.Own.{OfGood, IsOwnMoved, own_moves}
-use Rattle.lease_coherence.proofs.names.Done.{HasTrueNames, true_moves, first_true, gone_named}
+use Rattle.lease_coherence.proofs.moves.Own.{OfGood, IsOwnMoved}
+use Rattle.lease_coherence.proofs.names.Done.{gone_named}
 use Rattle.lease_coherence.proofs.names.Names.{off_named, off_counted}
-use Rattle.lease_coherence.proofs.names.Words.{Each, each_append, each_weaker, IsNamedAt}
-use Rattle.lease_coherence.proofs.records.Later.{later_fact}
-use Rattle.lease_coherence.proofs.standing.Clients.{IsNoCreate, IsNoAnswer, IsLastCreate, AnswersLast, FitsGiven, AllEntries, EntryStands, StepStands, TakeStands, commands_stand, takes_stand}
+use Rattle.lease_coherence.proofs.names.Words.{each_append, each_weaker}
+use Rattle.lease_coherence.proofs.standing.Clients.{IsNoCreate, IsNoAnswer, IsLastCreate, AnswersLast, FitsGiven, AllEntries, StepStands, TakeStands, commands_stand, takes_stand}
 use Rattle.lease_coherence.proofs.standing.Servers.{told_standing, refusal_plain, off_standing, granted_standing, reconnected_standing, closed_standing, dropped_standing, leased_standing, changed_standing, popped_standing, held_standing, timer_standing, unmoved_standing}
 use Rattle.lease_coherence.proofs.standing.Standing.{step_standing}
-use Rattle.lease_coherence.proofs.standing.Words.{AllAsked, asked_off, head_of, Stands, IsNoClose, NotClosed, again_of, AskFits, FitsPhase, GivenWell, PhaseStands, IsStandingAt, IsUpStanding}
+use Rattle.lease_coherence.proofs.standing.Words.{asked_off, head_of}
 
 -- ---- no other create is under way
 

@@ -1,41 +1,40 @@
 -- What the server does leaves the opens of a client standing that it named and doesn't close.
-use Rattle.std.proofs.Common.{◌≡◌, ◌≢◌, ◌⊎◌, inl, inr, ⊎_elim, ℕ, suc, ◌+◌, ◌≤◌, Bool, true, false, not, List, [], ◌∷◌, ◌++◌, map, filter, Option, Some, None, refl, sym, ap, ◌∙◌, subst, arith, true≢false, ◌==◌}
-use Rattle.std.specs.Prelude.{⊤, ◌&&◌}
-use Rattle.std.proofs.lemmas.Bool.{eq-eqb, eqb-true}
+use Rattle.std.proofs.Common.{◌≡◌, inl, inr, ⊎_elim, ℕ, ◌+◌, ◌≤◌, Bool, true, false, not, List, [], ◌∷◌, ◌++◌, map, Some, None, refl, sym, ap, ◌∙◌, subst, arith, ◌==◌}
+use Rattle.std.specs.Prelude.{⊤}
+use Rattle.std.proofs.lemmas.Bool.{eq-eqb}
 use Rattle.lease_state.specs.declared.access.Access.{Access}
 use Rattle.lease_state.specs.declared.access.Share.{Share}
 use Rattle.lease_state.specs.declared.patch.Patch.{Patch}
 use Rattle.lease_state.specs.declared.status.Status.{Status}
 use Rattle.lease_model.specs.client.State.{Client, LiveEntry, Phase, lease_key}
 use Rattle.lease_model.specs.messages.Replies.{Reply}
-use Rattle.lease_model.specs.messages.Requests.{FileRequest, Request, CreateAsk, LeaseOf}
-use Rattle.lease_model.specs.records.Facts.{Fact}
-use Rattle.lease_model.specs.records.Past.{has_strayed}
+use Rattle.lease_model.specs.messages.Requests.{FileRequest, Request, CreateAsk}
 use Rattle.lease_model.specs.server.Calls.{key_expired}
-use Rattle.lease_model.specs.server.Grant.{connected_again, lease_after, lease_put, new_open}
+use Rattle.lease_model.specs.server.Grant.{connected_again, lease_after, new_open}
 use Rattle.lease_model.specs.server.Naming.{key_of, own_key}
 use Rattle.lease_model.specs.server.Progress.{opens_dropped, with_opens, refusal_of}
-use Rattle.lease_model.specs.server.State.{Server, Open, Held, Lease, has_key, is_key}
+use Rattle.lease_model.specs.server.State.{Open, Held, Lease, has_key, is_key}
 use Rattle.lease_model.specs.values.Keys.{Key, key_eq}
-use Rattle.lease_model.specs.values.Lists.{without}
-use Rattle.lease_model.specs.values.Tables.{put, put_key}
+use Rattle.lease_model.specs.values.Tables.{put}
 use Rattle.lease_model.specs.world.Events.{machine_key}
 use Rattle.lease_model.specs.world.World.{World}
 use Rattle.lease_laws.specs.server.Laws.{Among}
 use Rattle.lease_laws.specs.server.SmallSteps.{IsAwaitedAt}
 use Rattle.lease_laws.specs.world.FileIds.{opened_count, was_opened}
-use Rattle.lease_laws.proofs.client.Thin.{put_same, put_other}
-use Rattle.lease_laws.proofs.server.Keys.{put_key-cases, put_key-here, is_key-one, is_key-refl, key_eq-refl}
-use Rattle.lease_laws.proofs.server.Lists.{if_cases, either, clash, not_true, and_parts, among_append, among_before, among_behind, among_filter, among_filtered, among_map, find_has}
-use Rattle.lease_coherence.proofs.creates.Creates.{HasNames, off_rest}
+use Rattle.lease_laws.proofs.client.Thin.{put_same}
+use Rattle.lease_laws.proofs.server.Keys.{put_key-cases, is_key-one, is_key-refl, key_eq-refl}
+use Rattle.lease_laws.proofs.server.Lists.{if_cases, either, clash, not_true, among_before, among_behind, among_filtered}
+use Rattle.lease_coherence.specs.Names.{Each, IsNamedAt, IsNamedPhase, IsNamedRequest}
+use Rattle.lease_coherence.specs.Standing.{AllAsked, AskFits, FitsPhase, GivenWell, IsNoClose, IsOpenFor, IsStandingAt, NotClosed, PhaseStands, Stands, again_of}
+use Rattle.lease_coherence.proofs.creates.Creates.{off_rest}
 use Rattle.lease_coherence.proofs.moves.Deeds.{IsSource, told_to, with_held, granted_in, granted_reply, reconnected_in, reconnected_reply, changed_in, without_opens, leased_in, held_in}
-use Rattle.lease_coherence.proofs.moves.Events.{Ground, timed_out}
+use Rattle.lease_coherence.proofs.moves.Events.{timed_out}
 use Rattle.lease_coherence.proofs.moves.Foreign.{IsUnmoved, map_kept, apart}
 use Rattle.lease_coherence.proofs.moves.Frames.{lease_put_rest}
-use Rattle.lease_coherence.proofs.moves.Moves.{IsOldest, rest_of, popped}
-use Rattle.lease_coherence.proofs.names.Names.{IsCountedOff, off_counted, awaits_parts, open_parts}
-use Rattle.lease_coherence.proofs.names.Words.{Each, each_append, each_weaker, IsNamedAt, IsNamedRequest, IsNamedPhase, IsOwnOpen, WasOpenedOn, opened_within}
-use Rattle.lease_coherence.proofs.standing.Words.{AllAsked, asked_same, asked_popped, asked_off, asked_held, asked_unmoved, IsOpenFor, Stands, IsNoClose, NotClosed, again_of, AskFits, FitsPhase, IsGivenWell, GivenWell, PhaseStands, IsStandingAt, IsFrame, framed_phase, framed_given, framed_at}
+use Rattle.lease_coherence.proofs.moves.Moves.{IsOldest, popped}
+use Rattle.lease_coherence.proofs.names.Names.{IsCountedOff, awaits_parts}
+use Rattle.lease_coherence.proofs.names.Words.{each_append, each_weaker, opened_within}
+use Rattle.lease_coherence.proofs.standing.Words.{asked_popped, asked_off, asked_held, asked_unmoved, IsFrame, framed_given, framed_at}
 
 -- an open that stays
 stands_by : (world new : World) (c file file_id : ℕ) → new.clients c ≡ world.clients c

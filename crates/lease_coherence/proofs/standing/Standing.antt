@@ -1,33 +1,30 @@
 -- In every run, while a client's link is up, the opens that it names and doesn't close stand.
-use Rattle.std.proofs.Common.{◌≡◌, ◌≢◌, ◌⊎◌, inl, inr, ⊎_elim, ℕ, suc, ◌+◌, ◌≤◌, Bool, true, false, not, List, [], ◌∷◌, ◌++◌, flat_map, Option, Some, None, refl, sym, ap, ap₂, ◌∙◌, subst, arith, true≢false, ◌==◌}
-use Rattle.std.specs.Prelude.{⊤, if◌then◌else◌}
+use Rattle.std.proofs.Common.{◌≡◌, ◌≢◌, inl, inr, ⊎_elim, ℕ, true, List, [], ◌∷◌, ◌++◌, Some, None, refl, sym, ap, ap₂, ◌∙◌, subst, ◌==◌}
+use Rattle.std.specs.Prelude.{⊤}
 use Rattle.std.proofs.lemmas.Bool.{eq-eqb, eqb-true}
-use Rattle.lease_model.specs.client.Commanded.{commanded}
-use Rattle.lease_model.specs.client.Connection.{noticed, connection_made, all_turned, connect_turn}
-use Rattle.lease_model.specs.client.State.{Client, Entry, LiveEntry, Parted, Pending, Phase, lease_key}
+use Rattle.lease_model.specs.client.State.{Client, Entry, LiveEntry, Parted, Phase, lease_key}
 use Rattle.lease_model.specs.client.Step.{Step}
-use Rattle.lease_model.specs.client.Taken.{taken}
 use Rattle.lease_model.specs.messages.Replies.{Reply}
-use Rattle.lease_model.specs.messages.Requests.{FileRequest, Request, CreateAsk}
-use Rattle.lease_model.specs.records.Facts.{Fact}
-use Rattle.lease_model.specs.records.Past.{has_strayed}
+use Rattle.lease_model.specs.messages.Requests.{FileRequest, Request}
 use Rattle.lease_model.specs.server.Naming.{key_of}
-use Rattle.lease_model.specs.server.State.{Server, Open, Held}
+use Rattle.lease_model.specs.server.State.{Server}
 use Rattle.lease_model.specs.values.Tables.{put}
-use Rattle.lease_model.specs.world.Events.{stepped_in, machine_key}
-use Rattle.lease_model.specs.world.World.{World, Link, sent_over}
+use Rattle.lease_model.specs.world.Events.{stepped_in}
+use Rattle.lease_model.specs.world.World.{World, sent_over}
 use Rattle.lease_laws.specs.server.Laws.{Among}
 use Rattle.lease_laws.specs.world.FileIds.{was_opened}
 use Rattle.lease_laws.specs.world.Links.{is_up}
 use Rattle.lease_laws.proofs.client.Thin.{put_same, put_other}
-use Rattle.lease_laws.proofs.server.Lists.{if_cases, either, clash}
-use Rattle.lease_laws.proofs.world.Links.{by_client, stepped_links}
-use Rattle.lease_laws.proofs.world.Runs.{stepped_server, stepped_clients}
+use Rattle.lease_laws.proofs.server.Lists.{either, clash}
+use Rattle.lease_laws.proofs.world.Links.{by_client}
+use Rattle.lease_laws.proofs.world.Runs.{stepped_server}
+use Rattle.lease_coherence.specs.Names.{Each, IsNamedAt, IsNamedPhase, IsNamedReply}
+use Rattle.lease_coherence.specs.Standing.{AllAsked, AskFits, FitsPhase, GivenWell, IsNoClose, IsStandingAt, PhaseStands, Stands, again_of}
 use Rattle.lease_coherence.proofs.creates.Creates.{up_link, stepped_machine}
 use Rattle.lease_coherence.proofs.moves.Frames.{stepped_requests, stepped_replies}
-use Rattle.lease_coherence.proofs.names.Words.{Each, each_append, each_weaker, IsNamedAt, IsNamedReply, IsNamedPhase, opened_once}
+use Rattle.lease_coherence.proofs.names.Words.{each_append, each_weaker, opened_once}
 use Rattle.lease_coherence.proofs.standing.Clients.{IsNotUnder, FitsGiven, IsNotGiven, IsNoCreate, TurnAsks, ClosesOld, TurnStands, StepStands}
-use Rattle.lease_coherence.proofs.standing.Words.{AllAsked, asked_weaker, Stands, IsNoClose, NotClosed, again_of, AskFits, FitsPhase, IsGivenWell, GivenWell, PhaseStands, IsStandingAt}
+use Rattle.lease_coherence.proofs.standing.Words.{asked_weaker}
 
 -- ---- what a step leaves
 
