@@ -1,7 +1,12 @@
+pub mod Alike
+pub mod Breaking
 pub mod Expiring
 pub mod FilePlaces
 pub mod Joining
+pub mod KeyOrder
 pub mod LeaseTable
 pub mod NewTables
 pub mod Places
+pub mod Sending
 pub mod Standing
+pub mod Wanting

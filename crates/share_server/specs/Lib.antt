@@ -1,4 +1,5 @@
 pub mod Closing
+pub mod Findings
 pub mod Leases
 pub mod Looks
 pub mod Outs

@@ -4,8 +4,12 @@
 //! every server keeps the laws of leases and opens, as the invariant of its type.
 #![tactic(auto)]
 
+mod answer;
+mod attempt;
 mod calls;
 mod closing;
+mod finding;
+mod grant;
 mod key;
 mod lease;
 mod leases;
