@@ -6,7 +6,9 @@ pub mod Joining
 pub mod KeyOrder
 pub mod LeaseTable
 pub mod NewTables
+pub mod Passing
 pub mod Places
+pub mod Rounds
 pub mod Sending
 pub mod Standing
 pub mod Wanting

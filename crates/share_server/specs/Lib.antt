@@ -3,6 +3,7 @@ pub mod Findings
 pub mod Leases
 pub mod Looks
 pub mod Outs
+pub mod Passing
 pub mod Requests
 pub mod Table
 pub mod Wishes

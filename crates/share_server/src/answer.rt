@@ -20,6 +20,7 @@ use lease_state::{ClientNo, FileId, FileNo, Memory, Patch};
 /// # Errors
 ///
 /// `Memory` where there is none left.
+#[tactic(auto, unfolding(lease_model::specs::server::Progress::refused))]
 pub fn conclude(
     tables: &mut Tables,
     outs: &mut Outs,

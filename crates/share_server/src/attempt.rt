@@ -154,6 +154,7 @@ fn waits_for(ask: Ask, lease: Lease) -> bool
 }
 
 // Meets the wants one after another.
+#[tactic(auto, unfolding(lease_model::specs::server::Attempt::wants_met))]
 fn meet_all(tables: &mut Tables, outs: &mut Outs, wants: &[Want]) -> Result<(), Memory>
     ensures { OnOk result (progress_of tables.new outs.new
         ≡ rules.wants_met wants.now (progress_of tables.old outs.old)) }

@@ -4,6 +4,7 @@
 //! every server keeps the laws of leases and opens, as the invariant of its type.
 #![tactic(auto)]
 
+mod acknowledge;
 mod answer;
 mod attempt;
 mod calls;
@@ -16,6 +17,7 @@ mod leases;
 mod open;
 mod out;
 mod outs;
+mod passes;
 mod request;
 mod server;
 mod state;

@@ -29,9 +29,7 @@ pub fn try_all(tables: &mut Tables, outs: &mut Outs) -> Result<(), Memory>
 
 // Passes over a file, until one answers nothing.
 fn try_held(tables: &mut Tables, outs: &mut Outs, file: FileNo) -> Result<(), Memory>
-    ensures step { OnOk result (progress_of tables.new outs.new
-        ≡ rules.passes file.0 (progress_of tables.old outs.old)) }
-    ensures same { OnOk result ((server_of tables.new).files ≡ (server_of tables.old).files) }
+    ensures { OnOk result (progress_of tables.new outs.new ≡ rules.passes file.0 (progress_of tables.old outs.old)) }
 {
     rounds_and_passes_end();
     while pass(tables, outs, file)? {}
