@@ -1,9 +1,11 @@
 -- The code's requests, whose create contexts were read, as the definitions see them.
-use Rattle.std.specs.Prelude.{Bool, true, false, Some, ◌+◌, []}
+use Rattle.std.specs.Prelude.{ℕ, Bool, true, false, Some, Result, Ok, Err, ◌+◌, []}
 use Rattle.std.specs.Option.{option_map}
 use Rattle.lease_state.specs.State.{state_of}
 use Rattle.lease_state.specs.declared.content.TheConstants.{FILE_LIMIT}
+use Rattle.lease_state.specs.declared.number.FileNo.{FileNo}
 use Rattle.lease_state.specs.declared.patch.Patch.{Patch}
+use Rattle.lease_state.specs.declared.status.Status.{Status}
 use Rattle.lease_state.specs.declared.key.LeaseKey.{LeaseKey}
 use Rattle.lease_state.specs.declared.state.LeaseState.{LeaseState}
 use Rattle.lease_wire.specs.declared.create.CreateAsk as wire
@@ -40,3 +42,8 @@ request_like (asked.TheVariants.Create file access share ask) =
 request_like (asked.TheVariants.Read fid) = model.FileRequest.Read fid.0
 request_like (asked.TheVariants.Write fid fits) = model.FileRequest.Write fid.0 0 (patch_like fits)
 request_like (asked.TheVariants.Close fid) = model.FileRequest.Close fid.0
+
+-- the file that a request is about, or the status that refuses it
+abbrev pub file_result : Result FileNo Status → Result ℕ Status
+file_result (Ok file) = Ok file.0
+file_result (Err status) = Err status

@@ -6,6 +6,7 @@
 
 mod acknowledge;
 mod answer;
+mod arrival;
 mod attempt;
 mod calls;
 mod closing;
