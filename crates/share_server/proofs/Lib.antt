@@ -1,10 +1,12 @@
 pub mod Alike
+pub mod Arriving
 pub mod Breaking
 pub mod Expiring
 pub mod FilePlaces
 pub mod Joining
 pub mod KeyOrder
 pub mod LeaseTable
+pub mod Losing
 pub mod NewTables
 pub mod Passing
 pub mod Places
