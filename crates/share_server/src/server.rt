@@ -2,6 +2,7 @@ ghost use Rattle.std.specs.Prelude.{◌≡◌, true, false, IfOk, IsOk};
 ghost use Rattle.std.specs.List.{list_any};
 ghost use Rattle.std.specs.Option.{option_map};
 ghost use Rattle.lease_state.specs.State.{state_of};
+ghost use Rattle.lease_model.specs.messages.FromBytes.{request_of};
 ghost use Rattle.lease_model.specs.server.Allowed as grants;
 ghost use Rattle.lease_model.specs.server.Calls as rules;
 ghost use Rattle.lease_model.specs.server.Naming.{key_of, key_under};
@@ -15,7 +16,7 @@ use crate::key::Key;
 use crate::out::Out;
 use crate::tables::Tables;
 use lease_laws::laws_of_servers;
-use lease_state::{ClientNo, Content, FileId, FileNo, LeaseKey, LeaseState, Memory};
+use lease_state::{ClientNo, Content, FileId, FileNo, LeaseKey, LeaseState, Memory, Request};
 use std::alloc::Global;
 use std::marker::Model;
 
@@ -66,6 +67,32 @@ impl Server {
         let Server { mut tables } = self;
         calls::join(&mut tables, client)?;
         let outs = Vec::new(tables.alloc());
+        Ok((Server { tables }, outs))
+    }
+
+    /// A request of a client comes (MS-SMB2 3.3.5). It is refused at once where its create contexts have
+    /// a fault, or where it names no file or no open of the client's; it waits behind an earlier request
+    /// of the client that waits on its file (own); and else it is tried: what it needs of the leases of
+    /// other keys on its file is broken, and it is answered or refused, or waits for acknowledgments.
+    /// After an acknowledgment or a close requests that wait are tried again (own). Where the client
+    /// isn't connected nothing changes, and nothing is given out.
+    ///
+    /// # Errors
+    ///
+    /// `Memory` where there is none left, and never where the client isn't connected.
+    pub fn receive(
+        self,
+        client: ClientNo,
+        request: Request,
+    ) -> Result<(Server, Vec<Out>), Memory>
+        ensures after { IfOk result (λ r. IsAfter r.0 r.1.items
+            (rules.receive (server_of self) client.0 (request_of request))) }
+        ensures idle { (server_of self).present client.0 ≡ false → IsOk result }
+    {
+        laws_of_servers();
+        let Server { mut tables } = self;
+        let outs = calls::receive(&mut tables, client, request)?;
+        let outs = outs.into_vec();
         Ok((Server { tables }, outs))
     }
 
