@@ -1,19 +1,13 @@
-use crate::Server;
-use lease_state::{ClientNo, Content, FileNo, LeaseKey, LeaseState};
-use std::alloc::Global;
-use std::test::Fail;
+mod breaks;
+mod calls;
+mod durable;
+mod words;
 
-const KEY: LeaseKey = LeaseKey([0, 1, 2, 3, 4, 5, 6, 7, 8, 9, 10, 11, 12, 13, 14, 15]);
+use lease_state::{ClientNo, FileNo, LeaseState};
+use std::test::Fail;
+use words::{KEY, two_files};
 
 const WANTED_AND_GIVEN: [(u32, u32); 5] = [(7, 7), (5, 5), (6, 0), (2, 0), (4, 0)];
-
-// Two files: the first holds `abc`, the second nothing.
-fn two_files(alloc: Global) -> Result<Server, Fail> {
-    let mut files = Vec::new(alloc);
-    files.push(Content::new(Vec::from_slice(alloc, b"abc")?)?)?;
-    files.push(Content::new(Vec::new(alloc))?)?;
-    Ok(Server::new(alloc, files)?)
-}
 
 #[test]
 fn a_new_server_has_its_files_and_nothing_else(rt: HostRuntime) -> Result<(), Fail> {
