@@ -4,12 +4,14 @@ pub mod Breaking
 pub mod Expiring
 pub mod FilePlaces
 pub mod Joining
+pub mod Kept
 pub mod KeyOrder
 pub mod LeaseTable
 pub mod Losing
 pub mod NewTables
 pub mod Passing
 pub mod Places
+pub mod Refusing
 pub mod Rounds
 pub mod Sending
 pub mod Standing

@@ -1,5 +1,6 @@
 pub mod Closing
 pub mod Findings
+pub mod Laws
 pub mod Leases
 pub mod Looks
 pub mod Outs

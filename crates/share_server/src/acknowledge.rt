@@ -46,12 +46,7 @@ pub fn acknowledge(
 
 // Judges an acknowledged state of the key.
 #[tactic(auto, unfolding(lease_model::specs::server::Acknowledge::acknowledged))]
-fn judge(
-    tables: &mut Tables,
-    outs: &mut Outs,
-    key: Key,
-    state: LeaseState,
-) -> Result<(), Memory>
+fn judge(tables: &mut Tables, outs: &mut Outs, key: Key, state: LeaseState) -> Result<(), Memory>
     ensures { OnOk result (progress_of tables.new outs.new
         ≡ rules.acknowledged key.client (Some (record { key = key.bytes; state = state_of state }))
         (progress_of tables.old outs.old)) }

@@ -94,12 +94,7 @@ fn create(tables: &mut Tables, outs: &mut Outs, opening: Opening) -> Result<(), 
 }
 
 // A read gives the whole file (own; MS-SMB2 3.3.5.12).
-fn read(
-    tables: &mut Tables,
-    outs: &mut Outs,
-    client: ClientNo,
-    fid: FileId,
-) -> Result<(), Memory>
+fn read(tables: &mut Tables, outs: &mut Outs, client: ClientNo, fid: FileId) -> Result<(), Memory>
     ensures { OnOk result (progress_of tables.new outs.new
         ≡ rules.on_open (connected_open (server_of tables.old) client.0 fid.0)
         (λ file. rules.read_done client.0 file fid.0) (progress_of tables.old outs.old)) }
@@ -138,12 +133,7 @@ fn write(
 }
 
 // An open is closed (3.3.5.10).
-fn close(
-    tables: &mut Tables,
-    outs: &mut Outs,
-    client: ClientNo,
-    fid: FileId,
-) -> Result<(), Memory>
+fn close(tables: &mut Tables, outs: &mut Outs, client: ClientNo, fid: FileId) -> Result<(), Memory>
     ensures { OnOk result (progress_of tables.new outs.new
         ≡ rules.on_open (connected_open (server_of tables.old) client.0 fid.0)
         (λ file. rules.closed client.0 fid.0) (progress_of tables.old outs.old)) }

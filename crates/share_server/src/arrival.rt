@@ -49,7 +49,12 @@ pub fn arrive(
             Ok(())
         }
         Request::Write { fid, number, patch } => {
-            first_try(tables, outs, client, FileRequest::Write { fid, number, patch })?;
+            first_try(
+                tables,
+                outs,
+                client,
+                FileRequest::Write { fid, number, patch },
+            )?;
             Ok(())
         }
         Request::Close { fid } => {
@@ -123,11 +128,7 @@ fn first_try(
 
 // The file that the request is about, or the status that refuses it as it comes.
 #[tactic(auto, unfolding(lease_model::specs::server::Calls::file_asked))]
-fn file_asked(
-    tables: &Tables,
-    client: ClientNo,
-    request: &FileRequest,
-) -> Result<FileNo, Status>
+fn file_asked(tables: &Tables, client: ClientNo, request: &FileRequest) -> Result<FileNo, Status>
     ensures { file_result result
         ≡ rules.file_asked (server_of tables.now) client.0 (file_request_of request.now) }
 {

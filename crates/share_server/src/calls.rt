@@ -30,11 +30,7 @@ pub fn join(tables: &mut Tables, client: ClientNo) -> Result<(), Memory>
 
 /// A request of a client comes.
 #[tactic(auto, unfolding(lease_model::specs::server::Calls::receive))]
-pub fn receive(
-    tables: &mut Tables,
-    client: ClientNo,
-    request: Request,
-) -> Result<Outs, Memory>
+pub fn receive(tables: &mut Tables, client: ClientNo, request: Request) -> Result<Outs, Memory>
     ensures step { IfOk result (λ outs. progress_of tables.new outs
         ≡ rules.receive (server_of tables.old) client.0 (request_of request)) }
     ensures idle { (server_of tables.old).present client.0 ≡ false → IsOk result }

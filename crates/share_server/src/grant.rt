@@ -13,9 +13,7 @@ use crate::lease::Lease;
 use crate::open::Open;
 use crate::outs::Outs;
 use crate::tables::Tables;
-use lease_state::{
-    Access, ClientNo, FileId, FileNo, LeaseKey, LeaseState, Memory, Share, Status,
-};
+use lease_state::{Access, ClientNo, FileId, FileNo, LeaseKey, LeaseState, Memory, Share, Status};
 use lease_wire::{CreateAnswer, CreateAsk};
 
 /// A create that is ready, with its client.
@@ -201,11 +199,7 @@ pub fn reconnect(
 }
 
 // The lease of the key that a create names.
-fn standing_lease(
-    tables: &Tables,
-    client: ClientNo,
-    asked: Option<(LeaseKey, LeaseState)>,
-) -> Lease
+fn standing_lease(tables: &Tables, client: ClientNo, asked: Option<(LeaseKey, LeaseState)>) -> Lease
     ensures { lease_of result ≡ rules.standing_lease (server_of tables.now) client.0 (option_map lease_asked asked) }
 {
     match asked {

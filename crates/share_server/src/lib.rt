@@ -13,6 +13,7 @@ mod closing;
 mod finding;
 mod grant;
 mod key;
+mod laws;
 mod lease;
 mod leases;
 mod open;
@@ -27,5 +28,6 @@ mod tables;
 mod tests;
 mod want;
 
+pub use laws::refusals_leave_files_alone;
 pub use out::Out;
 pub use server::Server;

@@ -106,7 +106,10 @@ impl Outs {
                     status,
                 },
             ),
-            FileRequest::Close { fid } => self.send(client, Reply::CloseFailed { fid: *fid, status }),
+            FileRequest::Close { fid } => self.send(
+                client,
+                Reply::CloseFailed { fid: *fid, status },
+            ),
         }
     }
 

@@ -8,6 +8,7 @@ ghost use Rattle.lease_model.specs.server.Calls as rules;
 ghost use Rattle.lease_model.specs.server.Naming.{key_of, key_under};
 ghost use Rattle.lease_model.specs.server.Queries as queries;
 ghost use Rattle.lease_model.specs.server.State.{new_server};
+ghost use Rattle.share_server.specs.Laws.{HasOneWriter, HasNoConflict, KeepsWhatLasts, BreaksToLess};
 ghost use Rattle.share_server.specs.Outs.{IsAfter};
 ghost use Rattle.share_server.specs.Table.{server_of};
 
@@ -80,11 +81,7 @@ impl Server {
     /// # Errors
     ///
     /// `Memory` where there is none left, and never where the client isn't connected.
-    pub fn receive(
-        self,
-        client: ClientNo,
-        request: Request,
-    ) -> Result<(Server, Vec<Out>), Memory>
+    pub fn receive(self, client: ClientNo, request: Request) -> Result<(Server, Vec<Out>), Memory>
         ensures after { IfOk result (λ r. IsAfter r.0 r.1.items
             (rules.receive (server_of self) client.0 (request_of request))) }
         ensures idle { (server_of self).present client.0 ≡ false → IsOk result }
@@ -150,6 +147,19 @@ impl Server {
         let outs = calls::scavenge(&mut tables, fid)?;
         let outs = outs.into_vec();
         Ok((Server { tables }, outs))
+    }
+
+    /// What holds of every server, whatever was asked of it. Where a lease caches writes, every open on a
+    /// file where its key has one has that key. No two opens on a file conflict. An open that isn't
+    /// connected is durable, and its lease holds `HANDLE_CACHING` and isn't breaking. A state that a lease
+    /// is broken to is a proper part of its state. Does nothing.
+    pub fn laws(&self)
+        ensures one_writer { HasOneWriter self.now }
+        ensures no_conflict { HasNoConflict self.now }
+        ensures lasting { KeepsWhatLasts self.now }
+        ensures broken_to { BreaksToLess self.now }
+    {
+        let _tables = &self.tables;
     }
 
     /// What the server may grant (own): the granted form of the wanted state, without

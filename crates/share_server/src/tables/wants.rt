@@ -51,12 +51,7 @@ impl Tables {
     }
 
     // Adds the key of the open, if its lease is wanted.
-    fn add_wanted(
-        &self,
-        demand: &Demand,
-        one: &Open,
-        keys: &mut Vec<Key>,
-    ) -> Result<(), Memory>
+    fn add_wanted(&self, demand: &Demand, one: &Open, keys: &mut Vec<Key>) -> Result<(), Memory>
         ensures { OnOk result (keys.new.items
             ≡ with_wanted (is_demanded demand.now (server_of self.now)) one.now keys.old.items) }
     {

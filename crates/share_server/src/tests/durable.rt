@@ -1,7 +1,7 @@
-use super::words::{
-    KEY, LATER_KEY, R, RH, RWH, after, broken, changed, create, create_failed, created, durable_answer,
-    durable_ask, leased, open, opened, read, read_done, reconnect_ask, three_joined, write, write_done,
-};
+use super::words::Ask::{Create, Open, Read, Write};
+use super::words::Text::{DurableAnswer, DurableAsk, Leased, Nothing, Reconnect};
+use super::words::Told::{Broken, Changed, CreateFailed, Created, Opened, ReadDone, WriteDone};
+use super::words::{KEY, LATER_KEY, R, RH, RWH, after, three_joined};
 use lease_state::{Access, ClientNo, FileId, FileNo, Share, Status};
 use std::test::Fail;
 
@@ -11,20 +11,20 @@ use std::test::Fail;
 fn an_open_is_durable_where_its_lease_holds_handles(rt: HostRuntime) -> Result<(), Fail> {
     let alloc = rt.alloc();
     let server = three_joined(alloc)?;
-    let given = vec![in alloc; opened(1, 1), created(alloc, 1, 1, 1, &leased(KEY, R))?]?;
-    let server = after(&rt, server, 1, open(alloc, 1, &durable_ask(KEY, R))?, given)?;
-    let given = vec![in alloc; opened(1, 1), created(alloc, 1, 1, 2, &leased(KEY, RH))?]?;
-    let server = after(&rt, server, 1, open(alloc, 1, &leased(KEY, RH))?, given)?;
-    let given = vec![in alloc; opened(1, 2), created(alloc, 2, 1, 3, b"")?]?;
-    let server = after(&rt, server, 2, open(alloc, 1, b"")?, given)?;
-    let done = vec![in alloc;
-        broken(1, KEY, RH, 0),
-        changed(alloc, 1, 2, 1, 0, b"X")?,
-        write_done(2, 3, 1)
-    ]?;
-    let server = after(&rt, server, 2, write(alloc, 3, 1, 0, b"X")?, done)?;
-    let given = vec![in alloc; opened(1, 1), created(alloc, 1, 1, 4, &durable_answer(KEY, RH, 2))?]?;
-    let server = after(&rt, server, 1, open(alloc, 1, &durable_ask(KEY, RH))?, given)?;
+    let given = [Opened(1, 1), Created(1, 1, 1, Leased(KEY, R))];
+    let server = after(&rt, alloc, server, 1, Open(1, DurableAsk(KEY, R)), &given)?;
+    let given = [Opened(1, 1), Created(1, 1, 2, Leased(KEY, RH))];
+    let server = after(&rt, alloc, server, 1, Open(1, Leased(KEY, RH)), &given)?;
+    let given = [Opened(1, 2), Created(2, 1, 3, Nothing)];
+    let server = after(&rt, alloc, server, 2, Open(1, Nothing), &given)?;
+    let done = [
+        Broken(1, KEY, RH, 0),
+        Changed(1, 2, 1, 0, b"X"),
+        WriteDone(2, 3, 1),
+    ];
+    let server = after(&rt, alloc, server, 2, Write(3, 1, 0, b"X"), &done)?;
+    let given = [Opened(1, 1), Created(1, 1, 4, DurableAnswer(KEY, RH, 2))];
+    let server = after(&rt, alloc, server, 1, Open(1, DurableAsk(KEY, RH)), &given)?;
     // The lease is breaking, so not even the durable open outlives the connection.
     let (server, outs) = server.cut(ClientNo(1))?;
     assert!(rt; outs.is_empty());
@@ -36,29 +36,64 @@ fn an_open_is_durable_where_its_lease_holds_handles(rt: HostRuntime) -> Result<(
 fn reconnects_are_refused_where_anything_differs(rt: HostRuntime) -> Result<(), Fail> {
     let alloc = rt.alloc();
     let server = three_joined(alloc)?;
-    let given = vec![in alloc; opened(1, 1), created(alloc, 1, 1, 1, &durable_answer(KEY, RWH, 0))?]?;
-    let server = after(&rt, server, 1, open(alloc, 1, &durable_ask(KEY, RWH))?, given)?;
-    let connected = vec![in alloc; create_failed(1, 1, Status::ObjectNameNotFound)]?;
-    let server = after(&rt, server, 1, open(alloc, 1, &reconnect_ask(KEY, 1))?, connected)?;
+    let given = [Opened(1, 1), Created(1, 1, 1, DurableAnswer(KEY, RWH, 0))];
+    let server = after(&rt, alloc, server, 1, Open(1, DurableAsk(KEY, RWH)), &given)?;
+    let connected = [CreateFailed(1, 1, Status::ObjectNameNotFound)];
+    let server = after(
+        &rt,
+        alloc,
+        server,
+        1,
+        Open(1, Reconnect(KEY, 1)),
+        &connected,
+    )?;
     let (server, outs) = server.cut(ClientNo(1))?;
     assert!(rt; outs.is_empty());
     assert_eq!(rt; server.kept(ClientNo(1), FileNo(1)), Some(FileId(1)));
     let (server, _) = server.join(ClientNo(1))?;
-    let other_client = vec![in alloc; create_failed(2, 1, Status::ObjectNameNotFound)]?;
-    let server = after(&rt, server, 2, open(alloc, 1, &reconnect_ask(KEY, 1))?, other_client)?;
-    let other_file = vec![in alloc; create_failed(1, 2, Status::ObjectNameNotFound)]?;
-    let server = after(&rt, server, 1, open(alloc, 2, &reconnect_ask(KEY, 1))?, other_file)?;
-    let other_key = vec![in alloc; create_failed(1, 1, Status::ObjectNameNotFound)]?;
-    let server = after(&rt, server, 1, open(alloc, 1, &reconnect_ask(LATER_KEY, 1))?, other_key)?;
-    let other_open = vec![in alloc; create_failed(1, 1, Status::ObjectNameNotFound)]?;
-    let server = after(&rt, server, 1, open(alloc, 1, &reconnect_ask(KEY, 2))?, other_open)?;
-    let again = vec![in alloc; created(alloc, 1, 1, 1, &leased(KEY, RWH))?]?;
-    let request = create(alloc, 1, Access::Read, Share::Nothing, &reconnect_ask(KEY, 1))?;
-    let server = after(&rt, server, 1, request, again)?;
-    let whole = vec![in alloc; read_done(alloc, 1, 1, b"abc")?]?;
-    let server = after(&rt, server, 1, read(1), whole)?;
-    let once = vec![in alloc; create_failed(1, 1, Status::ObjectNameNotFound)]?;
-    let _server = after(&rt, server, 1, open(alloc, 1, &reconnect_ask(KEY, 1))?, once)?;
+    let other_client = [CreateFailed(2, 1, Status::ObjectNameNotFound)];
+    let server = after(
+        &rt,
+        alloc,
+        server,
+        2,
+        Open(1, Reconnect(KEY, 1)),
+        &other_client,
+    )?;
+    let other_file = [CreateFailed(1, 2, Status::ObjectNameNotFound)];
+    let server = after(
+        &rt,
+        alloc,
+        server,
+        1,
+        Open(2, Reconnect(KEY, 1)),
+        &other_file,
+    )?;
+    let other_key = [CreateFailed(1, 1, Status::ObjectNameNotFound)];
+    let server = after(
+        &rt,
+        alloc,
+        server,
+        1,
+        Open(1, Reconnect(LATER_KEY, 1)),
+        &other_key,
+    )?;
+    let other_open = [CreateFailed(1, 1, Status::ObjectNameNotFound)];
+    let server = after(
+        &rt,
+        alloc,
+        server,
+        1,
+        Open(1, Reconnect(KEY, 2)),
+        &other_open,
+    )?;
+    let again = [Created(1, 1, 1, Leased(KEY, RWH))];
+    let request = Create(1, Access::Read, Share::Nothing, Reconnect(KEY, 1));
+    let server = after(&rt, alloc, server, 1, request, &again)?;
+    let whole = [ReadDone(1, 1, b"abc")];
+    let server = after(&rt, alloc, server, 1, Read(1), &whole)?;
+    let once = [CreateFailed(1, 1, Status::ObjectNameNotFound)];
+    let _server = after(&rt, alloc, server, 1, Open(1, Reconnect(KEY, 1)), &once)?;
     Ok(())
 }
 
@@ -68,18 +103,18 @@ fn reconnects_are_refused_where_anything_differs(rt: HostRuntime) -> Result<(), 
 fn a_scavenge_closes_a_disconnected_open(rt: HostRuntime) -> Result<(), Fail> {
     let alloc = rt.alloc();
     let server = three_joined(alloc)?;
-    let given = vec![in alloc; opened(1, 1), created(alloc, 1, 1, 1, &durable_answer(KEY, RWH, 0))?]?;
-    let server = after(&rt, server, 1, open(alloc, 1, &durable_ask(KEY, RWH))?, given)?;
+    let given = [Opened(1, 1), Created(1, 1, 1, DurableAnswer(KEY, RWH, 0))];
+    let server = after(&rt, alloc, server, 1, Open(1, DurableAsk(KEY, RWH)), &given)?;
     let (server, outs) = server.scavenge(FileId(1))?;
     assert!(rt; outs.is_empty());
-    let whole = vec![in alloc; read_done(alloc, 1, 1, b"abc")?]?;
-    let server = after(&rt, server, 1, read(1), whole)?;
+    let whole = [ReadDone(1, 1, b"abc")];
+    let server = after(&rt, alloc, server, 1, Read(1), &whole)?;
     let (server, _) = server.cut(ClientNo(1))?;
     let (server, outs) = server.scavenge(FileId(1))?;
     assert!(rt; outs.is_empty());
     let (server, _) = server.join(ClientNo(1))?;
-    let gone = vec![in alloc; create_failed(1, 1, Status::ObjectNameNotFound)]?;
-    let _server = after(&rt, server, 1, open(alloc, 1, &reconnect_ask(KEY, 1))?, gone)?;
+    let gone = [CreateFailed(1, 1, Status::ObjectNameNotFound)];
+    let _server = after(&rt, alloc, server, 1, Open(1, Reconnect(KEY, 1)), &gone)?;
     Ok(())
 }
 
@@ -88,11 +123,11 @@ fn a_scavenge_closes_a_disconnected_open(rt: HostRuntime) -> Result<(), Fail> {
 fn a_kept_open_is_closed_by_what_breaks_it(rt: HostRuntime) -> Result<(), Fail> {
     let alloc = rt.alloc();
     let server = three_joined(alloc)?;
-    let given = vec![in alloc; opened(1, 1), created(alloc, 1, 1, 1, &durable_answer(KEY, RWH, 0))?]?;
-    let server = after(&rt, server, 1, open(alloc, 1, &durable_ask(KEY, RWH))?, given)?;
+    let given = [Opened(1, 1), Created(1, 1, 1, DurableAnswer(KEY, RWH, 0))];
+    let server = after(&rt, alloc, server, 1, Open(1, DurableAsk(KEY, RWH)), &given)?;
     let (server, _) = server.cut(ClientNo(1))?;
-    let given = vec![in alloc; opened(1, 2), created(alloc, 2, 1, 2, &leased(KEY, RWH))?]?;
-    let server = after(&rt, server, 2, open(alloc, 1, &leased(KEY, RWH))?, given)?;
+    let given = [Opened(1, 2), Created(2, 1, 2, Leased(KEY, RWH))];
+    let server = after(&rt, alloc, server, 2, Open(1, Leased(KEY, RWH)), &given)?;
     assert_eq!(rt; server.kept(ClientNo(1), FileNo(1)), None);
     Ok(())
 }

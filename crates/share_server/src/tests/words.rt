@@ -1,6 +1,7 @@
 use crate::{Out, Server};
 use lease_state::{
-    Access, Bytes, ClientNo, Content, FileId, FileNo, LeaseKey, Patch, Reply, Request, Share, Status,
+    Access, Bytes, ClientNo, Content, FileId, FileNo, LeaseKey, Patch, Reply, Request, Share,
+    Status,
 };
 use std::alloc::Global;
 use std::process::Abort;
@@ -34,36 +35,29 @@ const DURABLE_ANSWER: [u8; 88] = *b"\x38\0\0\0\x10\0\x04\0\0\0\x18\0\x20\0\0\0Rq
 \0\0\0\0\0\0\0\0\0\0\0\0\0\0\0\0\0\0\0\0\0\0\0\0\0\0\0\0\0\0\0\0\
 \0\0\0\0\x10\0\x04\0\0\0\x18\0\x08\0\0\0DHnQ\0\0\0\0\0\0\0\0\0\0\0\0";
 
-/// The contexts of a create that asks for this state, and those of the reply that gives it.
-pub fn leased(key: LeaseKey, state: u8) -> [u8; 56] {
+// The contexts of a create that asks for these state bits, and those of the reply that gives them.
+fn leased(key: LeaseKey, bits: [u8; 4]) -> [u8; 56] {
     let mut text = LEASE_CONTEXT;
     text[24..40].copy_from_slice(&key.0);
-    text[40] = state;
+    text[40..44].copy_from_slice(&bits);
     text
 }
 
-/// The contexts of a reply that tells of a break in progress.
-pub fn breaking(key: LeaseKey, state: u8) -> [u8; 56] {
-    let mut text = leased(key, state);
-    text[44] = 2;
-    text
-}
-
-pub fn durable_ask(key: LeaseKey, state: u8) -> [u8; 96] {
+fn durable_ask(key: LeaseKey, state: u8) -> [u8; 96] {
     let mut text = DURABLE_ASK;
     text[24..40].copy_from_slice(&key.0);
     text[40] = state;
     text
 }
 
-pub fn reconnect_ask(key: LeaseKey, fid: u8) -> [u8; 96] {
+fn reconnect_ask(key: LeaseKey, fid: u8) -> [u8; 96] {
     let mut text = RECONNECT_ASK;
     text[24..40].copy_from_slice(&key.0);
     text[80] = fid;
     text
 }
 
-pub fn durable_answer(key: LeaseKey, state: u8, flags: u8) -> [u8; 88] {
+fn durable_answer(key: LeaseKey, state: u8, flags: u8) -> [u8; 88] {
     let mut text = DURABLE_ANSWER;
     text[24..40].copy_from_slice(&key.0);
     text[40] = state;
@@ -71,8 +65,8 @@ pub fn durable_answer(key: LeaseKey, state: u8, flags: u8) -> [u8; 88] {
     text
 }
 
-/// A break notification.
-pub fn notice(key: LeaseKey, ack_required: u8, current: u8, lowered: u8) -> [u8; 44] {
+// A break notification.
+fn notice(key: LeaseKey, ack_required: u8, current: u8, lowered: u8) -> [u8; 44] {
     let mut message = [0; 44];
     message[0] = 0x2c;
     message[4] = ack_required;
@@ -82,8 +76,8 @@ pub fn notice(key: LeaseKey, ack_required: u8, current: u8, lowered: u8) -> [u8;
     message
 }
 
-/// An acknowledgment, and its response.
-pub fn acknowledgment(key: LeaseKey, state: u8) -> [u8; 36] {
+// An acknowledgment, and its response.
+fn acknowledgment(key: LeaseKey, state: u8) -> [u8; 36] {
     let mut message = [0; 36];
     message[0] = 0x24;
     message[8..24].copy_from_slice(&key.0);
@@ -91,157 +85,188 @@ pub fn acknowledgment(key: LeaseKey, state: u8) -> [u8; 36] {
     message
 }
 
-pub fn create(
+/// The create contexts of a request or of a reply.
+#[derive(Clone, Copy, Debug)]
+pub enum Text {
+    Nothing,
+    Leased(LeaseKey, u8),
+    DurableAsk(LeaseKey, u8),
+    Reconnect(LeaseKey, u8),
+    /// With the flags of the lease.
+    DurableAnswer(LeaseKey, u8, u8),
+    /// The state bits of a request, as they are.
+    Bits(LeaseKey, [u8; 4]),
+}
+
+/// What a client asks.
+#[derive(Clone, Copy, Debug)]
+pub enum Ask {
+    /// A create for reading and writing that shares both.
+    Open(u8, Text),
+    Create(u8, Access, Share, Text),
+    Read(u64),
+    /// FileId, number, offset, bytes.
+    Write(u64, u64, u32, &'static [u8]),
+    Close(u64),
+    Ack(LeaseKey, u8),
+    /// An acknowledgment of no bytes but zeros.
+    NoAck,
+}
+
+/// What is given out; first comes the client of a reply, and before it in Opened and Changed the file.
+#[derive(Clone, Copy, Debug)]
+pub enum Told {
+    Opened(u8, u8),
+    Created(u8, u8, u64, Text),
+    CreateFailed(u8, u8, Status),
+    /// A break that asks for an acknowledgment: from this state to that.
+    Broken(u8, LeaseKey, u8, u8),
+    /// A break to nothing that asks for none.
+    Taken(u8, LeaseKey, u8),
+    AckDone(u8, LeaseKey, u8),
+    AckFailed(u8, Status),
+    Changed(u8, u8, u64, u32, &'static [u8]),
+    WriteDone(u8, u64, u64),
+    WriteFailed(u8, u64, u64, Status),
+    ReadDone(u8, u64, &'static [u8]),
+    ReadFailed(u8, u64, Status),
+    Closed(u8, u64),
+    CloseFailed(u8, u64, Status),
+}
+
+fn text_bytes(alloc: Global, text: Text) -> Result<Bytes, Fail> {
+    let bytes = match text {
+        Text::Nothing => Vec::new(alloc),
+        Text::Leased(key, state) => Vec::from_slice(alloc, &leased(key, [state, 0, 0, 0]))?,
+        Text::DurableAsk(key, state) => Vec::from_slice(alloc, &durable_ask(key, state))?,
+        Text::Reconnect(key, fid) => Vec::from_slice(alloc, &reconnect_ask(key, fid))?,
+        Text::DurableAnswer(key, state, flags) => {
+            Vec::from_slice(alloc, &durable_answer(key, state, flags))?
+        }
+        Text::Bits(key, bits) => Vec::from_slice(alloc, &leased(key, bits))?,
+    };
+    Ok(Bytes::new(bytes))
+}
+
+fn patch(alloc: Global, offset: u32, bytes: &[u8]) -> Result<Patch, Fail> {
+    let bytes = Bytes::new(Vec::from_slice(alloc, bytes)?);
+    Ok(Patch { offset, bytes })
+}
+
+fn create(
     alloc: Global,
     file: u8,
     access: Access,
     share: Share,
-    contexts: &[u8],
+    text: Text,
 ) -> Result<Request, Fail> {
     Ok(Request::Create {
         file: FileNo(file),
         access,
         share,
-        contexts: Bytes::new(Vec::from_slice(alloc, contexts)?),
+        contexts: text_bytes(alloc, text)?,
     })
 }
 
-/// A create for reading and writing that shares both.
-pub fn open(alloc: Global, file: u8, contexts: &[u8]) -> Result<Request, Fail> {
-    create(alloc, file, Access::ReadWrite, Share::ReadWrite, contexts)
-}
-
-pub fn write(
-    alloc: Global,
-    fid: u64,
-    number: u64,
-    offset: u32,
-    bytes: &[u8],
-) -> Result<Request, Fail> {
-    Ok(Request::Write {
-        fid: FileId(fid),
-        number,
-        patch: patch(alloc, offset, bytes)?,
+fn request(alloc: Global, ask: Ask) -> Result<Request, Fail> {
+    Ok(match ask {
+        Ask::Open(file, text) => create(alloc, file, Access::ReadWrite, Share::ReadWrite, text)?,
+        Ask::Create(file, access, share, text) => create(alloc, file, access, share, text)?,
+        Ask::Read(fid) => Request::Read { fid: FileId(fid) },
+        Ask::Write(fid, number, offset, bytes) => Request::Write {
+            fid: FileId(fid),
+            number,
+            patch: patch(alloc, offset, bytes)?,
+        },
+        Ask::Close(fid) => Request::Close { fid: FileId(fid) },
+        Ask::Ack(key, state) => Request::Ack(acknowledgment(key, state)),
+        Ask::NoAck => Request::Ack([0; 36]),
     })
 }
 
-pub fn patch(alloc: Global, offset: u32, bytes: &[u8]) -> Result<Patch, Fail> {
-    let bytes = Bytes::new(Vec::from_slice(alloc, bytes)?);
-    Ok(Patch { offset, bytes })
-}
-
-pub fn read(fid: u64) -> Request {
-    Request::Read { fid: FileId(fid) }
-}
-
-pub fn close(fid: u64) -> Request {
-    Request::Close { fid: FileId(fid) }
-}
-
-pub fn ack(key: LeaseKey, state: u8) -> Request {
-    Request::Ack(acknowledgment(key, state))
-}
-
-pub fn opened(file: u8, client: u8) -> Out {
-    Out::Opened(FileNo(file), ClientNo(client))
-}
-
-pub fn sent(client: u8, reply: Reply) -> Out {
-    Out::Sent(ClientNo(client), reply)
-}
-
-pub fn created(
-    alloc: Global,
-    client: u8,
-    file: u8,
-    fid: u64,
-    contexts: &[u8],
-) -> Result<Out, Fail> {
-    let contexts = Bytes::new(Vec::from_slice(alloc, contexts)?);
-    Ok(sent(
-        client,
-        Reply::Created {
+fn reply(alloc: Global, told: Told) -> Result<Reply, Fail> {
+    Ok(match told {
+        Told::Opened(..) | Told::Changed(..) => return Err(Fail::from("no reply")),
+        Told::Created(_, file, fid, text) => Reply::Created {
             file: FileNo(file),
             fid: FileId(fid),
-            contexts,
+            contexts: text_bytes(alloc, text)?,
         },
-    ))
-}
-
-pub fn create_failed(client: u8, file: u8, status: Status) -> Out {
-    let file = FileNo(file);
-    sent(client, Reply::CreateFailed { file, status })
-}
-
-pub fn broken(client: u8, key: LeaseKey, current: u8, lowered: u8) -> Out {
-    sent(client, Reply::Break(notice(key, 1, current, lowered)))
-}
-
-/// A break that asks for no acknowledgment.
-pub fn taken(client: u8, key: LeaseKey, current: u8) -> Out {
-    sent(client, Reply::Break(notice(key, 0, current, 0)))
-}
-
-pub fn ack_done(client: u8, key: LeaseKey, state: u8) -> Out {
-    sent(client, Reply::AckDone(acknowledgment(key, state)))
-}
-
-pub fn ack_failed(client: u8, status: Status) -> Out {
-    sent(client, Reply::AckFailed { status })
-}
-
-pub fn changed(
-    alloc: Global,
-    file: u8,
-    client: u8,
-    number: u64,
-    offset: u32,
-    bytes: &[u8],
-) -> Result<Out, Fail> {
-    Ok(Out::Changed(
-        FileNo(file),
-        ClientNo(client),
-        number,
-        patch(alloc, offset, bytes)?,
-    ))
-}
-
-pub fn write_done(client: u8, fid: u64, number: u64) -> Out {
-    let fid = FileId(fid);
-    sent(client, Reply::WriteDone { fid, number })
-}
-
-pub fn write_failed(client: u8, fid: u64, number: u64, status: Status) -> Out {
-    let fid = FileId(fid);
-    sent(
-        client,
-        Reply::WriteFailed {
-            fid,
+        Told::CreateFailed(_, file, status) => Reply::CreateFailed {
+            file: FileNo(file),
+            status,
+        },
+        Told::Broken(_, key, current, lowered) => Reply::Break(notice(key, 1, current, lowered)),
+        Told::Taken(_, key, current) => Reply::Break(notice(key, 0, current, 0)),
+        Told::AckDone(_, key, state) => Reply::AckDone(acknowledgment(key, state)),
+        Told::AckFailed(_, status) => Reply::AckFailed { status },
+        Told::WriteDone(_, fid, number) => Reply::WriteDone {
+            fid: FileId(fid),
+            number,
+        },
+        Told::WriteFailed(_, fid, number, status) => Reply::WriteFailed {
+            fid: FileId(fid),
             number,
             status,
         },
-    )
+        Told::ReadDone(_, fid, bytes) => Reply::ReadDone {
+            fid: FileId(fid),
+            bytes: Bytes::new(Vec::from_slice(alloc, bytes)?),
+        },
+        Told::ReadFailed(_, fid, status) => Reply::ReadFailed {
+            fid: FileId(fid),
+            status,
+        },
+        Told::Closed(_, fid) => Reply::Closed { fid: FileId(fid) },
+        Told::CloseFailed(_, fid, status) => Reply::CloseFailed {
+            fid: FileId(fid),
+            status,
+        },
+    })
 }
 
-pub fn read_done(alloc: Global, client: u8, fid: u64, bytes: &[u8]) -> Result<Out, Fail> {
-    let fid = FileId(fid);
-    let bytes = Bytes::new(Vec::from_slice(alloc, bytes)?);
-    Ok(sent(client, Reply::ReadDone { fid, bytes }))
+fn client_of(told: Told) -> ClientNo {
+    ClientNo(match told {
+        Told::Opened(_, client) | Told::Changed(_, client, ..) => client,
+        Told::Created(client, ..)
+        | Told::CreateFailed(client, ..)
+        | Told::Broken(client, ..)
+        | Told::Taken(client, ..)
+        | Told::AckDone(client, ..)
+        | Told::AckFailed(client, _)
+        | Told::WriteDone(client, ..)
+        | Told::WriteFailed(client, ..)
+        | Told::ReadDone(client, ..)
+        | Told::ReadFailed(client, ..)
+        | Told::Closed(client, _)
+        | Told::CloseFailed(client, ..) => client,
+    })
 }
 
-pub fn read_failed(client: u8, fid: u64, status: Status) -> Out {
-    let fid = FileId(fid);
-    sent(client, Reply::ReadFailed { fid, status })
+fn out(alloc: Global, told: Told) -> Result<Out, Fail> {
+    let client = client_of(told);
+    Ok(match told {
+        Told::Opened(file, _) => Out::Opened(FileNo(file), client),
+        Told::Changed(file, _, number, offset, bytes) => {
+            Out::Changed(FileNo(file), client, number, patch(alloc, offset, bytes)?)
+        }
+        _ => Out::Sent(client, reply(alloc, told)?),
+    })
 }
 
-pub fn closed(client: u8, fid: u64) -> Out {
-    let fid = FileId(fid);
-    sent(client, Reply::Closed { fid })
-}
-
-pub fn close_failed(client: u8, fid: u64, status: Status) -> Out {
-    let fid = FileId(fid);
-    sent(client, Reply::CloseFailed { fid, status })
+/// Sees that this was given out, and nothing else.
+pub fn expect_outs(
+    rt: &impl Abort,
+    alloc: Global,
+    outs: &[Out],
+    wanted: &[Told],
+) -> Result<(), Fail> {
+    assert_eq!(rt; outs.len(), wanted.len());
+    for (given, told) in outs.iter().zip(wanted) {
+        let right = out(alloc, *told)?;
+        assert!(rt; *given == right, "{given:?} in place of {right:?}");
+    }
+    Ok(())
 }
 
 /// Two files: the first holds `abc`, the second nothing.
@@ -263,12 +288,13 @@ pub fn three_joined(alloc: Global) -> Result<Server, Fail> {
 /// The server after the request, which is to give this out.
 pub fn after(
     rt: &impl Abort,
+    alloc: Global,
     server: Server,
     client: u8,
-    request: Request,
-    wanted: Vec<Out>,
+    ask: Ask,
+    wanted: &[Told],
 ) -> Result<Server, Fail> {
-    let (server, outs) = server.receive(ClientNo(client), request)?;
-    assert_eq!(rt; outs.as_slice(), wanted.as_slice());
+    let (server, outs) = server.receive(ClientNo(client), request(alloc, ask)?)?;
+    expect_outs(rt, alloc, outs.as_slice(), wanted)?;
     Ok(server)
 }

@@ -11,9 +11,9 @@ pub returns-then-not-has_lease : goal.returns-then-not-has_lease
 returns-then-not-has_lease c =
     not_broken (progress_of c.args.tables.now c.args.outs.now) c.args.key _
     (elim c.then-not-has_lease.branch [
-      then-not-has_lease-via-then-not-has_lease w ↦ inl (sym c.has_lease.ensures ∙ w.if-not-has_lease.true)
-    | then-not-has_lease-via-else-not-has_lease+then-is_breaking w ↦
-      inr (ap is_breaking (sym c.lease-lease.ensures) ∙ (sym w.is_breaking.ensures ∙ w.if-is_breaking.true))
+      | then-not-has_lease-via-then-not-has_lease w ↦ inl (sym c.has_lease.ensures ∙ w.if-not-has_lease.true)
+      | then-not-has_lease-via-else-not-has_lease+then-is_breaking w ↦
+          inr (ap is_breaking (sym c.lease-lease.ensures) ∙ (sym w.is_breaking.ensures ∙ w.if-is_breaking.true))
     ])
 
 pub returns : goal.returns
