@@ -9,6 +9,7 @@ type Key = (u8, [u8; 16]);
 enum Access { Read, Write, ReadWrite }
 
 #[derive(Clone, Copy, PartialEq)]
+#[allow(dead_code)]
 enum Share { Nothing, Read, Write, ReadWrite }
 
 impl Access {
@@ -31,6 +32,7 @@ const NONE: Lease = Lease { state: 0, broken_to: None };
 
 fn granted(state: u8) -> u8 { if state & 1 == 1 { state & 7 } else { 0 } }
 
+#[allow(dead_code)]
 struct Open { fid: u64, client: u8, file: u8, key: Option<[u8; 16]>, access: Access, share: Share, durable: bool, connected: bool }
 
 impl Open {

@@ -81,9 +81,7 @@ fn write(alloc: Global, fid: FileId, turn: u32) -> Result<Request, Memory> {
 }
 
 // The request of this step of a round, by its client on the file, and who asks it.
-fn request(alloc: Global, step: u32, file: u8, turn: u32) -> Result<(ClientNo, Request), Memory>
-    requires { file < 9 }
-{
+fn request(alloc: Global, step: u32, file: u8, turn: u32) -> Result<(ClientNo, Request), Memory> {
     let first = ClientNo(file);
     let second = ClientNo(file % 8 + 1);
     let mine = FileId(u64::from(turn) * 16 + u64::from(file));
@@ -102,7 +100,9 @@ fn request(alloc: Global, step: u32, file: u8, turn: u32) -> Result<(ClientNo, R
 // A number for what was given out.
 fn weight(out: &Out) -> u64 {
     match out {
-        Out::Opened(file, client) => u64::from(file.0) * 3 + u64::from(client.0),
+        Out::Opened(file, client) => u64::from(file.0)
+            .wrapping_mul(3)
+            .wrapping_add(u64::from(client.0)),
         Out::Changed(file, _, number, _) => number.wrapping_add(u64::from(file.0)),
         Out::Sent(client, reply) => reply_weight(reply).wrapping_add(u64::from(client.0)),
     }
@@ -114,8 +114,10 @@ fn reply_weight(reply: &Reply) -> u64 {
         Reply::ReadDone { bytes, .. } => bytes.len() as u64,
         Reply::WriteDone { number, .. } => number.wrapping_mul(7),
         Reply::Closed { fid } => fid.0,
-        Reply::Break(message) => u64::from(message[24]) * 16 + u64::from(message[28]),
-        Reply::AckDone(message) => u64::from(message[24]) * 256,
+        Reply::Break(message) => u64::from(message[24])
+            .wrapping_mul(16)
+            .wrapping_add(u64::from(message[28])),
+        Reply::AckDone(message) => u64::from(message[24]).wrapping_mul(256),
         _ => 1_000_003,
     }
 }
@@ -160,6 +162,7 @@ fn sum_of(alloc: Global, words: &[String]) -> Option<u64> {
     let calls = words.first()?.as_str().parse::<u32>().ok()?;
     session(alloc, calls).ok()
 }
+
 fn main(rt: HostRuntime) -> ExitCode {
     let Ok(words) = words_given(&rt) else {
         return ExitCode::from(2);
