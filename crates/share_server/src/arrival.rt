@@ -40,22 +40,15 @@ pub fn arrive(
             access,
             share,
             contexts,
-        } => {
-            create(tables, outs, client, file, access, share, contexts)?;
-            Ok(())
-        }
-        Request::Read { fid } => {
-            first_try(tables, outs, client, FileRequest::Read { fid })?;
-            Ok(())
-        }
+        } => create(tables, outs, client, file, access, share, contexts),
+        Request::Read { fid } => first_try(tables, outs, client, FileRequest::Read { fid }),
         Request::Write { fid, number, patch } => {
             first_try(
                 tables,
                 outs,
                 client,
                 FileRequest::Write { fid, number, patch },
-            )?;
-            Ok(())
+            )
         }
         Request::Close { fid } => {
             first_try(tables, outs, client, FileRequest::Close { fid })?;

@@ -121,7 +121,8 @@ impl Server {
     ///
     /// `Memory` where there is none left, and never where the lease isn't breaking.
     pub fn expire(self, client: ClientNo, key: LeaseKey) -> Result<(Server, Vec<Out>), Memory>
-        ensures after { IfOk result (λ r. IsAfter r.0 r.1.items (rules.expire (server_of self) (key_of client.0 key.0))) }
+        ensures after { IfOk result (λ r. IsAfter r.0 r.1.items
+            (rules.expire (server_of self) (key_of client.0 key.0))) }
         ensures idle { queries.breaking (server_of self) (key_of client.0 key.0) ≡ false → IsOk result }
     {
         laws_of_servers();

@@ -282,7 +282,8 @@ impl Tables {
 fn places_of(alloc: Global, contents: Vec<Content>) -> Result<Vec<File>, Memory>
     requires { length contents.items ≤ 255 }
     ensures len { IfOk result (λ files. vec_len files ≡ 256) }
-    ensures places { IfOk result (λ files. (n : ℕ) → file_in files.items n ≡ fresh_file (numbered [] contents.items n)) }
+    ensures places { IfOk result (λ files. (n : ℕ)
+        → file_in files.items n ≡ fresh_file (numbered [] contents.items n)) }
 {
     let mut files = first_places(alloc, contents)?;
     fill_up(alloc, &mut files)?;

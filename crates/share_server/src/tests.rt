@@ -4,9 +4,7 @@ mod durable;
 mod words;
 
 use crate::{Out, Server};
-use lease_state::{
-    Access, Bytes, ClientNo, Content, FileNo, LeaseKey, LeaseState, Request, Share,
-};
+use lease_state::{Access, Bytes, ClientNo, Content, FileNo, LeaseKey, LeaseState, Request, Share};
 use lease_wire::{CreateAsk, write_create_ask};
 use std::test::Fail;
 use words::{KEY, two_files};

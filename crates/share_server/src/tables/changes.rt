@@ -1,4 +1,5 @@
-ghost use Rattle.std.specs.Prelude.{◌≡◌, ◌+◌, ◌<◌, ◌^◌, ◌++◌, ◌==◌, [], ◌∷◌, true, not, filter, map, OnOk, length, Some, vec_len};
+ghost use Rattle.std.specs.Prelude.{◌≡◌, ◌+◌, ◌<◌, ◌^◌, ◌++◌, ◌==◌, [], ◌∷◌};
+ghost use Rattle.std.specs.Prelude.{true, not, filter, map, OnOk, length, Some, vec_len};
 ghost use Rattle.std.specs.List.{remove, slice_get};
 ghost use Rattle.lease_state.specs.Content.{patch as patched};
 ghost use Rattle.lease_model.specs.server.Calls.{disconnected, client_forgotten};

@@ -1,8 +1,11 @@
 use super::words::Ask::{Create, Open, Read, Write};
 use super::words::Text::{DurableAnswer, DurableAsk, Leased, Nothing, Reconnect};
 use super::words::Told::{Broken, Changed, CreateFailed, Created, Opened, ReadDone, WriteDone};
-use super::words::{KEY, LATER_KEY, R, RH, RWH, after, three_joined};
+use super::words::{KEY, LATER_KEY, R, RH, RWH, Text, after, three_joined};
+use crate::Server;
 use lease_state::{Access, ClientNo, FileId, FileNo, Share, Status};
+use std::alloc::Global;
+use std::process::Abort;
 use std::test::Fail;
 
 // An open is durable where that is asked and its lease holds H: not under R, but also under a lease that is
@@ -32,61 +35,44 @@ fn an_open_is_durable_where_its_lease_holds_handles(rt: HostRuntime) -> Result<(
     Ok(())
 }
 
-#[test]
-fn reconnects_are_refused_where_anything_differs(rt: HostRuntime) -> Result<(), Fail> {
-    let alloc = rt.alloc();
+// Client 1 has a durable open under RWH, which outlived its connection, and is connected again.
+fn kept_for_its_client(rt: &impl Abort, alloc: Global) -> Result<Server, Fail> {
     let server = three_joined(alloc)?;
     let given = [Opened(1, 1), Created(1, 1, 1, DurableAnswer(KEY, RWH, 0))];
-    let server = after(&rt, alloc, server, 1, Open(1, DurableAsk(KEY, RWH)), &given)?;
+    let server = after(rt, alloc, server, 1, Open(1, DurableAsk(KEY, RWH)), &given)?;
     let connected = [CreateFailed(1, 1, Status::ObjectNameNotFound)];
-    let server = after(
-        &rt,
-        alloc,
-        server,
-        1,
-        Open(1, Reconnect(KEY, 1)),
-        &connected,
-    )?;
+    let server = after(rt, alloc, server, 1, Open(1, Reconnect(KEY, 1)), &connected)?;
     let (server, outs) = server.cut(ClientNo(1))?;
     assert!(rt; outs.is_empty());
     assert_eq!(rt; server.kept(ClientNo(1), FileNo(1)), Some(FileId(1)));
     let (server, _) = server.join(ClientNo(1))?;
-    let other_client = [CreateFailed(2, 1, Status::ObjectNameNotFound)];
-    let server = after(
-        &rt,
-        alloc,
-        server,
-        2,
-        Open(1, Reconnect(KEY, 1)),
-        &other_client,
-    )?;
-    let other_file = [CreateFailed(1, 2, Status::ObjectNameNotFound)];
-    let server = after(
-        &rt,
-        alloc,
-        server,
-        1,
-        Open(2, Reconnect(KEY, 1)),
-        &other_file,
-    )?;
-    let other_key = [CreateFailed(1, 1, Status::ObjectNameNotFound)];
-    let server = after(
-        &rt,
-        alloc,
-        server,
-        1,
-        Open(1, Reconnect(LATER_KEY, 1)),
-        &other_key,
-    )?;
-    let other_open = [CreateFailed(1, 1, Status::ObjectNameNotFound)];
-    let server = after(
-        &rt,
-        alloc,
-        server,
-        1,
-        Open(1, Reconnect(KEY, 2)),
-        &other_open,
-    )?;
+    Ok(server)
+}
+
+// Client, file and contexts of a reconnect: another client, another file, another key, another FileId.
+const REFUSED: [(u8, u8, Text); 4] = [
+    (2, 1, Reconnect(KEY, 1)),
+    (1, 2, Reconnect(KEY, 1)),
+    (1, 1, Reconnect(LATER_KEY, 1)),
+    (1, 1, Reconnect(KEY, 2)),
+];
+
+#[test]
+fn reconnects_are_refused_where_anything_differs(rt: HostRuntime) -> Result<(), Fail> {
+    let alloc = rt.alloc();
+    let mut server = kept_for_its_client(&rt, alloc)?;
+    for (client, file, contexts) in REFUSED {
+        let refused = [CreateFailed(client, file, Status::ObjectNameNotFound)];
+        server = after(&rt, alloc, server, client, Open(file, contexts), &refused)?;
+    }
+    Ok(())
+}
+
+// It is connected again as it was, whatever else the create asks for; once more is refused.
+#[test]
+fn a_kept_open_is_connected_again_once(rt: HostRuntime) -> Result<(), Fail> {
+    let alloc = rt.alloc();
+    let server = kept_for_its_client(&rt, alloc)?;
     let again = [Created(1, 1, 1, Leased(KEY, RWH))];
     let request = Create(1, Access::Read, Share::Nothing, Reconnect(KEY, 1));
     let server = after(&rt, alloc, server, 1, request, &again)?;
