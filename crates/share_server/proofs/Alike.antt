@@ -1,11 +1,10 @@
 -- A write is tried as any other on its open that ends within the limit, or doesn't, as it does.
-use Rattle.std.proofs.Common.{◌≡◌, ℕ, Bool, zero, suc, true, false, List, refl, ap, sym, ◌∙◌}
-use Rattle.std.specs.Prelude.{Option, Some, None, if◌then◌else◌}
-use Rattle.lease_laws.proofs.server.Lists.{if_cases}
+use Rattle.std.proofs.Common.{◌≡◌, ℕ, Bool, zero, suc, true, false, refl, ap, sym, ◌∙◌}
+use Rattle.std.specs.Prelude.{Option, if◌then◌else◌}
 use Rattle.lease_state.specs.declared.patch.Patch.{Patch}
 use Rattle.lease_state.specs.declared.status.Status.{Status}
 use Rattle.lease_model.specs.messages.Requests.{FileRequest}
-use Rattle.lease_model.specs.server.Attempt.{Tried, Outcome, tried_for, tried, after_finding, after_breaks, wants_met}
+use Rattle.lease_model.specs.server.Attempt.{Tried, tried_for, tried, after_finding, wants_met}
 use Rattle.lease_model.specs.server.Findings.{Finding, finding, by_open, write_finding, connected_open}
 use Rattle.lease_model.specs.server.Naming.{key_of_open}
 use Rattle.lease_model.specs.server.Progress.{Progress}

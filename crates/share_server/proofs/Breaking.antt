@@ -1,5 +1,5 @@
 -- Small steps of a try, from what they make of the tables.
-use Rattle.std.proofs.Common.{◌≡◌, ◌⊎◌, inl, inr, true, false, Bool, List, [], ◌∷◌, ◌++◌, refl, ap, sym, ◌∙◌, append-nil, cond, not}
+use Rattle.std.proofs.Common.{◌≡◌, ◌⊎◌, inl, inr, true, false, Bool, List, [], ◌∷◌, ◌++◌, refl, ap, sym, ◌∙◌, append-nil, not}
 use Rattle.std.specs.Prelude.{ℕ, Some, None, if◌then◌else◌, ◌&&◌}
 use Rattle.lease_state.specs.State.{State, needs_acknowledgment}
 use Rattle.lease_model.specs.messages.Replies.{Out, Reply}

@@ -1,9 +1,8 @@
 -- The laws of every server in the words of its opens and leases.
-use Rattle.std.proofs.Common.{◌≡◌, true, false, ap, ◌∙◌}
+use Rattle.std.proofs.Common.{ap, ◌∙◌}
 use Rattle.lease_laws.proofs.server.Keys.{lease_by-key}
 use Rattle.lease_laws.specs.server.Laws.{IsSound}
-use Rattle.lease_model.specs.server.Naming.{lease_of}
-use Rattle.lease_model.specs.server.State.{Open, Lease, is_breaking}
+use Rattle.lease_model.specs.server.State.{Lease, is_breaking}
 use Rattle.share_server.specs.Laws.{HasOneWriter, HasNoConflict, KeepsWhatLasts, BreaksToLess}
 use Rattle.share_server.specs.Table.{Table, server_of}
 

@@ -1,6 +1,6 @@
 -- The order of keys, byte by byte, and the list of keys, place by place.
 use Rattle.std.proofs.Common.{◌≡◌, ℕ, ◌+◌, ◌<◌, zero, suc, Bool, true, false, List, [], ◌∷◌, ◌++◌, length, get_or, take, drop, refl, ap, sym, ◌∙◌, ◌≤◌, append_assoc, arith}
-use Rattle.std.specs.Prelude.{if◌then◌else◌, ◌==◌, ◌||◌, ◌&&◌, nat_lt, filter}
+use Rattle.std.specs.Prelude.{if◌then◌else◌, ◌==◌, nat_lt, filter}
 use Rattle.std.proofs.lemmas.Bool.Decides.{nat_tests}
 use Rattle.std.proofs.lemmas.List.{take-append-drop, take_all, drop_all, get_or_default}
 use Rattle.std.proofs.Math.Seq.{take-suc}

@@ -1,5 +1,5 @@
 -- The opens that a lost connection closes, by the leases that there are.
-use Rattle.std.proofs.Common.{◌≡◌, ℕ, Bool, List, refl, ap, not}
+use Rattle.std.proofs.Common.{◌≡◌, ℕ, List, refl, ap, not}
 use Rattle.std.proofs.Math.Path.{fun_ext}
 use Rattle.std.specs.Prelude.{Option, Some, None, ◌==◌, ◌&&◌}
 use Rattle.lease_state.specs.declared.number.ClientNo.{ClientNo}

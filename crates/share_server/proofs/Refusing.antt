@@ -1,21 +1,19 @@
 -- A try changes no content, and closes only opens that aren't connected.
 use Rattle.std.proofs.Common.{◌≡◌, ℕ, zero, suc, Bool, true, false, not, List, [], ◌∷◌, refl, ap, sym, ◌∙◌, subst}
-use Rattle.std.specs.Prelude.{if◌then◌else◌, ◌&&◌, Err}
+use Rattle.std.specs.Prelude.{if◌then◌else◌, ◌&&◌}
 use Rattle.lease_laws.proofs.server.Lists.{if_cases, among_filter, among_filtered}
 use Rattle.lease_laws.proofs.server.Met.{lease_broken-opens}
 use Rattle.lease_laws.specs.server.Laws.{Among}
 use Rattle.lease_model.specs.messages.Requests.{FileRequest}
-use Rattle.lease_model.specs.server.Answers.{concluded}
 use Rattle.lease_model.specs.server.Attempt.{Outcome, Tried, is_left_open, lease_broken, want_met, wants_met, ended, must_wait, after_breaks, after_finding, tried_for}
-use Rattle.lease_model.specs.server.Calls.{file_asked, first_tried, arrived_on}
+use Rattle.lease_model.specs.server.Calls.{arrived_on}
 use Rattle.lease_model.specs.server.Findings.{Finding, finding}
 use Rattle.lease_model.specs.server.Progress.{Progress, opens_dropped, with_opens, break_begun, lease_lowered, refused}
 use Rattle.lease_model.specs.server.Ready.{is_ready}
-use Rattle.lease_model.specs.server.State.{Server, Open, has_key, has_lease, is_breaking}
+use Rattle.lease_model.specs.server.State.{Open, has_key, has_lease, is_breaking}
 use Rattle.lease_model.specs.server.Wants.{Want}
 use Rattle.lease_model.specs.values.Keys.{Key}
 use Rattle.lease_state.specs.State.{State, needs_acknowledgment}
-use Rattle.lease_state.specs.declared.status.Status.{Status}
 use Rattle.share_server.specs.Laws.{IsLeftAlone, RefusedAsTheyCome, RefusedOnceTried}
 
 abbrev Alone : Progress → Progress → Type 0

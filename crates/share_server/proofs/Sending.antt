@@ -1,5 +1,5 @@
 -- Break messages are written as what is read in them.
-use Rattle.std.proofs.Common.{◌≡◌, ◌≤◌, List, ℕ, length, take, Some, ap, sym, ◌∙◌, arith}
+use Rattle.std.proofs.Common.{◌≡◌, List, ℕ, take, Some, ap, sym, ◌∙◌, arith}
 use Rattle.std.proofs.lemmas.List.{take_all}
 use Rattle.lease_laws.specs.messages.Bytes.{NotificationIsFound, AcknowledgmentIsFound, noticed_as, acknowledged_as}
 use Rattle.lease_model.specs.messages.FromBytes.{notice_in, acknowledged_in}

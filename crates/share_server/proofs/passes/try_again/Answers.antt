@@ -1,8 +1,6 @@
-use Rattle.std.proofs.Common.{◌≡◌, ◌<◌, ◌∙◌, ap, sym, length, get_or, arith}
-use Rattle.lease_model.specs.server.Attempt.{ended, tried}
+use Rattle.std.proofs.Common.{◌∙◌, sym, arith}
 use Rattle.share_server.specs.Findings.{outcome_of}
 use Rattle.share_server.specs.Outs.{progress_of}
-use Rattle.share_server.specs.Table.{server_of}
 use Rattle.share_server.specs.contracts.request.Held.{the_view}
 use Rattle.share_server.proofs.Passing.{behind_here, waits_here, same_held, answered_here}
 use Rattle.share_server.proofs.passes.try_again.Goals as goal

@@ -1,4 +1,4 @@
-use Rattle.std.proofs.Common.{◌≡◌, ◌<◌, ◌-◌, ◌∙◌, ap, length, get_or, arith}
+use Rattle.std.proofs.Common.{◌≡◌, ◌<◌, ◌∙◌, ap, length, arith}
 use Rattle.share_server.specs.Table.{Table}
 use Rattle.share_server.proofs.Wanting.{wanted_none, wanted_more}
 use Rattle.share_server.proofs.tables.Tables.wanted_keys.Goals as goal
