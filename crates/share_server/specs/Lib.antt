@@ -1,7 +1,10 @@
 pub mod Closing
+pub mod Findings
+pub mod Laws
 pub mod Leases
 pub mod Looks
 pub mod Outs
+pub mod Passing
 pub mod Requests
 pub mod Table
 pub mod Wishes

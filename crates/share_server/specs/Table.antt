@@ -1,10 +1,10 @@
 -- What a server knows as plain lists, and the server of the rules that they stand for.
-use Rattle.std.specs.Prelude.{ℕ, zero, suc, Bool, not, Option, None, List, [], ◌∷◌, length, map, if◌then◌else◌, ◌==◌}
+use Rattle.std.specs.Prelude.{ℕ, Bool, not, List, [], ◌∷◌, if◌then◌else◌, ◌==◌, unwrap_or}
 use Rattle.std.specs.List.{list_any, slice_get}
 use Rattle.lease_state.specs.declared.number.ClientNo.{ClientNo}
 use Rattle.lease_model.specs.values.Keys.{Key, key_eq}
-use Rattle.lease_model.specs.values.Tables.{numbered}
-use Rattle.lease_model.specs.server.State.{Server, Open, Lease, Held, no_lease, has_key, with_number}
+use Rattle.lease_model.specs.values.Lists.{without}
+use Rattle.lease_model.specs.server.State.{Server, Open, Lease, Held, no_lease, has_key}
 
 -- a file: its bytes, and the requests that wait there
 pub record File : Type 0 where
@@ -15,10 +15,12 @@ pub record KeyedLease : Type 0 where
   pub key : Key
   pub lease : Lease
 
--- Files are numbered from 1; `present` are the clients whose connection the server has, `expired` the keys
--- whose break timer ran out since their client joined.
+-- `files` has a place for each number that a file can be asked by, of which those from 1 to `count` are files;
+-- `present` are the clients whose connection the server has, `expired` the keys whose break timer ran out since
+-- their client joined.
 pub record Table : Type 0 where
   pub files : List File
+  pub count : ℕ
   pub opens : List Open
   pub leases : List KeyedLease
   pub present : List ClientNo
@@ -28,6 +30,10 @@ pub record Table : Type 0 where
 -- a number without a file has this
 abbrev pub no_file : File
 no_file = record { content = []; held = [] }
+
+-- what is in the place of a number
+abbrev pub file_in : List File → ℕ → File
+file_in files n = unwrap_or (slice_get files n) no_file
 
 -- the first lease of the key; a key that isn't there has none
 abbrev pub lease_at : List KeyedLease → Key → Lease
@@ -48,11 +54,11 @@ is_under opens one = list_any (has_key one.key) opens
 -- the server that the lists stand for
 abbrev pub server_of : Table → Server
 server_of table = record {
-  files = length table.files;
-  contents = λ file. (numbered no_file table.files file).content;
+  files = table.count;
+  contents = λ n. (file_in table.files n).content;
   opens = table.opens;
   leases = lease_at table.leases;
-  held = λ file. (numbered no_file table.files file).held;
+  held = λ n. (file_in table.files n).held;
   present = λ client. list_any (λ one. one.0 == client) table.present;
   expired = λ key. list_any (key_eq key) table.expired;
   last_id = table.last_id;
@@ -62,18 +68,6 @@ server_of table = record {
 abbrev pub fresh_file : List ℕ → File
 fresh_file content = record { content = content; held = [] }
 
--- the tables of a server with these contents, as far as they have a number
-abbrev pub new_table : List (List ℕ) → Table
-new_table contents = record {
-  files = map fresh_file (with_number contents);
-  opens = [];
-  leases = [];
-  present = [];
-  expired = [];
-  last_id = 0;
-}
-
--- the file of a number
-abbrev pub file_at : List File → ℕ → Option File
-file_at files zero = None
-file_at files (suc n) = slice_get files n
+-- without the requests of the client that wait there
+abbrev pub file_without : ℕ → File → File
+file_without client file = record file { held = without (λ one. one.client == client) file.held }

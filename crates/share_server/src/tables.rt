@@ -1,6 +1,10 @@
-ghost use Rattle.std.specs.Prelude.{◌≡◌, ◌==◌, ◌++◌, [], ◌∷◌, IfOk, OnOk, map, filter, not};
-ghost use Rattle.lease_model.specs.server.State.{with_number};
-ghost use Rattle.share_server.specs.Table.{fresh_file};
+ghost use Rattle.std.specs.Prelude.{◌≡◌, ◌≤◌, ◌<◌, ℕ, ◌==◌, ◌++◌, [], ◌∷◌, IfOk, OnOk, map, filter, not, length, vec_len};
+ghost use Rattle.std.specs.List.{remove, slice_get};
+ghost use Rattle.std.specs.Prelude.{Some};
+ghost use Rattle.lease_model.specs.values.Tables.{numbered};
+ghost use Rattle.lease_state.specs.Content.{patch as patched};
+ghost use Rattle.lease_model.specs.values.Lists.{without};
+ghost use Rattle.share_server.specs.Table.{no_file, file_in, fresh_file};
 
 use crate::key::Key;
 use crate::lease::Lease;
@@ -8,7 +12,7 @@ use crate::leases::Leases;
 use crate::open::Open;
 use crate::request::Held;
 use crate::state::without_write;
-use lease_state::{Access, ClientNo, Content, FileId, FileNo, LeaseState, Memory, Share};
+use lease_state::{Access, ClientNo, Content, FileId, FileNo, LeaseState, Memory, Patch, Share};
 use std::alloc::{AllocError, Global};
 use std::marker::Model;
 
@@ -18,6 +22,9 @@ mod wants;
 
 /// The last number that a file can have (own): those of one byte.
 const LAST_FILE_NUMBER: usize = 255;
+
+/// As many places as there are numbers of one byte.
+const PLACES: usize = 256;
 
 /// A file: its bytes, and the requests that wait there, in order of arrival.
 #[derive(Debug, Drop)]
@@ -45,6 +52,16 @@ impl File {
         }
     }
 
+    /// What a number has that is no file's.
+    fn empty(alloc: Global) -> Result<File, Memory>
+        ensures { IfOk result (λ file. file ≡ no_file) }
+    {
+        match Content::new(Vec::new(alloc)) {
+            Ok(content) => Ok(File::new(alloc, content)),
+            Err(_) => Err(Memory),
+        }
+    }
+
     /// The request waits behind the others.
     fn hold(&mut self, one: Held) -> Result<(), Memory>
         ensures { OnOk result (self.new ≡ record self.old { held = self.old.held ++ one ∷ [] }) }
@@ -52,12 +69,42 @@ impl File {
         self.held.push(one)?;
         Ok(())
     }
+
+    /// The request at this place of the queue no longer waits.
+    fn release(&mut self, place: usize) -> Held
+        requires { place < length self.old.held }
+        ensures left { self.new ≡ record self.old { held = remove self.old.held place } }
+        ensures taken { slice_get self.old.held place ≡ Some result }
+    {
+        self.held.remove(place)
+    }
+
+    /// The requests of the client no longer wait.
+    fn forget(&mut self, client: ClientNo)
+        ensures { self.new ≡ record self.old { held = without (λ one. one.client == client.0) self.old.held } }
+    {
+        forget_held(&mut self.held, client);
+    }
+
+    /// The patch is put over the bytes.
+    fn change(&mut self, patch: &Patch) -> Result<(), Memory>
+        ensures { OnOk result (self.new ≡ record self.old { content = patched self.old.content patch.now }) }
+    {
+        // A patch that ends past the limit was refused before.
+        match self.content.apply(patch) {
+            Ok(()) => Ok(()),
+            Err(_) => Err(Memory),
+        }
+    }
 }
 
-/// What a server knows. Files are numbered from 1, in their order here.
+/// What a server knows.
 #[derive(Debug, Drop)]
 pub struct Tables {
+    /// A place for each number that a file can be asked by: its number is its place.
     files: Vec<File>,
+    /// How many of them are files: those from 1 on.
+    count: u8,
     opens: Vec<Open>,
     leases: Leases,
     /// The clients whose connection the server has.
@@ -69,18 +116,22 @@ pub struct Tables {
 }
 
 impl Model for Tables {
+    ghost use Rattle.std.specs.Prelude.{◌≡◌, vec_len};
     ghost use Rattle.share_server.specs.Table as table;
 
     ghost Value = { table.Table };
 
     ghost view = { λ tables. record {
       files = tables.files.items;
+      count = tables.count;
       opens = tables.opens.items;
       leases = tables.leases;
       present = tables.present.items;
       expired = tables.expired.items;
       last_id = tables.last_id;
     } };
+
+    ghost invariant = { λ tables. vec_len tables.files ≡ 256 };
 }
 
 impl Tables {
@@ -91,19 +142,21 @@ impl Tables {
     ghost use Rattle.lease_model.specs.server.Allowed as allowed;
     ghost use Rattle.lease_model.specs.server.Calls.{joined};
     ghost use Rattle.lease_model.specs.server.Queries as queries;
+    ghost use Rattle.lease_model.specs.server.State.{has_file, new_server};
     ghost use Rattle.share_server.specs.Leases.{lease_of};
     ghost use Rattle.share_server.specs.Outs.{progress_of};
-    ghost use Rattle.share_server.specs.Table.{server_of, file_at, new_table};
+    ghost use Rattle.share_server.specs.Table.{server_of, file_in};
 
     /// The tables of files with these contents, in order, of which those past the last file number
     /// have none.
-    #[tactic(auto, unfolding(lease_model::specs::values::Limits::last_file_number))]
     pub fn new(alloc: Global, mut contents: Vec<Content>) -> Result<Tables, Memory>
-        ensures { IfOk result (λ tables. tables ≡ new_table contents.items) }
+        ensures { IfOk result (λ tables. server_of tables ≡ new_server contents.items) }
     {
         contents.truncate(LAST_FILE_NUMBER);
+        let count = contents.len() as u8;
         Ok(Tables {
-            files: files_of(alloc, contents)?,
+            files: places_of(alloc, contents)?,
+            count,
             opens: Vec::new(alloc),
             leases: Leases::new(alloc),
             present: Vec::new(alloc),
@@ -115,6 +168,20 @@ impl Tables {
     /// The allocator of the tables.
     pub fn alloc(&self) -> Global {
         *self.opens.allocator()
+    }
+
+    /// How many files there are.
+    pub fn count(&self) -> u8
+        ensures { result ≡ (server_of self.now).files }
+    {
+        self.count
+    }
+
+    /// Whether there is a file of the number.
+    pub fn has_file(&self, file: FileNo) -> bool
+        ensures { result ≡ has_file (server_of self.now) file.0 }
+    {
+        1 <= file.0 && file.0 <= self.count
     }
 
     /// Whether the server has the client's connection.
@@ -137,22 +204,30 @@ impl Tables {
         Ok(())
     }
 
-    /// The file of a number; `None` where there is none.
-    #[tactic(auto, using(crate::proofs::Places::file_at_place))]
-    fn file(&self, file: FileNo) -> Option<&File>
-        ensures { option_map (λ file. file.now) result ≡ file_at self.now.files file.0 }
+    /// What is in the place of a number.
+    #[tactic(auto, using(crate::proofs::Places::file_there))]
+    fn place(&self, file: FileNo) -> &File
+        ensures { result.now ≡ file_in self.now.files file.0 }
     {
-        let index = usize::from(file.0).checked_sub(1)?;
-        self.files.get(index)
+        &self.files[usize::from(file.0)]
+    }
+
+    /// The bytes of a file, and none where there is no file of this number.
+    pub fn bytes(&self, file: FileNo) -> &[u8]
+        ensures { result.now ≡ (server_of self.now).contents file.0 }
+    {
+        self.place(file).content.bytes()
     }
 
     /// The bytes of a file; `None` where there is no file of this number.
-    #[tactic(auto, using(crate::proofs::Places::content_found))]
     pub fn content(&self, file: FileNo) -> Option<&[u8]>
         ensures { option_map (λ bytes. bytes.now) result ≡ queries.content (server_of self.now) file.0 }
     {
-        let file = self.file(file)?;
-        Some(file.content.bytes())
+        if self.has_file(file) {
+            Some(self.bytes(file))
+        } else {
+            None
+        }
     }
 
     /// The lease of a key.
@@ -203,14 +278,47 @@ impl Tables {
     }
 }
 
-// Files with these contents, where nothing waits.
-fn files_of(alloc: Global, contents: Vec<Content>) -> Result<Vec<File>, AllocError>
-    ensures { IfOk result (λ files. files.items ≡ map fresh_file contents.items) }
+// A place for each number, and the contents from 1 on.
+fn places_of(alloc: Global, contents: Vec<Content>) -> Result<Vec<File>, Memory>
+    requires { length contents.items ≤ 255 }
+    ensures len { IfOk result (λ files. vec_len files ≡ 256) }
+    ensures places { IfOk result (λ files. (n : ℕ)
+        → file_in files.items n ≡ fresh_file (numbered [] contents.items n)) }
 {
-    contents
-        .into_iter()
-        .map(|content| File::new(alloc, content))
-        .collect(alloc)
+    let mut files = first_places(alloc, contents)?;
+    fill_up(alloc, &mut files)?;
+    Ok(files)
+}
+
+// An empty place, and then the contents.
+fn first_places(alloc: Global, contents: Vec<Content>) -> Result<Vec<File>, Memory>
+    ensures { IfOk result (λ files. files.items ≡ no_file ∷ map fresh_file contents.items) }
+{
+    let mut files = Vec::new(alloc);
+    files.push(File::empty(alloc)?)?;
+    for content in contents {
+        files.push(File::new(alloc, content))?;
+    }
+    Ok(files)
+}
+
+// Empty places, until there are enough.
+fn fill_up(alloc: Global, files: &mut Vec<File>) -> Result<(), Memory>
+    requires { vec_len files.old ≤ 256 }
+    ensures len { OnOk result (vec_len files.new ≡ 256) }
+    ensures places { OnOk result ((n : ℕ) → file_in files.new.items n ≡ file_in files.old.items n) }
+{
+    while files.len() < PLACES {
+        files.push(File::empty(alloc)?)?;
+    }
+    Ok(())
+}
+
+// Keeps the requests of other clients.
+fn forget_held(held: &mut Vec<Held>, client: ClientNo)
+    ensures { held.new.items ≡ without (λ one. one.client == client.0) held.old.items }
+{
+    held.retain(|one| one.client != client);
 }
 
 // Keeps the keys of other clients.

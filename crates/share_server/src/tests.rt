@@ -1,19 +1,15 @@
-use crate::Server;
-use lease_state::{ClientNo, Content, FileNo, LeaseKey, LeaseState};
-use std::alloc::Global;
-use std::test::Fail;
+mod breaks;
+mod calls;
+mod durable;
+mod words;
 
-const KEY: LeaseKey = LeaseKey([0, 1, 2, 3, 4, 5, 6, 7, 8, 9, 10, 11, 12, 13, 14, 15]);
+use crate::{Out, Server};
+use lease_state::{Access, Bytes, ClientNo, Content, FileNo, LeaseKey, LeaseState, Request, Share};
+use lease_wire::{CreateAsk, write_create_ask};
+use std::test::Fail;
+use words::{KEY, two_files};
 
 const WANTED_AND_GIVEN: [(u32, u32); 5] = [(7, 7), (5, 5), (6, 0), (2, 0), (4, 0)];
-
-// Two files: the first holds `abc`, the second nothing.
-fn two_files(alloc: Global) -> Result<Server, Fail> {
-    let mut files = Vec::new(alloc);
-    files.push(Content::new(Vec::from_slice(alloc, b"abc")?)?)?;
-    files.push(Content::new(Vec::new(alloc))?)?;
-    Ok(Server::new(alloc, files)?)
-}
 
 #[test]
 fn a_new_server_has_its_files_and_nothing_else(rt: HostRuntime) -> Result<(), Fail> {
@@ -53,4 +49,48 @@ fn a_client_joins_once(rt: HostRuntime) -> Result<(), Fail> {
         b"abc".as_slice()
     );
     Ok(())
+}
+
+// The example at the top of lib.rt, with counters in place of connections, a journal and a disk.
+#[test]
+fn the_example_holds(rt: HostRuntime) -> Result<(), Fail> {
+    let alloc = rt.alloc();
+    let mut contexts = Vec::new(alloc);
+    let lease = Some((LeaseKey([7; 16]), LeaseState::from_wire(7)));
+    let ask = CreateAsk {
+        lease,
+        durable: false,
+        reconnect: None,
+    };
+    write_create_ask(&ask, &mut contexts)?;
+    let contexts = Bytes::new(contexts);
+    let (access, share) = (Access::ReadWrite, Share::ReadWrite);
+    let create = Request::Create {
+        file: FileNo(1),
+        access,
+        share,
+        contexts,
+    };
+
+    let mut files = Vec::new(alloc);
+    files.push(Content::new(Vec::from_slice(alloc, b"abc")?)?)?;
+    let (server, _) = Server::new(alloc, files)?.join(ClientNo(1))?;
+    let (server, outs) = server.receive(ClientNo(1), create)?;
+    assert_eq!(rt; count_outs(outs), (1, 1, 0));
+    let others = server.allowed(ClientNo(2), None, FileNo(1), LeaseState::from_wire(7));
+    assert_eq!(rt; others, LeaseState::from_wire(3));
+    Ok(())
+}
+
+// How many replies are sent, files opened and files changed.
+fn count_outs(outs: Vec<Out>) -> (u32, u32, u32) {
+    let (mut sent, mut opened, mut changed) = (0u32, 0u32, 0u32);
+    for out in outs {
+        match out {
+            Out::Sent(..) => sent = sent.saturating_add(1),
+            Out::Opened(..) => opened = opened.saturating_add(1),
+            Out::Changed(..) => changed = changed.saturating_add(1),
+        }
+    }
+    (sent, opened, changed)
 }

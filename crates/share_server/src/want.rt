@@ -4,7 +4,7 @@ ghost use Rattle.share_server.specs.Wishes.{lowered_for};
 
 use crate::key::Key;
 use crate::state::{without_handle, without_write};
-use lease_state::{Access, LeaseState, Share};
+use lease_state::{Access, FileNo, LeaseState, Share};
 use std::marker::Model;
 
 /// What a request wishes of the leases of other keys on its file (own, but for handles: MS-SMB2
@@ -30,6 +30,14 @@ impl Wish {
             Wish::Nothing => LeaseState::NONE,
         }
     }
+}
+
+/// A wish of a request under this key, or under none, for its file.
+#[derive(Debug, Drop)]
+pub struct Demand {
+    pub wish: Wish,
+    pub own: Option<Key>,
+    pub file: FileNo,
 }
 
 /// A lease to be broken, and the state that it is to be lowered to.

@@ -1,13 +1,16 @@
-ghost use Rattle.std.specs.Prelude.{◌≡◌, ◌+◌, ◌<◌, ◌^◌, ◌++◌, [], ◌∷◌, true, not, filter, map, OnOk};
-ghost use Rattle.lease_model.specs.server.Calls.{disconnected};
+ghost use Rattle.std.specs.Prelude.{◌≡◌, ◌+◌, ◌<◌, ◌^◌, ◌++◌, ◌==◌, [], ◌∷◌};
+ghost use Rattle.std.specs.Prelude.{true, not, filter, map, OnOk, length, Some, vec_len};
+ghost use Rattle.std.specs.List.{remove, slice_get};
+ghost use Rattle.lease_state.specs.Content.{patch as patched};
+ghost use Rattle.lease_model.specs.server.Calls.{disconnected, client_forgotten};
 ghost use Rattle.lease_model.specs.server.Grant.{connected_again};
 ghost use Rattle.lease_model.specs.server.Progress.{with_lease, with_opens};
 ghost use Rattle.lease_model.specs.values.Lists.{without};
-ghost use Rattle.lease_model.specs.server.State.{has_file};
 ghost use Rattle.lease_model.specs.values.Tables.{put, put_key};
 ghost use Rattle.share_server.specs.Closing.{closes};
 ghost use Rattle.share_server.specs.Leases.{lease_of};
-ghost use Rattle.share_server.specs.Table.{server_of, lease_at};
+ghost use Rattle.share_server.specs.Outs.{progress_of};
+ghost use Rattle.share_server.specs.Table.{server_of, lease_at, file_without};
 
 use crate::closing::Closing;
 use crate::key::Key;
@@ -15,8 +18,8 @@ use crate::lease::Lease;
 use crate::leases::Leases;
 use crate::open::Open;
 use crate::request::Held;
-use crate::tables::Tables;
-use lease_state::{ClientNo, FileId, FileNo, Memory};
+use crate::tables::{File, Tables};
+use lease_state::{ClientNo, FileId, FileNo, Memory, Patch};
 
 impl Tables {
     /// Puts a lease under the key.
@@ -46,14 +49,46 @@ impl Tables {
     ///
     /// `Memory` where there is none left for the file's queue.
     pub fn hold(&mut self, file: FileNo, one: Held) -> Result<(), Memory>
-        requires { has_file (server_of self.old) file.0 ≡ true }
         ensures { OnOk result (server_of self.new ≡ record (server_of self.old) {
           held = put (server_of self.old).held file.0 ((server_of self.old).held file.0 ++ one ∷ []);
         }) }
     {
-        let index = usize::from(file.0) - 1;
-        self.files[index].hold(one)?;
+        self.files[usize::from(file.0)].hold(one)?;
         Ok(())
+    }
+
+    /// The request at this place of the file's queue no longer waits.
+    pub fn release(&mut self, file: FileNo, place: usize) -> Held
+        requires { place < length ((server_of self.old).held file.0) }
+        ensures left { server_of self.new ≡ record (server_of self.old) {
+          held = put (server_of self.old).held file.0 (remove ((server_of self.old).held file.0) place);
+        } }
+        ensures taken { slice_get ((server_of self.old).held file.0) place ≡ Some result }
+    {
+        self.files[usize::from(file.0)].release(place)
+    }
+
+    /// The patch is put over the bytes of the file.
+    ///
+    /// # Errors
+    ///
+    /// `Memory` where there is none left for a file that grows.
+    pub fn change(&mut self, file: FileNo, patch: &Patch) -> Result<(), Memory>
+        ensures { OnOk result (server_of self.new ≡ record (server_of self.old) {
+          contents = put (server_of self.old).contents file.0
+              (patched ((server_of self.old).contents file.0) patch.now);
+        }) }
+    {
+        self.files[usize::from(file.0)].change(patch)?;
+        Ok(())
+    }
+
+    /// The client's connection and its requests that wait are forgotten.
+    pub fn forget(&mut self, client: ClientNo)
+        ensures { progress_of self.new [] ≡ client_forgotten client.0 (progress_of self.old []) }
+    {
+        forget_connection(&mut self.present, client);
+        forget_requests(&mut self.files, client);
     }
 
     /// The timer of the key ran out.
@@ -118,6 +153,22 @@ fn drop_opens(opens: &mut Vec<Open>, leases: &Leases, closing: Closing)
     ensures { opens.new.items ≡ filter (λ one. not (closes closing (lease_at leases.now) one)) opens.old.items }
 {
     opens.retain(|one| !closing.closes(leases, one));
+}
+
+// Keeps the connections of other clients.
+fn forget_connection(present: &mut Vec<ClientNo>, client: ClientNo)
+    ensures { present.new.items ≡ filter (λ one. not (one.0 == client.0)) present.old.items }
+{
+    present.retain(|one| one.0 != client.0);
+}
+
+fn forget_requests(files: &mut Vec<File>, client: ClientNo)
+    ensures places { files.new.items ≡ map (file_without client.0) files.old.items }
+    ensures len { vec_len files.new ≡ vec_len files.old }
+{
+    for file in files.iter_mut() {
+        file.forget(client);
+    }
 }
 
 fn disconnect(opens: &mut Vec<Open>, client: ClientNo)

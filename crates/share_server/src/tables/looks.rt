@@ -1,4 +1,4 @@
-ghost use Rattle.std.specs.Prelude.{◌≡◌};
+ghost use Rattle.std.specs.Prelude.{◌≡◌, IfOk};
 ghost use Rattle.std.specs.List.{list_any};
 ghost use Rattle.std.specs.Option.{option_map};
 ghost use Rattle.lease_model.specs.server.Calls.{is_left_behind};
@@ -12,8 +12,9 @@ ghost use Rattle.share_server.specs.Table.{server_of};
 use crate::key::Key;
 use crate::lease::Lease;
 use crate::open::Open;
+use crate::request::Held;
 use crate::tables::Tables;
-use lease_state::{ClientNo, FileId, FileNo};
+use lease_state::{Bytes, ClientNo, FileId, FileNo, Memory};
 
 impl Tables {
     /// The client's connected open of this FileId.
@@ -26,6 +27,29 @@ impl Tables {
             }
         }
         None
+    }
+
+    /// The file of the client's connected open of this FileId.
+    pub fn open_file(&self, client: ClientNo, fid: FileId) -> Option<FileNo>
+        ensures { option_map (λ file. file.0) result
+            ≡ option_map (λ one. one.file) (findings.connected_open (server_of self.now) client.0 fid.0) }
+    {
+        match self.connected_open(client, fid) {
+            Some(one) => Some(one.file),
+            None => None,
+        }
+    }
+
+    /// A copy of the bytes of a file.
+    ///
+    /// # Errors
+    ///
+    /// `Memory` where there is none left for it.
+    pub fn copy(&self, file: FileNo) -> Result<Bytes, Memory>
+        ensures { IfOk result (λ bytes. bytes ≡ (server_of self.now).contents file.0) }
+    {
+        let bytes = Vec::from_slice(self.alloc(), self.bytes(file))?;
+        Ok(Bytes::new(bytes))
     }
 
     /// Whether the key has a lease, and on another file.
@@ -79,6 +103,13 @@ impl Tables {
         ensures { result ≡ (server_of self.now).expired key }
     {
         self.expired.iter().any(|other| key.is(*other))
+    }
+
+    /// The requests that wait on the file, in order of arrival.
+    pub fn held(&self, file: FileNo) -> &[Held]
+        ensures { result.now ≡ (server_of self.now).held file.0 }
+    {
+        self.place(file).held.as_slice()
     }
 
     /// The lease under which an open stands.
