@@ -1,2 +1,7 @@
+pub mod Answers
 pub mod Entries
+pub mod Handles
 pub mod Known
+pub mod Requests
+pub mod Terms
+pub mod Turns

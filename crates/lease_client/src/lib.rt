@@ -7,10 +7,15 @@
 mod client;
 mod command;
 mod entry;
+mod handles;
 mod key;
 mod note;
+mod requests;
+mod state;
 #[cfg(test)]
 mod tests;
+mod turn;
+mod writes;
 
 pub use client::Client;
 pub use command::{Answer, Command, Refusal};
