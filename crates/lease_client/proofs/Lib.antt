@@ -1,2 +1,4 @@
 pub mod NewClient
 pub mod Places
+pub mod Views
+pub mod Written

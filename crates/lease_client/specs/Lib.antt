@@ -1,4 +1,5 @@
 pub mod Answers
+pub mod Broken
 pub mod Entries
 pub mod Handles
 pub mod Known

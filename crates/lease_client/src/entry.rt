@@ -1,6 +1,6 @@
 ghost use Rattle.std.specs.Prelude.{◌≡◌, []};
 ghost use Rattle.lease_state.specs.State.{state_of};
-ghost use Rattle.lease_model.specs.client.State.{closed_entry, belief_of};
+ghost use Rattle.lease_model.specs.client.State.{closed_entry, live_entry, belief_of};
 
 use crate::handles::Handles;
 use lease_state::{Access, Bytes, FileId, LeaseState, Patch, Share};
@@ -141,6 +141,16 @@ impl Entry {
         Entry {
             phase: Phase::Closed,
             sent: Vec::new(alloc),
+        }
+    }
+
+    /// The entry of a live open, with its sent, unanswered writes.
+    pub fn live(live: Live, sent: Vec<Pending>) -> Entry
+        ensures { result ≡ live_entry live sent.items }
+    {
+        Entry {
+            phase: Phase::Live(live),
+            sent,
         }
     }
 

@@ -4,6 +4,7 @@
 //! rules in `lease_model`.
 #![tactic(auto)]
 
+mod breaks;
 mod client;
 mod command;
 mod entry;

@@ -38,8 +38,11 @@ pub fn apply(bytes: &mut Vec<u8>, change: &Patch) -> Result<(), Memory>
     let held = bytes.len();
     let offset = change.offset as usize;
     let added = change.bytes.as_slice();
+    if added.len() > usize::MAX - offset {
+        return Err(Memory);
+    }
     if !added.is_empty() {
-        let end = offset.checked_add(added.len()).ok_or(Memory)?;
+        let end = offset + added.len();
         bytes.resize(end.max(held), 0)?;
         write_over(bytes, offset, added);
     }
@@ -71,6 +74,7 @@ fn apply_all(bytes: &mut Vec<u8>, writes: &[Pending]) -> Result<(), Memory>
 /// # Errors
 ///
 /// `Memory` where there is none left for it.
+#[tactic(auto, using(crate::proofs::Views::patched_on))]
 pub fn view(base: &Bytes, sent: &[Pending], unsent: &[Pending]) -> Result<Bytes, Memory>
     ensures { IfOk result (λ seen. seen ≡ view base.now sent.now unsent.now) }
 {
