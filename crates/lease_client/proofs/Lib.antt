@@ -1,4 +1,5 @@
 pub mod NewClient
+pub mod Numbered
 pub mod Places
 pub mod Views
 pub mod Written

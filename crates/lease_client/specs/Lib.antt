@@ -1,5 +1,7 @@
+pub mod Answered
 pub mod Answers
 pub mod Broken
+pub mod Created
 pub mod Entries
 pub mod Handles
 pub mod Known

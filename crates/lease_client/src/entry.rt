@@ -144,6 +144,16 @@ impl Entry {
         }
     }
 
+    /// The entry of a file that isn't open, with its sent, unanswered writes.
+    pub fn shut(sent: Vec<Pending>) -> Entry
+        ensures { result ≡ closed_entry sent.items }
+    {
+        Entry {
+            phase: Phase::Closed,
+            sent,
+        }
+    }
+
     /// The entry of a live open, with its sent, unanswered writes.
     pub fn live(live: Live, sent: Vec<Pending>) -> Entry
         ensures { result ≡ live_entry live sent.items }

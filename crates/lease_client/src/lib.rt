@@ -4,9 +4,11 @@
 //! rules in `lease_model`.
 #![tactic(auto)]
 
+mod answered;
 mod breaks;
 mod client;
 mod command;
+mod created;
 mod entry;
 mod handles;
 mod key;
