@@ -1,6 +1,8 @@
 pub mod Answered
 pub mod Answers
 pub mod Broken
+pub mod Commanded
+pub mod Connected
 pub mod Created
 pub mod Entries
 pub mod Handles

@@ -8,11 +8,13 @@ mod answered;
 mod breaks;
 mod client;
 mod command;
+mod connection;
 mod created;
 mod entry;
 mod handles;
 mod key;
 mod note;
+mod opens;
 mod requests;
 mod state;
 #[cfg(test)]
