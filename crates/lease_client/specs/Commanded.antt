@@ -2,7 +2,7 @@
 use Rattle.std.specs.Prelude.{ℕ, ◌+◌, Bool, true, false, Option, Some, None, List, [], ◌∷◌, ◌++◌, if◌then◌else◌, ◌==◌, ◌&&◌, ◌||◌, not, nat_lt}
 use Rattle.lease_state.specs.declared.patch.Patch.{Patch}
 use Rattle.lease_model.specs.client.Commanded.{turn_of, is_asking, has_unanswered, one_handle_less, joint_terms, asked_by}
-use Rattle.lease_model.specs.client.Commands.{OpenTerms, Answer, Refusal, Note}
+use Rattle.lease_model.specs.client.Commands.{Command, OpenTerms, Answer, Refusal, Note}
 use Rattle.lease_model.specs.client.State.{Entry, LiveEntry, Pending, Phase, live_entry, view}
 use Rattle.lease_model.specs.client.Step.{Turn, write_requests}
 use Rattle.lease_model.specs.messages.Requests.{FileRequest, Request}
@@ -94,9 +94,9 @@ close_turn live sent =
     then refused_turn (live_entry live sent) Refusal.Busy
     else last_close_turn live sent)
 
-abbrev pub cached_turn : ℕ → LiveEntry → List Pending → List ℕ → Turn
-cached_turn file live sent bytes = record {
-  entry = live_entry live sent;
+abbrev pub cached_turn : ℕ → Entry → List ℕ → Turn
+cached_turn file entry bytes = record {
+  entry = entry;
   answer = Answer.Bytes bytes true;
   requests = [];
   settled = Note.CachedRead file bytes ∷ [];
@@ -111,7 +111,7 @@ read_sent_turn live sent =
 
 abbrev pub read_from_turn : ℕ → LiveEntry → List Pending → Bool → Option (List ℕ) → Turn
 read_from_turn file live sent true (Some base) =
-    cached_turn file live sent (view base sent live.unsent)
+    cached_turn file (live_entry live sent) (view base sent live.unsent)
 read_from_turn file live sent _ _ = read_sent_turn live sent
 
 unfoldable pub read_turn : ℕ → LiveEntry → List Pending → Turn
@@ -175,3 +175,20 @@ heard_turn turn entry = heard_in turn entry.sent entry.phase
 -- the number of the last write after a Write
 abbrev pub number_after : Turn → ℕ → ℕ
 number_after turn last = if is_refused turn.answer then last else last + 1
+
+abbrev pub written_turn : ℕ → ℕ → Patch → Entry → Turn
+written_turn file last patch entry = heard_turn (λ live sent. write_turn file live sent last patch) entry
+
+-- ---- any command, by the client's state and the key of the entry's file
+
+abbrev pub commanded_turn : Bool → List ℕ → ℕ → Command → Entry → Turn
+commanded_turn online key last (Command.Open file terms) entry = open_turn online key file terms entry
+commanded_turn online key last (Command.Close file) entry = heard_turn close_turn entry
+commanded_turn online key last (Command.Read file) entry = heard_turn (read_turn file) entry
+commanded_turn online key last (Command.Write file patch) entry = written_turn file last patch entry
+commanded_turn online key last (Command.Flush file) entry = heard_turn flush_turn entry
+
+abbrev pub last_after : Bool → List ℕ → ℕ → Command → Entry → ℕ
+last_after online key last (Command.Write file patch) entry =
+    number_after (written_turn file last patch entry) last
+last_after online key last command entry = last

@@ -7,6 +7,7 @@ pub mod Created
 pub mod Entries
 pub mod Handles
 pub mod Known
+pub mod Messages
 pub mod Requests
 pub mod Terms
 pub mod Turns
