@@ -14,6 +14,7 @@ mod created;
 mod entry;
 mod handles;
 mod key;
+mod machine;
 mod message;
 mod note;
 mod opens;

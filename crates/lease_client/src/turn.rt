@@ -1,5 +1,7 @@
-ghost use Rattle.std.specs.Prelude.{◌≡◌, [], IfOk};
+ghost use Rattle.std.specs.Prelude.{◌≡◌, [], IfOk, IsOk, true};
 ghost use Rattle.lease_state.specs.State.{state_of};
+ghost use Rattle.lease_model.specs.client.State.{belief_of};
+ghost use Rattle.lease_model.specs.values.LeaseStates.{same_state};
 ghost use Rattle.lease_client.specs.Answers.{answer_of};
 ghost use Rattle.lease_client.specs.Turns.{given_by};
 
@@ -92,7 +94,8 @@ impl Turn {
     ///
     /// `Memory` where there is none left for that note, and never where the belief is the old one.
     pub fn parts(self, file: FileNo, old: LeaseState) -> Result<(Entry, Given), Memory>
-        ensures { IfOk result (λ r. r ≡ (self.entry, given_by file.0 (state_of old) self)) }
+        ensures parts { IfOk result (λ r. r ≡ (self.entry, given_by file.0 (state_of old) self)) }
+        ensures same { same_state (state_of old) (belief_of self.entry) ≡ true → IsOk result }
     {
         let Turn {
             entry,
