@@ -168,3 +168,114 @@ write_live client file live sent patch e =
     (either F (client.last_number == last_write_number) _ _ _ _ (refused Refusal.UsedUp)
     (either F live.belief.write _ _ _ _ (wrote_on client file (live_entry live sent) _ Answer.Done [] _ refl e refl)
     (wrote_on client file (live_entry live sent) _ Answer.Waiting _ _ refl e refl))))
+
+-- ---- any command
+
+-- what a command that an unopened entry refuses does
+unheard : (client : Client) (file : ℕ) (sent : List Pending) (phase : Phase)
+    → client.entries file ≡ record { phase = phase; sent = sent }
+    → refused_step client (rules.refusal_in phase)
+    ≡ turned client file (rules.unheard_turn (record { phase = phase; sent = sent }))
+unheard client file sent phase e = still_step client file _ (Answer.Refused (rules.refusal_in phase)) e
+
+unless : (client : Client) (file : ℕ) (live : LiveEntry) (sent : List Pending) (step : Step) (turn : Turn)
+    → client.entries file ≡ live_entry live sent → step ≡ turned client file turn
+    → model.unless_parked client live step ≡ turned client file (rules.unless_parked live sent turn)
+unless client file live sent step turn e same =
+    either (turned client file) (live.handles == 0) _ _ _ _
+    (still_step client file (live_entry live sent) (Answer.Refused Refusal.NotOpen) e) same
+
+close_on : (client : Client) (file : ℕ) (sent : List Pending) (phase : Phase)
+    → client.entries file ≡ record { phase = phase; sent = sent }
+    → on_entry client file (Command.Close file) sent phase
+    ≡ turned client file (rules.heard_in rules.close_turn sent phase)
+close_on client file sent Phase.Closed e = unheard client file sent Phase.Closed e
+close_on client file sent (Phase.Opening access share) e = unheard client file sent (Phase.Opening access share) e
+close_on client file sent (Phase.Live live) e = unless client file live sent _ _ e (close_live client file live sent e)
+close_on client file sent (Phase.Offline parted) e = unheard client file sent (Phase.Offline parted) e
+close_on client file sent (Phase.Reconnecting parted) e = unheard client file sent (Phase.Reconnecting parted) e
+
+read_on : (client : Client) (file : ℕ) (sent : List Pending) (phase : Phase)
+    → client.entries file ≡ record { phase = phase; sent = sent }
+    → on_entry client file (Command.Read file) sent phase
+    ≡ turned client file (rules.heard_in (rules.read_turn file) sent phase)
+read_on client file sent Phase.Closed e = unheard client file sent Phase.Closed e
+read_on client file sent (Phase.Opening access share) e = unheard client file sent (Phase.Opening access share) e
+read_on client file sent (Phase.Live live) e = unless client file live sent _ _ e (read_live client file live sent e)
+read_on client file sent (Phase.Offline parted) e = unheard client file sent (Phase.Offline parted) e
+read_on client file sent (Phase.Reconnecting parted) e = unheard client file sent (Phase.Reconnecting parted) e
+
+flush_on : (client : Client) (file : ℕ) (sent : List Pending) (phase : Phase)
+    → client.entries file ≡ record { phase = phase; sent = sent }
+    → on_entry client file (Command.Flush file) sent phase
+    ≡ turned client file (rules.heard_in rules.flush_turn sent phase)
+flush_on client file sent Phase.Closed e = unheard client file sent Phase.Closed e
+flush_on client file sent (Phase.Opening access share) e = unheard client file sent (Phase.Opening access share) e
+flush_on client file sent (Phase.Live live) e = unless client file live sent _ _ e (flush_live client file live sent)
+flush_on client file sent (Phase.Offline parted) e = unheard client file sent (Phase.Offline parted) e
+flush_on client file sent (Phase.Reconnecting parted) e = unheard client file sent (Phase.Reconnecting parted) e
+
+unheard_write : (client : Client) (file : ℕ) (sent : List Pending) (phase : Phase)
+    → client.entries file ≡ record { phase = phase; sent = sent }
+    → refused_step client (rules.refusal_in phase)
+    ≡ wrote client file (rules.unheard_turn (record { phase = phase; sent = sent }))
+unheard_write client file sent phase e = unwritten client file _ (rules.refusal_in phase) e
+
+unless_write : (client : Client) (file : ℕ) (live : LiveEntry) (sent : List Pending) (step : Step) (turn : Turn)
+    → client.entries file ≡ live_entry live sent → step ≡ wrote client file turn
+    → model.unless_parked client live step ≡ wrote client file (rules.unless_parked live sent turn)
+unless_write client file live sent step turn e same =
+    either (wrote client file) (live.handles == 0) _ _ _ _
+    (unwritten client file (live_entry live sent) Refusal.NotOpen e) same
+
+write_on : (client : Client) (file : ℕ) (patch : Patch) (sent : List Pending) (phase : Phase)
+    → client.entries file ≡ record { phase = phase; sent = sent }
+    → on_entry client file (Command.Write file patch) sent phase
+    ≡ wrote client file
+    (rules.heard_in (λ live sent. rules.write_turn file live sent client.last_number patch) sent phase)
+write_on client file patch sent Phase.Closed e = unheard_write client file sent Phase.Closed e
+write_on client file patch sent (Phase.Opening access share) e =
+    unheard_write client file sent (Phase.Opening access share) e
+write_on client file patch sent (Phase.Live live) e =
+    unless_write client file live sent _ _ e (write_live client file live sent patch e)
+write_on client file patch sent (Phase.Offline parted) e =
+    unheard_write client file sent (Phase.Offline parted) e
+write_on client file patch sent (Phase.Reconnecting parted) e =
+    unheard_write client file sent (Phase.Reconnecting parted) e
+
+-- the turn of a command, and the step that it makes
+abbrev pub turn_by : Client → Command → Turn
+turn_by client command = rules.commanded_turn client.is_online
+    (lease_key client.guid (file_of command)) client.last_number command (client.entries (file_of command))
+
+abbrev pub last_by : Client → Command → ℕ
+last_by client command = rules.last_after client.is_online
+    (lease_key client.guid (file_of command)) client.last_number command (client.entries (file_of command))
+
+abbrev pub step_by : Client → Command → Step
+step_by client command =
+    with_number (last_by client command) (turned client (file_of command) (turn_by client command))
+
+abbrev IsBy : Client → Command → Type 0
+IsBy client command =
+    on_entry client (file_of command) command (client.entries (file_of command)).sent
+    (client.entries (file_of command)).phase
+    ≡ step_by client command
+
+on_entry_by : (client : Client) (command : Command) → IsBy client command
+on_entry_by client (Command.Open file terms) =
+    open_on client file terms _ _ refl ∙ sym (same_number client file _)
+on_entry_by client (Command.Close file) = close_on client file _ _ refl ∙ sym (same_number client file _)
+on_entry_by client (Command.Read file) = read_on client file _ _ refl ∙ sym (same_number client file _)
+on_entry_by client (Command.Write file patch) = write_on client file patch _ _ refl
+on_entry_by client (Command.Flush file) = flush_on client file _ _ refl ∙ sym (same_number client file _)
+
+pub commanded_by : (client : Client) (command : Command) → knows_file client (file_of command) ≡ true
+    → commanded client command ≡ step_by client command
+unfolding commanded
+commanded_by client command is = rw is (on_entry_by client command)
+
+pub commanded_nowhere : (client : Client) (command : Command) → knows_file client (file_of command) ≡ false
+    → commanded client command ≡ answered client (Answer.Refused Refusal.NotOpen)
+unfolding commanded
+commanded_nowhere client command is = rw is refl

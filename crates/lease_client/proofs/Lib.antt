@@ -1,8 +1,10 @@
 pub mod ByTurns
 pub mod Entries
+pub mod Found
 pub mod NewClient
 pub mod Numbered
 pub mod Places
+pub mod Replied
 pub mod Turned
 pub mod Views
 pub mod Written
