@@ -19,7 +19,8 @@ use Rattle.lease_client.specs.Answered.{read_in, not_read_in}
 use Rattle.lease_client.specs.Broken.{broken_in}
 use Rattle.lease_client.specs.Commanded as rules
 use Rattle.lease_client.specs.Created.{created_turn, created_in, created_for, not_created_turn, not_created_in, not_created_for}
-use Rattle.lease_client.proofs.Turned.{turned_still, answered, with_number, unnoted}
+use Rattle.lease_client.specs.Calls.{with_number, step_by}
+use Rattle.lease_client.proofs.Turned.{turned_still, answered, unnoted, same_numbered}
 
 -- ---- steps that are turns
 
@@ -33,11 +34,6 @@ either : (F : Turn → Step) (b : Bool) (one other : Step) (first second : Turn)
     → (if b then one else other) ≡ F (if b then first else second)
 either F true one other first second a b = a
 either F false one other first second a b = b
-
-same_number : (client : Client) (file : ℕ) (turn : Turn)
-    → with_number client.last_number (turned client file turn) ≡ turned client file turn
-unfolding turned
-same_number client file turn = refl
 
 -- ---- Open
 
@@ -142,7 +138,7 @@ unwritten : (client : Client) (file : ℕ) (entry : Entry) (refusal : Refusal) �
     → refused_step client refusal ≡ wrote client file (rules.refused_turn entry refusal)
 unwritten client file entry refusal e =
     still_step client file entry (Answer.Refused refusal) e
-    ∙ sym (same_number client file (rules.refused_turn entry refusal))
+    ∙ sym (same_numbered client file (rules.refused_turn entry refusal))
 
 wrote_on : (client : Client) (file : ℕ) (old new : Entry) (answer : Answer) (requests : List Request) (write : Pending)
     → rules.is_refused answer ≡ false → client.entries file ≡ old → belief_of old ≡ belief_of new
@@ -243,19 +239,6 @@ write_on client file patch sent (Phase.Offline parted) e =
 write_on client file patch sent (Phase.Reconnecting parted) e =
     unheard_write client file sent (Phase.Reconnecting parted) e
 
--- the turn of a command, and the step that it makes
-abbrev pub turn_by : Client → Command → Turn
-turn_by client command = rules.commanded_turn client.is_online
-    (lease_key client.guid (file_of command)) client.last_number command (client.entries (file_of command))
-
-abbrev pub last_by : Client → Command → ℕ
-last_by client command = rules.last_after client.is_online
-    (lease_key client.guid (file_of command)) client.last_number command (client.entries (file_of command))
-
-abbrev pub step_by : Client → Command → Step
-step_by client command =
-    with_number (last_by client command) (turned client (file_of command) (turn_by client command))
-
 abbrev IsBy : Client → Command → Type 0
 IsBy client command =
     on_entry client (file_of command) command (client.entries (file_of command)).sent
@@ -264,11 +247,11 @@ IsBy client command =
 
 on_entry_by : (client : Client) (command : Command) → IsBy client command
 on_entry_by client (Command.Open file terms) =
-    open_on client file terms _ _ refl ∙ sym (same_number client file _)
-on_entry_by client (Command.Close file) = close_on client file _ _ refl ∙ sym (same_number client file _)
-on_entry_by client (Command.Read file) = read_on client file _ _ refl ∙ sym (same_number client file _)
+    open_on client file terms _ _ refl ∙ sym (same_numbered client file _)
+on_entry_by client (Command.Close file) = close_on client file _ _ refl ∙ sym (same_numbered client file _)
+on_entry_by client (Command.Read file) = read_on client file _ _ refl ∙ sym (same_numbered client file _)
 on_entry_by client (Command.Write file patch) = write_on client file patch _ _ refl
-on_entry_by client (Command.Flush file) = flush_on client file _ _ refl ∙ sym (same_number client file _)
+on_entry_by client (Command.Flush file) = flush_on client file _ _ refl ∙ sym (same_numbered client file _)
 
 pub commanded_by : (client : Client) (command : Command) → knows_file client (file_of command) ≡ true
     → commanded client command ≡ step_by client command

@@ -1,5 +1,5 @@
 -- The first file of which something is so, as far as files were looked at.
-use Rattle.std.proofs.Common.{◌≡◌, ℕ, zero, suc, ◌+◌, ◌<◌, ◌≤◌, Bool, true, false, Some, None, List, [], ◌∷◌, ◌++◌, find, refl, arith, ◌⊎◌, inl, inr}
+use Rattle.std.proofs.Common.{◌≡◌, ℕ, zero, suc, ◌+◌, ◌<◌, ◌≤◌, Bool, true, false, Some, None, List, [], ◌∷◌, ◌++◌, find, refl, arith, inl, inr, add-one}
 use Rattle.std.proofs.lemmas.Bool.{cases_lt}
 use Rattle.lease_model.specs.values.Lists.{numbers_to}
 
@@ -32,3 +32,13 @@ found_at test (suc files) k below none is =
           let e : k ≡ files = omega (arith, last) in
           rw (← e) (find_behind test (numbers_to k) (suc k) none is)
     ]
+
+-- the same, where the next number is written as the code has it
+pub go_on : (test : ℕ → Bool) (k : ℕ) → find test (numbers_to k) ≡ None → test (k + 1) ≡ false
+    → find test (numbers_to (k + 1)) ≡ None
+go_on test k none is = rw (add-one k) (passed_over test k none (rw (add-one k) at is))
+
+pub stop_at : (test : ℕ → Bool) (files k : ℕ) → k < files → find test (numbers_to k) ≡ None → test (k + 1) ≡ true
+    → Some (k + 1) ≡ find test (numbers_to files)
+stop_at test files k below none is =
+    rw (add-one k, found_at test files k below none (rw (add-one k) at is)) refl

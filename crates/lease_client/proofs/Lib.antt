@@ -5,6 +5,8 @@ pub mod NewClient
 pub mod Numbered
 pub mod Places
 pub mod Replied
+pub mod Sound
+pub mod Steps
 pub mod Turned
 pub mod Views
 pub mod Written

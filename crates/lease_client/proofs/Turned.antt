@@ -1,5 +1,5 @@
 -- A turn of one entry, and what it makes of the client.
-use Rattle.std.proofs.Common.{◌≡◌, ℕ, ◌-◌, ◌<◌, ◌≤◌, zero, suc, Bool, true, false, List, [], ◌∷◌, ◌++◌, length, refl, ap, sym, ◌∙◌, subst, arith, map}
+use Rattle.std.proofs.Common.{◌≡◌, ℕ, ◌-◌, ◌<◌, ◌≤◌, zero, suc, Bool, true, false, List, [], ◌∷◌, ◌++◌, length, if◌then◌else◌, refl, ap, sym, ◌∙◌, subst, arith, map}
 use mathlib.Core.Bool.{beq}
 use Rattle.std.proofs.lemmas.List.{length-set, set-set}
 use Rattle.std.proofs.Math.ListN.{set}
@@ -13,6 +13,7 @@ use Rattle.lease_model.specs.client.Step.{Step, Turn, turned, believes_noted}
 use Rattle.lease_model.specs.messages.ToBytes.{request_written}
 use Rattle.lease_model.specs.values.LeaseStates.{same_state}
 use Rattle.lease_model.specs.values.Tables.{numbered, put}
+use Rattle.lease_client.specs.Calls.{with_number}
 use Rattle.lease_client.specs.Known.{Known, client_of}
 use Rattle.lease_client.specs.Turns.{Turned, Given, turn_written, given_by, IsAfter}
 use Rattle.lease_client.proofs.Entries.{client_set, file_there}
@@ -49,9 +50,6 @@ turned_still client file answer =
     ∙ ap (λ (t : ℕ → Entry). answered (record client { entries = t }) answer) (put_same client.entries file)
 
 -- ---- the entry is put back
-
-abbrev pub with_number : ℕ → Step → Step
-with_number last step = record step { client = record step.client { last_number = last } }
 
 after_set : (known : Known) (i last : ℕ) (turn : Turn) → i < length known.entries
     → IsAfter (record known { entries = set known.entries i turn.entry; last_number = last })
@@ -97,3 +95,36 @@ is_after known n last turn old written final given is was by stands out =
     out ∙ ap (λ (s : State). given_by n s written) was
     ∙ ap (λ (w : Turned). given_by n (belief_of ((client_of known).entries n)) w) by in
     rw (there, told) (back_in_place known n last turn is)
+
+pub same_numbered : (client : Client) (file : ℕ) (turn : Turn)
+    → with_number client.last_number (turned client file turn) ≡ turned client file turn
+unfolding turned
+same_numbered client file turn = refl
+
+-- ---- nothing changes
+
+pub nothing_after : (known : Known) (answer : Answer) (given : Given)
+    → given ≡ record { answer = answer; requests = []; notes = [] }
+    → IsAfter known given (answered (client_of known) answer)
+nothing_after known answer given is = rw is (record { client = refl; answer = refl; requests = refl; notes = refl })
+
+-- ---- a refused command
+
+unsaid_if : (same : Bool) (file : ℕ) (new : State)
+    → (if same then [] else Note.Believes file new ∷ []) ≡ [] → same ≡ true
+unsaid_if true file new none = refl
+unsaid_if false file new none = absurd (cc none)
+
+unsaid : (notes : List Note) (file : ℕ) (old new : State)
+    → notes ++ believes_noted file old new ≡ [] → same_state old new ≡ true
+unsaid [] file old new none = unsaid_if (same_state old new) file new none
+unsaid (note ∷ notes) file old new none = absurd (cc none)
+
+pub refusal_same : (client : Client) (file last : ℕ) (turn : Turn) (step : Step)
+    → step ≡ with_number last (turned client file turn) → step.notes ≡ []
+    → same_state (belief_of (client.entries file)) (belief_of turn.entry) ≡ true
+unfolding turned
+refusal_same client file last turn step is none =
+    let notes : turn.settled ++ believes_noted file (belief_of (client.entries file)) (belief_of turn.entry) ≡ [] =
+    sym (ap (λ (s : Step). s.notes) is) ∙ none in
+    unsaid turn.settled file (belief_of (client.entries file)) (belief_of turn.entry) notes

@@ -1,6 +1,7 @@
 pub mod Answered
 pub mod Answers
 pub mod Broken
+pub mod Calls
 pub mod Commanded
 pub mod Connected
 pub mod Created
@@ -9,5 +10,7 @@ pub mod Handles
 pub mod Known
 pub mod Messages
 pub mod Requests
+pub mod Searches
+pub mod Steps
 pub mod Terms
 pub mod Turns

@@ -1,9 +1,16 @@
-ghost use Rattle.std.specs.Prelude.{◌≡◌, IfOk, IsOk};
+ghost use Rattle.std.specs.Prelude.{◌≡◌, true, IfOk, IsOk};
 ghost use Rattle.lease_state.specs.State.{state_of};
 ghost use Rattle.lease_model.specs.client.State as model;
+ghost use Rattle.lease_model.specs.client.Commanded.{commanded};
+ghost use Rattle.lease_client.specs.Answers.{command_of};
+ghost use Rattle.lease_client.specs.Commanded.{is_refused};
 ghost use Rattle.lease_client.specs.Known.{client_of};
+ghost use Rattle.lease_client.specs.Steps.{IsStep};
 
+use crate::command::Command;
 use crate::machine::Machine;
+use crate::step::Step;
+use crate::turn::Given;
 use lease_laws::clients_are_sound;
 use lease_state::{FileNo, LeaseState, Memory};
 use std::alloc::Global;
@@ -51,5 +58,29 @@ impl Client {
         ensures { state_of result ≡ model.belief (client_of self.now) file.0 }
     {
         self.machine.belief(file)
+    }
+
+    /// A command comes from the application (own).
+    ///
+    /// # Errors
+    ///
+    /// `Memory` where there is none left, and never where the command is refused.
+    pub fn app(self, command: Command) -> Result<Step, Memory>
+        ensures step { IfOk result (λ step. IsStep step (commanded (client_of self) (command_of command))) }
+        ensures refused { is_refused (commanded (client_of self) (command_of command)).answer ≡ true → IsOk result }
+    {
+        clients_are_sound();
+        let Client { mut machine } = self;
+        let Given {
+            answer,
+            requests,
+            notes,
+        } = machine.app(command)?;
+        Ok(Step {
+            client: Client { machine },
+            answer,
+            requests,
+            notes,
+        })
     }
 }

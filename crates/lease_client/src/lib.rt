@@ -6,6 +6,7 @@
 
 mod answered;
 mod breaks;
+mod calls;
 mod client;
 mod command;
 mod commands;
@@ -18,8 +19,11 @@ mod machine;
 mod message;
 mod note;
 mod opens;
+mod replies;
 mod requests;
+mod searches;
 mod state;
+mod step;
 #[cfg(test)]
 mod tests;
 mod turn;
@@ -29,3 +33,4 @@ pub use client::Client;
 pub use command::{Answer, Command, Refusal};
 pub use key::lease_key;
 pub use note::{Note, Settlement};
+pub use step::Step;

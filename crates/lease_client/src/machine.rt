@@ -1,16 +1,21 @@
-ghost use Rattle.std.specs.Prelude.{◌≡◌, ◌-◌, [], IfOk, IsOk, OnOk, true, replicate};
+ghost use Rattle.std.specs.Prelude.{◌≡◌, ◌-◌, [], IfOk, IsOk, OnOk, length, true, replicate};
 ghost use Rattle.std.specs.Option.{option_map};
 ghost use Rattle.lease_state.specs.State.{state_of};
 ghost use Rattle.lease_model.specs.client.State as model;
 ghost use Rattle.lease_model.specs.values.LeaseStates.{same_state};
 ghost use Rattle.lease_client.specs.Known.{client_of, entry_at};
-ghost use Rattle.lease_client.specs.Turns.{given_by};
+ghost use Rattle.lease_model.specs.client.Taken.{has_sent};
+ghost use Rattle.lease_client.specs.Answers.{command_of};
+ghost use Rattle.lease_client.specs.Searches.{is_read_under};
+ghost use Rattle.lease_client.specs.Commanded.{commanded_turn, is_refused, last_after};
+ghost use Rattle.lease_client.specs.Turns.{given_by, turn_written};
 ghost use Rattle.std.proofs.Math.ListN.{set};
 
+use crate::command::Command;
 use crate::entry::Entry;
 use crate::key::lease_key;
 use crate::turn::{Given, Turn};
-use lease_state::{FileNo, LeaseKey, LeaseState, Memory};
+use lease_state::{FileId, FileNo, LeaseKey, LeaseState, Memory};
 use std::alloc::Global;
 use std::marker::Model;
 use std::mem;
@@ -45,6 +50,13 @@ impl Model for Machine {
 }
 
 impl Machine {
+    /// How many files there are.
+    pub fn files(&self) -> u8
+        ensures { result ≡ length self.now.entries }
+    {
+        self.entries.len() as u8
+    }
+
     /// The machine of this ClientGuid with files from 1 to `files`, that was never connected.
     ///
     /// # Errors
@@ -85,6 +97,28 @@ impl Machine {
         self.entries.get(index)
     }
 
+    /// Whether the file's open has this FileId and waits for a Read.
+    #[tactic(auto, using(crate::proofs::Places::entry_numbered))]
+    pub fn is_read_under(&self, file: FileNo, file_id: FileId) -> bool
+        ensures { result ≡ is_read_under (client_of self.now) file_id.0 file.0 }
+    {
+        match self.entry(file) {
+            Some(entry) => entry.reads_under(file_id),
+            None => false,
+        }
+    }
+
+    /// Whether the file has a sent write of this number that isn't answered.
+    #[tactic(auto, using(crate::proofs::Places::entry_numbered))]
+    pub fn has_sent(&self, file: FileNo, number: u64) -> bool
+        ensures { result ≡ has_sent (client_of self.now) number file.0 }
+    {
+        match self.entry(file) {
+            Some(entry) => entry.has_sent(number),
+            None => false,
+        }
+    }
+
     /// Whether there is a file of this number.
     pub fn knows(&self, file: FileNo) -> bool
         ensures { result ≡ model.knows_file (client_of self.now) file.0 }
@@ -99,8 +133,26 @@ impl Machine {
         lease_key(self.guid, file)
     }
 
-    // Takes the entry of a file out of its place, where a closed one stays.
-    fn take_entry(&mut self, file: FileNo) -> Entry
+    /// Does a command to the entry of its file, which is out of its place.
+    ///
+    /// # Errors
+    ///
+    /// `Memory` where there is none left, and never where the command is refused.
+    pub fn command_entry(&mut self, entry: Entry, key: LeaseKey, command: Command) -> Result<Turn, Memory>
+        ensures turn { IfOk result (λ turn. turn ≡ turn_written (commanded_turn self.old.is_online key.0
+            self.old.last_number (command_of command) entry)) }
+        ensures number { OnOk result (self.new ≡ record self.old { last_number = last_after self.old.is_online key.0
+            self.old.last_number (command_of command) entry }) }
+        ensures refused { is_refused (commanded_turn self.old.is_online key.0
+            self.old.last_number (command_of command) entry).answer ≡ true → IsOk result }
+    {
+        let is_online = self.is_online;
+        let turn = entry.commanded(is_online, key, &mut self.last_number, command)?;
+        Ok(turn)
+    }
+
+    /// Takes the entry of a file out of its place, where a closed one stays.
+    pub fn take_entry(&mut self, file: FileNo) -> Entry
         requires { model.knows_file (client_of self.old) file.0 ≡ true }
         ensures entry { result ≡ (client_of self.old).entries file.0 }
         ensures rest { self.new ≡ record self.old { entries = set self.old.entries (file.0 - 1) (model.closed_entry []) } }
@@ -110,9 +162,13 @@ impl Machine {
         mem::replace(&mut self.entries[index], Entry::closed(alloc))
     }
 
-    // Puts the entry of a file into its place, and tells what is given out: a belief that isn't the
-    // old one is noted.
-    fn put_turn(
+    /// Puts the entry of a file into its place, and tells what is given out: a belief that isn't the
+    /// old one is noted.
+    ///
+    /// # Errors
+    ///
+    /// `Memory` where there is none left for that note, and never where the belief is the old one.
+    pub fn put_turn(
         &mut self,
         file: FileNo,
         old: LeaseState,
