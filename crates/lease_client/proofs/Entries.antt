@@ -1,6 +1,7 @@
 -- An entry that is put in the place of its file: the other files have what they had.
-use Rattle.std.proofs.Common.{◌≡◌, ℕ, ◌-◌, ◌+◌, ◌<◌, ◌≤◌, zero, suc, true, cond, eqb, List, [], ◌∷◌, length, get_or, refl, ap, sym, ◌∙◌, arith, nat_le, ◌&&◌}
+use Rattle.std.proofs.Common.{◌≡◌, ℕ, ◌-◌, ◌+◌, ◌<◌, ◌≤◌, zero, suc, true, false, cond, eqb, List, [], ◌∷◌, length, get_or, refl, ap, sym, ◌∙◌, arith, nat_le, ◌&&◌}
 use Rattle.std.proofs.lemmas.List.{length-set}
+use Rattle.std.proofs.lemmas.Option.{slice_get_cases}
 use Rattle.std.proofs.Math.ListN.{set}
 use Rattle.std.proofs.Math.Path.{fun_ext}
 use Rattle.std.specs.List.{slice_get}
@@ -65,3 +66,10 @@ entry_of_file known (suc i) entry is at =
     let e : suc i - 1 ≡ i = omega arith in
     let there = file_there known (suc i) is in
     entry_numbered known.entries i entry (omega (arith, there)) (rw e at at)
+
+-- a number without a file has a closed entry
+pub unknown_file : (known : Known) (n : ℕ) → knows_file (client_of known) n ≡ false
+    → (client_of known).entries n ≡ closed_entry []
+unfolding numbered
+unknown_file known zero is = refl
+unknown_file known (suc n) is = grind (arith, nat_tests, slice_get_cases known.entries n, is)

@@ -2,7 +2,10 @@ ghost use Rattle.std.specs.Prelude.{◌≡◌, true, IfOk, IsOk};
 ghost use Rattle.lease_state.specs.State.{state_of};
 ghost use Rattle.lease_model.specs.client.State as model;
 ghost use Rattle.lease_model.specs.client.Commanded.{commanded};
+ghost use Rattle.lease_model.specs.client.Taken.{taken};
+ghost use Rattle.lease_model.specs.messages.FromBytes.{reply_of};
 ghost use Rattle.lease_client.specs.Answers.{command_of};
+ghost use Rattle.lease_client.specs.Calls.{is_idle};
 ghost use Rattle.lease_client.specs.Commanded.{is_refused};
 ghost use Rattle.lease_client.specs.Known.{client_of};
 ghost use Rattle.lease_client.specs.Steps.{IsStep};
@@ -12,7 +15,7 @@ use crate::machine::Machine;
 use crate::step::Step;
 use crate::turn::Given;
 use lease_laws::clients_are_sound;
-use lease_state::{FileNo, LeaseState, Memory};
+use lease_state::{FileNo, LeaseState, Memory, Reply};
 use std::alloc::Global;
 use std::marker::Model;
 
@@ -76,6 +79,31 @@ impl Client {
             requests,
             notes,
         } = machine.app(command)?;
+        Ok(Step {
+            client: Client { machine },
+            answer,
+            requests,
+            notes,
+        })
+    }
+
+    /// A message comes from the server (MS-SMB2 3.2.5). What fits no entry, and contexts or
+    /// notifications that can't be read, are passed over.
+    ///
+    /// # Errors
+    ///
+    /// `Memory` where there is none left, and never where a Close or an acknowledgment is answered.
+    pub fn take(self, reply: Reply) -> Result<Step, Memory>
+        ensures step { IfOk result (λ step. IsStep step (taken (client_of self) (reply_of reply))) }
+        ensures idle { is_idle reply ≡ true → IsOk result }
+    {
+        clients_are_sound();
+        let Client { mut machine } = self;
+        let Given {
+            answer,
+            requests,
+            notes,
+        } = machine.take(reply)?;
         Ok(Step {
             client: Client { machine },
             answer,
