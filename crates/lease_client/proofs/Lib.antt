@@ -1,6 +1,7 @@
 pub mod ByTurns
 pub mod Entries
 pub mod Found
+pub mod Linked
 pub mod NewClient
 pub mod Numbered
 pub mod Places

@@ -8,6 +8,7 @@ pub mod Created
 pub mod Entries
 pub mod Handles
 pub mod Known
+pub mod Links
 pub mod Messages
 pub mod Requests
 pub mod Searches

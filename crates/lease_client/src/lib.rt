@@ -15,6 +15,7 @@ mod created;
 mod entry;
 mod handles;
 mod key;
+mod links;
 mod machine;
 mod message;
 mod note;

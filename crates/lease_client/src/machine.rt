@@ -126,6 +126,13 @@ impl Machine {
         1 <= file.0 && usize::from(file.0) <= self.entries.len()
     }
 
+    /// The client is connected from now on, or no longer.
+    pub fn set_online(&mut self, is_online: bool)
+        ensures { self.new ≡ record self.old { is_online = is_online } }
+    {
+        self.is_online = is_online;
+    }
+
     /// The key under which a file is opened.
     pub fn key(&self, file: FileNo) -> LeaseKey
         ensures { result.0 ≡ model.lease_key self.now.guid file.0 }

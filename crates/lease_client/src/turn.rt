@@ -1,8 +1,8 @@
-ghost use Rattle.std.specs.Prelude.{◌≡◌, [], IfOk, IsOk, true};
+ghost use Rattle.std.specs.Prelude.{◌≡◌, ◌++◌, [], IfOk, IsOk, OnOk, true, map};
 ghost use Rattle.lease_state.specs.State.{state_of};
 ghost use Rattle.lease_model.specs.client.State.{belief_of};
 ghost use Rattle.lease_model.specs.values.LeaseStates.{same_state};
-ghost use Rattle.lease_client.specs.Answers.{answer_of};
+ghost use Rattle.lease_client.specs.Answers.{answer_of, note_of};
 ghost use Rattle.lease_client.specs.Turns.{given_by};
 
 use crate::command::Answer;
@@ -70,6 +70,27 @@ impl Given {
             requests: Vec::new(alloc),
             notes: Vec::new(alloc),
         }
+    }
+}
+
+impl Given {
+    /// Its requests and notes go behind those that there are.
+    ///
+    /// # Errors
+    ///
+    /// `Memory` where there is none left for them.
+    pub fn join(self, requests: &mut Vec<Request>, notes: &mut Vec<Note>) -> Result<(), Memory>
+        ensures requests { OnOk result (requests.new.items ≡ requests.old.items ++ self.requests) }
+        ensures notes { OnOk result (map note_of notes.new.items ≡ map note_of notes.old.items ++ self.notes) }
+    {
+        let Given {
+            requests: mut sent,
+            notes: mut noted,
+            ..
+        } = self;
+        requests.append(&mut sent)?;
+        notes.append(&mut noted)?;
+        Ok(())
     }
 }
 
