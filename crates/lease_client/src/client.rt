@@ -2,15 +2,18 @@ ghost use Rattle.std.specs.Prelude.{◌≡◌, true, IfOk, IsOk};
 ghost use Rattle.lease_state.specs.State.{state_of};
 ghost use Rattle.lease_model.specs.client.State as model;
 ghost use Rattle.lease_model.specs.client.Commanded.{commanded};
+ghost use Rattle.lease_model.specs.client.Connection.{noticed, connection_made};
 ghost use Rattle.lease_model.specs.client.Taken.{taken};
 ghost use Rattle.lease_model.specs.messages.FromBytes.{reply_of};
 ghost use Rattle.lease_client.specs.Answers.{command_of};
 ghost use Rattle.lease_client.specs.Calls.{is_idle};
 ghost use Rattle.lease_client.specs.Commanded.{is_refused};
 ghost use Rattle.lease_client.specs.Known.{client_of};
+ghost use Rattle.lease_client.specs.Links.{linked};
 ghost use Rattle.lease_client.specs.Steps.{IsStep};
 
 use crate::command::Command;
+use crate::links::Link;
 use crate::machine::Machine;
 use crate::step::Step;
 use crate::turn::Given;
@@ -104,6 +107,47 @@ impl Client {
             requests,
             notes,
         } = machine.take(reply)?;
+        Ok(Step {
+            client: Client { machine },
+            answer,
+            requests,
+            notes,
+        })
+    }
+
+    /// The client notices that its connection is lost (MS-SMB2 3.2.7.1). Live durable opens wait for the
+    /// next connection, with their buffered writes where writes may be cached; any other open is closed.
+    ///
+    /// # Errors
+    ///
+    /// `Memory` where there is none left.
+    pub fn notice(self) -> Result<Step, Memory>
+        ensures { IfOk result (λ step. IsStep step (noticed (client_of self))) }
+    {
+        self.link(Link::Lost)
+    }
+
+    /// The client connects (3.2.4.4): a create is sent for each open that waits for it.
+    ///
+    /// # Errors
+    ///
+    /// `Memory` where there is none left.
+    pub fn connect(self) -> Result<Step, Memory>
+        ensures { IfOk result (λ step. IsStep step (connection_made (client_of self))) }
+    {
+        self.link(Link::Made)
+    }
+
+    fn link(self, link: Link) -> Result<Step, Memory>
+        ensures { IfOk result (λ step. IsStep step (linked (client_of self) link)) }
+    {
+        clients_are_sound();
+        let Client { mut machine } = self;
+        let Given {
+            answer,
+            requests,
+            notes,
+        } = machine.link(link)?;
         Ok(Step {
             client: Client { machine },
             answer,
