@@ -6,6 +6,8 @@ pub mod NewClient
 pub mod Numbered
 pub mod Places
 pub mod Replied
+pub mod Replying
+pub mod Rising
 pub mod Sound
 pub mod Steps
 pub mod Turned

@@ -1,5 +1,6 @@
 pub mod Answered
 pub mod Answers
+pub mod Beliefs
 pub mod Broken
 pub mod Calls
 pub mod Commanded

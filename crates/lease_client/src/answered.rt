@@ -88,12 +88,7 @@ impl Entry {
     /// # Errors
     ///
     /// `Memory` where there is none left for the notes.
-    pub fn not_written(
-        self,
-        file_id: FileId,
-        number: u64,
-        status: Status,
-    ) -> Result<Turn, Memory>
+    pub fn not_written(self, file_id: FileId, number: u64, status: Status) -> Result<Turn, Memory>
         ensures { IfOk result (λ turn.
             turn ≡ turn_written (not_written_turn file_id.0 number status self)) }
     {
@@ -144,7 +139,6 @@ fn with_write(phase: Phase, write: Option<Pending>) -> Result<Phase, Memory>
 
 ghost use Rattle.std.specs.Prelude.{Some, ◌∷◌, []};
 ghost use Rattle.lease_client.specs.Entries.{phase_of};
-
 ghost use Rattle.std.specs.Prelude.{if◌then◌else◌, ◌&&◌, ◌==◌};
 ghost use Rattle.lease_state.specs.Content.{patch};
 ghost use Rattle.lease_model.specs.client.State.{live_entry};

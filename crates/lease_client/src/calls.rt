@@ -26,10 +26,7 @@ impl Machine {
     {
         let file = command.file();
         if !self.knows(file) {
-            return Ok(Given::answer(
-                self.alloc(),
-                Answer::Refused(Refusal::NotOpen),
-            ));
+            return Ok(Given::answer(self.alloc(), Answer::Refused(Refusal::NotOpen)));
         }
         self.command(file, command)
     }

@@ -1,11 +1,13 @@
 ghost use Rattle.std.specs.Prelude.{◌≡◌, true, IfOk, IsOk};
 ghost use Rattle.lease_state.specs.State.{state_of};
+ghost use Rattle.lease_laws.specs.client.Laws.{IsSoundClient};
 ghost use Rattle.lease_model.specs.client.State as model;
 ghost use Rattle.lease_model.specs.client.Commanded.{commanded};
 ghost use Rattle.lease_model.specs.client.Connection.{noticed, connection_made};
 ghost use Rattle.lease_model.specs.client.Taken.{taken};
 ghost use Rattle.lease_model.specs.messages.FromBytes.{reply_of};
 ghost use Rattle.lease_client.specs.Answers.{command_of};
+ghost use Rattle.lease_client.specs.Beliefs.{NoneRose, RoseBy};
 ghost use Rattle.lease_client.specs.Calls.{is_idle};
 ghost use Rattle.lease_client.specs.Commanded.{is_refused};
 ghost use Rattle.lease_client.specs.Known.{client_of};
@@ -66,7 +68,17 @@ impl Client {
         self.machine.belief(file)
     }
 
-    /// A command comes from the application (own).
+    /// The laws that this client keeps, as every client does: it has a file in its cache only where it
+    /// believes that it may cache reads, and unsent writes only where it believes that it may cache writes; it
+    /// asks for more only with a handle; what it keeps over a lost connection are buffered writes; and each
+    /// write has its own number. Does nothing.
+    pub fn laws(&self)
+        ensures { IsSoundClient (client_of self.now) }
+    {
+        let _machine = &self.machine;
+    }
+
+    /// A command comes from the application (own). No belief rises by it.
     ///
     /// # Errors
     ///
@@ -74,6 +86,7 @@ impl Client {
     pub fn app(self, command: Command) -> Result<Step, Memory>
         ensures step { IfOk result (λ step. IsStep step (commanded (client_of self) (command_of command))) }
         ensures refused { is_refused (commanded (client_of self) (command_of command)).answer ≡ true → IsOk result }
+        ensures beliefs { IfOk result (λ step. NoneRose (client_of self) (client_of step.client)) }
     {
         clients_are_sound();
         let Client { mut machine } = self;
@@ -91,7 +104,8 @@ impl Client {
     }
 
     /// A message comes from the server (MS-SMB2 3.2.5). What fits no entry, and contexts or
-    /// notifications that can't be read, are passed over.
+    /// notifications that can't be read, are passed over. A belief rises only by the answer to a create of
+    /// its file that tells of no break in progress.
     ///
     /// # Errors
     ///
@@ -99,6 +113,7 @@ impl Client {
     pub fn take(self, reply: Reply) -> Result<Step, Memory>
         ensures step { IfOk result (λ step. IsStep step (taken (client_of self) (reply_of reply))) }
         ensures idle { is_idle reply ≡ true → IsOk result }
+        ensures beliefs { IfOk result (λ step. RoseBy (reply_of reply) (client_of self) (client_of step.client)) }
     {
         clients_are_sound();
         let Client { mut machine } = self;
@@ -122,7 +137,8 @@ impl Client {
     ///
     /// `Memory` where there is none left.
     pub fn notice(self) -> Result<Step, Memory>
-        ensures { IfOk result (λ step. IsStep step (noticed (client_of self))) }
+        ensures step { IfOk result (λ step. IsStep step (noticed (client_of self))) }
+        ensures beliefs { IfOk result (λ step. NoneRose (client_of self) (client_of step.client)) }
     {
         self.link(Link::Lost)
     }
@@ -133,13 +149,15 @@ impl Client {
     ///
     /// `Memory` where there is none left.
     pub fn connect(self) -> Result<Step, Memory>
-        ensures { IfOk result (λ step. IsStep step (connection_made (client_of self))) }
+        ensures step { IfOk result (λ step. IsStep step (connection_made (client_of self))) }
+        ensures beliefs { IfOk result (λ step. NoneRose (client_of self) (client_of step.client)) }
     {
         self.link(Link::Made)
     }
 
     fn link(self, link: Link) -> Result<Step, Memory>
-        ensures { IfOk result (λ step. IsStep step (linked (client_of self) link)) }
+        ensures step { IfOk result (λ step. IsStep step (linked (client_of self) link)) }
+        ensures beliefs { IfOk result (λ step. NoneRose (client_of self) (client_of step.client)) }
     {
         clients_are_sound();
         let Client { mut machine } = self;

@@ -106,12 +106,7 @@ impl Entry {
     ///
     /// `Memory` where there is none left for what is kept, sent or noted, and never where the Write is
     /// refused.
-    pub fn write(
-        self,
-        file: FileNo,
-        last_number: &mut u64,
-        patch: Patch,
-    ) -> Result<Turn, Memory>
+    pub fn write(self, file: FileNo, last_number: &mut u64, patch: Patch) -> Result<Turn, Memory>
         ensures turn { IfOk result (λ turn. turn ≡ turn_written (written_turn file.0 last_number.old patch self)) }
         ensures number { IfOk result (λ turn. last_number.new
             ≡ rules.number_after (written_turn file.0 last_number.old patch self) last_number.old) }

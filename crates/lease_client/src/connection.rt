@@ -79,12 +79,7 @@ impl Parted {
         })
     }
 
-    fn reconnecting(
-        self,
-        sent: Vec<Pending>,
-        file: FileNo,
-        key: LeaseKey,
-    ) -> Result<Turn, Memory>
+    fn reconnecting(self, sent: Vec<Pending>, file: FileNo, key: LeaseKey) -> Result<Turn, Memory>
         ensures { IfOk result (λ turn. turn ≡ turn_written (reconnecting_turn key.0 file.0 self sent.items)) }
     {
         let alloc = *sent.allocator();

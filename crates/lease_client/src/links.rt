@@ -67,8 +67,10 @@ impl Machine {
 
     fn link_entry(&mut self, file: FileNo, link: Link) -> Result<Given, Memory>
         requires { knows_file (client_of self.old) file.0 ≡ true }
-        ensures machine { OnOk result (self.new ≡ record self.old { entries = set self.old.entries (file.0 - 1)
-            (link_turn link self.old.guid file.0 ((client_of self.old).entries file.0)).entry }) }
+        ensures machine { OnOk result (self.new ≡ record self.old {
+          entries = set self.old.entries (file.0 - 1)
+              (link_turn link self.old.guid file.0 ((client_of self.old).entries file.0)).entry;
+        }) }
         ensures given { IfOk result (λ given. given ≡ given_by file.0 (belief_of ((client_of self.old).entries file.0))
             (turn_written (link_turn link self.old.guid file.0 ((client_of self.old).entries file.0)))) }
     {

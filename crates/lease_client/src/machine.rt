@@ -145,11 +145,18 @@ impl Machine {
     /// # Errors
     ///
     /// `Memory` where there is none left, and never where the command is refused.
-    pub fn command_entry(&mut self, entry: Entry, key: LeaseKey, command: Command) -> Result<Turn, Memory>
+    pub fn command_entry(
+        &mut self,
+        entry: Entry,
+        key: LeaseKey,
+        command: Command,
+    ) -> Result<Turn, Memory>
         ensures turn { IfOk result (λ turn. turn ≡ turn_written (commanded_turn self.old.is_online key.0
             self.old.last_number (command_of command) entry)) }
-        ensures number { OnOk result (self.new ≡ record self.old { last_number = last_after self.old.is_online key.0
-            self.old.last_number (command_of command) entry }) }
+        ensures number { OnOk result (self.new ≡ record self.old {
+          last_number = last_after self.old.is_online key.0
+              self.old.last_number (command_of command) entry;
+        }) }
         ensures refused { is_refused (commanded_turn self.old.is_online key.0
             self.old.last_number (command_of command) entry).answer ≡ true → IsOk result }
     {
@@ -175,12 +182,7 @@ impl Machine {
     /// # Errors
     ///
     /// `Memory` where there is none left for that note, and never where the belief is the old one.
-    pub fn put_turn(
-        &mut self,
-        file: FileNo,
-        old: LeaseState,
-        turn: Turn,
-    ) -> Result<Given, Memory>
+    pub fn put_turn(&mut self, file: FileNo, old: LeaseState, turn: Turn) -> Result<Given, Memory>
         requires { model.knows_file (client_of self.old) file.0 ≡ true }
         ensures machine { OnOk result (self.new ≡ record self.old { entries = set self.old.entries (file.0 - 1) turn.entry }) }
         ensures given { IfOk result (λ given. given ≡ given_by file.0 (state_of old) turn) }

@@ -65,10 +65,7 @@ fn first_open(
         ≡ true → IsOk result }
 {
     if !is_online {
-        return Ok(Turn::still(
-            Entry::shut(sent),
-            Answer::Refused(Refusal::Offline),
-        ));
+        return Ok(Turn::still(Entry::shut(sent), Answer::Refused(Refusal::Offline)));
     }
     let alloc = *sent.allocator();
     let mut requests = Vec::new(alloc);

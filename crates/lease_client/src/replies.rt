@@ -57,12 +57,7 @@ impl Machine {
         Given::answer(self.alloc(), Answer::Quiet)
     }
 
-    fn created(
-        &mut self,
-        file: FileNo,
-        file_id: FileId,
-        contexts: &Bytes,
-    ) -> Result<Given, Memory>
+    fn created(&mut self, file: FileNo, file_id: FileId, contexts: &Bytes) -> Result<Given, Memory>
         ensures { IfOk result (λ given. IsAfter self.new given (rules.create_answered (client_of self.old) file.0
             file_id.0 (answer_found (value_of Direction.Reply contexts.now)))) }
     {
@@ -123,12 +118,7 @@ impl Machine {
     }
 
     #[tactic(auto, unfolding(lease_model::specs::client::Taken::write_failed))]
-    fn not_written(
-        &mut self,
-        file_id: FileId,
-        number: u64,
-        status: Status,
-    ) -> Result<Given, Memory>
+    fn not_written(&mut self, file_id: FileId, number: u64, status: Status) -> Result<Given, Memory>
         ensures { IfOk result (λ given. IsAfter self.new given
             (rules.write_failed (client_of self.old) file_id.0 number status)) }
     {

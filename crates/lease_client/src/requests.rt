@@ -6,9 +6,7 @@ ghost use Rattle.lease_client.specs.Requests as rules;
 ghost use Rattle.lease_client.specs.Terms.{terms_of};
 
 use crate::entry::{Parted, Pending};
-use lease_state::{
-    Access, Bytes, FileId, FileNo, LeaseKey, LeaseState, Memory, Request, Share,
-};
+use lease_state::{Access, Bytes, FileId, FileNo, LeaseKey, LeaseState, Memory, Request, Share};
 use lease_wire::{Acknowledgment, CreateAsk, write_create_ask};
 use std::alloc::Global;
 
@@ -77,12 +75,7 @@ pub fn acknowledge(key: LeaseKey, state: LeaseState) -> Request
 /// # Errors
 ///
 /// `Memory` where there is none left for the create contexts.
-pub fn open(
-    alloc: Global,
-    file: FileNo,
-    key: LeaseKey,
-    terms: Terms,
-) -> Result<Request, Memory>
+pub fn open(alloc: Global, file: FileNo, key: LeaseKey, terms: Terms) -> Result<Request, Memory>
     ensures { IfOk result (λ request.
         request ≡ request_written (rules.open_request key.0 file.0 (terms_of terms))) }
 {

@@ -9,8 +9,11 @@ pub returns-in-Some : goal.returns-in-Some
 returns-in-Some c =
     let found : notice_in c.args.bytes.now ≡ Some (notice_read c.in-Ok.notice) =
     c.bytes_laws.ensures.notification _ _ c.in-Ok.ensures.value in
-    rw (found, breaks_by (client_of c.args.self.now) c.in-Some.file.0 (notice_read c.in-Ok.notice)
-    (sym c.in-Some.ensures.found))
+    rw (
+      found,
+      breaks_by (client_of c.args.self.now) c.in-Some.file.0 (notice_read c.in-Ok.notice)
+          (sym c.in-Some.ensures.found),
+    )
     c.tell.ensures
 
 pub returns-in-None : goal.returns-in-None
