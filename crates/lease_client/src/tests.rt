@@ -1,11 +1,12 @@
 mod asking;
 mod cache;
+mod example;
 mod parting;
 mod replies;
 mod setting;
 
-use crate::tests::setting::{GUID, open};
-use crate::{Answer, Client, Command, Refusal, lease_key};
+use crate::tests::setting::{GUID, open, open_all, read, refuses};
+use crate::{Client, Refusal, lease_key};
 use lease_state::{Access, FileNo, LeaseKey, LeaseState, Share};
 use std::test::Fail;
 
@@ -38,14 +39,9 @@ fn a_new_client_believes_nothing(rt: HostRuntime) -> Result<(), Fail> {
 #[test]
 fn a_client_that_was_never_connected_opens_nothing(rt: HostRuntime) -> Result<(), Fail> {
     let client = Client::new(rt.alloc(), GUID, 1)?;
-    let step = client.app(open(1, Access::ReadWrite, Share::ReadWrite, 7, false))?;
-    assert!(rt; step.answer == Answer::Refused(Refusal::Offline));
-    assert!(rt; step.requests.is_empty() && step.notes.is_empty());
-    let step = step.client.app(Command::Read { file: FileNo(1) })?;
-    assert!(rt; step.answer == Answer::Refused(Refusal::NotOpen));
-    let step = step
-        .client
-        .app(open(2, Access::ReadWrite, Share::ReadWrite, 7, false))?;
-    assert!(rt; step.answer == Answer::Refused(Refusal::NotOpen));
+    let client = refuses(client, open_all(7, false), Refusal::Offline)?;
+    let client = refuses(client, read(), Refusal::NotOpen)?;
+    let other = open(2, Access::ReadWrite, Share::ReadWrite, 7, false);
+    refuses(client, other, Refusal::NotOpen)?;
     Ok(())
 }

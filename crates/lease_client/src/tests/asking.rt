@@ -1,7 +1,7 @@
 // Asking for more under one key.
 use crate::tests::setting::{
-    FILE, after, asked, believes, bytes, connected, create, create_failed, created,
-    created_in_break, is_step, open, opened, read_done, told, write, write_failed,
+    FILE, after, answers, asked, believes, bytes, connected, create, create_failed, created,
+    created_in_break, open, opened, opened_as, read, read_done, refuses, told, write, write_failed,
 };
 use crate::{Answer, Client, Command, Note, Refusal, Settlement};
 use lease_state::{Access, FileId, LeaseState, Request, Share, Status};
@@ -10,12 +10,7 @@ use std::test::Fail;
 
 // Open for reads under R, with a base, and asking to write.
 fn asking(alloc: Global) -> Result<Client, Fail> {
-    let client = after(
-        connected(alloc)?,
-        open(1, Access::Read, Share::ReadWrite, 1, false),
-    )?;
-    let client = told(client, created(alloc, 1, 1)?)?;
-    let client = after(client, Command::Read { file: FILE })?;
+    let client = after(opened_as(alloc, Access::Read, 1)?, read())?;
     let client = told(client, read_done(alloc, 1, b"abc")?)?;
     after(client, open(1, Access::Write, Share::Read, 7, false))
 }
@@ -23,52 +18,61 @@ fn asking(alloc: Global) -> Result<Client, Fail> {
 #[test]
 fn asks_for_what_both_have(rt: HostRuntime) -> Result<(), Fail> {
     let alloc = rt.alloc();
-    let client = after(
-        connected(alloc)?,
-        open(1, Access::ReadWrite, Share::Nothing, 7, false),
-    )?;
-    let client = told(client, created(alloc, 1, 7)?)?;
-    let step = client.app(open(1, Access::Read, Share::Read, 7, false))?;
-    let request = create(Access::ReadWrite, Share::Nothing, asked(alloc, 7)?);
-    assert!(rt; is_step(&step, Answer::Waiting, &[request], &[]));
-    let step = step.client.take(create_failed(Status::SharingViolation))?;
-    assert!(rt; is_step(&step, Answer::Failed(Status::SharingViolation), &[], &[]));
-    assert_eq!(rt; step.client.belief(FILE), LeaseState::from_wire(7));
+    let first = open(1, Access::ReadWrite, Share::Nothing, 7, false);
+    let client = told(after(connected(alloc)?, first)?, created(alloc, 1, 7)?)?;
+    let contexts = asked(alloc, 7)?;
+    let client = answers(alloc, Answer::Waiting)
+        .sends(create(Access::ReadWrite, Share::Nothing, contexts))?
+        .of(client.app(open(1, Access::Read, Share::Read, 7, false))?)?;
+    let client = answers(alloc, Answer::Failed(Status::SharingViolation)).of(client.take(
+        create_failed(Status::SharingViolation),
+    )?)?;
+    assert_eq!(rt; client.belief(FILE), LeaseState::from_wire(7));
     Ok(())
 }
 
 #[test]
 fn refuses_while_it_asks(rt: HostRuntime) -> Result<(), Fail> {
     let alloc = rt.alloc();
-    let step = asking(alloc)?.app(open(1, Access::Read, Share::ReadWrite, 1, false))?;
-    assert!(rt; is_step(&step, Answer::Refused(Refusal::Busy), &[], &[]));
-    let step = step.client.app(Command::Close { file: FILE })?;
-    assert!(rt; is_step(&step, Answer::Refused(Refusal::Busy), &[], &[]));
-    let step = step.client.app(Command::Read { file: FILE })?;
-    assert!(rt; step.requests.is_empty() && step.notes.len() == 1);
+    let same = open(1, Access::Read, Share::ReadWrite, 1, false);
+    let client = refuses(asking(alloc)?, same, Refusal::Busy)?;
+    let client = refuses(client, Command::Close { file: FILE }, Refusal::Busy)?;
+    answers(alloc, Answer::Bytes(bytes(alloc, b"abc")?, true))
+        .notes(Note::CachedRead(FILE, bytes(alloc, b"abc")?))?
+        .of(client.app(read())?)?;
+    Ok(())
+}
+
+#[test]
+fn sends_no_read_while_it_asks(rt: HostRuntime) -> Result<(), Fail> {
+    let alloc = rt.alloc();
+    let client = opened_as(alloc, Access::Read, 1)?;
+    let client = after(client, open(1, Access::Write, Share::Read, 7, false))?;
+    refuses(client, read(), Refusal::Busy)?;
     Ok(())
 }
 
 #[test]
 fn is_granted_more(rt: HostRuntime) -> Result<(), Fail> {
     let alloc = rt.alloc();
-    let step = asking(alloc)?.take(created(alloc, 2, 7)?)?;
-    let close = Request::Close { fid: FileId(1) };
-    assert!(rt; is_step(&step, Answer::Done, &[close], &[believes(7)]));
-    let client = after(step.client, write(alloc, 0, b"X")?)?;
-    let step = client.app(Command::Read { file: FILE })?;
-    let seen = bytes(alloc, b"Xbc")?;
-    assert!(rt; step.answer == Answer::Bytes(seen, true));
+    let client = answers(alloc, Answer::Done)
+        .sends(Request::Close { fid: FileId(1) })?
+        .notes(believes(7))?
+        .of(asking(alloc)?.take(created(alloc, 2, 7)?)?)?;
+    let client = after(client, write(alloc, 0, b"X")?)?;
+    answers(alloc, Answer::Bytes(bytes(alloc, b"Xbc")?, true))
+        .notes(Note::CachedRead(FILE, bytes(alloc, b"Xbc")?))?
+        .of(client.app(read())?)?;
     Ok(())
 }
 
 #[test]
 fn is_granted_nothing_in_a_break(rt: HostRuntime) -> Result<(), Fail> {
     let alloc = rt.alloc();
-    let step = asking(alloc)?.take(created_in_break(alloc, 2, 7)?)?;
-    let close = Request::Close { fid: FileId(1) };
-    assert!(rt; is_step(&step, Answer::Done, &[close], &[]));
-    assert_eq!(rt; step.client.belief(FILE), LeaseState::READ_CACHING);
+    let client = answers(alloc, Answer::Done)
+        .sends(Request::Close { fid: FileId(1) })?
+        .of(asking(alloc)?.take(created_in_break(alloc, 2, 7)?)?)?;
+    assert_eq!(rt; client.belief(FILE), LeaseState::READ_CACHING);
     Ok(())
 }
 
@@ -80,25 +84,24 @@ fn is_told_file_closed(rt: HostRuntime) -> Result<(), Fail> {
     let client = after(client, Command::Flush { file: FILE })?;
     let client = after(client, open(1, Access::Read, Share::ReadWrite, 7, false))?;
     let client = after(client, write(alloc, 1, b"Y")?)?;
-    let step = client.take(write_failed(1, 1, Status::FileClosed))?;
-    let notes = [
-        Note::Settled(1, Settlement::Failed),
-        Note::Settled(2, Settlement::Failed),
-        believes(0),
-    ];
-    assert!(rt; is_step(&step, Answer::Failed(Status::FileClosed), &[], &notes));
-    let step = step.client.take(created(alloc, 2, 3)?)?;
-    assert!(rt; is_step(&step, Answer::Done, &[], &[believes(3)]));
+    let client = answers(alloc, Answer::Failed(Status::FileClosed))
+        .notes(Note::Settled(1, Settlement::Failed))?
+        .notes(Note::Settled(2, Settlement::Failed))?
+        .notes(believes(0))?
+        .of(client.take(write_failed(1, 1, Status::FileClosed))?)?;
+    answers(alloc, Answer::Done)
+        .notes(believes(3))?
+        .of(client.take(created(alloc, 2, 3)?)?)?;
     Ok(())
 }
 
 #[test]
 fn forgets_at_a_notice_that_it_asked(rt: HostRuntime) -> Result<(), Fail> {
     let alloc = rt.alloc();
-    let step = asking(alloc)?.notice()?;
-    assert!(rt; is_step(&step, Answer::Quiet, &[], &[believes(0)]));
-    let step = step.client.take(created(alloc, 2, 7)?)?;
-    assert!(rt; is_step(&step, Answer::Quiet, &[], &[]));
+    let client = answers(alloc, Answer::Quiet)
+        .notes(believes(0))?
+        .of(asking(alloc)?.notice()?)?;
+    answers(alloc, Answer::Quiet).of(client.take(created(alloc, 2, 7)?)?)?;
     Ok(())
 }
 
@@ -107,9 +110,11 @@ fn forgets_at_a_notice_that_it_asked(rt: HostRuntime) -> Result<(), Fail> {
 fn opens_a_parked_file_anew(rt: HostRuntime) -> Result<(), Fail> {
     let alloc = rt.alloc();
     let client = after(opened(alloc, 7)?, Command::Close { file: FILE })?;
-    let step = client.app(open(1, Access::Read, Share::Read, 1, false))?;
-    let close = Request::Close { fid: FileId(1) };
-    let request = create(Access::Read, Share::Read, asked(alloc, 1)?);
-    assert!(rt; is_step(&step, Answer::Waiting, &[close, request], &[believes(0)]));
+    let contexts = asked(alloc, 1)?;
+    answers(alloc, Answer::Waiting)
+        .sends(Request::Close { fid: FileId(1) })?
+        .sends(create(Access::Read, Share::Read, contexts))?
+        .notes(believes(0))?
+        .of(client.app(open(1, Access::Read, Share::Read, 1, false))?)?;
     Ok(())
 }

@@ -1,6 +1,6 @@
 // What the tests have in common: a client with this ClientGuid and one file, whose opens get
 // FileIds from 1 on, and the bytes of replies.
-use crate::{Answer, Client, Command, Note, Step};
+use crate::{Answer, Client, Command, Note, Refusal, Step};
 use lease_state::{
     Access, Bytes, FileId, FileNo, LeaseState, Patch, Reply, Request, Share, Status,
 };
@@ -189,9 +189,49 @@ pub fn believes(state: u32) -> Note {
     Note::Believes(FILE, LeaseState::from_wire(state))
 }
 
-// Whether a step is this one.
-pub fn is_step(step: &Step, answer: Answer, requests: &[Request], notes: &[Note]) -> bool {
-    step.answer == answer && step.requests.as_slice() == requests && step.notes.as_slice() == notes
+// What a step is to be.
+#[derive(Drop)]
+pub struct Expected {
+    answer: Answer,
+    requests: Vec<Request>,
+    notes: Vec<Note>,
+}
+
+pub fn answers(alloc: Global, answer: Answer) -> Expected {
+    Expected {
+        answer,
+        requests: Vec::new(alloc),
+        notes: Vec::new(alloc),
+    }
+}
+
+impl Expected {
+    pub fn sends(self, request: Request) -> Result<Expected, Fail> {
+        let mut expected = self;
+        expected.requests.push(request)?;
+        Ok(expected)
+    }
+
+    pub fn notes(self, note: Note) -> Result<Expected, Fail> {
+        let mut expected = self;
+        expected.notes.push(note)?;
+        Ok(expected)
+    }
+
+    // The client after the step, which has to be as expected.
+    pub fn of(self, step: Step) -> Result<Client, Fail> {
+        let Step {
+            client,
+            answer,
+            requests,
+            notes,
+        } = step;
+        if answer == self.answer && requests == self.requests && notes == self.notes {
+            Ok(client)
+        } else {
+            Err(Fail::new("another step"))
+        }
+    }
 }
 
 pub fn connected(alloc: Global) -> Result<Client, Fail> {
@@ -211,6 +251,27 @@ pub fn opened_durable(alloc: Global, state: u8) -> Result<Client, Fail> {
     let step = connected(alloc)?.app(open_all(7, true))?;
     let step = step.client.take(created_durable(alloc, 1, state)?)?;
     Ok(step.client)
+}
+
+// The same with this access.
+pub fn opened_as(alloc: Global, access: Access, state: u8) -> Result<Client, Fail> {
+    let first = open(1, access, Share::ReadWrite, 7, false);
+    told(after(connected(alloc)?, first)?, created(alloc, 1, state)?)
+}
+
+pub fn read() -> Command {
+    Command::Read { file: FILE }
+}
+
+pub fn read_request(fid: u64) -> Request {
+    Request::Read { fid: FileId(fid) }
+}
+
+// The client after a command that it has to refuse so, sending and noting nothing.
+pub fn refuses(client: Client, command: Command, refusal: Refusal) -> Result<Client, Fail> {
+    let step = client.app(command)?;
+    let alloc = *step.requests.allocator();
+    answers(alloc, Answer::Refused(refusal)).of(step)
 }
 
 // The client after a command.
