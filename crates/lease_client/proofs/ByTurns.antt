@@ -1,24 +1,16 @@
 -- Commands and replies as turns of one entry.
-use Rattle.std.proofs.Common.{◌≡◌, ℕ, ◌+◌, ◌==◌, ◌&&◌, ◌||◌, nat_lt, Bool, true, false, not, Option, Some, None, List, [], ◌∷◌, ◌++◌, if◌then◌else◌, refl, ap, sym, ◌∙◌, subst}
-use Rattle.lease_state.specs.State.{State}
-use Rattle.lease_state.specs.declared.status.Status.{Status}
+use Rattle.std.proofs.Common.{◌≡◌, ℕ, ◌==◌, ◌&&◌, ◌||◌, nat_lt, Bool, true, false, not, Option, Some, None, List, [], ◌∷◌, ◌++◌, if◌then◌else◌, refl, ap, sym, ◌∙◌, subst}
 use Rattle.lease_state.specs.declared.patch.Patch.{Patch}
 use Rattle.lease_model.specs.client.Commanded as model
 use Rattle.lease_model.specs.client.Commanded.{commanded, turn_of, on_entry, file_of, is_asking, has_unanswered}
 use Rattle.lease_model.specs.client.Commands.{Command, OpenTerms, Answer, Refusal, Note}
-use Rattle.lease_model.specs.client.State.{Client, Entry, LiveEntry, Asked, Pending, Phase, live_entry, lease_key, knows_file, belief_of, closed_entry, view}
-use Rattle.lease_model.specs.client.Step.{Step, Turn, turned, believes_noted, quiet_step, refused_step}
-use Rattle.lease_model.specs.client.Taken as taken
-use Rattle.lease_model.specs.messages.Replies.{CreateAnswer, BreakNotice}
+use Rattle.lease_model.specs.client.State.{Client, Entry, LiveEntry, Pending, Phase, live_entry, lease_key, knows_file, belief_of, view}
+use Rattle.lease_model.specs.client.Step.{Step, Turn, turned, believes_noted, refused_step}
 use Rattle.lease_model.specs.messages.Requests.{Request}
-use Rattle.lease_model.specs.values.LeaseStates.{meet}
 use Rattle.lease_model.specs.values.Limits.{count_limit, last_write_number}
 use Rattle.lease_model.specs.values.Patches.{is_within_limit}
 use Rattle.lease_model.specs.values.Sharing.{may_read, may_write, same_access, same_share}
-use Rattle.lease_client.specs.Answered.{read_in, not_read_in}
-use Rattle.lease_client.specs.Broken.{broken_in}
 use Rattle.lease_client.specs.Commanded as rules
-use Rattle.lease_client.specs.Created.{created_turn, created_in, created_for, not_created_turn, not_created_in, not_created_for}
 use Rattle.lease_client.specs.Calls.{with_number, step_by}
 use Rattle.lease_client.proofs.Turned.{turned_still, answered, unnoted, same_numbered}
 

@@ -1,21 +1,19 @@
 -- All entries have their turns, in the order of their files.
-use Rattle.std.proofs.Common.{◌≡◌, ℕ, ◌-◌, ◌+◌, ◌<◌, ◌≤◌, zero, suc, Bool, true, false, cond, eqb, List, [], ◌∷◌, ◌++◌, length, map, flat_map, refl, ap, sym, ◌∙◌, arith, add-one, inl, inr}
+use Rattle.std.proofs.Common.{◌≡◌, ℕ, ◌-◌, ◌+◌, ◌<◌, ◌≤◌, zero, suc, Bool, true, List, [], ◌++◌, length, map, refl, ap, sym, ◌∙◌, arith, add-one, inl, inr}
 use Rattle.std.proofs.lemmas.Bool.{cases_lt}
 use Rattle.std.proofs.lemmas.Bool.Decides.{nat_tests}
-use Rattle.std.proofs.lemmas.List.{length-set, set-set, map-append, append-nil, flat_map_more}
+use Rattle.std.proofs.lemmas.List.{length-set, set-set, map-append, flat_map_more}
 use Rattle.std.proofs.lemmas.Option.{slice_get_cases}
-use Rattle.std.proofs.Math.ListN.{set}
 use Rattle.std.proofs.Math.Path.{fun_ext}
 use Rattle.lease_model.specs.client.Commands.{Note, Answer}
 use Rattle.lease_model.specs.client.Connection as model
 use Rattle.lease_model.specs.client.Connection.{all_turned}
 use Rattle.lease_model.specs.client.State.{Client, Entry, Pending, Phase, closed_entry, lease_key, knows_file, belief_of}
-use Rattle.lease_model.specs.client.Step.{Step, Turn, believes_noted}
-use Rattle.lease_model.specs.messages.Requests.{Request}
+use Rattle.lease_model.specs.client.Step.{Turn, believes_noted}
 use Rattle.lease_model.specs.messages.ToBytes.{request_written}
 use Rattle.lease_model.specs.values.Lists.{numbers_to}
 use Rattle.lease_model.specs.values.Tables.{numbered}
-use Rattle.lease_client.specs.Connected.{connected_in, connected_turn}
+use Rattle.lease_client.specs.Connected.{connected_in}
 use Rattle.lease_client.specs.Known.{Known, client_of}
 use Rattle.lease_client.specs.Links.{link_turn, is_made, linked, entries_to, requests_to, notes_to}
 use Rattle.lease_client.specs.Turns.{Turned, Given, IsAfter, turn_written, given_by}

@@ -1,5 +1,5 @@
 -- Replies as turns of one entry.
-use Rattle.std.proofs.Common.{◌≡◌, ℕ, ◌==◌, ◌&&◌, Bool, true, false, not, if◌then◌else◌, Option, Some, None, List, [], length, nat_le, nat_lt, refl, arith}
+use Rattle.std.proofs.Common.{◌≡◌, ℕ, ◌==◌, ◌&&◌, Bool, true, false, not, if◌then◌else◌, Option, Some, None, List, length, nat_le, nat_lt, refl, arith}
 use Rattle.std.proofs.lemmas.Bool.Decides.{nat_tests}
 use Rattle.lease_wire.specs.Field.{number_at}
 use Rattle.lease_wire.specs.WireFaults.{message_fault}
@@ -8,7 +8,7 @@ use Rattle.lease_model.specs.messages.FromBytes.{notice_in}
 use Rattle.lease_state.specs.declared.status.Status.{Status}
 use Rattle.lease_model.specs.client.Commands.{Answer}
 use Rattle.lease_model.specs.client.State.{Client, LiveEntry, Asked, Pending, Phase, live_entry, lease_key, knows_file}
-use Rattle.lease_model.specs.client.Step.{Step, Turn, turned, quiet_step}
+use Rattle.lease_model.specs.client.Step.{turned, quiet_step}
 use Rattle.lease_model.specs.client.Taken as model
 use Rattle.lease_model.specs.messages.Replies.{CreateAnswer, BreakNotice}
 use Rattle.lease_client.specs.Answered.{read_done_turn, read_in, not_read_turn, not_read_in}

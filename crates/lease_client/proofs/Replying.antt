@@ -1,25 +1,24 @@
 -- A reply raises no belief, but that of the file whose create it answers.
-use Rattle.std.proofs.Common.{◌≡◌, ℕ, Bool, true, false, not, cond, eqb, Option, Some, None, List, [], ◌∷◌, ◌==◌, ◌&&◌, if◌then◌else◌, bytes_eq, nat_le, length, find, refl, ap, sym, ◌∙◌, ◌⊎◌, inl, inr, subst}
+use Rattle.std.proofs.Common.{◌≡◌, ℕ, Bool, true, false, not, Option, Some, None, List, [], ◌==◌, ◌&&◌, if◌then◌else◌, bytes_eq, nat_le, length, find, refl, sym, ◌⊎◌, inl, inr, subst}
 use Rattle.lease_client.specs.Links.{linked}
 use Rattle.lease_client.specs.Searches.{is_read_under}
 use Rattle.lease_client.specs.declared.links.Link.{Link}
 use Rattle.lease_client.specs.declared.links.Link.TheVariants.{Lost, Made}
-use Rattle.std.proofs.lemmas.Bool.Decides.{nat_tests}
 use Rattle.lease_state.specs.State.{State, is_state_within, nothing_cached}
 use Rattle.lease_state.specs.declared.content.TheConstants.{FILE_LIMIT}
 use Rattle.lease_state.specs.declared.status.Status.{Status}
 use Rattle.lease_model.specs.client.Commands.{Note}
 use Rattle.lease_model.specs.client.Connection as connection
-use Rattle.lease_model.specs.client.State.{Client, Entry, LiveEntry, Asked, Parted, Pending, Phase, live_entry, lease_key, belief_of}
-use Rattle.lease_model.specs.client.Step.{Step, Turn, turned, quiet_step}
+use Rattle.lease_model.specs.client.State.{Client, Entry, LiveEntry, Asked, Pending, Phase, live_entry, lease_key, belief_of}
+use Rattle.lease_model.specs.client.Step.{Step, turned}
 use Rattle.lease_model.specs.client.Taken as model
 use Rattle.lease_model.specs.client.Taken.{taken}
 use Rattle.lease_model.specs.messages.Replies.{Reply, CreateAnswer, LeaseGiven, BreakNotice}
 use Rattle.lease_model.specs.values.LeaseStates.{meet}
 use Rattle.lease_client.specs.Answered.{read_in, read_done_turn, not_read_in, not_read_turn, not_written_turn}
-use Rattle.lease_client.specs.Beliefs.{IsNoMore, NoneRose, is_free, grants_to, RoseBy}
+use Rattle.lease_client.specs.Beliefs.{NoneRose, is_free, RoseBy}
 use Rattle.lease_client.specs.Broken.{broken_in, broken_turn}
-use Rattle.lease_client.specs.Created.{created_turn, created_in, created_for, not_created_in, not_created_for}
+use Rattle.lease_client.specs.Created.{created_in, created_for, not_created_in, not_created_for}
 use Rattle.lease_client.proofs.Replied.{created_by, not_created_by, read_by, not_read_by, broken_by}
 use Rattle.lease_client.proofs.Rising.{IsLower, Lowers, lower_if, within_self, meet_within, turned_lower, turned_apart}
 

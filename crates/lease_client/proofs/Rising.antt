@@ -1,30 +1,21 @@
 -- No call raises a belief, but a reply to a create that tells of no break in progress.
-use Rattle.std.proofs.Common.{◌≡◌, ◌≢◌, ℕ, Bool, true, false, not, cond, eqb, Option, Some, None, List, [], ◌∷◌, ◌==◌, ◌&&◌, ◌||◌, if◌then◌else◌, bytes_eq, nat_le, nat_lt, length, refl, ap, sym, ◌∙◌, subst, inl, inr, arith}
+use Rattle.std.proofs.Common.{◌≡◌, ℕ, Bool, true, false, not, eqb, Option, Some, None, List, ◌==◌, ◌&&◌, ◌||◌, if◌then◌else◌, nat_lt, refl, inl, inr, arith}
 use Rattle.std.proofs.lemmas.Bool.{cases_eq}
 use Rattle.std.proofs.lemmas.Bool.Decides.{nat_tests}
-use Rattle.lease_state.specs.State.{State, nothing_cached, is_state_within}
-use Rattle.lease_state.specs.declared.content.TheConstants.{FILE_LIMIT}
+use Rattle.lease_state.specs.State.{State, is_state_within}
 use Rattle.lease_state.specs.declared.patch.Patch.{Patch}
-use Rattle.lease_state.specs.declared.status.Status.{Status}
-use Rattle.lease_model.specs.client.Commanded.{commanded, turn_of, file_of, is_asking, has_unanswered}
-use Rattle.lease_model.specs.client.Commands.{Command, OpenTerms, Answer, Refusal, Note}
-use Rattle.lease_model.specs.client.Connection as connection
-use Rattle.lease_model.specs.client.State.{Client, Entry, LiveEntry, Asked, Parted, Pending, Phase, live_entry, lease_key, knows_file, belief_of, belief_in, closed_entry, view}
-use Rattle.lease_model.specs.client.Step.{Step, Turn, turned, quiet_step}
-use Rattle.lease_model.specs.client.Taken as model
-use Rattle.lease_model.specs.messages.Replies.{Reply, CreateAnswer, LeaseGiven, BreakNotice}
+use Rattle.lease_model.specs.client.Commanded.{commanded, file_of, is_asking, has_unanswered}
+use Rattle.lease_model.specs.client.Commands.{Command, OpenTerms}
+use Rattle.lease_model.specs.client.State.{Client, Entry, LiveEntry, Pending, Phase, live_entry, lease_key, knows_file, belief_of}
+use Rattle.lease_model.specs.client.Step.{Turn, turned}
 use Rattle.lease_model.specs.values.LeaseStates.{meet}
 use Rattle.lease_model.specs.values.Limits.{count_limit, last_write_number}
 use Rattle.lease_model.specs.values.Patches.{is_within_limit}
 use Rattle.lease_model.specs.values.Sharing.{may_read, may_write, same_access, same_share}
 use Rattle.lease_model.specs.values.Tables.{put}
-use Rattle.lease_client.specs.Answered.{read_done_turn, read_in, not_read_turn, not_read_in}
-use Rattle.lease_client.specs.Beliefs.{IsNoMore, NoneRose, is_free, grants_to, RoseBy}
-use Rattle.lease_client.specs.Broken.{broken_turn, broken_in, closing_turn}
+use Rattle.lease_client.specs.Beliefs.{IsNoMore, NoneRose}
 use Rattle.lease_client.specs.Commanded as rules
-use Rattle.lease_client.specs.Created.{created_turn, created_in, created_for, not_created_turn, not_created_in, not_created_for}
 use Rattle.lease_client.proofs.ByTurns.{commanded_by, commanded_nowhere}
-use Rattle.lease_client.proofs.Replied as replied
 
 -- ---- states
 

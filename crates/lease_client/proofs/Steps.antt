@@ -1,5 +1,5 @@
 -- Calls that go by one entry.
-use Rattle.std.proofs.Common.{◌≡◌, ℕ, Bool, true, false, List, [], refl, ap, sym, ◌∙◌}
+use Rattle.std.proofs.Common.{◌≡◌, ℕ, true, List, [], refl, ap, ◌∙◌}
 use Rattle.lease_state.specs.State.{State}
 use Rattle.lease_laws.specs.client.Laws.{RefusedCommandsDoNothing}
 use Rattle.lease_model.specs.client.Commanded.{commanded, file_of}
@@ -7,7 +7,7 @@ use Rattle.lease_model.specs.client.Commands.{Command, Answer, Refusal}
 use Rattle.lease_model.specs.client.State.{Client, Entry, lease_key, knows_file, belief_of}
 use Rattle.lease_model.specs.client.Step.{Step, Turn, turned}
 use Rattle.lease_model.specs.values.LeaseStates.{same_state}
-use Rattle.lease_client.specs.Calls.{with_number, step_by, turn_by, last_by}
+use Rattle.lease_client.specs.Calls.{turn_by, last_by}
 use Rattle.lease_client.specs.Commanded.{commanded_turn, last_after, is_refused}
 use Rattle.lease_client.specs.Known.{Known, client_of}
 use Rattle.lease_client.specs.Turns.{Turned, Given, turn_written, given_by, IsAfter}

@@ -1,7 +1,7 @@
 -- A turn of one entry, and what it makes of the client.
-use Rattle.std.proofs.Common.{◌≡◌, ℕ, ◌-◌, ◌<◌, ◌≤◌, zero, suc, Bool, true, false, List, [], ◌∷◌, ◌++◌, length, if◌then◌else◌, refl, ap, sym, ◌∙◌, subst, arith, map}
+use Rattle.std.proofs.Common.{◌≡◌, ℕ, ◌-◌, ◌<◌, zero, suc, Bool, true, false, List, [], ◌∷◌, ◌++◌, length, if◌then◌else◌, refl, ap, sym, ◌∙◌, arith}
 use mathlib.Core.Bool.{beq}
-use Rattle.std.proofs.lemmas.List.{length-set, set-set}
+use Rattle.std.proofs.lemmas.List.{set-set}
 use Rattle.std.proofs.Math.ListN.{set}
 use Rattle.std.proofs.Math.Path.{fun_ext}
 use Rattle.std.proofs.lemmas.Bool.Decides.{nat_tests}
@@ -10,9 +10,8 @@ use Rattle.lease_model.specs.client.Commanded.{turn_of}
 use Rattle.lease_model.specs.client.Commands.{Answer, Note}
 use Rattle.lease_model.specs.client.State.{Client, Entry, closed_entry, knows_file, belief_of}
 use Rattle.lease_model.specs.client.Step.{Step, Turn, turned, believes_noted}
-use Rattle.lease_model.specs.messages.ToBytes.{request_written}
 use Rattle.lease_model.specs.values.LeaseStates.{same_state}
-use Rattle.lease_model.specs.values.Tables.{numbered, put}
+use Rattle.lease_model.specs.values.Tables.{put}
 use Rattle.lease_client.specs.Calls.{with_number}
 use Rattle.lease_client.specs.Known.{Known, client_of}
 use Rattle.lease_client.specs.Turns.{Turned, Given, turn_written, given_by, IsAfter}

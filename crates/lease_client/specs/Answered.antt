@@ -1,5 +1,5 @@
 -- The answers to reads and writes, for one entry.
-use Rattle.std.specs.Prelude.{ℕ, List, []}
+use Rattle.std.specs.Prelude.{ℕ, List}
 use Rattle.lease_state.specs.declared.status.Status.{Status}
 use Rattle.lease_model.specs.client.State.{Entry, Pending, Phase}
 use Rattle.lease_model.specs.client.Step.{Turn}

@@ -1,5 +1,5 @@
 -- Turns of one entry as steps of the client.
-use Rattle.std.specs.Prelude.{ℕ, Bool, true, false, List}
+use Rattle.std.specs.Prelude.{ℕ, Bool, true, false}
 use Rattle.lease_model.specs.client.Commanded.{file_of}
 use Rattle.lease_model.specs.client.Commands.{Command}
 use Rattle.lease_model.specs.client.State.{Client, lease_key}

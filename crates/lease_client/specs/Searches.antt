@@ -1,7 +1,7 @@
 -- The file of a client that a reply is about.
-use Rattle.std.specs.Prelude.{ℕ, Bool, List, bytes_eq}
-use Rattle.lease_model.specs.client.State.{Client, lease_key}
-use Rattle.lease_model.specs.client.Taken.{reads_under, has_sent, is_key_of}
+use Rattle.std.specs.Prelude.{ℕ, Bool}
+use Rattle.lease_model.specs.client.State.{Client}
+use Rattle.lease_model.specs.client.Taken.{reads_under}
 
 -- a Read of the file's open isn't answered
 abbrev pub is_read_under : Client → ℕ → ℕ → Bool

@@ -12,7 +12,7 @@ ghost use Rattle.lease_client.specs.Calls.{is_idle};
 ghost use Rattle.lease_client.specs.Commanded.{is_refused};
 ghost use Rattle.lease_client.specs.Known.{client_of};
 ghost use Rattle.lease_client.specs.Links.{linked};
-ghost use Rattle.lease_client.specs.Steps.{IsStep};
+ghost use Rattle.lease_client.specs.Steps.{IsStep, RefusesQuietly};
 
 use crate::command::Command;
 use crate::links::Link;
@@ -78,7 +78,8 @@ impl Client {
         let _machine = &self.machine;
     }
 
-    /// A command comes from the application (own). No belief rises by it.
+    /// A command comes from the application (own). No belief rises by it; a command that is refused changes
+    /// nothing, sends nothing and notes nothing.
     ///
     /// # Errors
     ///
@@ -86,6 +87,7 @@ impl Client {
     pub fn app(self, command: Command) -> Result<Step, Memory>
         ensures step { IfOk result (λ step. IsStep step (commanded (client_of self) (command_of command))) }
         ensures refused { is_refused (commanded (client_of self) (command_of command)).answer ≡ true → IsOk result }
+        ensures quiet { IfOk result (λ step. RefusesQuietly (client_of self) step) }
         ensures beliefs { IfOk result (λ step. NoneRose (client_of self) (client_of step.client)) }
     {
         clients_are_sound();

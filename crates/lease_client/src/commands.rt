@@ -32,7 +32,8 @@ impl Entry {
         ensures number { IfOk result (λ turn. last_number.new
             ≡ rules.last_after is_online key.0 last_number.old (command_of command) self) }
         ensures refused { rules.is_refused
-            (rules.commanded_turn is_online key.0 last_number.old (command_of command) self).answer ≡ true → IsOk result }
+            (rules.commanded_turn is_online key.0 last_number.old (command_of command) self).answer ≡ true
+            → IsOk result }
     {
         match command {
             Command::Open {
@@ -86,7 +87,8 @@ impl Entry {
     /// refused.
     pub fn read(self, file: FileNo) -> Result<Turn, Memory>
         ensures turn { IfOk result (λ turn. turn ≡ turn_written (rules.heard_turn (rules.read_turn file.0) self)) }
-        ensures refused { rules.is_refused (rules.heard_turn (rules.read_turn file.0) self).answer ≡ true → IsOk result }
+        ensures refused { rules.is_refused (rules.heard_turn (rules.read_turn file.0) self).answer ≡ true
+            → IsOk result }
     {
         let Entry { phase, sent } = self;
         match phase {
@@ -110,7 +112,8 @@ impl Entry {
         ensures turn { IfOk result (λ turn. turn ≡ turn_written (written_turn file.0 last_number.old patch self)) }
         ensures number { IfOk result (λ turn. last_number.new
             ≡ rules.number_after (written_turn file.0 last_number.old patch self) last_number.old) }
-        ensures refused { rules.is_refused (written_turn file.0 last_number.old patch self).answer ≡ true → IsOk result }
+        ensures refused { rules.is_refused (written_turn file.0 last_number.old patch self).answer ≡ true
+            → IsOk result }
     {
         let Entry { phase, sent } = self;
         match phase {

@@ -169,7 +169,9 @@ impl Machine {
     pub fn take_entry(&mut self, file: FileNo) -> Entry
         requires { model.knows_file (client_of self.old) file.0 ≡ true }
         ensures entry { result ≡ (client_of self.old).entries file.0 }
-        ensures rest { self.new ≡ record self.old { entries = set self.old.entries (file.0 - 1) (model.closed_entry []) } }
+        ensures rest { self.new ≡ record self.old {
+          entries = set self.old.entries (file.0 - 1) (model.closed_entry []);
+        } }
     {
         let alloc = self.alloc();
         let index = usize::from(file.0) - 1;
@@ -184,7 +186,9 @@ impl Machine {
     /// `Memory` where there is none left for that note, and never where the belief is the old one.
     pub fn put_turn(&mut self, file: FileNo, old: LeaseState, turn: Turn) -> Result<Given, Memory>
         requires { model.knows_file (client_of self.old) file.0 ≡ true }
-        ensures machine { OnOk result (self.new ≡ record self.old { entries = set self.old.entries (file.0 - 1) turn.entry }) }
+        ensures machine { OnOk result (self.new ≡ record self.old {
+          entries = set self.old.entries (file.0 - 1) turn.entry;
+        }) }
         ensures given { IfOk result (λ given. given ≡ given_by file.0 (state_of old) turn) }
         ensures same { same_state (state_of old) (model.belief_of turn.entry) ≡ true → IsOk result }
     {

@@ -144,8 +144,8 @@ impl Live {
     ) -> Result<Turn, Memory>
         ensures turn { IfOk result (λ turn.
             turn ≡ turn_written (rules.live_open_turn key.0 file.0 self sent.items (terms_of terms))) }
-        ensures refused { rules.is_refused (rules.live_open_turn key.0 file.0 self sent.items (terms_of terms)).answer ≡ true
-            → IsOk result }
+        ensures refused { rules.is_refused
+            (rules.live_open_turn key.0 file.0 self sent.items (terms_of terms)).answer ≡ true → IsOk result }
     {
         if self.handles.asking().is_some() {
             return Ok(self.refused(sent, Refusal::Busy));
@@ -181,8 +181,8 @@ impl Live {
     ) -> Result<Turn, Memory>
         ensures turn { IfOk result (λ turn.
             turn ≡ turn_written (rules.other_turn key.0 file.0 self sent.items (terms_of terms))) }
-        ensures refused { rules.is_refused (rules.other_turn key.0 file.0 self sent.items (terms_of terms)).answer ≡ true
-            → IsOk result }
+        ensures refused { rules.is_refused
+            (rules.other_turn key.0 file.0 self sent.items (terms_of terms)).answer ≡ true → IsOk result }
     {
         if self.handles.count() == 0 {
             self.open_anew(sent, file, key, terms)

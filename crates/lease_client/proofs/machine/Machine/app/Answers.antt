@@ -1,4 +1,4 @@
-use Rattle.std.proofs.Common.{◌≡◌, false, sym, ap, not, ◌∙◌}
+use Rattle.std.proofs.Common.{◌≡◌, false, sym, ◌∙◌}
 use Rattle.lease_model.specs.client.Commands.{Answer, Refusal}
 use Rattle.lease_model.specs.client.Commanded.{file_of}
 use Rattle.lease_model.specs.client.State.{knows_file}

@@ -1,4 +1,4 @@
-use Rattle.std.proofs.Common.{◌≡◌, ◌∙◌, ◌<◌, length, sym, arith}
+use Rattle.std.proofs.Common.{◌∙◌, ◌<◌, length, sym, arith}
 use Rattle.lease_model.specs.client.Taken.{has_sent}
 use Rattle.lease_client.specs.Known.{client_of}
 use Rattle.lease_client.proofs.Found.{go_on, stop_at}

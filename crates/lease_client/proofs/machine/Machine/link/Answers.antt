@@ -1,8 +1,6 @@
-use Rattle.std.proofs.Common.{◌≡◌, ◌<◌, ◌++◌, ◌∙◌, List, length, map, refl, ap, arith}
-use Rattle.lease_model.specs.client.Commands.{Note}
+use Rattle.std.proofs.Common.{◌≡◌, ◌<◌, length, refl, arith}
 use Rattle.lease_client.specs.Known.{client_of}
-use Rattle.lease_client.specs.Links.{link_turn, notes_to}
-use Rattle.lease_client.specs.Turns.{Given}
+use Rattle.lease_client.specs.Links.{link_turn}
 use Rattle.lease_client.proofs.Linked.{knows_next, machine_more, given_more, requests_more, notes_more, linked_after}
 use Rattle.lease_client.proofs.machine.Machine.link.Goals as goal
 

@@ -1,4 +1,4 @@
-use Rattle.std.proofs.Common.{◌≡◌, ◌≤◌, true, length, nat_le, sym, arith}
+use Rattle.std.proofs.Common.{◌≤◌, length, sym, arith}
 use Rattle.std.proofs.lemmas.Bool.{le-leb}
 use Rattle.lease_state.specs.declared.content.TheConstants.{FILE_LIMIT}
 use Rattle.lease_client.specs.Known.{client_of}
