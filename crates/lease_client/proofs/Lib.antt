@@ -1,2 +1,15 @@
+pub mod ByTurns
+pub mod Entries
+pub mod Found
+pub mod Linked
 pub mod NewClient
+pub mod Numbered
 pub mod Places
+pub mod Replied
+pub mod Replying
+pub mod Rising
+pub mod Sound
+pub mod Steps
+pub mod Turned
+pub mod Views
+pub mod Written

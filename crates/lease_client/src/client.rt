@@ -1,38 +1,47 @@
-ghost use Rattle.std.specs.Prelude.{◌≡◌, [], IfOk, IsOk, replicate};
-ghost use Rattle.std.specs.Option.{option_map};
+ghost use Rattle.std.specs.Prelude.{◌≡◌, true, IfOk, IsOk};
 ghost use Rattle.lease_state.specs.State.{state_of};
+ghost use Rattle.lease_laws.specs.client.Laws.{IsSoundClient};
 ghost use Rattle.lease_model.specs.client.State as model;
-ghost use Rattle.lease_client.specs.Known.{client_of, entry_at};
+ghost use Rattle.lease_model.specs.client.Commanded.{commanded};
+ghost use Rattle.lease_model.specs.client.Connection.{noticed, connection_made};
+ghost use Rattle.lease_model.specs.client.Taken.{taken};
+ghost use Rattle.lease_model.specs.messages.FromBytes.{reply_of};
+ghost use Rattle.lease_client.specs.Answers.{command_of};
+ghost use Rattle.lease_client.specs.Beliefs.{NoneRose, RoseBy};
+ghost use Rattle.lease_client.specs.Calls.{is_idle};
+ghost use Rattle.lease_client.specs.Commanded.{is_refused};
+ghost use Rattle.lease_client.specs.Known.{client_of};
+ghost use Rattle.lease_client.specs.Links.{linked};
+ghost use Rattle.lease_client.specs.Steps.{IsStep, RefusesQuietly};
 
-use crate::entry::Entry;
-use lease_state::{FileNo, LeaseState, Memory};
+use crate::command::Command;
+use crate::links::Link;
+use crate::machine::Machine;
+use crate::step::Step;
+use crate::turn::Given;
+use lease_laws::clients_are_sound;
+use lease_state::{FileNo, LeaseState, Memory, Reply};
 use std::alloc::Global;
 use std::marker::Model;
 
 /// A client machine (MS-SMB2 3.2.1): its files, what it knows of its opens and of their leases, and
-/// the writes that aren't answered.
+/// the writes that aren't answered. Every client keeps the laws of clients: it has a file in its cache
+/// only where it believes that it may cache reads, and unsent writes only where it believes that it may
+/// cache writes, and each write has its own number.
 #[derive(Debug, Drop)]
 pub struct Client {
-    guid: [u8; 16],
-    /// From a connect to the next notice of a lost connection.
-    is_online: bool,
-    /// The number of the last write.
-    last_number: u64,
-    /// Those of the files from 1 on.
-    entries: Vec<Entry>,
+    machine: Machine,
 }
 
 impl Model for Client {
+    ghost use Rattle.lease_laws.specs.client.Laws.{IsSoundClient};
     ghost use Rattle.lease_client.specs.Known as known;
 
     ghost Value = { known.Known };
 
-    ghost view = { λ client. record {
-      guid = client.guid;
-      is_online = client.is_online;
-      last_number = client.last_number;
-      entries = client.entries.items;
-    } };
+    ghost view = { λ client. client.machine };
+
+    ghost invariant = { λ client. IsSoundClient (known.client_of client.machine) };
 }
 
 impl Client {
@@ -46,12 +55,9 @@ impl Client {
         ensures new { IfOk result (λ client. client_of client ≡ model.new_client guid files) }
         ensures no_files { files ≡ 0 → IsOk result }
     {
-        Ok(Client {
-            guid,
-            is_online: false,
-            last_number: 0,
-            entries: closed_entries(alloc, files)?,
-        })
+        clients_are_sound();
+        let machine = Machine::new(alloc, guid, files)?;
+        Ok(Client { machine })
     }
 
     /// What the client believes of the lease of a file (MS-SMB2 3.2.1.5, LeaseState). Nothing is
@@ -59,30 +65,114 @@ impl Client {
     pub fn belief(&self, file: FileNo) -> LeaseState
         ensures { state_of result ≡ model.belief (client_of self.now) file.0 }
     {
-        match self.entry(file) {
-            Some(entry) => entry.belief(),
-            None => LeaseState::NONE,
-        }
+        self.machine.belief(file)
     }
 
-    // The entry of a file; `None` where there is no file of this number.
-    fn entry(&self, file: FileNo) -> Option<&Entry>
-        ensures { option_map (λ entry. entry.now) result ≡ entry_at self.now.entries file.0 }
+    /// The laws that this client keeps, as every client does: it has a file in its cache only where it
+    /// believes that it may cache reads, and unsent writes only where it believes that it may cache writes; it
+    /// asks for more only with a handle; what it keeps over a lost connection are buffered writes; and each
+    /// write has its own number. Does nothing.
+    pub fn laws(&self)
+        ensures { IsSoundClient (client_of self.now) }
     {
-        let index = usize::from(file.0).checked_sub(1)?;
-        self.entries.get(index)
+        let _machine = &self.machine;
     }
-}
 
-// The entries of files that aren't open.
-#[tactic(auto, using(crate::proofs::NewClient::closed_more))]
-fn closed_entries(alloc: Global, files: u8) -> Result<Vec<Entry>, Memory>
-    ensures closed { IfOk result (λ entries. entries.items ≡ replicate files (model.closed_entry [])) }
-    ensures no_files { files ≡ 0 → IsOk result }
-{
-    let mut entries = Vec::with_capacity(alloc, usize::from(files))?;
-    for _ in 0..files {
-        entries.push(Entry::closed(alloc))?;
+    /// A command comes from the application (own). No belief rises by it; a command that is refused changes
+    /// nothing, sends nothing and notes nothing.
+    ///
+    /// # Errors
+    ///
+    /// `Memory` where there is none left, and never where the command is refused.
+    pub fn app(self, command: Command) -> Result<Step, Memory>
+        ensures step { IfOk result (λ step. IsStep step (commanded (client_of self) (command_of command))) }
+        ensures refused { is_refused (commanded (client_of self) (command_of command)).answer ≡ true → IsOk result }
+        ensures quiet { IfOk result (λ step. RefusesQuietly (client_of self) step) }
+        ensures beliefs { IfOk result (λ step. NoneRose (client_of self) (client_of step.client)) }
+    {
+        clients_are_sound();
+        let Client { mut machine } = self;
+        let Given {
+            answer,
+            requests,
+            notes,
+        } = machine.app(command)?;
+        Ok(Step {
+            client: Client { machine },
+            answer,
+            requests,
+            notes,
+        })
     }
-    Ok(entries)
+
+    /// A message comes from the server (MS-SMB2 3.2.5). What fits no entry, and contexts or
+    /// notifications that can't be read, are passed over. A belief rises only by the answer to a create of
+    /// its file that tells of no break in progress.
+    ///
+    /// # Errors
+    ///
+    /// `Memory` where there is none left, and never where a Close or an acknowledgment is answered.
+    pub fn take(self, reply: Reply) -> Result<Step, Memory>
+        ensures step { IfOk result (λ step. IsStep step (taken (client_of self) (reply_of reply))) }
+        ensures idle { is_idle reply ≡ true → IsOk result }
+        ensures beliefs { IfOk result (λ step. RoseBy (reply_of reply) (client_of self) (client_of step.client)) }
+    {
+        clients_are_sound();
+        let Client { mut machine } = self;
+        let Given {
+            answer,
+            requests,
+            notes,
+        } = machine.take(reply)?;
+        Ok(Step {
+            client: Client { machine },
+            answer,
+            requests,
+            notes,
+        })
+    }
+
+    /// The client notices that its connection is lost (MS-SMB2 3.2.7.1). Live durable opens wait for the
+    /// next connection, with their buffered writes where writes may be cached; any other open is closed.
+    ///
+    /// # Errors
+    ///
+    /// `Memory` where there is none left.
+    pub fn notice(self) -> Result<Step, Memory>
+        ensures step { IfOk result (λ step. IsStep step (noticed (client_of self))) }
+        ensures beliefs { IfOk result (λ step. NoneRose (client_of self) (client_of step.client)) }
+    {
+        self.link(Link::Lost)
+    }
+
+    /// The client connects (3.2.4.4): a create is sent for each open that waits for it.
+    ///
+    /// # Errors
+    ///
+    /// `Memory` where there is none left.
+    pub fn connect(self) -> Result<Step, Memory>
+        ensures step { IfOk result (λ step. IsStep step (connection_made (client_of self))) }
+        ensures beliefs { IfOk result (λ step. NoneRose (client_of self) (client_of step.client)) }
+    {
+        self.link(Link::Made)
+    }
+
+    fn link(self, link: Link) -> Result<Step, Memory>
+        ensures step { IfOk result (λ step. IsStep step (linked (client_of self) link)) }
+        ensures beliefs { IfOk result (λ step. NoneRose (client_of self) (client_of step.client)) }
+    {
+        clients_are_sound();
+        let Client { mut machine } = self;
+        let Given {
+            answer,
+            requests,
+            notes,
+        } = machine.link(link)?;
+        Ok(Step {
+            client: Client { machine },
+            answer,
+            requests,
+            notes,
+        })
+    }
 }

@@ -30,6 +30,25 @@ pub enum Command {
     },
 }
 
+impl Command {
+    /// The file that it is about.
+    pub(crate) fn file(&self) -> FileNo
+        ensures { result.0 ≡ file_of (command_of self.now) }
+    {
+        match self {
+            Command::Open { file, .. }
+            | Command::Close { file }
+            | Command::Read { file }
+            | Command::Write { file, .. }
+            | Command::Flush { file } => *file,
+        }
+    }
+}
+
+ghost use Rattle.std.specs.Prelude.{◌≡◌};
+ghost use Rattle.lease_model.specs.client.Commanded.{file_of};
+ghost use Rattle.lease_client.specs.Answers.{command_of};
+
 /// Why a command is refused (own). It then changes nothing and sends nothing.
 #[derive(Clone, Copy, Debug, PartialEq, Eq, Hash)]
 pub enum Refusal {

@@ -1,8 +1,9 @@
 ghost use Rattle.std.specs.Prelude.{◌≡◌, []};
 ghost use Rattle.lease_state.specs.State.{state_of};
-ghost use Rattle.lease_model.specs.client.State.{closed_entry, belief_of};
+ghost use Rattle.lease_model.specs.client.State.{closed_entry, live_entry, belief_of};
 
-use lease_state::{Access, Content, FileId, LeaseState, Patch, Share};
+use crate::handles::Handles;
+use lease_state::{Access, Bytes, FileId, LeaseState, Patch, Share};
 use std::alloc::Global;
 use std::marker::Model;
 
@@ -48,16 +49,14 @@ pub struct Live {
     pub durable: bool,
     /// What the client believes of the lease's state.
     pub belief: LeaseState,
-    /// How many handles applications have; with none the entry is parked.
-    pub handles: u32,
+    /// With no handle the entry is parked.
+    pub handles: Handles,
     /// How many Reads aren't answered.
     pub reads: u32,
     /// The file as last known.
-    pub base: Option<Content>,
+    pub base: Option<Bytes>,
     /// The buffered writes that aren't sent, in order.
     pub unsent: Vec<Pending>,
-    /// A second create under the entry's key that asks for more.
-    pub asking: Option<Asked>,
 }
 
 impl Model for Live {
@@ -72,11 +71,11 @@ impl Model for Live {
       share = live.share;
       durable = live.durable;
       belief = state_of live.belief;
-      handles = live.handles;
+      handles = live.handles.count;
       reads = live.reads;
       base = live.base;
       unsent = live.unsent.items;
-      asking = live.asking;
+      asking = live.handles.asking;
     } };
 }
 
@@ -145,6 +144,26 @@ impl Entry {
         }
     }
 
+    /// The entry of a file that isn't open, with its sent, unanswered writes.
+    pub fn shut(sent: Vec<Pending>) -> Entry
+        ensures { result ≡ closed_entry sent.items }
+    {
+        Entry {
+            phase: Phase::Closed,
+            sent,
+        }
+    }
+
+    /// The entry of a live open, with its sent, unanswered writes.
+    pub fn live(live: Live, sent: Vec<Pending>) -> Entry
+        ensures { result ≡ live_entry live sent.items }
+    {
+        Entry {
+            phase: Phase::Live(live),
+            sent,
+        }
+    }
+
     /// What the client believes of the lease: nothing is cached where the entry isn't live.
     pub fn belief(&self) -> LeaseState
         ensures { state_of result ≡ belief_of self.now }
@@ -153,5 +172,10 @@ impl Entry {
             Phase::Live(live) => live.belief,
             _ => LeaseState::NONE,
         }
+    }
+
+    /// The allocator of the entry.
+    pub fn alloc(&self) -> Global {
+        *self.sent.allocator()
     }
 }

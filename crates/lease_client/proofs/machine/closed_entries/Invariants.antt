@@ -1,7 +1,7 @@
 use Rattle.std.proofs.Common.{◌≡◌, []}
 use Rattle.std.proofs.Math.ListN.{replicate}
 use Rattle.lease_model.specs.client.State.{closed_entry}
-use Rattle.lease_client.proofs.client.closed_entries.Given as goal
+use Rattle.lease_client.proofs.machine.closed_entries.Given as goal
 
 abbrev pub invariant-loop : goal.invariant-loop
 invariant-loop l = l.entries.items ≡ replicate l.counter (closed_entry [])

@@ -1,6 +1,6 @@
 use Rattle.std.proofs.Common.{refl}
 use Rattle.lease_client.proofs.Places.{entry_numbered}
-use Rattle.lease_client.proofs.client.Client.belief.Goals as goal
+use Rattle.lease_client.proofs.machine.Machine.belief.Goals as goal
 
 pub returns-in-Some : goal.returns-in-Some
 returns-in-Some c = rw (entry_numbered _ c.args.file.0, ← c.entry.ensures, c.in-Some.is) c.belief.ensures

@@ -1,0 +1,129 @@
+-- A turn of one entry, and what it makes of the client.
+use Rattle.std.proofs.Common.{◌≡◌, ℕ, ◌-◌, ◌<◌, zero, suc, Bool, true, false, List, [], ◌∷◌, ◌++◌, length, if◌then◌else◌, refl, ap, sym, ◌∙◌, arith}
+use mathlib.Core.Bool.{beq}
+use Rattle.std.proofs.lemmas.List.{set-set}
+use Rattle.std.proofs.Math.ListN.{set}
+use Rattle.std.proofs.Math.Path.{fun_ext}
+use Rattle.std.proofs.lemmas.Bool.Decides.{nat_tests}
+use Rattle.lease_state.specs.State.{State}
+use Rattle.lease_model.specs.client.Commanded.{turn_of}
+use Rattle.lease_model.specs.client.Commands.{Answer, Note}
+use Rattle.lease_model.specs.client.State.{Client, Entry, closed_entry, knows_file, belief_of}
+use Rattle.lease_model.specs.client.Step.{Step, Turn, turned, believes_noted}
+use Rattle.lease_model.specs.values.LeaseStates.{same_state}
+use Rattle.lease_model.specs.values.Tables.{put}
+use Rattle.lease_client.specs.Calls.{with_number}
+use Rattle.lease_client.specs.Known.{Known, client_of}
+use Rattle.lease_client.specs.Turns.{Turned, Given, turn_written, given_by, IsAfter}
+use Rattle.lease_client.proofs.Entries.{client_set, file_there}
+
+-- ---- a turn that leaves the entry as it is
+
+beq_same : (b : Bool) → beq b b ≡ true
+beq_same true = refl
+beq_same false = refl
+
+pub state_same : (state : State) → same_state state state ≡ true
+state_same state = rw (beq_same state.read, beq_same state.write, beq_same state.handle) refl
+
+pub put_same : (table : ℕ → Entry) (n : ℕ) → put table n (table n) ≡ table
+unfolding put
+put_same table n = fun_ext (λ k. grind (arith, nat_tests))
+
+pub unnoted : (file : ℕ) (state : State) → believes_noted file state state ≡ []
+unnoted file state = rw (state_same state) refl
+
+abbrev pub answered : Client → Answer → Step
+answered client answer = record { client = client; answer = answer; requests = []; notes = [] }
+
+pub turned_still : (client : Client) (file : ℕ) (answer : Answer)
+    → turned client file (turn_of (client.entries file) answer []) ≡ answered client answer
+unfolding turned
+turned_still client file answer =
+    ap (λ (notes : List Note). record {
+      client = record client { entries = put client.entries file (client.entries file) };
+      answer = answer;
+      requests = [];
+      notes = notes;
+    }) (unnoted file (belief_of (client.entries file)))
+    ∙ ap (λ (t : ℕ → Entry). answered (record client { entries = t }) answer) (put_same client.entries file)
+
+-- ---- the entry is put back
+
+after_set : (known : Known) (i last : ℕ) (turn : Turn) → i < length known.entries
+    → IsAfter (record known { entries = set known.entries i turn.entry; last_number = last })
+    (given_by (suc i) (belief_of ((client_of known).entries (suc i))) (turn_written turn))
+    (with_number last (turned (client_of known) (suc i) turn))
+unfolding turned
+after_set known i last turn inside = record {
+  client = ap (λ (client : Client). record client { last_number = last }) (client_set known i turn.entry inside);
+  answer = refl;
+  requests = refl;
+  notes = refl;
+}
+
+-- the tables while the entry of a file is out of its place, and then with another last number
+abbrev pub without_entry : Known → ℕ → Known
+without_entry known n = record known { entries = set known.entries (n - 1) (closed_entry []) }
+
+abbrev pub with_entry : Known → ℕ → Entry → Known
+with_entry known n entry = record known { entries = set known.entries (n - 1) entry }
+
+back_in_place : (known : Known) (n last : ℕ) (turn : Turn) → knows_file (client_of known) n ≡ true
+    → IsAfter (with_entry (record (without_entry known n) { last_number = last }) n turn.entry)
+    (given_by n (belief_of ((client_of known).entries n)) (turn_written turn))
+    (with_number last (turned (client_of known) n turn))
+back_in_place known zero last turn is = absurd (omega (arith, file_there known zero is))
+back_in_place known (suc i) last turn is =
+    let e : suc i - 1 ≡ i = omega arith in
+    let there = file_there known (suc i) is in
+    let once = set-set known.entries i (closed_entry []) turn.entry in
+    rw (e, once) (after_set known i last turn (omega (arith, there)))
+
+pub is_after : (known : Known) (n last : ℕ) (turn : Turn) (old : State) (written : Turned) (final : Known) (given : Given)
+    → knows_file (client_of known) n ≡ true
+    → old ≡ belief_of ((client_of known).entries n)
+    → written ≡ turn_written turn
+    → final ≡ with_entry (record (without_entry known n) { last_number = last }) n written.entry
+    → given ≡ given_by n old written
+    → IsAfter final given (with_number last (turned (client_of known) n turn))
+is_after known n last turn old written final given is was by stands out =
+    let there : final ≡ with_entry (record (without_entry known n) { last_number = last }) n turn.entry =
+    stands ∙ ap (λ (w : Turned). with_entry (record (without_entry known n) { last_number = last }) n w.entry) by in
+    let told : given ≡ given_by n (belief_of ((client_of known).entries n)) (turn_written turn) =
+    out ∙ ap (λ (s : State). given_by n s written) was
+    ∙ ap (λ (w : Turned). given_by n (belief_of ((client_of known).entries n)) w) by in
+    rw (there, told) (back_in_place known n last turn is)
+
+pub same_numbered : (client : Client) (file : ℕ) (turn : Turn)
+    → with_number client.last_number (turned client file turn) ≡ turned client file turn
+unfolding turned
+same_numbered client file turn = refl
+
+-- ---- nothing changes
+
+pub nothing_after : (known : Known) (answer : Answer) (given : Given)
+    → given ≡ record { answer = answer; requests = []; notes = [] }
+    → IsAfter known given (answered (client_of known) answer)
+nothing_after known answer given is = rw is (record { client = refl; answer = refl; requests = refl; notes = refl })
+
+-- ---- a refused command
+
+unsaid_if : (same : Bool) (file : ℕ) (new : State)
+    → (if same then [] else Note.Believes file new ∷ []) ≡ [] → same ≡ true
+unsaid_if true file new none = refl
+unsaid_if false file new none = absurd (cc none)
+
+unsaid : (notes : List Note) (file : ℕ) (old new : State)
+    → notes ++ believes_noted file old new ≡ [] → same_state old new ≡ true
+unsaid [] file old new none = unsaid_if (same_state old new) file new none
+unsaid (note ∷ notes) file old new none = absurd (cc none)
+
+pub refusal_same : (client : Client) (file last : ℕ) (turn : Turn) (step : Step)
+    → step ≡ with_number last (turned client file turn) → step.notes ≡ []
+    → same_state (belief_of (client.entries file)) (belief_of turn.entry) ≡ true
+unfolding turned
+refusal_same client file last turn step is none =
+    let notes : turn.settled ++ believes_noted file (belief_of (client.entries file)) (belief_of turn.entry) ≡ [] =
+    sym (ap (λ (s : Step). s.notes) is) ∙ none in
+    unsaid turn.settled file (belief_of (client.entries file)) (belief_of turn.entry) notes

@@ -1,0 +1,9 @@
+use Rattle.std.proofs.Common.{◌≡◌, filter}
+use Rattle.lease_model.specs.client.State.{Pending}
+use Rattle.lease_model.specs.values.Lists.{without}
+use Rattle.lease_client.proofs.connection.split_buffered.Given as goal
+
+abbrev pub invariant-loop-write : goal.invariant-loop-write
+invariant-loop-write l =
+    (l.buffered.items ≡ filter (λ (write : Pending). write.buffered) l.yielded)
+    × (l.others.items ≡ without (λ (write : Pending). write.buffered) l.yielded)

@@ -1,0 +1,8 @@
+use Rattle.std.proofs.Common.{◌≡◌, None, find}
+use Rattle.lease_model.specs.values.Lists.{numbers_to}
+use Rattle.lease_model.specs.client.Taken.{is_key_of}
+use Rattle.lease_client.specs.Known.{client_of}
+use Rattle.lease_client.proofs.machine.Machine.file_of_key.Given as goal
+
+abbrev pub invariant-loop-index : goal.invariant-loop-index
+invariant-loop-index l = find (is_key_of (client_of l.self) l.key.0) (numbers_to l.index) ≡ None

@@ -1,0 +1,260 @@
+ghost use Rattle.std.specs.Prelude.{◌≡◌, IfOk, map, find};
+ghost use Rattle.std.specs.List.{list_any, position};
+ghost use Rattle.lease_model.specs.client.Taken as rules;
+ghost use Rattle.lease_client.specs.Answered.{read_done_turn, not_read_turn, not_written_turn};
+ghost use Rattle.lease_client.specs.Answers.{note_of};
+ghost use Rattle.lease_client.specs.Turns.{turn_written};
+
+use crate::command::Answer;
+use crate::entry::{Entry, Live, Pending, Phase};
+use crate::note::{Note, Settlement};
+use crate::turn::Turn;
+use crate::writes::{apply, push_settled, view};
+use lease_state::{Bytes, FileId, Memory, Patch, Status};
+
+impl Entry {
+    /// Whether the entry is live under the FileId, and a Read of it isn't answered.
+    pub fn reads_under(&self, file_id: FileId) -> bool
+        ensures { result ≡ rules.reads_under file_id.0 self.now.phase }
+    {
+        match &self.phase {
+            Phase::Live(live) => live.file_id == file_id && live.reads != 0,
+            _ => false,
+        }
+    }
+
+    /// Whether a sent write of this number isn't answered.
+    pub fn has_sent(&self, number: u64) -> bool
+        ensures { result ≡ list_any (rules.is_numbered number) self.now.sent }
+    {
+        self.sent.iter().any(|write| write.number == number)
+    }
+
+    /// A Read is answered with the file (MS-SMB2 3.2.5.11).
+    ///
+    /// # Errors
+    ///
+    /// `Memory` where there is none left for the bytes that the application sees.
+    pub fn read_done(self, bytes: Bytes) -> Result<Turn, Memory>
+        ensures { IfOk result (λ turn. turn ≡ turn_written (read_done_turn bytes self)) }
+    {
+        let Entry { phase, sent } = self;
+        match phase {
+            Phase::Live(live) => live.read_done(sent, bytes),
+            phase => Ok(Turn::still(Entry { phase, sent }, Answer::Quiet)),
+        }
+    }
+
+    /// A Read is refused.
+    ///
+    /// # Errors
+    ///
+    /// `Memory` where there is none left for what is noted.
+    pub fn not_read(self, status: Status) -> Result<Turn, Memory>
+        ensures { IfOk result (λ turn. turn ≡ turn_written (not_read_turn status self)) }
+    {
+        let Entry { phase, sent } = self;
+        match phase {
+            Phase::Live(live) => live.not_read(sent, status),
+            phase => Ok(Turn::still(Entry { phase, sent }, Answer::Quiet)),
+        }
+    }
+
+    /// The write of this number is done (3.2.5.12): a base has it from now on.
+    ///
+    /// # Errors
+    ///
+    /// `Memory` where there is none left for the base or the note.
+    #[tactic(auto, unfolding(lease_model::specs::client::Taken::write_done_turn))]
+    pub fn written(self, number: u64) -> Result<Turn, Memory>
+        ensures { IfOk result (λ turn. turn ≡ turn_written (rules.write_done_turn number self)) }
+    {
+        let Entry { phase, mut sent } = self;
+        let alloc = *sent.allocator();
+        let write = take_numbered(&mut sent, number);
+        let phase = with_write(phase, write)?;
+        let mut notes = Vec::new(alloc);
+        notes.push(Note::Settled(number, Settlement::Done))?;
+        Ok(Turn {
+            entry: Entry { phase, sent },
+            answer: Answer::Quiet,
+            requests: Vec::new(alloc),
+            notes,
+        })
+    }
+
+    /// The write of this number is refused.
+    ///
+    /// # Errors
+    ///
+    /// `Memory` where there is none left for the notes.
+    pub fn not_written(self, file_id: FileId, number: u64, status: Status) -> Result<Turn, Memory>
+        ensures { IfOk result (λ turn.
+            turn ≡ turn_written (not_written_turn file_id.0 number status self)) }
+    {
+        let Entry { phase, mut sent } = self;
+        let alloc = *sent.allocator();
+        let _write = take_numbered(&mut sent, number);
+        let mut notes = Vec::new(alloc);
+        notes.push(Note::Settled(number, Settlement::Failed))?;
+        match phase {
+            Phase::Live(live) => live.not_written(sent, notes, file_id, status),
+            phase => Ok(Turn {
+                entry: Entry { phase, sent },
+                answer: Answer::Failed(status),
+                requests: Vec::new(alloc),
+                notes,
+            }),
+        }
+    }
+}
+
+// Takes the first write of this number out of the list.
+fn take_numbered(sent: &mut Vec<Pending>, number: u64) -> Option<Pending>
+    ensures found { result ≡ find (rules.is_numbered number) sent.old.items }
+    ensures rest { sent.new.items ≡ rules.sent_without number sent.old.items }
+{
+    match place_of(sent, number) {
+        Some(place) => Some(sent.remove(place)),
+        None => None,
+    }
+}
+
+// Where the first write of this number is.
+fn place_of(sent: &[Pending], number: u64) -> Option<usize>
+    ensures { result ≡ position (rules.is_numbered number) sent.now }
+{
+    sent.iter().position(|write| write.number == number)
+}
+
+// A base, if there is one, with the write.
+fn with_write(phase: Phase, write: Option<Pending>) -> Result<Phase, Memory>
+    ensures { IfOk result (λ after. phase_of after ≡ rules.phase_with write (phase_of phase)) }
+{
+    match (phase, write) {
+        (Phase::Live(live), Some(write)) => Ok(Phase::Live(live.with_write(&write)?)),
+        (phase, _) => Ok(phase),
+    }
+}
+
+ghost use Rattle.std.specs.Prelude.{Some, ◌∷◌, []};
+ghost use Rattle.lease_client.specs.Entries.{phase_of};
+ghost use Rattle.std.specs.Prelude.{if◌then◌else◌, ◌&&◌, ◌==◌};
+ghost use Rattle.lease_state.specs.Content.{patch};
+ghost use Rattle.lease_model.specs.client.State.{live_entry};
+ghost use Rattle.lease_model.specs.client.Taken.{is_file_closed};
+
+// The bytes with a patch.
+fn patched(base: Bytes, change: &Patch) -> Result<Bytes, Memory>
+    ensures { IfOk result (λ bytes. bytes ≡ patch base change.now) }
+{
+    let mut bytes = base.into_vec();
+    apply(&mut bytes, change)?;
+    Ok(Bytes::new(bytes))
+}
+
+impl Live {
+    // A base, if there is one, with the write.
+    fn with_write(self, write: &Pending) -> Result<Live, Memory>
+        ensures { IfOk result (λ live.
+            live ≡ record self { base = rules.base_with (Some write.now) self.base }) }
+    {
+        let mut live = self;
+        live.base = match live.base.take() {
+            Some(base) => Some(patched(base, &write.patch)?),
+            None => None,
+        };
+        Ok(live)
+    }
+
+    // The bytes become the base under R; the application sees its own unanswered writes in them.
+    #[tactic(auto, unfolding(lease_model::specs::client::Taken::read_turn))]
+    fn read_done(self, sent: Vec<Pending>, bytes: Bytes) -> Result<Turn, Memory>
+        ensures { IfOk result (λ turn. turn ≡ turn_written (rules.read_turn self sent.items bytes)) }
+    {
+        let seen = view(&bytes, &sent, &self.unsent)?;
+        let mut live = self;
+        live.reads = live.reads.saturating_sub(1);
+        live.learn(bytes);
+        Ok(Turn::still(Entry::live(live, sent), Answer::Bytes(seen, false)))
+    }
+
+    // Under R the bytes become the base.
+    fn learn(&mut self, bytes: Bytes)
+        ensures { self.new ≡ record self.old {
+          base = if self.old.belief.read then Some bytes else self.old.base;
+        } }
+    {
+        if self.belief.caches_reads() {
+            self.base = Some(bytes);
+        }
+    }
+
+    // Another status, or that of another FileId, leaves the open as it is.
+    fn not_written(
+        self,
+        sent: Vec<Pending>,
+        notes: Vec<Note>,
+        file_id: FileId,
+        status: Status,
+    ) -> Result<Turn, Memory>
+        ensures { IfOk result (λ turn. turn ≡ turn_written
+            (if is_file_closed status && self.file_id == file_id.0
+            then rules.closed_by_server self sent.items (map note_of notes.items) status
+            else rules.still_open (live_entry self sent.items) (map note_of notes.items) status)) }
+    {
+        if status == Status::FileClosed && self.file_id == file_id {
+            return self.closed_by_server(sent, notes, status);
+        }
+        let requests = Vec::new(*sent.allocator());
+        Ok(Turn {
+            entry: Entry::live(self, sent),
+            answer: Answer::Failed(status),
+            requests,
+            notes,
+        })
+    }
+
+    #[tactic(auto, unfolding(lease_model::specs::client::Taken::read_failed_turn))]
+    fn not_read(self, sent: Vec<Pending>, status: Status) -> Result<Turn, Memory>
+        ensures { IfOk result (λ turn. turn ≡ turn_written (rules.read_failed_turn self sent.items status)) }
+    {
+        if status == Status::FileClosed {
+            let notes = Vec::new(*sent.allocator());
+            return self.closed_by_server(sent, notes, status);
+        }
+        let mut live = self;
+        live.reads = live.reads.saturating_sub(1);
+        Ok(Turn::still(Entry::live(live, sent), Answer::Failed(status)))
+    }
+
+    // The server has the open no more, and the unsent writes have failed. An entry that asked for more
+    // waits for that create.
+    #[tactic(auto, unfolding(lease_model::specs::client::Taken::closed_by_server))]
+    fn closed_by_server(
+        self,
+        sent: Vec<Pending>,
+        notes: Vec<Note>,
+        status: Status,
+    ) -> Result<Turn, Memory>
+        ensures { IfOk result (λ turn. turn ≡ turn_written (rules.closed_by_server self sent.items
+            (map note_of notes.items) status)) }
+    {
+        let mut notes = notes;
+        push_settled(&mut notes, Settlement::Failed, &self.unsent)?;
+        let phase = match self.handles.asking() {
+            Some(asked) => Phase::Opening {
+                access: asked.access,
+                share: asked.share,
+            },
+            None => Phase::Closed,
+        };
+        let requests = Vec::new(*sent.allocator());
+        Ok(Turn {
+            entry: Entry { phase, sent },
+            answer: Answer::Failed(status),
+            requests,
+            notes,
+        })
+    }
+}

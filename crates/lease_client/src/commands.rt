@@ -1,0 +1,413 @@
+ghost use Rattle.std.specs.Prelude.{◌≡◌, ◌==◌, ◌+◌, true, Some, IfOk, IsOk};
+ghost use Rattle.lease_model.specs.client.Commanded.{has_unanswered};
+ghost use Rattle.lease_model.specs.values.Patches.{is_within_limit};
+ghost use Rattle.lease_client.specs.Answers.{command_of};
+ghost use Rattle.lease_client.specs.Commanded as rules;
+ghost use Rattle.lease_client.specs.Turns.{turn_written};
+
+use crate::command::{Answer, Command, Refusal};
+use crate::entry::{Entry, Live, Pending, Phase};
+use crate::handles::Handles;
+use crate::note::Note;
+use crate::requests::Terms;
+use crate::turn::Turn;
+use crate::writes::view;
+use lease_state::{Bytes, FILE_LIMIT, FileNo, LeaseKey, Memory, Patch, Request};
+
+impl Entry {
+    /// A command on the entry's file, whose key this is. A Write takes the next number of the client.
+    ///
+    /// # Errors
+    ///
+    /// `Memory` where there is none left, and never where the command is refused.
+    pub fn commanded(
+        self,
+        is_online: bool,
+        key: LeaseKey,
+        last_number: &mut u64,
+        command: Command,
+    ) -> Result<Turn, Memory>
+        ensures turn { IfOk result (λ turn. turn
+            ≡ turn_written (rules.commanded_turn is_online key.0 last_number.old (command_of command) self)) }
+        ensures number { IfOk result (λ turn. last_number.new
+            ≡ rules.last_after is_online key.0 last_number.old (command_of command) self) }
+        ensures refused { rules.is_refused
+            (rules.commanded_turn is_online key.0 last_number.old (command_of command) self).answer ≡ true
+            → IsOk result }
+    {
+        match command {
+            Command::Open {
+                file,
+                access,
+                share,
+                want,
+                durable,
+            } => {
+                let terms = Terms {
+                    access,
+                    share,
+                    want,
+                    durable,
+                };
+                self.open(is_online, file, key, terms)
+            }
+            Command::Close { .. } => self.close(),
+            Command::Read { file } => self.read(file),
+            Command::Write { file, patch } => self.write(file, last_number, patch),
+            Command::Flush { .. } => self.flush(),
+        }
+    }
+
+    /// A Close: one handle less (own).
+    ///
+    /// # Errors
+    ///
+    /// `Memory` where there is none left for what is sent, and never where the Close is refused.
+    pub fn close(self) -> Result<Turn, Memory>
+        ensures turn { IfOk result (λ turn. turn ≡ turn_written (rules.heard_turn rules.close_turn self)) }
+        ensures refused { rules.is_refused (rules.heard_turn rules.close_turn self).answer ≡ true → IsOk result }
+    {
+        let Entry { phase, sent } = self;
+        match phase {
+            Phase::Live(live) => {
+                if live.is_parked() {
+                    return Ok(live.refused(sent, Refusal::NotOpen));
+                }
+                live.close(sent)
+            }
+            phase => Ok(Entry { phase, sent }.unheard()),
+        }
+    }
+
+    /// A Read of the whole file (own).
+    ///
+    /// # Errors
+    ///
+    /// `Memory` where there is none left for the bytes or the request, and never where the Read is
+    /// refused.
+    pub fn read(self, file: FileNo) -> Result<Turn, Memory>
+        ensures turn { IfOk result (λ turn. turn ≡ turn_written (rules.heard_turn (rules.read_turn file.0) self)) }
+        ensures refused { rules.is_refused (rules.heard_turn (rules.read_turn file.0) self).answer ≡ true
+            → IsOk result }
+    {
+        let Entry { phase, sent } = self;
+        match phase {
+            Phase::Live(live) => {
+                if live.is_parked() {
+                    return Ok(live.refused(sent, Refusal::NotOpen));
+                }
+                live.read(sent, file)
+            }
+            phase => Ok(Entry { phase, sent }.unheard()),
+        }
+    }
+
+    /// A Write, which takes the next number of the client (own).
+    ///
+    /// # Errors
+    ///
+    /// `Memory` where there is none left for what is kept, sent or noted, and never where the Write is
+    /// refused.
+    pub fn write(self, file: FileNo, last_number: &mut u64, patch: Patch) -> Result<Turn, Memory>
+        ensures turn { IfOk result (λ turn. turn ≡ turn_written (written_turn file.0 last_number.old patch self)) }
+        ensures number { IfOk result (λ turn. last_number.new
+            ≡ rules.number_after (written_turn file.0 last_number.old patch self) last_number.old) }
+        ensures refused { rules.is_refused (written_turn file.0 last_number.old patch self).answer ≡ true
+            → IsOk result }
+    {
+        let Entry { phase, sent } = self;
+        match phase {
+            Phase::Live(live) => {
+                if live.is_parked() {
+                    return Ok(live.refused(sent, Refusal::NotOpen));
+                }
+                live.write(sent, file, last_number, patch)
+            }
+            phase => Ok(Entry { phase, sent }.unheard()),
+        }
+    }
+
+    /// A Flush: unsent writes are sent (own).
+    ///
+    /// # Errors
+    ///
+    /// `Memory` where there is none left for what is sent, and never where the Flush is refused.
+    pub fn flush(self) -> Result<Turn, Memory>
+        ensures turn { IfOk result (λ turn. turn ≡ turn_written (rules.heard_turn rules.flush_turn self)) }
+        ensures refused { rules.is_refused (rules.heard_turn rules.flush_turn self).answer ≡ true → IsOk result }
+    {
+        let Entry { phase, sent } = self;
+        match phase {
+            Phase::Live(live) => {
+                if live.is_parked() {
+                    return Ok(live.refused(sent, Refusal::NotOpen));
+                }
+                live.flush(sent)
+            }
+            phase => Ok(Entry { phase, sent }.unheard()),
+        }
+    }
+}
+
+ghost use Rattle.lease_client.specs.Commanded.{written_turn};
+
+// The patch ends within the limit of a file, also one without bytes.
+fn is_within_limit(change: &Patch) -> bool
+    ensures { result ≡ is_within_limit change.now }
+{
+    let count = change.bytes.len();
+    count <= FILE_LIMIT && change.offset as usize <= FILE_LIMIT - count
+}
+
+impl Live {
+    // With no handle an entry hears no command but an Open.
+    fn is_parked(&self) -> bool
+        ensures { result ≡ (self.now.handles == 0) }
+    {
+        self.handles.count() == 0
+    }
+
+    // The last handle stays while something is unanswered, or the entry asks for more.
+    #[tactic(auto, unfolding(crate::specs::Commanded::close_turn))]
+    fn close(self, sent: Vec<Pending>) -> Result<Turn, Memory>
+        ensures turn { IfOk result (λ turn. turn ≡ turn_written (rules.close_turn self sent.items)) }
+        ensures refused { rules.is_refused (rules.close_turn self sent.items).answer ≡ true → IsOk result }
+    {
+        if self.handles.count() > 1 {
+            return Ok(self.without_handle(sent));
+        }
+        if self.handles.asking().is_some() || self.has_unanswered(&sent) {
+            return Ok(self.refused(sent, Refusal::Busy));
+        }
+        self.close_last(sent)
+    }
+
+    fn has_unanswered(&self, sent: &[Pending]) -> bool
+        ensures { result ≡ has_unanswered self.now sent.now }
+    {
+        self.reads != 0 || !sent.is_empty()
+    }
+
+    fn without_handle(self, sent: Vec<Pending>) -> Turn
+        ensures { result ≡ turn_written (turn_of
+            (live_entry (record self { handles = one_handle_less self.handles }) sent.items) model.Answer.Done []) }
+    {
+        let mut live = self;
+        live.handles = live.handles.with_less();
+        Turn::still(Entry::live(live, sent), Answer::Done)
+    }
+
+    // The entry is parked where the belief holds handles.
+    #[tactic(auto, unfolding(crate::specs::Commanded::last_close_turn))]
+    fn close_last(self, sent: Vec<Pending>) -> Result<Turn, Memory>
+        requires { self.asking ≡ None }
+        ensures turn { IfOk result (λ turn. turn ≡ turn_written (rules.last_close_turn self sent.items)) }
+        ensures refused { rules.is_refused (rules.last_close_turn self sent.items).answer ≡ true → IsOk result }
+    {
+        if !self.belief.caches_handles() {
+            return self.closed(sent, Answer::Done);
+        }
+        let mut live = self;
+        live.handles = Handles::of(0);
+        Ok(Turn::still(Entry::live(live, sent), Answer::Done))
+    }
+
+    // A Read is answered from the cache, or sent.
+    #[tactic(auto, unfolding(crate::specs::Commanded::read_turn))]
+    fn read(self, sent: Vec<Pending>, file: FileNo) -> Result<Turn, Memory>
+        ensures turn { IfOk result (λ turn. turn ≡ turn_written (rules.read_turn file.0 self sent.items)) }
+        ensures refused { rules.is_refused (rules.read_turn file.0 self sent.items).answer ≡ true → IsOk result }
+    {
+        if !self.access.reads() {
+            return Ok(self.refused(sent, Refusal::Denied));
+        }
+        if !self.belief.caches_reads() {
+            return self.send_read(sent);
+        }
+        match &self.base {
+            Some(base) => {
+                let seen = view(base, &sent, &self.unsent)?;
+                cached(Entry::live(self, sent), file, seen)
+            }
+            None => self.send_read(sent),
+        }
+    }
+
+    #[tactic(auto, unfolding(crate::specs::Commanded::read_sent_turn, lease_model::specs::values::Limits::count_limit))]
+    fn send_read(self, sent: Vec<Pending>) -> Result<Turn, Memory>
+        ensures turn { IfOk result (λ turn. turn ≡ turn_written (rules.read_sent_turn self sent.items)) }
+        ensures refused { rules.is_refused (rules.read_sent_turn self sent.items).answer ≡ true → IsOk result }
+    {
+        if self.handles.asking().is_some() {
+            return Ok(self.refused(sent, Refusal::Busy));
+        }
+        if self.reads == u32::MAX {
+            return Ok(self.refused(sent, Refusal::UsedUp));
+        }
+        let alloc = *sent.allocator();
+        let mut live = self;
+        let mut requests = Vec::new(alloc);
+        requests.push(Request::Read { fid: live.file_id })?;
+        live.reads += 1;
+        Ok(Turn {
+            entry: Entry::live(live, sent),
+            answer: Answer::Waiting,
+            requests,
+            notes: Vec::new(alloc),
+        })
+    }
+
+    // First the access, then the write's end, then the numbers that are left.
+    #[tactic(auto, unfolding(crate::specs::Commanded::write_turn, lease_model::specs::values::Limits::last_write_number))]
+    fn write(
+        self,
+        sent: Vec<Pending>,
+        file: FileNo,
+        last_number: &mut u64,
+        patch: Patch,
+    ) -> Result<Turn, Memory>
+        ensures turn { IfOk result (λ turn.
+            turn ≡ turn_written (rules.write_turn file.0 self sent.items last_number.old patch)) }
+        ensures number { IfOk result (λ turn. last_number.new
+            ≡ rules.number_after (rules.write_turn file.0 self sent.items last_number.old patch) last_number.old) }
+        ensures refused { rules.is_refused (rules.write_turn file.0 self sent.items last_number.old patch).answer ≡ true
+            → IsOk result }
+    {
+        if !self.access.writes() {
+            return Ok(self.refused(sent, Refusal::Denied));
+        }
+        if !is_within_limit(&patch) {
+            return Ok(self.refused(sent, Refusal::TooLong));
+        }
+        if *last_number == u64::MAX {
+            return Ok(self.refused(sent, Refusal::UsedUp));
+        }
+        *last_number += 1;
+        self.take_write(sent, file, *last_number, patch)
+    }
+
+    // Under W a write is buffered, and else it is sent.
+    #[tactic(auto, unfolding(crate::specs::Commanded::taken_turn))]
+    fn take_write(
+        self,
+        sent: Vec<Pending>,
+        file: FileNo,
+        number: u64,
+        patch: Patch,
+    ) -> Result<Turn, Memory>
+        ensures turn { IfOk result (λ turn.
+            turn ≡ turn_written (rules.taken_turn file.0 self sent.items number patch)) }
+        ensures taken { rules.is_refused (rules.taken_turn file.0 self sent.items number patch).answer ≡ false }
+    {
+        if self.belief.caches_writes() {
+            self.buffer_write(sent, file, number, patch)
+        } else {
+            self.send_write(sent, file, number, patch)
+        }
+    }
+
+    #[tactic(auto, unfolding(crate::specs::Commanded::buffered_turn))]
+    fn buffer_write(
+        self,
+        sent: Vec<Pending>,
+        file: FileNo,
+        number: u64,
+        patch: Patch,
+    ) -> Result<Turn, Memory>
+        ensures turn { IfOk result (λ turn.
+            turn ≡ turn_written (rules.buffered_turn file.0 self sent.items number patch)) }
+        ensures taken { rules.is_refused (rules.buffered_turn file.0 self sent.items number patch).answer ≡ false }
+    {
+        let alloc = *sent.allocator();
+        let mut live = self;
+        let mut notes = Vec::new(alloc);
+        notes.push(Note::Wrote(file, number, patch.try_copy()?, true))?;
+        live.unsent.push(Pending {
+            number,
+            patch,
+            buffered: true,
+        })?;
+        Ok(Turn {
+            entry: Entry::live(live, sent),
+            answer: Answer::Done,
+            requests: Vec::new(alloc),
+            notes,
+        })
+    }
+
+    #[tactic(auto, unfolding(crate::specs::Commanded::through_turn))]
+    fn send_write(
+        self,
+        mut sent: Vec<Pending>,
+        file: FileNo,
+        number: u64,
+        patch: Patch,
+    ) -> Result<Turn, Memory>
+        ensures turn { IfOk result (λ turn.
+            turn ≡ turn_written (rules.through_turn file.0 self sent.items number patch)) }
+        ensures taken { rules.is_refused (rules.through_turn file.0 self sent.items number patch).answer ≡ false }
+    {
+        let alloc = *sent.allocator();
+        let mut notes = Vec::new(alloc);
+        notes.push(Note::Wrote(file, number, patch.try_copy()?, false))?;
+        let mut requests = Vec::new(alloc);
+        requests.push(Request::Write {
+            fid: self.file_id,
+            number,
+            patch: patch.try_copy()?,
+        })?;
+        sent.push(Pending {
+            number,
+            patch,
+            buffered: false,
+        })?;
+        Ok(Turn {
+            entry: Entry::live(self, sent),
+            answer: Answer::Waiting,
+            requests,
+            notes,
+        })
+    }
+
+    #[tactic(auto, unfolding(crate::specs::Commanded::flush_turn))]
+    fn flush(self, mut sent: Vec<Pending>) -> Result<Turn, Memory>
+        ensures turn { IfOk result (λ turn. turn ≡ turn_written (rules.flush_turn self sent.items)) }
+        ensures refused { rules.is_refused (rules.flush_turn self sent.items).answer ≡ true → IsOk result }
+    {
+        let alloc = *sent.allocator();
+        let mut live = self;
+        let answer = if live.unsent.is_empty() {
+            Answer::Done
+        } else {
+            Answer::Waiting
+        };
+        let mut requests = Vec::new(alloc);
+        live.send_unsent(&mut sent, &mut requests)?;
+        Ok(Turn {
+            entry: Entry::live(live, sent),
+            answer,
+            requests,
+            notes: Vec::new(alloc),
+        })
+    }
+}
+
+ghost use Rattle.std.specs.Prelude.{None, [], ◌∷◌, false};
+ghost use Rattle.lease_model.specs.client.Commanded.{turn_of, one_handle_less};
+ghost use Rattle.lease_model.specs.client.State.{live_entry};
+ghost use Rattle.lease_model.specs.client.Commands as model;
+
+// The file as the application sees it, from the cache: it is answered and noted.
+fn cached(entry: Entry, file: FileNo, seen: Bytes) -> Result<Turn, Memory>
+    ensures { IfOk result (λ turn. turn ≡ turn_written (rules.cached_turn file.0 entry seen)) }
+{
+    let alloc = entry.alloc();
+    let mut notes = Vec::new(alloc);
+    notes.push(Note::CachedRead(file, seen.try_copy()?))?;
+    Ok(Turn {
+        entry,
+        answer: Answer::Bytes(seen, true),
+        requests: Vec::new(alloc),
+        notes,
+    })
+}

@@ -1,0 +1,156 @@
+ghost use Rattle.std.specs.Prelude.{◌≡◌, ◌++◌, IfOk, filter};
+ghost use Rattle.lease_model.specs.client.Connection as rules;
+ghost use Rattle.lease_model.specs.values.Lists.{without};
+ghost use Rattle.lease_client.specs.Connected.{connected_turn};
+ghost use Rattle.lease_client.specs.Turns.{turn_written};
+
+use crate::command::Answer;
+use crate::entry::{Entry, Live, Parted, Pending, Phase};
+use crate::note::Settlement;
+use crate::requests;
+use crate::turn::Turn;
+use crate::writes::push_settled;
+use lease_state::{FileNo, LeaseKey, Memory};
+
+impl Entry {
+    /// The connection is lost (MS-SMB2 3.2.7.1).
+    ///
+    /// # Errors
+    ///
+    /// `Memory` where there is none left for the notes.
+    pub fn noticed(self) -> Result<Turn, Memory>
+        ensures { IfOk result (λ turn. turn ≡ turn_written (rules.notice_turn self.sent self.phase)) }
+    {
+        let Entry { phase, sent } = self;
+        match phase {
+            Phase::Closed | Phase::Opening { .. } => ended(sent),
+            Phase::Live(live) => live.noticed(sent),
+            Phase::Offline(parted) | Phase::Reconnecting(parted) => parted.offline(sent),
+        }
+    }
+
+    /// The client connects: an offline entry reconnects (3.2.4.4).
+    ///
+    /// # Errors
+    ///
+    /// `Memory` where there is none left for the request, and never where the entry isn't offline.
+    pub fn connected(self, file: FileNo, key: LeaseKey) -> Result<Turn, Memory>
+        ensures { IfOk result (λ turn. turn ≡ turn_written (connected_turn key.0 file.0 self)) }
+    {
+        let Entry { phase, sent } = self;
+        match phase {
+            Phase::Offline(parted) => parted.reconnecting(sent, file, key),
+            phase => Ok(Turn::still(Entry { phase, sent }, Answer::Quiet)),
+        }
+    }
+}
+
+// An entry that doesn't outlive its connection: of its writes nobody knows.
+fn ended(unanswered: Vec<Pending>) -> Result<Turn, Memory>
+    ensures { IfOk result (λ turn. turn ≡ turn_written (rules.ended_turn unanswered.items)) }
+{
+    let alloc = *unanswered.allocator();
+    let mut notes = Vec::new(alloc);
+    push_settled(&mut notes, Settlement::Unknown, &unanswered)?;
+    Ok(Turn {
+        entry: Entry::closed(alloc),
+        answer: Answer::Quiet,
+        requests: Vec::new(alloc),
+        notes,
+    })
+}
+
+impl Parted {
+    // The open waits for the next connection, and nobody knows of the other writes.
+    fn offline(self, unanswered: Vec<Pending>) -> Result<Turn, Memory>
+        ensures { IfOk result (λ turn. turn ≡ turn_written (rules.offline_turn self unanswered.items)) }
+    {
+        let alloc = *unanswered.allocator();
+        let mut notes = Vec::new(alloc);
+        push_settled(&mut notes, Settlement::Unknown, &unanswered)?;
+        Ok(Turn {
+            entry: Entry {
+                phase: Phase::Offline(self),
+                sent: Vec::new(alloc),
+            },
+            answer: Answer::Quiet,
+            requests: Vec::new(alloc),
+            notes,
+        })
+    }
+
+    fn reconnecting(self, sent: Vec<Pending>, file: FileNo, key: LeaseKey) -> Result<Turn, Memory>
+        ensures { IfOk result (λ turn. turn ≡ turn_written (reconnecting_turn key.0 file.0 self sent.items)) }
+    {
+        let alloc = *sent.allocator();
+        let mut requests = Vec::new(alloc);
+        requests.push(requests::connect_again(alloc, file, key, &self)?)?;
+        Ok(Turn {
+            entry: Entry {
+                phase: Phase::Reconnecting(self),
+                sent,
+            },
+            answer: Answer::Quiet,
+            requests,
+            notes: Vec::new(alloc),
+        })
+    }
+}
+
+ghost use Rattle.lease_client.specs.Connected.{reconnecting_turn};
+
+impl Live {
+    // A durable open goes offline. Under W it keeps its buffered writes, those sent and those unsent.
+    #[tactic(auto, unfolding(lease_model::specs::client::Connection::live_noticed, lease_model::specs::client::Connection::live_parted))]
+    fn noticed(self, sent: Vec<Pending>) -> Result<Turn, Memory>
+        ensures { IfOk result (λ turn. turn ≡ turn_written (rules.live_noticed self sent.items)) }
+    {
+        let alloc = *sent.allocator();
+        let Live {
+            file_id,
+            access,
+            share,
+            durable,
+            belief,
+            handles,
+            mut unsent,
+            ..
+        } = self;
+        let mut unanswered = sent;
+        unanswered.append(&mut unsent)?;
+        if !durable {
+            return ended(unanswered);
+        }
+        let (writes, others) = if belief.caches_writes() {
+            split_buffered(unanswered)?
+        } else {
+            (Vec::new(alloc), unanswered)
+        };
+        let parted = Parted {
+            file_id,
+            access,
+            share,
+            handles: handles.count(),
+            writes,
+        };
+        parted.offline(others)
+    }
+}
+
+// The buffered writes, and the others.
+fn split_buffered(writes: Vec<Pending>) -> Result<(Vec<Pending>, Vec<Pending>), Memory>
+    ensures buffered { IfOk result (λ r. r.0.items ≡ filter (λ write. write.buffered) writes.items) }
+    ensures others { IfOk result (λ r. r.1.items ≡ without (λ write. write.buffered) writes.items) }
+{
+    let alloc = *writes.allocator();
+    let mut buffered = Vec::new(alloc);
+    let mut others = Vec::new(alloc);
+    for write in writes {
+        if write.buffered {
+            buffered.push(write)?;
+        } else {
+            others.push(write)?;
+        }
+    }
+    Ok((buffered, others))
+}

@@ -1,0 +1,84 @@
+ghost use Rattle.std.specs.Prelude.{◌≡◌, ◌-◌, true, IfOk, OnOk};
+ghost use Rattle.std.proofs.Math.ListN.{set};
+ghost use Rattle.lease_model.specs.client.State.{knows_file, belief_of};
+ghost use Rattle.lease_client.specs.Known.{client_of};
+ghost use Rattle.lease_client.specs.Links.{is_made, keyed_turn, link_turn, linked};
+ghost use Rattle.lease_client.specs.Turns.{turn_written, given_by, IsAfter};
+
+use crate::command::Answer;
+use crate::entry::Entry;
+use crate::machine::Machine;
+use crate::turn::{Given, Turn};
+use lease_state::{FileNo, LeaseKey, Memory};
+
+/// What happens to a connection.
+#[derive(Clone, Copy, Debug)]
+pub enum Link {
+    Lost,
+    Made,
+}
+
+impl Link {
+    fn is_made(self) -> bool
+        ensures { result ≡ is_made self }
+    {
+        match self {
+            Link::Lost => false,
+            Link::Made => true,
+        }
+    }
+}
+
+impl Entry {
+    // The connection is lost or made for the entry of a file, whose key this is.
+    fn linked(self, link: Link, file: FileNo, key: LeaseKey) -> Result<Turn, Memory>
+        ensures { IfOk result (λ turn. turn ≡ turn_written (keyed_turn link key.0 file.0 self)) }
+    {
+        match link {
+            Link::Lost => self.noticed(),
+            Link::Made => self.connected(file, key),
+        }
+    }
+}
+
+impl Machine {
+    /// The connection is lost or made: each entry has its turn, in the order of files.
+    ///
+    /// # Errors
+    ///
+    /// `Memory` where there is none left.
+    pub fn link(&mut self, link: Link) -> Result<Given, Memory>
+        ensures { IfOk result (λ given. IsAfter self.new given (linked (client_of self.old) link)) }
+    {
+        let alloc = self.alloc();
+        let mut requests = Vec::new(alloc);
+        let mut notes = Vec::new(alloc);
+        for index in 0..self.files() {
+            let given = self.link_entry(FileNo(index + 1), link)?;
+            given.join(&mut requests, &mut notes)?;
+        }
+        self.set_online(link.is_made());
+        Ok(Given {
+            answer: Answer::Quiet,
+            requests,
+            notes,
+        })
+    }
+
+    fn link_entry(&mut self, file: FileNo, link: Link) -> Result<Given, Memory>
+        requires { knows_file (client_of self.old) file.0 ≡ true }
+        ensures machine { OnOk result (self.new ≡ record self.old {
+          entries = set self.old.entries (file.0 - 1)
+              (link_turn link self.old.guid file.0 ((client_of self.old).entries file.0)).entry;
+        }) }
+        ensures given { IfOk result (λ given. given ≡ given_by file.0 (belief_of ((client_of self.old).entries file.0))
+            (turn_written (link_turn link self.old.guid file.0 ((client_of self.old).entries file.0)))) }
+    {
+        let key = self.key(file);
+        let entry = self.take_entry(file);
+        let old = entry.belief();
+        let turn = entry.linked(link, file, key)?;
+        let given = self.put_turn(file, old, turn)?;
+        Ok(given)
+    }
+}

@@ -1,0 +1,43 @@
+ghost use Rattle.std.specs.Prelude.{◌≡◌, IfOk};
+ghost use Rattle.lease_client.specs.Messages.{message_turn};
+ghost use Rattle.lease_client.specs.Turns.{turn_written};
+
+use crate::entry::Entry;
+use crate::turn::Turn;
+use lease_state::{Bytes, FileId, LeaseKey, Memory, Status};
+use lease_wire::{CreateAnswer, Notification};
+
+/// A reply of the server that reached an entry.
+#[derive(Debug, Drop)]
+pub enum Message {
+    Created(FileId, CreateAnswer),
+    NotCreated(Status),
+    Read(Bytes),
+    NotRead(Status),
+    Written(u64),
+    NotWritten(FileId, u64, Status),
+    Broken(Notification),
+}
+
+impl Entry {
+    /// A reply reaches the entry of a file, whose key this is.
+    ///
+    /// # Errors
+    ///
+    /// `Memory` where there is none left.
+    pub fn told(self, key: LeaseKey, message: Message) -> Result<Turn, Memory>
+        ensures { IfOk result (λ turn. turn ≡ turn_written (message_turn key.0 message self)) }
+    {
+        match message {
+            Message::Created(file_id, answer) => self.created(key, file_id, &answer),
+            Message::NotCreated(status) => self.not_created(status),
+            Message::Read(bytes) => self.read_done(bytes),
+            Message::NotRead(status) => self.not_read(status),
+            Message::Written(number) => self.written(number),
+            Message::NotWritten(file_id, number, status) => {
+                self.not_written(file_id, number, status)
+            }
+            Message::Broken(notice) => self.broken(&notice),
+        }
+    }
+}

@@ -1,0 +1,138 @@
+ghost use Rattle.std.specs.Prelude.{◌≡◌, ◌++◌, [], IfOk, IsOk, OnOk, true, map};
+ghost use Rattle.lease_state.specs.State.{state_of};
+ghost use Rattle.lease_model.specs.client.State.{belief_of};
+ghost use Rattle.lease_model.specs.values.LeaseStates.{same_state};
+ghost use Rattle.lease_client.specs.Answers.{answer_of, note_of};
+ghost use Rattle.lease_client.specs.Turns.{given_by};
+
+use crate::command::Answer;
+use crate::entry::Entry;
+use crate::note::Note;
+use crate::state::is_same;
+use lease_state::{FileNo, LeaseState, Memory, Request};
+use std::alloc::Global;
+use std::marker::Model;
+
+/// What a call does to one entry: the entry after it, and what is answered, sent and noted, but for
+/// the note of its belief.
+#[derive(Debug, Drop)]
+pub struct Turn {
+    pub entry: Entry,
+    pub answer: Answer,
+    pub requests: Vec<Request>,
+    pub notes: Vec<Note>,
+}
+
+impl Model for Turn {
+    ghost use Rattle.std.specs.Prelude.{map};
+    ghost use Rattle.lease_client.specs.Answers.{answer_of, note_of};
+    ghost use Rattle.lease_client.specs.Turns as turns;
+
+    ghost Value = { turns.Turned };
+
+    ghost view = { λ turn. record {
+      entry = turn.entry;
+      answer = answer_of turn.answer;
+      requests = turn.requests.items;
+      notes = map note_of turn.notes.items;
+    } };
+}
+
+/// What a call gives out.
+#[derive(Debug, Drop)]
+pub struct Given {
+    pub answer: Answer,
+    pub requests: Vec<Request>,
+    pub notes: Vec<Note>,
+}
+
+impl Model for Given {
+    ghost use Rattle.std.specs.Prelude.{map};
+    ghost use Rattle.lease_client.specs.Answers.{answer_of, note_of};
+    ghost use Rattle.lease_client.specs.Turns as turns;
+
+    ghost Value = { turns.Given };
+
+    ghost view = { λ given. record {
+      answer = answer_of given.answer;
+      requests = given.requests.items;
+      notes = map note_of given.notes.items;
+    } };
+}
+
+impl Given {
+    /// An answer, with nothing sent or noted. No memory is taken.
+    pub fn answer(alloc: Global, answer: Answer) -> Given
+        ensures { result ≡ record { answer = answer_of answer; requests = []; notes = [] } }
+    {
+        Given {
+            answer,
+            requests: Vec::new(alloc),
+            notes: Vec::new(alloc),
+        }
+    }
+}
+
+impl Given {
+    /// Its requests and notes go behind those that there are.
+    ///
+    /// # Errors
+    ///
+    /// `Memory` where there is none left for them.
+    pub fn join(self, requests: &mut Vec<Request>, notes: &mut Vec<Note>) -> Result<(), Memory>
+        ensures requests { OnOk result (requests.new.items ≡ requests.old.items ++ self.requests) }
+        ensures notes { OnOk result (map note_of notes.new.items ≡ map note_of notes.old.items ++ self.notes) }
+    {
+        let Given {
+            requests: mut sent,
+            notes: mut noted,
+            ..
+        } = self;
+        requests.append(&mut sent)?;
+        notes.append(&mut noted)?;
+        Ok(())
+    }
+}
+
+impl Turn {
+    /// The entry as it is, with an answer and nothing sent or noted. No memory is taken.
+    pub fn still(entry: Entry, answer: Answer) -> Turn
+        ensures { result ≡ record { entry = entry; answer = answer_of answer; requests = []; notes = [] } }
+    {
+        let alloc = entry.alloc();
+        Turn {
+            entry,
+            answer,
+            requests: Vec::new(alloc),
+            notes: Vec::new(alloc),
+        }
+    }
+
+    /// The entry of the file after the turn, and what is given out: a belief that isn't the old one
+    /// is noted last.
+    ///
+    /// # Errors
+    ///
+    /// `Memory` where there is none left for that note, and never where the belief is the old one.
+    pub fn parts(self, file: FileNo, old: LeaseState) -> Result<(Entry, Given), Memory>
+        ensures parts { IfOk result (λ r. r ≡ (self.entry, given_by file.0 (state_of old) self)) }
+        ensures same { same_state (state_of old) (belief_of self.entry) ≡ true → IsOk result }
+    {
+        let Turn {
+            entry,
+            answer,
+            requests,
+            mut notes,
+        } = self;
+        let new = entry.belief();
+        if !is_same(old, new) {
+            notes.push(Note::Believes(file, new))?;
+        }
+        let given = Given {
+            answer,
+            requests,
+            notes,
+        };
+        Ok((entry, given))
+    }
+}
