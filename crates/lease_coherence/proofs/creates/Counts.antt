@@ -9,6 +9,7 @@ use Rattle.lease_model.specs.messages.Requests.{FileRequest, Request}
 use Rattle.lease_model.specs.server.Progress.{refusal_of}
 use Rattle.lease_model.specs.server.State.{Held}
 use Rattle.lease_laws.proofs.server.Lists.{if_cases}
+use Rattle.lease_coherence.proofs.moves.Events.{chosen, not_chosen}
 use Rattle.lease_coherence.specs.Creates.{answer_of, answers, create_of, creates, held_by, held_creates}
 
 -- ---- sums
@@ -55,18 +56,10 @@ held_among file client (x ∷ before) behind one own = if_cases
     (sym (chosen (x.client == client) (x ∷ held_by client (before ++ behind)) (held_by client (before ++ behind)) mine)))
     (λ other. held_among file client before behind one own
     ∙ ap (λ (l : List Held). create_of file one.request + held_creates file l)
-    (sym (unchosen (x.client == client) (x ∷ held_by client (before ++ behind)) (held_by client (before ++ behind)) other)))
+    (sym (not_chosen (x.client == client) (x ∷ held_by client (before ++ behind)) (held_by client (before ++ behind)) other)))
   where
     swap : (a b c : ℕ) → a + (b + c) ≡ b + (a + c)
     swap a b c = omega arith
-
-    chosen : (b : Bool) (x y : List Held) → b ≡ true → (if b then x else y) ≡ x
-    chosen true x y e = refl
-    chosen false x y e = let c : ⊥ = cc in absurd c
-
-    unchosen : (b : Bool) (x y : List Held) → b ≡ false → (if b then x else y) ≡ y
-    unchosen true x y e = let c : ⊥ = cc in absurd c
-    unchosen false x y e = refl
 
 -- ---- messages
 

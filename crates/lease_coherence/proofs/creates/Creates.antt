@@ -43,6 +43,7 @@ use Rattle.lease_coherence.proofs.moves.Foreign.{IsUnmoved}
 use Rattle.lease_coherence.proofs.moves.Frames.{lease_put_rest, stepped_requests, stepped_replies}
 use Rattle.lease_coherence.proofs.moves.Moves.{IsOldest, rest_of, popped}
 use Rattle.lease_coherence.proofs.moves.Own.{IsOwnMoved}
+use Rattle.lease_coherence.proofs.moves.Shift.{append_none}
 use Rattle.lease_coherence.proofs.names.Done.{HasTrueNames}
 use Rattle.lease_coherence.proofs.names.Words.{reply_later}
 use Rattle.lease_coherence.proofs.records.Later.{later_fact}
@@ -214,10 +215,6 @@ hold_at world at one oldest turn a =
     (ap (λ (l : List Held). held_creates file (held_by one.client l))
     (put_other world.server.held at (world.server.held at ++ one ∷ []) file ne)))) a
   where
-    append_none : {X : Type 0} (xs : List X) → xs ++ [] ≡ xs
-    append_none [] = refl
-    append_none (x ∷ xs) = ap (λ ys. x ∷ ys) (append_none xs)
-
     not_its : (file : ℕ) (request : FileRequest) → file_asked world.server one.client request ≡ Ok at → file ≢ at
         → create_of file request ≡ 0
     not_its file (FileRequest.Create other access share contexts) e ne = ap one_if (not_true (other == file)
@@ -358,10 +355,6 @@ all_send client file idle (suc count) =
     ∙ plus_zero _ ∙ ap (λ (b : Bool). if b then sends_again client file else 0)
     (further count file (λ e. clash (suc count == file) (eq-eqb (suc count) file e) there)))
   where
-    append_none : {X : Type 0} (xs : List X) → xs ++ [] ≡ xs
-    append_none [] = refl
-    append_none (x ∷ xs) = ap (λ ys. x ∷ ys) (append_none xs)
-
     zero_plus : (n : ℕ) → 0 + n ≡ n
     zero_plus n = omega arith
 

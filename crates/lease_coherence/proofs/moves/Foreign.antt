@@ -25,7 +25,7 @@ use Rattle.lease_laws.proofs.server.Keys.{put_key-cases}
 use Rattle.lease_laws.proofs.server.Lists.{if_cases, clash, and_parts, not_true, among_append, among_before, among_filter, among_filtered, among_map, any_has, has_any}
 use Rattle.lease_coherence.specs.Creates.{held_by}
 use Rattle.lease_coherence.proofs.moves.Deeds.{IsSource, with_held, told_to, granted_in, changed_in, without_opens, leased_in}
-use Rattle.lease_coherence.proofs.moves.Events.{Ground}
+use Rattle.lease_coherence.proofs.moves.Events.{not_chosen, Ground}
 use Rattle.lease_coherence.proofs.moves.Moves.{popped}
 use Rattle.lease_coherence.proofs.records.Later.{IsLater, later_same, later_then, later_fact, later_two}
 
@@ -75,19 +75,15 @@ unmoved_then a b c client h k = record {
 pub apart : (a b : ℕ) → a ≢ b → (a == b) ≡ false
 apart a b ne = not_true (a == b) (λ e. ne (eqb-true a b e))
 
-chosen_not : {X : Type 0} (b : Bool) (x y : X) → b ≡ false → (if b then x else y) ≡ y
-chosen_not true x y e = let c : ⊥ = cc in absurd c
-chosen_not false x y e = refl
-
 -- one of another client is taken off, or put behind
 pub filter_off : (test : Held → Bool) (before behind : List Held) (one : Held) → test one ≡ false
     → filter test (before ++ behind) ≡ filter test (before ++ one ∷ behind)
-filter_off test [] behind one e = sym (chosen_not (test one) (one ∷ filter test behind) (filter test behind) e)
+filter_off test [] behind one e = sym (not_chosen (test one) (one ∷ filter test behind) (filter test behind) e)
 filter_off test (x ∷ before) behind one e = ap (λ l. if test x then x ∷ l else l) (filter_off test before behind one e)
 
 pub filter_last : (test : Held → Bool) (held : List Held) (one : Held) → test one ≡ false
     → filter test (held ++ one ∷ []) ≡ filter test held
-filter_last test [] one e = chosen_not (test one) (one ∷ []) [] e
+filter_last test [] one e = not_chosen (test one) (one ∷ []) [] e
 filter_last test (x ∷ held) one e = ap (λ l. if test x then x ∷ l else l) (filter_last test held one e)
 
 pub filter_twice : (test keep : Held → Bool) (held : List Held) → ((x : Held) → test x ≡ true → keep x ≡ true)
@@ -97,7 +93,7 @@ filter_twice test keep (x ∷ held) stays = if_cases
     (λ l. filter test l ≡ filter test (x ∷ held)) (keep x) (x ∷ filter keep held) (filter keep held)
     (λ kept. ap (λ l. if test x then x ∷ l else l) (filter_twice test keep held stays))
     (λ gone. filter_twice test keep held stays
-    ∙ sym (chosen_not (test x) (x ∷ filter test held) (filter test held)
+    ∙ sym (not_chosen (test x) (x ∷ filter test held) (filter test held)
     (not_true (test x) (λ passes. clash (keep x) (stays x passes) gone))))
 
 -- a key's client is that of its open

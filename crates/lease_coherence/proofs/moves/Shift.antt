@@ -29,7 +29,7 @@ if_follows : (outs : List Out) (b : Bool) (x y p q : Progress) → Follows outs 
 if_follows outs true x y p q f g = f
 if_follows outs false x y p q f g = g
 
-append_none : {X : Type 0} (xs : List X) → xs ++ [] ≡ xs
+pub append_none : {X : Type 0} (xs : List X) → xs ++ [] ≡ xs
 append_none [] = refl
 append_none (x ∷ xs) = ap (λ ys. x ∷ ys) (append_none xs)
 
