@@ -47,7 +47,7 @@ fn write_many(alloc: Global, count: u32) -> Result<u64, Memory> {
     let mut client = opened(alloc, 3)?;
     let mut sum = 0u64;
     for turn in 0..count {
-        let bytes = Bytes::new(Vec::from_slice(alloc, &[turn as u8; 64])?);
+        let bytes = Bytes::new(Vec::from_slice(alloc, &[(turn % 256) as u8; 64])?);
         let patch = Patch {
             offset: turn % 1000,
             bytes,
