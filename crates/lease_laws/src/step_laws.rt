@@ -3,8 +3,9 @@ ghost use Rattle.lease_laws.specs.server.StepLaws.{LeasesOfSteps, BreaksOfSteps,
 
 /// Every call of a server goes by small steps, each of which is taken only where its guard holds: a
 /// write, say, changes its file only where each other key on it holds nothing or is breaking to
-/// nothing. What comes before the first step gives nothing out, and each step keeps the laws of servers.
-/// Does nothing.
+/// nothing. A request of a connected client is answered, held or judged by exactly one of them, and has its
+/// turn there: no earlier one of its client is held on its file. What comes before the first step gives
+/// nothing out, and each step keeps the laws of servers. Does nothing.
 pub fn calls_go_by_steps()
     ensures steps { CallsGoBySteps }
     ensures silence { CallsBeginInSilence }

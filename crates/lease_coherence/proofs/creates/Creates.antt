@@ -282,7 +282,7 @@ take_at world client reply queue g first named a up file =
     let gone = reply_gone world client queue in
     let step = taken machine reply in
     let was : is_up (world.links client) ≡ true =
-        ap (λ (l : ℕ → Link). is_up (l client)) (sym (stepped_links gone client step)) ∙ up in
+    ap (λ (l : ℕ → Link). is_up (l client)) (sym (stepped_links gone client step)) ∙ up in
     let counts = any_reply machine (IsCountedTake client machine (Fact.Took client ∷ world.past))
     (takes_count client machine (Fact.Took client ∷ world.past)
     (λ f live is none. parked_idle machine.is_online (machine.entries f) live ((g.clients client).entries f) is none))
@@ -412,7 +412,7 @@ connect_at world client g down up file =
     let is_off : is_up (world.links client) ≡ false = ap is_up down in
     let online : machine.is_online ≡ false = g.online client ∙ ap (λ l. not (is_down l)) down in
     let idle : (f : ℕ) → has_asked (machine.entries f).phase ≡ false =
-        λ f. away_idle machine.is_online (machine.entries f) online ((g.clients client).entries f) in
+    λ f. away_idle machine.is_online (machine.entries f) online ((g.clients client).entries f) in
     whole _ _ _ _ _ _
     (stepped_under_way back client step (ap is_up (put_same world.links client Link.Up)) file)
     (ap (λ (q : List Request). creates file q) ((g.tied client).requests is_off))

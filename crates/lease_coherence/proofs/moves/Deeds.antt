@@ -94,9 +94,9 @@ granted_in world client file access share ask lease = record world {
   };
   replies = put world.replies client (world.replies client
       ++ Reply.Created file (world.server.last_id + 1) (Some (record {
-    lease = lease_given ask.lease lease;
-    durable = ask.durable && lease.state.handle;
-  })) ∷ []);
+        lease = lease_given ask.lease lease;
+        durable = ask.durable && lease.state.handle;
+      })) ∷ []);
   past = Fact.Sent client ∷ Fact.Opened file client ∷ world.past;
 }
 

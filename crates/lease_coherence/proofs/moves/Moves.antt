@@ -233,17 +233,20 @@ pub once_due : (steps : List SmallStep) (base : World) (client : ℕ) (request :
     → AreDue steps base × (all_taken_off steps base ≡ popped base client)
 once_due [] base client request queue of e first = absurd (no_one (own_count []) refl e)
 once_due (SmallStep.Answer other asked outcome ∷ steps) base client request queue of e first =
-    let r = none_due steps (popped base other) (one_suc (own_count steps) e) in
-    ((oldest_of base client other request (Request.OnFile asked) queue first of.0, r.0),
-    r.1 ∙ ap (popped base) (sym (same_client client other request (Request.OnFile asked) of.0)))
+    let r = none_due steps (popped base other) (one_suc (own_count steps) e) in (
+      (oldest_of base client other request (Request.OnFile asked) queue first of.0, r.0),
+      r.1 ∙ ap (popped base) (sym (same_client client other request (Request.OnFile asked) of.0)),
+    )
 once_due (SmallStep.Hold file one ∷ steps) base client request queue of e first =
-    let r = none_due steps (popped base one.client) (one_suc (own_count steps) e) in
-    ((oldest_of base client one.client request (Request.OnFile one.request) queue first of.0, r.0),
-    r.1 ∙ ap (popped base) (sym (same_client client one.client request (Request.OnFile one.request) of.0)))
+    let r = none_due steps (popped base one.client) (one_suc (own_count steps) e) in (
+      (oldest_of base client one.client request (Request.OnFile one.request) queue first of.0, r.0),
+      r.1 ∙ ap (popped base) (sym (same_client client one.client request (Request.OnFile one.request) of.0)),
+    )
 once_due (SmallStep.Acknowledge other given ∷ steps) base client request queue of e first =
-    let r = none_due steps (popped base other) (one_suc (own_count steps) e) in
-    ((oldest_of base client other request (Request.Acknowledge given) queue first of.0, r.0),
-    r.1 ∙ ap (popped base) (sym (same_client client other request (Request.Acknowledge given) of.0)))
+    let r = none_due steps (popped base other) (one_suc (own_count steps) e) in (
+      (oldest_of base client other request (Request.Acknowledge given) queue first of.0, r.0),
+      r.1 ∙ ap (popped base) (sym (same_client client other request (Request.Acknowledge given) of.0)),
+    )
 once_due (SmallStep.AnswerHeld file before one behind outcome ∷ steps) base client request queue of e first =
     let r = once_due steps base client request queue of.1 e first in ((tt, r.0), r.1)
 once_due (SmallStep.Drop key ∷ steps) base client request queue of e first =

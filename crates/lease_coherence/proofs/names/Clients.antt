@@ -194,8 +194,12 @@ commands_named client machine past names = record {
       (each_append (IsNamedRequest client machine.guid past) (write_requests live.file_id live.unsent) _
       (writes_named client machine.guid past file live.file_id live.unsent n.0 n.1)
       (close_named client machine.guid past file live.file_id n.0, tt)) tt;
-  cached = λ file live base is reads has. record { requests = tt; entries = λ f.
-      entry_later client f past _ (later_fact past _) (machine.entries f) (names f); done = (tt, tt) };
+  cached = λ file live base is reads has. record {
+    requests = tt;
+    entries = λ f.
+        entry_later client f past _ (later_fact past _) (machine.entries f) (names f);
+    done = (tt, tt);
+  };
   read = λ file live is idle. let n = live_named client machine past file live names is.is_so in
       turned_named client machine past file _ names (record { sent = (names file).sent; phase = n })
       (close_named client machine.guid past file live.file_id n.0, tt) tt;
@@ -207,10 +211,12 @@ commands_named client machine past names = record {
       wrote_named client machine past file _ Answer.Done [] write names
       (record {
         sent = writes_later client file past (fact ∷ past) later (sent_of machine file) (names file).sent;
-        phase = (later.opened live.file_id file client n.0,
-        each_append (WasWritten client file (fact ∷ past)) live.unsent (write ∷ [])
-        (writes_later client file past (fact ∷ past) later live.unsent n.1)
-        (just_written client file write.number patch true past, tt));
+        phase = (
+          later.opened live.file_id file client n.0,
+          each_append (WasWritten client file (fact ∷ past)) live.unsent (write ∷ [])
+              (writes_later client file past (fact ∷ past) later live.unsent n.1)
+              (just_written client file write.number patch true past, tt),
+        );
       }) tt;
   written = λ file live patch is fits sends.
       let n = live_named client machine past file live names is.is_so in
@@ -222,14 +228,18 @@ commands_named client machine past names = record {
         sent = each_append (WasWritten client file (fact ∷ past)) (sent_of machine file) (write ∷ [])
             (writes_later client file past (fact ∷ past) later (sent_of machine file) (names file).sent)
             (just_written client file write.number patch false past, tt);
-        phase = (later.opened live.file_id file client n.0,
-        writes_later client file past (fact ∷ past) later live.unsent n.1);
-      })
-      (record {
-        file = file;
-        opened = later.opened live.file_id file client n.0;
-        written = just_written client file write.number patch false past;
-      }, tt);
+        phase = (
+          later.opened live.file_id file client n.0,
+          writes_later client file past (fact ∷ past) later live.unsent n.1,
+        );
+      }) (
+        record {
+          file = file;
+          opened = later.opened live.file_id file client n.0;
+          written = just_written client file write.number patch false past;
+        },
+        tt,
+      );
   flushed = λ file live is. let n = live_named client machine past file live names is.is_so in
       turned_named client machine past file _ names
       (record {
@@ -250,12 +260,15 @@ ack_named : (client : ℕ) (machine : Client) (past : List Fact) (file : ℕ) (n
     → Each (IsNamedRequest client machine.guid past) (acknowledgment notice state)
 ack_named client machine past file notice state own =
     if_cases (Each (IsNamedRequest client machine.guid past)) notice.ack_required _ []
-    (λ required. (record {
-      file = file;
-      lease = record { key = notice.key; state = state };
-      gives = refl;
-      key = sym ((bytes_eq-Decides (lease_key machine.guid file) notice.key).0 own);
-    }, tt))
+    (λ required. (
+      record {
+        file = file;
+        lease = record { key = notice.key; state = state };
+        gives = refl;
+        key = sym ((bytes_eq-Decides (lease_key machine.guid file) notice.key).0 own);
+      },
+      tt,
+    ))
     (λ plain. tt)
 
 break_named : (client : ℕ) (machine : Client) (past : List Fact) (file : ℕ) (live : LiveEntry) (notice : BreakNotice)
@@ -375,12 +388,15 @@ takes_named client machine past names = record {
       (record { sent = (names file).sent; phase = (named, tt) }) tt tt;
   reconnected = λ file file_id answer parted is named.
       let n : IsNamedPhase client file past (Phase.Reconnecting parted) =
-          subst (IsNamedPhase client file past) is (names file).phase in
+      subst (IsNamedPhase client file past) is (names file).phase in
       turned_named client machine past file _ names
       (record {
         sent = (names file).sent;
-        phase = (n.0, each_either (WasWritten client file past) (first_belief machine file answer).write
-        parted.writes [] n.1 tt);
+        phase = (
+          n.0,
+          each_either (WasWritten client file past) (first_belief machine file answer).write
+              parted.writes [] n.1 tt,
+        );
       }) tt
       (either_true client past (first_belief machine file answer).write Settlement.Lost parted.writes no_lost);
   promoted = λ file file_id answer live asked is asks named.
@@ -470,8 +486,11 @@ notice_named client guid past file sent (Phase.Live live) each n =
     (λ caches. record {
       entry = record {
         sent = tt;
-        phase = (n.0, each_filter (WasWritten client file past) (λ write. write.buffered) (sent ++ live.unsent)
-        (each_append (WasWritten client file past) sent live.unsent each n.1));
+        phase = (
+          n.0,
+          each_filter (WasWritten client file past) (λ write. write.buffered) (sent ++ live.unsent)
+              (each_append (WasWritten client file past) sent live.unsent each n.1),
+        );
       };
       requests = tt;
       settled = settled_true client past Settlement.Unknown _ no_unknown;

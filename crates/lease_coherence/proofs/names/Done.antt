@@ -65,7 +65,7 @@ here_named world client call same named n =
     let past = sym (stepped_past world client step) in
     let server = sym (stepped_server world client step) in
     let mine : next.clients client ≡ step.client =
-        ap (λ (t : ℕ → Client). t client) (stepped_clients world client step) ∙ put_same world.clients client step.client in
+    ap (λ (t : ℕ → Client). t client) (stepped_clients world client step) ∙ put_same world.clients client step.client in
     let guid : machine.guid ≡ (next.clients client).guid = sym (ap (λ (m : Client). m.guid) mine ∙ same) in
     record {
       requests = subst (λ (q : ℕ → List Request). Each (IsNamedRequest client (next.clients client).guid next.past) (q client))
@@ -103,7 +103,7 @@ there_named world client step c ne n =
     let next = stepped_in world client step in
     let new = past_noted client world.past step.notes in
     let later : IsLater world.past next.past = subst (IsLater world.past) (sym (stepped_past world client step))
-        (later_noted client world.past step.notes) in
+    (later_noted client world.past step.notes) in
     let server = stepped_server world client step in
     at_later world next c later
     (ap (λ (t : ℕ → Client). t c) (stepped_clients world client step) ∙ put_other world.clients client step.client c ne)
@@ -297,10 +297,12 @@ true_moves = record {
       (subst (Each (IsNamedReply client world.past)) first (t.0 client (later.strayed client good)).replies)).0)
       (gone_named world client reply queue first t.0, (tt, t.1));
   notice = λ world client g cut t. stepped_true (record world { links = put world.links client Link.Down }) client
-      ClientCall.Noticed refl (λ good. tt)
-      (λ c good. let m = t.0 c good in
-      at_later world (record world { links = put world.links client Link.Down }) c (later_same world.past) refl
-      m.requests m.held m.opens m.replies m, t.1);
+      ClientCall.Noticed refl (λ good. tt) (
+        λ c good. let m = t.0 c good in
+            at_later world (record world { links = put world.links client Link.Down }) c (later_same world.past) refl
+            m.requests m.held m.opens m.replies m,
+        t.1,
+      );
   stray = λ world client request g up t. (strayed_named world client request t.0, (tt, t.1));
 }
 

@@ -90,27 +90,29 @@ pub off_named : (world off : World) (client : ℕ) (request : FileRequest) (c : 
     → IsNamedAt world c
     → IsNamedAt off c × (c ≡ client → IsNamedOnFile c (off.clients c).guid off.past request)
 off_named world off client request c source n = ⊎_elim
-    (λ a. subst (λ o. IsNamedAt o c × (c ≡ client → IsNamedOnFile c (o.clients c).guid o.past request)) (sym a.is_off)
-    (at_later world (popped world client) c (later_same world.past) refl
-    (by_client (λ d. Each (IsNamedRequest d (world.clients d).guid world.past) (world.requests d)
-    → Each (IsNamedRequest d (world.clients d).guid world.past)
-    (put world.requests client (rest_of (world.requests client)) d)) client c
-    (λ each. subst (Each (IsNamedRequest client (world.clients client).guid world.past))
-    (sym (put_same world.requests client _)) (each_rest _ (world.requests client) each))
-    (λ ne apart each. subst (Each (IsNamedRequest c (world.clients c).guid world.past))
-    (sym (put_other world.requests client _ c ne)) each) n.requests)
-    n.held n.opens n.replies n,
-    (λ same. first_of (ap world.requests same ∙ a.oldest.is_first) n.requests)))
-    (λ h. subst (λ o. IsNamedAt o c × (c ≡ client → IsNamedOnFile c (o.clients c).guid o.past request)) (sym h.is_off)
-    (at_later world (with_held world h.file (h.before ++ h.behind)) c (later_same world.past) refl n.requests
-    (λ file one a own. ⊎_elim (λ old. n.held file one old own)
-    (λ left. n.held h.file one (subst (λ (l : List Held). Among one l) (sym h.held)
-    (among_more one _ h.before h.behind left.1)) own)
-    (among_put world.server.held h.file (h.before ++ h.behind) file one a))
-    n.opens n.replies n,
-    (λ same. n.held h.file (held_of client request) (subst (λ (l : List Held). Among (held_of client request) l)
-    (sym h.held) (among_behind (held_of client request) h.before (held_of client request ∷ h.behind) (inl refl)))
-    (sym same))))
+    (λ a. subst (λ o. IsNamedAt o c × (c ≡ client → IsNamedOnFile c (o.clients c).guid o.past request)) (sym a.is_off) (
+      at_later world (popped world client) c (later_same world.past) refl
+          (by_client (λ d. Each (IsNamedRequest d (world.clients d).guid world.past) (world.requests d)
+          → Each (IsNamedRequest d (world.clients d).guid world.past)
+          (put world.requests client (rest_of (world.requests client)) d)) client c
+          (λ each. subst (Each (IsNamedRequest client (world.clients client).guid world.past))
+          (sym (put_same world.requests client _)) (each_rest _ (world.requests client) each))
+          (λ ne apart each. subst (Each (IsNamedRequest c (world.clients c).guid world.past))
+          (sym (put_other world.requests client _ c ne)) each) n.requests)
+          n.held n.opens n.replies n,
+      (λ same. first_of (ap world.requests same ∙ a.oldest.is_first) n.requests),
+    ))
+    (λ h. subst (λ o. IsNamedAt o c × (c ≡ client → IsNamedOnFile c (o.clients c).guid o.past request)) (sym h.is_off) (
+      at_later world (with_held world h.file (h.before ++ h.behind)) c (later_same world.past) refl n.requests
+          (λ file one a own. ⊎_elim (λ old. n.held file one old own)
+          (λ left. n.held h.file one (subst (λ (l : List Held). Among one l) (sym h.held)
+          (among_more one _ h.before h.behind left.1)) own)
+          (among_put world.server.held h.file (h.before ++ h.behind) file one a))
+          n.opens n.replies n,
+      (λ same. n.held h.file (held_of client request) (subst (λ (l : List Held). Among (held_of client request) l)
+          (sym h.held) (among_behind (held_of client request) h.before (held_of client request ∷ h.behind) (inl refl)))
+          (sym same)),
+    ))
     source.from
   where
     first_of : {queue : List Request} → world.requests c ≡ Request.OnFile request ∷ queue

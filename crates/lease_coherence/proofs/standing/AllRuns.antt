@@ -1,5 +1,5 @@
 -- Names, creates and opens in every run.
-use Rattle.std.proofs.Common.{◌≡◌, ℕ, false, List, sym, true≢false}
+use Rattle.std.proofs.Common.{List, sym, true≢false}
 use Rattle.lease_model.specs.world.Events.{Event, after}
 use Rattle.lease_model.specs.world.World.{World, Setup, first_world}
 use Rattle.lease_coherence.specs.Creates.{IsCountedAt}

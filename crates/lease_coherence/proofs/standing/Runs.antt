@@ -51,9 +51,10 @@ use Rattle.lease_coherence.proofs.standing.Words.{asked_off, head_of}
 
 no_creates : (file : ℕ) (queue : List Request) → creates file queue ≡ 0 → Each (IsNoCreate file) queue
 no_creates file [] e = tt
-no_creates file (Request.OnFile request ∷ queue) e =
-    (not_this request (left (create_of file request) (creates file queue) e),
-    no_creates file queue (right (create_of file request) (creates file queue) e))
+no_creates file (Request.OnFile request ∷ queue) e = (
+  not_this request (left (create_of file request) (creates file queue) e),
+  no_creates file queue (right (create_of file request) (creates file queue) e),
+)
   where
     left : (a b : ℕ) → a + b ≡ 0 → a ≡ 0
     left a b e = omega (arith, e)
@@ -87,8 +88,10 @@ no_held file (x ∷ held) one e a = ⊎_elim
 
 no_answers : (file : ℕ) (queue : List Reply) → answers file queue ≡ 0 → Each (IsNoAnswer file) queue
 no_answers file [] e = tt
-no_answers file (reply ∷ queue) e = (not_this reply (left (answer_of file reply) (answers file queue) e),
-    no_answers file queue (right (answer_of file reply) (answers file queue) e))
+no_answers file (reply ∷ queue) e = (
+  not_this reply (left (answer_of file reply) (answers file queue) e),
+  no_answers file queue (right (answer_of file reply) (answers file queue) e),
+)
   where
     left : (a b : ℕ) → a + b ≡ 0 → a ≡ 0
     left a b e = omega (arith, e)
@@ -283,13 +286,13 @@ connect_standing world c g down =
     let is_off : is_up (world.links c) ≡ false = ap is_up down in
     let online : machine.is_online ≡ false = g.online c ∙ ap (λ l. not (is_down l)) down in
     let turn : ℕ → List Request =
-        λ f. (connect_turn machine f (machine.entries f).sent (machine.entries f).phase).requests in
+    λ f. (connect_turn machine f (machine.entries f).sent (machine.entries f).phase).requests in
     let queued : new.requests c ≡ flat_map turn (numbers_to machine.files) =
-        ap (λ (q : ℕ → List Request). q c) (stepped_requests back c step) ∙ put_same back.requests c _
-        ∙ ap (λ link. sent_over link (world.requests c) step.requests) (put_same world.links c Link.Up)
-        ∙ ap (λ (q : List Request). q ++ flat_map turn (numbers_to machine.files)) ((g.tied c).requests is_off) in
+    ap (λ (q : ℕ → List Request). q c) (stepped_requests back c step) ∙ put_same back.requests c _
+    ∙ ap (λ link. sent_over link (world.requests c) step.requests) (put_same world.links c Link.Up)
+    ∙ ap (λ (q : List Request). q ++ flat_map turn (numbers_to machine.files)) ((g.tied c).requests is_off) in
     let none : (at : ℕ) → held_by c (new.server.held at) ≡ [] = λ at.
-        ap (λ (x : Server). held_by c (x.held at)) (stepped_server back c step) ∙ none_held world c g is_off at in
+    ap (λ (x : Server). held_by c (x.held at)) (stepped_server back c step) ∙ none_held world c g is_off at in
     let mine = stepped_machine back c step in record {
       phases = λ file. subst (λ (m : Client). PhaseStands new c file (m.entries file).phase) (sym mine)
           (phase_of new file online queued none (machine.entries file).phase refl);
@@ -313,9 +316,11 @@ connect_standing world c g down =
     fits_at file (Phase.Live live) is = subst (λ p. Each (AskFits (connection_made (world.clients c)).client)
         (connect_turn (world.clients c) file ((world.clients c).entries file).sent p).requests) (sym is) tt
     fits_at file (Phase.Offline parted) is = subst (λ p. Each (AskFits (connection_made (world.clients c)).client)
-        (connect_turn (world.clients c) file ((world.clients c).entries file).sent p).requests) (sym is)
-        (sym (ap (λ p. again_of
-        (connect_turn (world.clients c) file ((world.clients c).entries file).sent p).entry.phase) is), tt)
+        (connect_turn (world.clients c) file ((world.clients c).entries file).sent p).requests) (sym is) (
+          sym (ap (λ p. again_of
+              (connect_turn (world.clients c) file ((world.clients c).entries file).sent p).entry.phase) is),
+          tt,
+        )
     fits_at file (Phase.Reconnecting parted) is = subst (λ p. Each (AskFits (connection_made (world.clients c)).client)
         (connect_turn (world.clients c) file ((world.clients c).entries file).sent p).requests) (sym is) tt
 

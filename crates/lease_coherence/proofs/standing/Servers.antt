@@ -164,7 +164,7 @@ pub named_live : (world : World) (c file : ℕ) (live : LiveEntry) → IsNamedAt
     → ((world.clients c).entries file).phase ≡ Phase.Live live → was_opened live.file_id file c world.past ≡ true
 named_live world c file live n is =
     let named : IsNamedPhase c file world.past (Phase.Live live) =
-        subst (IsNamedPhase c file world.past) is (n.entries file).phase in named.0
+    subst (IsNamedPhase c file world.past) is (n.entries file).phase in named.0
 
 -- a new open isn't that of a live entry
 new_fits : (off : World) (c file : ℕ) → IsCountedOff off → IsNamedAt off c

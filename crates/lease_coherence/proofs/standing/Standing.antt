@@ -88,8 +88,10 @@ idle_standing world new c machine is same replies s =
     phase_after : (file : ℕ) (phase : Phase) → PhaseStands world c file phase → PhaseStands new c file phase
     phase_after file Phase.Closed p = tt
     phase_after file (Phase.Opening access share) p = tt
-    phase_after file (Phase.Live live) p = (stands_after world new c machine [] is file live.file_id p.0,
-        asked_after (IsNoClose live.file_id) world new c machine [] is p.1 tt)
+    phase_after file (Phase.Live live) p = (
+      stands_after world new c machine [] is file live.file_id p.0,
+      asked_after (IsNoClose live.file_id) world new c machine [] is p.1 tt,
+    )
     phase_after file (Phase.Offline parted) p = tt
     phase_after file (Phase.Reconnecting parted) p =
         asked_after (IsNoClose parted.file_id) world new c machine [] is p tt
@@ -151,7 +153,7 @@ kept_open world c file queue entry requests t n other file_id opened here = ⊎_
         → IsNotUnder live.file_id entry.phase → Each (IsNotGiven file live.file_id) queue → live.file_id ≡ file_id → ⊥
     apart live was left given same =
         let named : IsNamedPhase c file world.past (Phase.Live live) =
-            subst (IsNamedPhase c file world.past) was (n.entries file).phase in
+        subst (IsNamedPhase c file world.past) was (n.entries file).phase in
         here live was (sym (opened_once file_id file c other c world.past
         (subst (λ i. was_opened i file c world.past ≡ true) same named.0) opened)) left given same
 
@@ -197,10 +199,12 @@ turn_standing world new c file queue machine entry requests is entries here repl
     own_phase : (phase : Phase) → entry.phase ≡ phase → PhaseStands world c file phase → PhaseStands new c file phase
     own_phase Phase.Closed e p = tt
     own_phase (Phase.Opening access share) e p = tt
-    own_phase (Phase.Live live) e p = (stands_after world new c machine requests is file live.file_id p.0,
-        asked_after (IsNoClose live.file_id) world new c machine requests is p.1
-        (⊎_elim (λ none. none live.file_id)
-        (λ old. old.only live.file_id (λ same. subst (IsNotUnder old.live.file_id) e old.left (sym same))) t.closes))
+    own_phase (Phase.Live live) e p = (
+      stands_after world new c machine requests is file live.file_id p.0,
+      asked_after (IsNoClose live.file_id) world new c machine requests is p.1
+          (⊎_elim (λ none. none live.file_id)
+          (λ old. old.only live.file_id (λ same. subst (IsNotUnder old.live.file_id) e old.left (sym same))) t.closes),
+    )
     own_phase (Phase.Offline parted) e p = tt
     own_phase (Phase.Reconnecting parted) e p =
         asked_after (IsNoClose parted.file_id) world new c machine requests is p
@@ -221,9 +225,11 @@ turn_standing world new c file queue machine entry requests is entries here repl
         → PhaseStands world c f phase → PhaseStands new c f phase
     other_phase f ne Phase.Closed e p = tt
     other_phase f ne (Phase.Opening access share) e p = tt
-    other_phase f ne (Phase.Live live) e p = (stands_after world new c machine requests is f live.file_id p.0,
-        asked_after (IsNoClose live.file_id) world new c machine requests is p.1
-        (closes f live.file_id (named_live_at f live e) (λ old was same left given x. ne same)))
+    other_phase f ne (Phase.Live live) e p = (
+      stands_after world new c machine requests is f live.file_id p.0,
+      asked_after (IsNoClose live.file_id) world new c machine requests is p.1
+          (closes f live.file_id (named_live_at f live e) (λ old was same left given x. ne same)),
+    )
     other_phase f ne (Phase.Offline parted) e p = tt
     other_phase f ne (Phase.Reconnecting parted) e p =
         asked_after (IsNoClose parted.file_id) world new c machine requests is p
@@ -248,7 +254,7 @@ turn_standing world new c file queue machine entry requests is entries here repl
     open_beside old (Reply.Created g id None) named away = absurd named
     open_beside old (Reply.Created g id (Some answer)) named away = old.only id (λ same.
         let mine : IsNamedPhase c file world.past (Phase.Live old.live) =
-            subst (IsNamedPhase c file world.past) old.was (n.entries file).phase in
+        subst (IsNamedPhase c file world.past) old.was (n.entries file).phase in
         away (sym (opened_once id file c g c world.past
         (subst (λ i. was_opened i file c world.past ≡ true) same mine.0) named)) (sym same))
     open_beside old (Reply.CreateFailed g status) named away = tt

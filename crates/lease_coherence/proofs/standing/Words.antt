@@ -48,19 +48,21 @@ head_of {X} P queue rest x e each = let whole : Each P (x ∷ rest) = subst (Eac
 pub asked_off : (P : Request → Type 0) (world off : World) (c : ℕ) (request : FileRequest)
     → IsSource world off c request → AllAsked P world c → AllAsked P off c × P (Request.OnFile request)
 asked_off P world off c request source a = ⊎_elim
-    (λ x. subst (λ o. AllAsked P o c × P (Request.OnFile request)) (sym x.is_off)
-    (asked_popped P world c a,
-    head_of P (world.requests c) x.oldest.queue (Request.OnFile request) x.oldest.is_first a.queued))
-    (λ h. subst (λ o. AllAsked P o c × P (Request.OnFile request)) (sym h.is_off)
-    (record {
-      queued = a.queued;
-      held = λ file one x own. ⊎_elim (λ old. a.held file one old own)
-          (λ left. a.held h.file one (subst (λ (l : List Held). Among one l) (sym h.held)
-          (among_more one (held_of c request) h.before h.behind left.1)) own)
-          (among_put world.server.held h.file (h.before ++ h.behind) file one x);
-    },
-    a.held h.file (held_of c request) (subst (λ (l : List Held). Among (held_of c request) l) (sym h.held)
-    (among_behind (held_of c request) h.before (held_of c request ∷ h.behind) (inl refl))) refl))
+    (λ x. subst (λ o. AllAsked P o c × P (Request.OnFile request)) (sym x.is_off) (
+      asked_popped P world c a,
+      head_of P (world.requests c) x.oldest.queue (Request.OnFile request) x.oldest.is_first a.queued,
+    ))
+    (λ h. subst (λ o. AllAsked P o c × P (Request.OnFile request)) (sym h.is_off) (
+      record {
+        queued = a.queued;
+        held = λ file one x own. ⊎_elim (λ old. a.held file one old own)
+            (λ left. a.held h.file one (subst (λ (l : List Held). Among one l) (sym h.held)
+            (among_more one (held_of c request) h.before h.behind left.1)) own)
+            (among_put world.server.held h.file (h.before ++ h.behind) file one x);
+      },
+      a.held h.file (held_of c request) (subst (λ (l : List Held). Among (held_of c request) l) (sym h.held)
+          (among_behind (held_of c request) h.before (held_of c request ∷ h.behind) (inl refl))) refl,
+    ))
     source.from
 
 -- one is held

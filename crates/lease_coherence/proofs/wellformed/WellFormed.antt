@@ -126,7 +126,7 @@ deeds_well world g w = record {
   granted = λ off client file access share ask source none on free.
       let lease = lease_after off.server client file ask.lease in
       let same : (lease_put off.server client ask.lease lease).files ≡ off.server.files =
-          lease_put_rest off.server client ask.lease lease (λ s. s.files ≡ off.server.files) (λ l. refl) in
+      lease_put_rest off.server client ask.lease lease (λ s. s.files ≡ off.server.files) (λ l. refl) in
       sent_well _ client off.clients off.links off.server _ same
       (opened_well off.past file client off.clients off.links off.server off.server refl on
       (off_well world off client _ source w));
@@ -181,9 +181,11 @@ noted_well client machine last new past (Note.Settled number outcome ∷ notes) 
 noted_well client machine last new past (Note.Wrote file number patch buffered ∷ notes) started fine tells low facts =
     noted_well client machine number new (Fact.Wrote client file number patch buffered ∷ past) notes
     (λ f k. (later_fact past (Fact.Wrote client file number patch buffered)).started f (started f k))
-    fine.1 tells.1 used_low
-    (and_both _ _ (and_both _ _ (started file fine.0.0) fine.0.1) (not_of (has_number client number past)
-    (λ used. above last number tells.0 (low number used))), facts)
+    fine.1 tells.1 used_low (
+      and_both _ _ (and_both _ _ (started file fine.0.0) fine.0.1) (not_of (has_number client number past)
+          (λ used. above last number tells.0 (low number used))),
+      facts,
+    )
   where
     above : (a b : ℕ) → a < b → b ≤ a → ⊥
     above a b h k = omega (arith, h, k)
@@ -236,8 +238,8 @@ stepped_well world client call sound same w =
     let next = stepped_in world client step in
     let new = past_noted client world.past step.notes in
     let noted = noted_well client machine machine.last_number step.client.last_number world.past step.notes
-        (λ file k. w.started file (known file k)) (call_fine machine call (sound client))
-        (called_tells machine call (sound client)) (w.numbers client) w.facts in
+    (λ file k. w.started file (known file k)) (call_fine machine call (sound client))
+    (called_tells machine call (sound client)) (w.numbers client) w.facts in
     let whole : IsWellIn new (put world.clients client step.client) world.links world.server = record {
       facts = noted.0;
       started = λ file has. (later_noted client world.past step.notes).started file (w.started file has);
@@ -288,7 +290,7 @@ unfolding is_well_formed
 took_formed world client reply queue g first w =
     let t = g.tied client in
     let up : is_up (world.links client) ≡ true = not_false (is_up (world.links client))
-        (λ down. not_empty reply queue (sym first ∙ t.replies down)) in
+    (λ down. not_empty reply queue (sym first ∙ t.replies down)) in
     and_both _ _ (w.joined_so client up)
     (lower (takings client world.past) (length (sendings client world.past)) (length (world.replies client))
     (length queue) (t.counted up) (ap (λ (q : List Reply). length q) first))
