@@ -1,3 +1,4 @@
+pub mod beliefs
 pub mod clients
 pub mod creates
 pub mod moves

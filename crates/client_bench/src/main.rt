@@ -2,9 +2,7 @@
 #![tactic(auto)]
 
 use lease_client::{Answer, Client, Command, lease_key};
-use lease_state::{
-    Access, Bytes, FileId, FileNo, LeaseState, Memory, Patch, Reply, Share,
-};
+use lease_state::{Access, Bytes, FileId, FileNo, LeaseState, Memory, Patch, Reply, Share};
 use lease_wire::{CreateAnswer, write_create_reply};
 use std::alloc::{AllocError, Global};
 use std::process::ExitCode;
