@@ -8,7 +8,7 @@ use Rattle.lease_state.specs.declared.status.Status.{Status}
 use Rattle.lease_model.specs.client.Commanded.{create_request, joint_terms, next_write, cached_read, opened_anew, write_buffered, write_sent, flush_on_live, wrote_step}
 use Rattle.lease_model.specs.client.Commands.{Answer, OpenTerms}
 use Rattle.lease_model.specs.client.State.{Client, Entry, LiveEntry, Asked, Parted, Pending, Phase, lease_key}
-use Rattle.lease_model.specs.client.Step.{Step, Turn, turned, write_requests}
+use Rattle.lease_model.specs.client.Step.{Step, Turn, turned, quiet_step, write_requests}
 use Rattle.lease_model.specs.client.Taken.{given_state, is_key_of, break_turn, parked_closed, belief_lowered, acknowledgment, flushed, unflushed, opened_turn, reconnected_turn, promoted_turn, promoted_belief, first_belief, read_turn, read_failed_turn, is_file_closed, closed_by_server, without_open, is_numbered, phase_with, write_done_turn, write_failed_in, sent_without}
 use Rattle.lease_model.specs.messages.Replies.{Reply, BreakNotice, CreateAnswer, LeaseGiven}
 use Rattle.lease_model.specs.messages.Requests.{FileRequest, Request, LeaseOf}
@@ -217,3 +217,172 @@ promoted_from key live old is (Some given) w = either given.in_progress
 gone_believes : (asking : Option Asked) (sent : List Pending) → is_live (without_open asking sent).phase ≡ false
 gone_believes None sent = refl
 gone_believes (Some asked) sent = refl
+
+-- a break that an entry meets
+less_meet : (old : Phase) (live next : LiveEntry) (notice : BreakNotice) → old ≡ Phase.Live live
+    → LowersWell (Reply.Break (Some notice)) → next.belief ≡ meet live.belief notice.lowered
+    → (now : LiveEntry) → Phase.Live next ≡ Phase.Live now → WasLive old now.belief
+less_meet old live next notice is formed same now e =
+    let belief : now.belief ≡ meet live.belief notice.lowered =
+    ap (λ (l : LiveEntry). l.belief) (sym (one_live now next e)) ∙ same in
+    let both : now.belief.write ≡ true → (live.belief.write ≡ true) × (notice.lowered.write ≡ true) =
+    λ w. and_parts live.belief.write notice.lowered.write (ap (λ (s : State). s.write) (sym belief) ∙ w) in record {
+      live = live;
+      was = is;
+      less = λ w. (both w).0;
+      reads = λ w r. ap (λ (s : State). s.read) belief
+          ∙ and_both live.belief.read notice.lowered.read r (formed (both w).1);
+    }
+
+ack_elsewhere : (guid : List ℕ) (file at : ℕ) (notice : BreakNotice) (state : State) → file ≢ at
+    → bytes_eq (lease_key guid at) notice.key ≡ true → acks (lease_key guid file) (acknowledgment notice state) ≡ 0
+ack_elsewhere guid file at notice state ne own = if_cases (λ q. acks (lease_key guid file) q ≡ 0) notice.ack_required
+    (Request.Acknowledge (Some (record { key = notice.key; state = state })) ∷ []) []
+    (λ asked. ap (λ b. one_if b + 0) (ap (bytes_eq (lease_key guid file))
+    (sym ((bytes_eq-Decides (lease_key guid at) notice.key).0 own)) ∙ keys_apart guid file at ne) ∙ zeros)
+    (λ plain. refl)
+  where
+    zeros : 0 + 0 ≡ 0
+    zeros = omega arith
+
+-- what an entry sends and believes after a break
+lowered_believes : (key : List ℕ) (file : ℕ) (notice : BreakNotice) (lease : Lease) (old : Phase) (live next : LiveEntry)
+    (asked writes : List Request) (queue : List Reply) → old ≡ Phase.Live live → bytes_eq key notice.key ≡ true
+    → LowersWell (Reply.Break (Some notice)) → next.belief ≡ meet live.belief notice.lowered
+    → Each IsAboutFile writes → IsBelieved key file lease old asked (Reply.Break (Some notice) ∷ queue)
+    → IsBelieved key file lease (Phase.Live next)
+    (asked ++ (writes ++ acknowledgment notice (meet live.belief notice.lowered))) queue
+lowered_believes key file notice lease old live next asked writes queue is own formed same about b =
+    if_cases (λ q. IsBelieved key file lease (Phase.Live next) (asked ++ (writes ++ q)) queue) notice.ack_required
+    (Request.Acknowledge (Some (record { key = notice.key; state = meet live.belief notice.lowered })) ∷ []) []
+    (λ required. break_kept key file notice lease live next asked writes queue required own formed same
+    (file_no_acks key writes about)
+    (subst (λ p. IsBelieved key file lease p asked (Reply.Break (Some notice) ∷ queue)) is b))
+    (λ plain. step_kept key file lease old (Phase.Live next) asked (writes ++ []) queue
+    (less_meet old live next notice is formed same)
+    (file_no_acks key (writes ++ []) (each_append IsAboutFile writes [] about tt))
+    (reply_kept key file lease old asked (Reply.Break (Some notice)) queue b))
+
+flushed_about : (file_id : ℕ) (old new : State) (unsent : List Pending)
+    → Each IsAboutFile (write_requests file_id (flushed old new unsent))
+flushed_about file_id old new unsent = writes_about file_id (flushed old new unsent)
+
+break_takes : (machine : Client) (at : ℕ) (notice : BreakNotice) (live : LiveEntry)
+    → is_key_of machine notice.key at ≡ true → (machine.entries at).phase ≡ Phase.Live live
+    → TakesBelief machine (Reply.Break (Some notice))
+    (turned machine at (break_turn live (sent_of machine at) notice (meet live.belief notice.lowered)))
+unfolding break_turn parked_closed belief_lowered
+break_takes machine at notice live own is formed =
+    let new = meet live.belief notice.lowered in
+    if_cases (λ (turn : Turn). (file : ℕ) (lease : Lease) (asked : List Request) (queue : List Reply)
+    → IsBelieved (lease_key machine.guid file) file lease (machine.entries file).phase asked (Reply.Break (Some notice) ∷ queue)
+    → IsBelieved (lease_key machine.guid file) file lease ((turned machine at turn).client.entries file).phase
+    (asked ++ (turned machine at turn).requests) queue)
+    (live.handles == 0 && (live.belief.handle && not new.handle)) _ _
+    (λ parked. plain_takes machine (Reply.Break (Some notice)) (turned machine at (parked_closed live (sent_of machine at)))
+    (turned_believes machine at _ (writes_close_about live.file_id live.unsent [] tt)
+    (λ now e. never_live (machine.entries at).phase Phase.Closed refl now e)) formed)
+    (λ stays. let next : LiveEntry = record live {
+      belief = new;
+      base = if new.read then live.base else None;
+      unsent = unflushed live.belief new live.unsent;
+    } in
+    let writes = write_requests live.file_id (flushed live.belief new live.unsent) in
+    turn_takes machine (Reply.Break (Some notice)) at _
+    (λ file ne. acks_append (lease_key machine.guid file) writes (acknowledgment notice new)
+    ∙ ap₂ (λ a b. a + b) (file_no_acks (lease_key machine.guid file) writes
+    (flushed_about live.file_id live.belief new live.unsent))
+    (ack_elsewhere machine.guid file at notice new ne own) ∙ zeros)
+    (λ lease asked queue b. lowered_believes (lease_key machine.guid at) at notice lease (machine.entries at).phase live
+    next asked writes queue is own formed refl (flushed_about live.file_id live.belief new live.unsent) b) formed)
+  where
+    zeros : 0 + 0 ≡ 0
+    zeros = omega arith
+
+-- an entry that becomes live by a grant
+granted_takes : (machine : Client) (at file_id : ℕ) (answer : CreateAnswer) (turn : Turn) (next : LiveEntry)
+    → turn.entry.phase ≡ Phase.Live next → Each IsAboutFile turn.requests
+    → (next.belief.write ≡ true → (next.belief ≡ given_state (lease_key machine.guid at) answer.lease)
+    ⊎ WasLive (machine.entries at).phase next.belief)
+    → TakesBelief machine (Reply.Created at file_id (Some answer)) (turned machine at turn)
+granted_takes machine at file_id answer turn next is about from =
+    turn_takes machine (Reply.Created at file_id (Some answer)) at turn
+    (λ file ne. file_no_acks (lease_key machine.guid file) turn.requests about)
+    (λ lease asked queue b. subst
+    (λ p. IsBelieved (lease_key machine.guid at) at lease p (asked ++ turn.requests) queue) (sym is)
+    (created_kept (lease_key machine.guid at) at file_id answer lease (machine.entries at).phase next asked turn.requests
+    queue from (file_no_acks (lease_key machine.guid at) turn.requests about) b))
+
+read_failed_takes : (machine : Client) (at file_id : ℕ) (status : Status) (live : LiveEntry)
+    → (machine.entries at).phase ≡ Phase.Live live
+    → TakesBelief machine (Reply.ReadFailed file_id status)
+    (turned machine at (read_failed_turn live (sent_of machine at) status))
+unfolding read_failed_turn closed_by_server
+read_failed_takes machine at file_id status live is = plain_takes machine (Reply.ReadFailed file_id status)
+    (turned machine at (read_failed_turn live (sent_of machine at) status))
+    (if_cases (λ (turn : Turn). BelievesOn machine (turned machine at turn)) (is_file_closed status) _ _
+    (λ gone. turned_believes machine at _ tt
+    (λ now e. never_live (machine.entries at).phase (without_open live.asking (sent_of machine at)).phase
+    (gone_believes live.asking (sent_of machine at)) now e))
+    (λ there. turned_believes machine at _ tt
+    (λ now e. was_same (machine.entries at).phase live _ is refl now e)))
+
+write_failed_takes : (machine : Client) (at file_id number : ℕ) (status : Status) (sent : List Pending) (phase : Phase)
+    → (machine.entries at).phase ≡ phase
+    → BelievesOn machine (turned machine at (write_failed_in file_id number status sent phase))
+unfolding closed_by_server
+write_failed_takes machine at file_id number status sent Phase.Closed is = turned_believes machine at _ tt
+    (λ now e. never_live (machine.entries at).phase Phase.Closed refl now e)
+write_failed_takes machine at file_id number status sent (Phase.Opening access share) is = turned_believes machine at _ tt
+    (λ now e. never_live (machine.entries at).phase (Phase.Opening access share) refl now e)
+write_failed_takes machine at file_id number status sent (Phase.Live live) is =
+    if_cases (λ (turn : Turn). BelievesOn machine (turned machine at turn))
+    (is_file_closed status && live.file_id == file_id) _ _
+    (λ gone. turned_believes machine at _ tt
+    (λ now e. never_live (machine.entries at).phase (without_open live.asking sent).phase
+    (gone_believes live.asking sent) now e))
+    (λ there. turned_believes machine at _ tt
+    (λ now e. was_same (machine.entries at).phase live live is refl now e))
+write_failed_takes machine at file_id number status sent (Phase.Offline parted) is = turned_believes machine at _ tt
+    (λ now e. never_live (machine.entries at).phase (Phase.Offline parted) refl now e)
+write_failed_takes machine at file_id number status sent (Phase.Reconnecting parted) is = turned_believes machine at _ tt
+    (λ now e. never_live (machine.entries at).phase (Phase.Reconnecting parted) refl now e)
+
+with_same : (old : Phase) (write : Option Pending) (phase : Phase) → old ≡ phase
+    → (now : LiveEntry) → phase_with write phase ≡ Phase.Live now → WasLive old now.belief
+with_same old write Phase.Closed is now e = never_live old Phase.Closed refl now e
+with_same old write (Phase.Opening access share) is now e = never_live old (Phase.Opening access share) refl now e
+with_same old write (Phase.Live live) is now e = was_same old live _ is refl now e
+with_same old write (Phase.Offline parted) is now e = never_live old (Phase.Offline parted) refl now e
+with_same old write (Phase.Reconnecting parted) is now e = never_live old (Phase.Reconnecting parted) refl now e
+
+same_takes : (machine : Client) (reply : Reply) (at : ℕ) (turn : Turn) → Each IsAboutFile turn.requests
+    → ((now : LiveEntry) → turn.entry.phase ≡ Phase.Live now → WasLive (machine.entries at).phase now.belief)
+    → TakesBelief machine reply (turned machine at turn)
+same_takes machine reply at turn about less =
+    plain_takes machine reply (turned machine at turn) (turned_believes machine at turn about less)
+
+on_takes : (machine : Client) (reply : Reply) (at : ℕ) (turn : Turn) → BelievesOn machine (turned machine at turn)
+    → TakesBelief machine reply (turned machine at turn)
+on_takes machine reply at turn on = plain_takes machine reply (turned machine at turn) on
+
+pub takes_believe : (machine : Client) → HasTakes machine (TakesBelief machine)
+unfolding opened_turn reconnected_turn promoted_turn read_turn write_done_turn
+takes_believe machine = record {
+  passed = λ reply why. plain_takes machine reply (quiet_step machine) (idle_believes machine Answer.Quiet);
+  broken = λ at notice live found is. break_takes machine at notice live
+      (found_so machine (is_key_of machine notice.key) at found) is;
+  opened = λ at file_id answer access share is. granted_takes machine at file_id answer _ _ refl tt (λ w. inl refl);
+  reconnected = λ at file_id answer parted is. granted_takes machine at file_id answer _ _ refl tt (λ w. inl refl);
+  promoted = λ at file_id answer live asked is asks. granted_takes machine at file_id answer _ _ refl (tt, tt)
+      (λ w. promoted_from (lease_key machine.guid at) live (machine.entries at).phase is answer.lease w);
+  not_opened = λ at status access share is. same_takes machine (Reply.CreateFailed at status) at _ tt (λ now e. never_live (machine.entries at).phase Phase.Closed refl now e);
+  not_reconnected = λ at status parted is. same_takes machine (Reply.CreateFailed at status) at _ tt (λ now e. never_live (machine.entries at).phase Phase.Closed refl now e);
+  not_promoted = λ at status live asked is asks. same_takes machine (Reply.CreateFailed at status) at _ tt (λ now e. was_same (machine.entries at).phase live _ is refl now e);
+  read = λ at file_id bytes live is id some. same_takes machine (Reply.ReadDone file_id bytes) at _ tt (λ now e. was_same (machine.entries at).phase live _ is refl now e);
+  not_read = λ at file_id status live is id some. read_failed_takes machine at file_id status live is;
+  written = λ at file_id number has known. same_takes machine (Reply.WriteDone file_id number) at _ tt
+      (with_same (machine.entries at).phase _ (machine.entries at).phase refl);
+  not_written = λ at file_id number status has known. on_takes machine (Reply.WriteFailed file_id number status) at _
+      (write_failed_takes machine at file_id number status _ (machine.entries at).phase refl);
+}

@@ -37,9 +37,10 @@ no_acks_keep key (Request.Acknowledge None ∷ queue) e = (tt, no_acks_keep key 
   where
     right : (n : ℕ) → 0 + n ≡ 0 → n ≡ 0
     right n e = omega (arith, e)
-no_acks_keep key (Request.Acknowledge (Some lease) ∷ queue) e =
-    (λ own. absurd (some (acks key queue) (ap (λ b. one_if b + acks key queue) (sym own) ∙ e)),
-    no_acks_keep key queue (right (one_if (bytes_eq key lease.key)) (acks key queue) e))
+no_acks_keep key (Request.Acknowledge (Some lease) ∷ queue) e = (
+  λ own. absurd (some (acks key queue) (ap (λ b. one_if b + acks key queue) (sym own) ∙ e)),
+  no_acks_keep key queue (right (one_if (bytes_eq key lease.key)) (acks key queue) e),
+)
   where
     some : (n : ℕ) → 1 + n ≡ 0 → ⊥
     some n e = omega (arith, e)
@@ -84,7 +85,7 @@ pub step_kept : (key : List ℕ) (file : ℕ) (lease : Lease) (old new : Phase) 
     → IsBelieved key file lease new (asked ++ more) queue
 step_kept key file lease old new asked more queue less none b =
     let same : acks key (asked ++ more) ≡ acks key asked =
-        acks_append key asked more ∙ same_count (acks key asked) (acks key more) none in record {
+    acks_append key asked more ∙ same_count (acks key asked) (acks key more) none in record {
       own = λ live is w. let x = less live is in let h = b.own x.live x.was (x.less w) in (x.reads w h.0, h.1);
       given = b.given;
       breaks = met_mapped key file (is_breaking lease) (is_breaking lease) (acks key asked) (acks key (asked ++ more))
@@ -131,7 +132,7 @@ pub created_kept : (key : List ℕ) (file file_id : ℕ) (answer : CreateAnswer)
     → IsBelieved key file lease (Phase.Live new) (asked ++ more) queue
 created_kept key file file_id answer lease old new asked more queue from none b =
     let same : acks key (asked ++ more) ≡ acks key asked =
-        acks_append key asked more ∙ same_count (acks key asked) (acks key more) none in record {
+    acks_append key asked more ∙ same_count (acks key asked) (acks key more) none in record {
       own = λ live is w. let e = one_live live new is in
           subst (λ (l : LiveEntry). (l.belief.read ≡ true) × (lease.state.write ≡ true)) e
           (own_new (subst (λ (l : LiveEntry). l.belief.write ≡ true) (sym e) w));
@@ -199,9 +200,13 @@ break_kept key file notice lease old new asked writes queue required own_it form
         bounds = λ live is w. let e = one_live live new is in
             let w1 = subst (λ (l : LiveEntry). l.belief.write ≡ true) (sym e) w in
             each_append (AckKeeps key) asked (writes ++ ack ∷ []) (no_acks_keep key asked met.none_answered)
-            (each_append (AckKeeps key) writes (ack ∷ []) (no_acks_keep key writes none)
-            ((λ same. (ap (λ (s : State). s.write) (sym believes) ∙ w1,
-            ap (λ (s : State). s.read) (sym believes) ∙ reads_new w1)), tt));
+            (each_append (AckKeeps key) writes (ack ∷ []) (no_acks_keep key writes none) (
+              (λ same. (
+                ap (λ (s : State). s.write) (sym believes) ∙ w1,
+                ap (λ (s : State). s.read) (sym believes) ∙ reads_new w1,
+              )),
+              tt,
+            ));
         no_grant = met.no_grant;
       });
     }

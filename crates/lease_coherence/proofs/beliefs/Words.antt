@@ -150,11 +150,12 @@ pub met_fewer : (key : List ℕ) (file : ℕ) (breaking : Bool) (count : ℕ) (l
     → (less ≡ true → live ≡ true) → BreaksAreMet key file breaking count live queue
     → BreaksAreMet key file breaking count less queue
 met_fewer key file breaking count live less [] fewer b = tt
-met_fewer key file breaking count live less (reply ∷ queue) fewer b =
-    (λ seen is. b.0 (fewer seen) is,
-    met_fewer key file breaking count (live || is_created file reply) (less || is_created file reply) queue
-    (λ e. ⊎_elim (λ a. left live (is_created file reply) (fewer a)) (λ a. right live (is_created file reply) a)
-    (or_true less (is_created file reply) e)) b.1)
+met_fewer key file breaking count live less (reply ∷ queue) fewer b = (
+  λ seen is. b.0 (fewer seen) is,
+  met_fewer key file breaking count (live || is_created file reply) (less || is_created file reply) queue
+      (λ e. ⊎_elim (λ a. left live (is_created file reply) (fewer a)) (λ a. right live (is_created file reply) a)
+      (or_true less (is_created file reply) e)) b.1,
+)
   where
     left : (a c : Bool) → a ≡ true → (a || c) ≡ true
     left a c e = rw (e) refl
@@ -168,9 +169,10 @@ pub met_mapped : (key : List ℕ) (file : ℕ) (breaking after : Bool) (count le
     → ((rest : List Reply) → IsMet key file breaking count rest → IsMet key file after left rest)
     → BreaksAreMet key file breaking count live queue → BreaksAreMet key file after left live queue
 met_mapped key file breaking after count left live [] f b = tt
-met_mapped key file breaking after count left live (reply ∷ queue) f b =
-    (λ seen is. f queue (b.0 seen is),
-    met_mapped key file breaking after count left (live || is_created file reply) queue f b.1)
+met_mapped key file breaking after count left live (reply ∷ queue) f b = (
+  λ seen is. f queue (b.0 seen is),
+  met_mapped key file breaking after count left (live || is_created file reply) queue f b.1,
+)
 
 -- one more reply
 pub met_last : (key : List ℕ) (file : ℕ) (breaking after : Bool) (count left : ℕ) (live : Bool) (queue : List Reply)
@@ -179,27 +181,30 @@ pub met_last : (key : List ℕ) (file : ℕ) (breaking after : Bool) (count left
     → (is_ack_break key last ≡ true → IsMet key file after left [])
     → BreaksAreMet key file breaking count live queue → BreaksAreMet key file after left live (queue ++ last ∷ [])
 met_last key file breaking after count left live [] last f new b = (λ seen is. new is, tt)
-met_last key file breaking after count left live (reply ∷ queue) last f new b =
-    (λ seen is. f queue (b.0 seen is),
-    met_last key file breaking after count left (live || is_created file reply) queue last f new b.1)
+met_last key file breaking after count left live (reply ∷ queue) last f new b = (
+  λ seen is. f queue (b.0 seen is),
+  met_last key file breaking after count left (live || is_created file reply) queue last f new b.1,
+)
 
 -- none asks for an acknowledgment
 pub met_none : (key : List ℕ) (file : ℕ) (breaking : Bool) (count : ℕ) (live : Bool) (queue : List Reply)
     → Each (λ reply. is_ack_break key reply ≡ false) queue → BreaksAreMet key file breaking count live queue
 met_none key file breaking count live [] none = tt
-met_none key file breaking count live (reply ∷ queue) none =
-    (λ seen is. clash (is_ack_break key reply) is none.0,
-    met_none key file breaking count (live || is_created file reply) queue none.1)
+met_none key file breaking count live (reply ∷ queue) none = (
+  λ seen is. clash (is_ack_break key reply) is none.0,
+  met_none key file breaking count (live || is_created file reply) queue none.1,
+)
 
 -- no entry is live
 pub met_nowhere : (key : List ℕ) (file : ℕ) (breaking : Bool) (count : ℕ) (live : Bool) (queue : List Reply)
     → live ≡ false → Each (λ reply. is_created file reply ≡ false) queue
     → BreaksAreMet key file breaking count live queue
 met_nowhere key file breaking count live [] e none = tt
-met_nowhere key file breaking count live (reply ∷ queue) e none =
-    (λ seen is. clash live seen e,
-    met_nowhere key file breaking count (live || is_created file reply) queue (neither live (is_created file reply) e none.0)
-    none.1)
+met_nowhere key file breaking count live (reply ∷ queue) e none = (
+  λ seen is. clash live seen e,
+  met_nowhere key file breaking count (live || is_created file reply) queue (neither live (is_created file reply) e none.0)
+      none.1,
+)
   where
     neither : (a c : Bool) → a ≡ false → c ≡ false → (a || c) ≡ false
     neither a c e f = rw (e, f) refl
