@@ -1,4 +1,5 @@
 pub mod Clients
 pub mod Entries
 pub mod Leases
+pub mod Trust
 pub mod Words

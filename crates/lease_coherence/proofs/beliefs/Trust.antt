@@ -1,0 +1,242 @@
+-- While a client's link is up, what it believes it may do with writes its lease holds, of each file whose timer didn't run
+-- out.
+use Rattle.std.proofs.Common.{◌≡◌, ◌≢◌, ◌⊎◌, inl, inr, ⊎_elim, ℕ, suc, ◌+◌, Bool, true, false, not, List, [], ◌∷◌, ◌++◌, Option, Some, None, refl, sym, ap, ap₂, ◌∙◌, subst, arith, true≢false, ◌==◌}
+use Rattle.std.specs.Prelude.{⊤, ◌&&◌, ◌||◌, bytes_eq, if◌then◌else◌}
+use Rattle.std.specs.List.{list_any}
+use Rattle.std.proofs.lemmas.Bool.{eq-eqb, eqb-true}
+use Rattle.lease_model.specs.client.State.{Client, LiveEntry, Phase, lease_key}
+use Rattle.lease_model.specs.messages.Replies.{Reply}
+use Rattle.lease_model.specs.messages.Requests.{FileRequest, Request, LeaseOf}
+use Rattle.lease_model.specs.server.Calls.{held_of}
+use Rattle.lease_model.specs.server.Naming.{key_of}
+use Rattle.lease_model.specs.server.Progress.{with_opens}
+use Rattle.lease_model.specs.server.State.{Server, Open, Held, Lease, no_lease, is_breaking, has_key, is_key}
+use Rattle.lease_model.specs.values.Keys.{Key}
+use Rattle.lease_model.specs.values.Tables.{put}
+use Rattle.lease_model.specs.world.Events.{machine_key}
+use Rattle.lease_model.specs.world.World.{World}
+use Rattle.lease_laws.specs.server.Laws.{Among}
+use Rattle.lease_laws.specs.world.Links.{is_up}
+use Rattle.lease_laws.proofs.client.Thin.{put_same, put_other}
+use Rattle.lease_laws.proofs.server.Keys.{is_key-refl}
+use Rattle.lease_laws.proofs.server.Lists.{either, clash, not_true, not_false, has_any}
+use Rattle.lease_coherence.specs.Names.{Each, IsNamedAt, IsOwnOpen}
+use Rattle.lease_coherence.specs.Standing.{IsOpenFor, Stands, IsNoClose, GivenWell, PhaseStands, IsStandingAt}
+use Rattle.lease_coherence.proofs.creates.Creates.{off_rest}
+use Rattle.lease_coherence.proofs.clients.Takes.{is_live}
+use Rattle.lease_coherence.proofs.moves.Deeds.{IsSource, HasArrived, WasHeld, told_to, with_held}
+use Rattle.lease_coherence.proofs.moves.Ground.{among_put}
+use Rattle.lease_coherence.proofs.moves.Moves.{IsOldest, rest_of, popped}
+use Rattle.lease_coherence.proofs.names.Words.{each_append, each_weaker}
+use Rattle.lease_laws.proofs.server.PassWaits.{among_more}
+use Rattle.lease_laws.proofs.server.Lists.{among_behind, among_append}
+use Rattle.lease_coherence.proofs.beliefs.Leases.{plain_sent, lease_gone, asked_less}
+use Rattle.lease_coherence.proofs.beliefs.Words.{acks, is_created, is_ack_break, OnGiven, GivesNoWrite, HoldsWrites, LowersWell, AckKeeps, OpenTillAck, IsBelieved}
+
+abbrev pub file_key : World → ℕ → ℕ → List ℕ
+file_key world client file = lease_key (world.clients client).guid file
+
+-- a connected open that no Close before the acknowledgment closes
+pub record IsAnchored (world : World) (client file : ℕ) : Type 0 where
+  pub file_id : ℕ
+  pub opened : IsOpenFor world client file file_id
+  pub till : OpenTillAck (file_key world client file) file_id (world.requests client)
+  pub held : (at : ℕ) (one : Held) → Among one (world.server.held at) → one.client ≡ client
+      → IsNoClose file_id (Request.OnFile one.request)
+
+pub record IsTrustedFor (world : World) (client file : ℕ) : Type 0 where
+  pub believed : IsBelieved (file_key world client file) file (world.server.leases (machine_key world client file))
+      ((world.clients client).entries file).phase (world.requests client) (world.replies client)
+  pub anchor : (acks (file_key world client file) (world.requests client) ≡ 0) ⊎ IsAnchored world client file
+
+pub record HasTrust (world : World) (client : ℕ) : Type 0 where
+  pub lowered : Each LowersWell (world.replies client)
+  pub files : (file : ℕ) → world.server.expired (machine_key world client file) ≡ false → IsTrustedFor world client file
+
+abbrev pub IsUpTrusted : World → ℕ → Type 0
+IsUpTrusted world client = is_up (world.links client) ≡ true → HasTrust world client
+
+-- ---- an open under a file's key
+
+pub open_has_key : (world : World) (c file file_id : ℕ) → (o : IsOpenFor world c file file_id)
+    → IsOwnOpen (world.clients c).guid o.one → has_key (machine_key world c file) o.one ≡ true
+open_has_key world c file file_id o own = subst (λ bytes. is_key (machine_key world c file) (o.one).client bytes ≡ true)
+    (sym (own ∙ ap (λ f. Some (lease_key (world.clients c).guid f)) o.on_file))
+    (subst (λ d. is_key (machine_key world c file) d (Some (file_key world c file)) ≡ true) (sym o.by)
+    (is_key-refl c (file_key world c file)))
+
+-- where the key has no open, nothing of the file stands
+pub nothing_stands : (world : World) (c file : ℕ) → IsStandingAt world c
+    → ((one : Open) → Among one world.server.opens → one.client ≡ c → IsOwnOpen (world.clients c).guid one)
+    → world.server.expired (machine_key world c file) ≡ false
+    → list_any (has_key (machine_key world c file)) world.server.opens ≡ false
+    → (is_live ((world.clients c).entries file).phase ≡ false)
+    × Each (λ reply. is_created file reply ≡ false) (world.replies c)
+nothing_stands world c file s own fresh none = (
+  no_live ((world.clients c).entries file).phase refl,
+  each_weaker (GivenWell world c) (λ reply. is_created file reply ≡ false) (world.replies c) not_created s.given,
+)
+  where
+    never : (file_id : ℕ) → Stands world c file file_id → ⊥
+    never file_id x = ⊎_elim
+        (λ out. clash (world.server.expired (machine_key world c file)) out fresh)
+        (λ o. clash (list_any (has_key (machine_key world c file)) world.server.opens)
+        (has_any (has_key (machine_key world c file)) o.one world.server.opens o.there
+        (open_has_key world c file file_id o (own o.one o.there o.by))) none) x
+
+    no_live : (phase : Phase) → ((world.clients c).entries file).phase ≡ phase
+        → is_live ((world.clients c).entries file).phase ≡ false
+    no_live Phase.Closed is = ap is_live is
+    no_live (Phase.Opening access share) is = ap is_live is
+    no_live (Phase.Live live) is = absurd (stands_live (subst (PhaseStands world c file) is (s.phases file)))
+      where
+        stands_live : PhaseStands world c file (Phase.Live live) → ⊥
+        stands_live p = never live.file_id p.0
+    no_live (Phase.Offline parted) is = ap is_live is
+    no_live (Phase.Reconnecting parted) is = ap is_live is
+
+    not_created : (reply : Reply) → GivenWell world c reply → is_created file reply ≡ false
+    not_created (Reply.Created other file_id contexts) w = not_true (other == file)
+        (λ same. never file_id (subst (λ f. Stands world c f file_id) (eqb-true other file same) w.stands))
+    not_created (Reply.CreateFailed other status) w = refl
+    not_created (Reply.ReadDone id bytes) w = refl
+    not_created (Reply.ReadFailed id status) w = refl
+    not_created (Reply.WriteDone id number) w = refl
+    not_created (Reply.WriteFailed id number status) w = refl
+    not_created (Reply.Closed id) w = refl
+    not_created (Reply.CloseFailed id status) w = refl
+    not_created (Reply.Break notice) w = refl
+    not_created (Reply.AckDone response) w = refl
+    not_created (Reply.AckFailed status) w = refl
+
+-- ---- what leaves the queue
+
+file_acks : (key : List ℕ) (queue rest : List Request) (request : FileRequest) → queue ≡ Request.OnFile request ∷ rest
+    → acks key (rest_of queue) ≡ acks key queue
+file_acks key queue rest request e = subst (λ q. acks key (rest_of q) ≡ acks key q) (sym e) (plus (acks key rest))
+  where
+    plus : (n : ℕ) → n ≡ 0 + n
+    plus n = omega arith
+
+rest_keeps : (key : List ℕ) (queue : List Request) → Each (AckKeeps key) queue → Each (AckKeeps key) (rest_of queue)
+rest_keeps key [] each = tt
+rest_keeps key (request ∷ queue) each = each.1
+
+-- a request about a file that leaves its queue
+pub popped_trusted : (world : World) (c file : ℕ) (request : FileRequest) → IsOldest world c (Request.OnFile request)
+    → IsTrustedFor world c file → IsTrustedFor (popped world c) c file
+popped_trusted world c file request oldest t =
+    let key = file_key world c file in
+    let queue = world.requests c in
+    let left : (popped world c).requests c ≡ rest_of queue = put_same world.requests c (rest_of queue) in
+    let same = file_acks key queue oldest.queue request oldest.is_first in record {
+      believed = subst (λ q. IsBelieved key file (world.server.leases (machine_key world c file))
+          ((world.clients c).entries file).phase q (world.replies c)) (sym left)
+          (asked_less key file (world.server.leases (machine_key world c file)) ((world.clients c).entries file).phase
+          queue (rest_of queue) (world.replies c) same (rest_keeps key queue) t.believed);
+      anchor = ⊎_elim (λ zero. inl (ap (acks key) left ∙ same ∙ zero)) (λ a. inr (record {
+        file_id = a.file_id;
+        opened = record {
+          one = a.opened.one;
+          there = a.opened.there;
+          id = a.opened.id;
+          by = a.opened.by;
+          on_file = a.opened.on_file;
+          up = a.opened.up;
+        };
+        till = subst (OpenTillAck key a.file_id) (sym left) (rest_open a.file_id a.till);
+        held = a.held;
+      })) t.anchor;
+    }
+  where
+    rest_open : (file_id : ℕ) → OpenTillAck (file_key world c file) file_id (world.requests c)
+        → OpenTillAck (file_key world c file) file_id (rest_of (world.requests c))
+    rest_open file_id o = subst (λ q. OpenTillAck (file_key world c file) file_id q
+        → OpenTillAck (file_key world c file) file_id (rest_of q)) (sym oldest.is_first) (λ x. x.1) o
+
+-- what it asks closes no anchor
+pub first_open : (world : World) (c file : ℕ) (request : FileRequest) → IsOldest world c (Request.OnFile request)
+    → (a : IsAnchored world c file) → IsNoClose a.file_id (Request.OnFile request)
+first_open world c file request oldest a = let whole : OpenTillAck (file_key world c file) a.file_id
+    (Request.OnFile request ∷ oldest.queue) =
+    subst (OpenTillAck (file_key world c file) a.file_id) oldest.is_first a.till in whole.0
+
+-- one that was held
+left_trusted : (world : World) (c file at : ℕ) (before behind : List Held) (one : Held)
+    → world.server.held at ≡ before ++ one ∷ behind → IsTrustedFor world c file
+    → IsTrustedFor (with_held world at (before ++ behind)) c file
+left_trusted world c file at before behind one held t = record {
+  believed = t.believed;
+  anchor = ⊎_elim (λ zero. inl zero) (λ a. inr (record {
+    file_id = a.file_id;
+    opened = record {
+      one = a.opened.one;
+      there = a.opened.there;
+      id = a.opened.id;
+      by = a.opened.by;
+      on_file = a.opened.on_file;
+      up = a.opened.up;
+    };
+    till = a.till;
+    held = λ f x b own. ⊎_elim (λ old. a.held f x old own)
+        (λ left. a.held at x (subst (λ (l : List Held). Among x l) (sym held) (among_more x one before behind left.1)) own)
+        (among_put world.server.held at (before ++ behind) f x b);
+  })) t.anchor;
+}
+
+pub off_trusted : (world off : World) (c file : ℕ) (request : FileRequest) → IsSource world off c request
+    → IsTrustedFor world c file → IsTrustedFor off c file
+off_trusted world off c file request source t = ⊎_elim
+    (λ a. subst (λ o. IsTrustedFor o c file) (sym a.is_off) (popped_trusted world c file request a.oldest t))
+    (λ h. subst (λ o. IsTrustedFor o c file) (sym h.is_off)
+    (left_trusted world c file h.file h.before h.behind (held_of c request) h.held t))
+    source.from
+
+-- the anchor isn't closed by the request
+pub source_open : (world off : World) (c file : ℕ) (request : FileRequest) → IsSource world off c request
+    → (a : IsAnchored world c file) → IsNoClose a.file_id (Request.OnFile request)
+source_open world off c file request source a = ⊎_elim
+    (λ x. first_open world c file request x.oldest a)
+    (λ h. a.held h.file (held_of c request) (subst (λ (l : List Held). Among (held_of c request) l) (sym h.held)
+    (among_behind (held_of c request) h.before (held_of c request ∷ h.behind) (inl refl))) refl)
+    source.from
+
+-- ---- what is sent
+
+-- the same opens and requests, in another world
+pub anchor_same : (world new : World) (c file : ℕ) → new.clients c ≡ world.clients c → new.requests c ≡ world.requests c
+    → new.server.held ≡ world.server.held
+    → ((one : Open) → one.client ≡ c → one.connected ≡ true → Among one world.server.opens → Among one new.server.opens)
+    → IsAnchored world c file → IsAnchored new c file
+anchor_same world new c file clients requests held kept a = record {
+  file_id = a.file_id;
+  opened = record {
+    one = a.opened.one;
+    there = kept a.opened.one a.opened.by a.opened.up a.opened.there;
+    id = a.opened.id;
+    by = a.opened.by;
+    on_file = a.opened.on_file;
+    up = a.opened.up;
+  };
+  till = subst (λ (m : Client). OpenTillAck (lease_key m.guid file) a.file_id (new.requests c)) (sym clients)
+      (subst (OpenTillAck (file_key world c file) a.file_id) (sym requests) a.till);
+  held = λ at one x own. a.held at one (subst (λ (h : ℕ → List Held). Among one (h at)) held x) own;
+}
+
+-- a client's queues and entries as they were, and the lease of the file so
+pub trusted_by : (world new : World) (c file : ℕ) → new.clients c ≡ world.clients c
+    → new.requests c ≡ world.requests c → new.server.held ≡ world.server.held
+    → ((one : Open) → one.client ≡ c → one.connected ≡ true → Among one world.server.opens → Among one new.server.opens)
+    → IsBelieved (file_key world c file) file (new.server.leases (machine_key world c file))
+    ((world.clients c).entries file).phase (world.requests c) (new.replies c)
+    → IsTrustedFor world c file → IsTrustedFor new c file
+trusted_by world new c file clients requests held kept believed t = record {
+  believed = subst (λ (m : Client). IsBelieved (lease_key m.guid file) file
+      (new.server.leases (key_of c (lease_key m.guid file))) (m.entries file).phase (new.requests c) (new.replies c))
+      (sym clients)
+      (subst (λ q. IsBelieved (file_key world c file) file (new.server.leases (machine_key world c file))
+      ((world.clients c).entries file).phase q (new.replies c)) (sym requests) believed);
+  anchor = ⊎_elim
+      (λ zero. inl (ap₂ (λ (m : Client) q. acks (lease_key m.guid file) q) clients requests ∙ zero))
+      (λ a. inr (anchor_same world new c file clients requests held kept a)) t.anchor;
+}
