@@ -1,3 +1,4 @@
+pub mod Anchors
 pub mod Clients
 pub mod Entries
 pub mod Leases

@@ -28,11 +28,11 @@ use Rattle.lease_coherence.proofs.beliefs.Words.{acks, acks_append, LowersWell, 
 
 -- ---- requests about files
 
-abbrev IsAboutFile : Request → Type 0
+abbrev pub IsAboutFile : Request → Type 0
 IsAboutFile (Request.OnFile request) = ⊤
 IsAboutFile (Request.Acknowledge given) = ⊥
 
-file_no_acks : (key : List ℕ) (queue : List Request) → Each IsAboutFile queue → acks key queue ≡ 0
+pub file_no_acks : (key : List ℕ) (queue : List Request) → Each IsAboutFile queue → acks key queue ≡ 0
 file_no_acks key [] each = refl
 file_no_acks key (Request.OnFile request ∷ queue) each = ap (λ n. 0 + n) (file_no_acks key queue each.1) ∙ zeros
   where
@@ -40,11 +40,11 @@ file_no_acks key (Request.OnFile request ∷ queue) each = ap (λ n. 0 + n) (fil
     zeros = omega arith
 file_no_acks key (Request.Acknowledge given ∷ queue) each = absurd each.0
 
-writes_about : (file_id : ℕ) (writes : List Pending) → Each IsAboutFile (write_requests file_id writes)
+pub writes_about : (file_id : ℕ) (writes : List Pending) → Each IsAboutFile (write_requests file_id writes)
 writes_about file_id [] = tt
 writes_about file_id (write ∷ writes) = (tt, writes_about file_id writes)
 
-writes_close_about : (file_id : ℕ) (writes : List Pending) (more : List Request) → Each IsAboutFile more
+pub writes_close_about : (file_id : ℕ) (writes : List Pending) (more : List Request) → Each IsAboutFile more
     → Each IsAboutFile (write_requests file_id writes ++ Request.OnFile (FileRequest.Close file_id) ∷ more)
 writes_close_about file_id writes more each =
     each_append IsAboutFile (write_requests file_id writes) _ (writes_about file_id writes) (tt, each)
@@ -234,7 +234,7 @@ less_meet old live next notice is formed same now e =
           ∙ and_both live.belief.read notice.lowered.read r (formed (both w).1);
     }
 
-ack_elsewhere : (guid : List ℕ) (file at : ℕ) (notice : BreakNotice) (state : State) → file ≢ at
+pub ack_elsewhere : (guid : List ℕ) (file at : ℕ) (notice : BreakNotice) (state : State) → file ≢ at
     → bytes_eq (lease_key guid at) notice.key ≡ true → acks (lease_key guid file) (acknowledgment notice state) ≡ 0
 ack_elsewhere guid file at notice state ne own = if_cases (λ q. acks (lease_key guid file) q ≡ 0) notice.ack_required
     (Request.Acknowledge (Some (record { key = notice.key; state = state })) ∷ []) []
