@@ -1,6 +1,7 @@
 pub mod Anchors
 pub mod Clients
 pub mod Entries
+pub mod Given
 pub mod Grants
 pub mod Leases
 pub mod Sent

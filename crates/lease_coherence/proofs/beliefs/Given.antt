@@ -1,0 +1,149 @@
+-- What a create is given keeps the trust of its client.
+use Rattle.std.proofs.Common.{◌≡◌, inl, inr, ⊎_elim, ℕ, ◌+◌, Bool, true, false, List, [], ◌∷◌, ◌++◌, map, Option, Some, None, refl, sym, ap, ◌∙◌, subst, ◌==◌}
+use Rattle.std.specs.Prelude.{⊤, if◌then◌else◌}
+use Rattle.std.proofs.lemmas.Bool.{eqb-true}
+use Rattle.lease_state.specs.State.{State}
+use Rattle.lease_state.specs.declared.access.Access.{Access}
+use Rattle.lease_state.specs.declared.access.Share.{Share}
+use Rattle.lease_model.specs.client.State.{lease_key}
+use Rattle.lease_model.specs.client.Taken.{given_state}
+use Rattle.lease_model.specs.messages.Replies.{Reply}
+use Rattle.lease_model.specs.messages.Requests.{CreateAsk, LeaseOf}
+use Rattle.lease_model.specs.server.Grant.{connected_again, lease_after, lease_granted, new_open}
+use Rattle.lease_model.specs.server.Naming.{key_of, own_key}
+use Rattle.lease_model.specs.server.State.{Open, Lease, is_breaking}
+use Rattle.lease_model.specs.values.Keys.{Key, key_eq}
+use Rattle.lease_model.specs.world.Events.{machine_key}
+use Rattle.lease_model.specs.world.World.{World}
+use Rattle.lease_laws.specs.server.Laws.{Among, IsSound}
+use Rattle.lease_laws.specs.server.SmallSteps.{IsFree}
+use Rattle.lease_laws.proofs.client.Thin.{put_same}
+use Rattle.lease_laws.proofs.server.Keys.{put_key-cases, key_eq-refl}
+use Rattle.lease_laws.proofs.server.Lists.{if_cases, either, clash, among_before}
+use Rattle.lease_coherence.proofs.moves.Deeds.{granted_in, granted_reply, reconnected_in, reconnected_reply}
+use Rattle.lease_coherence.proofs.moves.Foreign.{map_kept}
+use Rattle.lease_coherence.proofs.beliefs.Grants.{writes_read, given_holds, given_none, grant_reads, grant_settled, grant_breaking, grant_keeps}
+use Rattle.lease_coherence.proofs.beliefs.Leases.{plain_sent, settled_changed}
+use Rattle.lease_coherence.proofs.beliefs.Sent.{LeaseBears, sent_trusted}
+use Rattle.lease_coherence.proofs.beliefs.Trust.{file_key, HasTrust}
+use Rattle.lease_coherence.proofs.beliefs.Words.{HoldsWrites, IsBelieved}
+
+-- the key that a create of the file names
+own_named : (off : World) (c file at : ℕ) (asked : LeaseOf) → asked.key ≡ lease_key (off.clients c).guid file
+    → file ≡ at → machine_key off c at ≡ key_of c asked.key
+own_named off c file at asked named same = ap (λ f. key_of c (lease_key (off.clients c).guid f)) (sym same)
+    ∙ ap (λ bytes. key_of c bytes) (sym named)
+
+named_here : (off : World) (c file at : ℕ) (asked : LeaseOf) → asked.key ≡ lease_key (off.clients c).guid file
+    → file ≡ at → key_eq (machine_key off c at) (key_of c asked.key) ≡ true
+named_here off c file at asked named same = ap (λ k. key_eq (machine_key off c at) k)
+    (sym (own_named off c file at asked named same)) ∙ key_eq-refl (machine_key off c at)
+
+-- ---- a new open
+
+-- what is believed of the lease as the grant leaves it
+lease_bears : (off : World) (c file : ℕ) (access : Access) (share : Share) (asked : LeaseOf) → IsSound off.server
+    → IsFree off.server.opens off.server.leases (Some (key_of c asked.key)) file access share → (at : ℕ)
+    → off.server.expired (machine_key off c at) ≡ false → machine_key off c at ≡ key_of c asked.key
+    → IsBelieved (file_key off c at) at (off.server.leases (machine_key off c at))
+    ((off.clients c).entries at).phase (off.requests c) (off.replies c)
+    → IsBelieved (file_key off c at) at (lease_granted off.server (key_of c asked.key) file asked.state)
+    ((off.clients c).entries at).phase (off.requests c) (off.replies c)
+lease_bears off c file access share asked sound free at fresh same b =
+    let key = key_of c asked.key in
+    let lease = lease_granted off.server key file asked.state in
+    let own = file_key off c at in
+    let phase = ((off.clients c).entries at).phase in
+    either (is_breaking (off.server.leases key))
+    (λ breaks. subst (λ (l : Lease). IsBelieved own at l phase (off.requests c) (off.replies c))
+    (ap (λ k. off.server.leases k) same ∙ sym (grant_breaking off.server key file asked.state breaks)) b)
+    (λ settled. settled_changed own at (off.server.leases (machine_key off c at)) lease phase (off.requests c)
+    (off.replies c) (ap (λ k. is_breaking (off.server.leases k)) same ∙ settled)
+    (λ w. grant_keeps off.server key file asked.state access share sound free
+    (ap off.server.expired (sym same) ∙ fresh) (ap (λ k. (off.server.leases k).state.write) (sym same) ∙ w))
+    (grant_settled off.server key file asked.state settled) b)
+
+grant_bears : (off : World) (c file : ℕ) (access : Access) (share : Share) (ask : CreateAsk) (asked : LeaseOf)
+    → ask.lease ≡ Some asked → asked.key ≡ lease_key (off.clients c).guid file → IsSound off.server
+    → IsFree off.server.opens off.server.leases (Some (key_of c asked.key)) file access share → (at : ℕ)
+    → off.server.expired (machine_key off c at) ≡ false
+    → LeaseBears off (granted_in off c file access share (record ask { lease = Some asked })
+    (lease_granted off.server (key_of c asked.key) file asked.state)) c
+    (granted_reply off.server file (record ask { lease = Some asked })
+    (lease_granted off.server (key_of c asked.key) file asked.state)) at
+grant_bears off c file access share ask asked e named sound free at fresh b =
+    let key = key_of c asked.key in
+    let lease = lease_granted off.server key file asked.state in
+    let own = file_key off c at in
+    let phase = ((off.clients c).entries at).phase in
+    let reply = granted_reply off.server file (record ask { lease = Some asked }) lease in
+    put_key-cases (λ (l : Lease). IsBelieved own at l phase (off.requests c) (off.replies c ++ reply ∷ []))
+    off.server.leases key lease (machine_key off c at)
+    (λ same. plain_sent own at lease phase (off.requests c) (off.replies c) reply
+    (λ here. given_holds own asked.key lease
+    (grant_reads off.server key file asked.state (sound.lawful key).is_granted_form))
+    (λ breaks here. given_none own asked.key lease breaks) refl
+    (lease_bears off c file access share asked sound free at fresh same b))
+    (λ other. plain_sent own at (off.server.leases (machine_key off c at)) phase (off.requests c) (off.replies c) reply
+    (λ here. clash (key_eq (machine_key off c at) key) (named_here off c file at asked named here) other)
+    (λ breaks here. clash (key_eq (machine_key off c at) key) (named_here off c file at asked named here) other) refl b)
+
+pub granted_trusted : (off : World) (c file : ℕ) (access : Access) (share : Share) (ask : CreateAsk) (asked : LeaseOf)
+    → ask.lease ≡ Some asked → asked.key ≡ lease_key (off.clients c).guid file → IsSound off.server
+    → IsFree off.server.opens off.server.leases (own_key c ask.lease) file access share → HasTrust off c
+    → HasTrust (granted_in off c file access share ask (lease_after off.server c file ask.lease)) c
+granted_trusted off c file access share ask asked e named sound free t = subst
+    (λ o. IsFree off.server.opens off.server.leases (own_key c o) file access share
+    → HasTrust (granted_in off c file access share (record ask { lease = o }) (lease_after off.server c file o)) c) (sym e)
+    (λ f. let lease = lease_granted off.server (key_of c asked.key) file asked.state in
+    let told : CreateAsk = record ask { lease = Some asked } in
+    let reply = granted_reply off.server file told lease in
+    let one = new_open off.server c file access share (Some asked) ask.durable lease in
+    sent_trusted off (granted_in off c file access share told lease) c reply (record {
+      machine = refl;
+      requests = refl;
+      held = refl;
+      kept = λ x own up a. among_before x off.server.opens (one ∷ []) a;
+      expired = refl;
+      replies = put_same off.replies c (off.replies c ++ reply ∷ []);
+    }) tt (grant_bears off c file access share ask asked e named sound f) t) free
+
+-- ---- a durable open
+
+pub reconnected_trusted : (off : World) (c file : ℕ) (ask : CreateAsk) (file_id : ℕ) (asked : LeaseOf)
+    → ask.lease ≡ Some asked → asked.key ≡ lease_key (off.clients c).guid file → IsSound off.server
+    → HasTrust off c → HasTrust (reconnected_in off c file ask file_id) c
+reconnected_trusted off c file ask file_id asked e named sound t = subst
+    (λ o. HasTrust (reconnected_in off c file (record ask { lease = o }) file_id) c) (sym e)
+    (let told : CreateAsk = record ask { lease = Some asked } in
+    let reply = reconnected_reply off.server c file told file_id in
+    sent_trusted off (reconnected_in off c file told file_id) c reply (record {
+      machine = refl;
+      requests = refl;
+      held = refl;
+      kept = λ x own up a. map_kept (connected_again file_id) x off.server.opens (stays x up) a;
+      expired = refl;
+      replies = put_same off.replies c (off.replies c ++ reply ∷ []);
+    }) tt (λ at fresh b. plain_sent (file_key off c at) at (off.server.leases (machine_key off c at))
+    ((off.clients c).entries at).phase (off.requests c) (off.replies c) reply
+    (λ here. subst (λ k. HoldsWrites (off.server.leases k).state (told_state at))
+    (sym (own_named off c file at asked named here))
+    (given_holds (file_key off c at) asked.key lease (writes_read lease.state (sound.lawful key).is_granted_form)))
+    (λ breaks here. given_none (file_key off c at) asked.key lease
+    (ap (λ k. is_breaking (off.server.leases k)) (sym (own_named off c file at asked named here)) ∙ breaks))
+    refl b) t)
+  where
+    key : Key
+    key = key_of c asked.key
+
+    lease : Lease
+    lease = off.server.leases (key_of c asked.key)
+
+    told_state : ℕ → State
+    told_state at = given_state (file_key off c at)
+        (Some (record { key = asked.key; state = (off.server.leases (key_of c asked.key)).state; in_progress =
+        is_breaking (off.server.leases (key_of c asked.key)) }))
+
+    stays : (o : Open) → o.connected ≡ true → connected_again file_id o ≡ o
+    stays o up = if_cases (λ x. x ≡ o) (o.file_id == file_id) (record o { connected = true }) o
+        (λ same. ap (λ b. record o { connected = b }) (sym up)) (λ other. refl)
