@@ -1,5 +1,6 @@
 pub mod Anchors
 pub mod Clients
+pub mod Closed
 pub mod Entries
 pub mod Given
 pub mod Grants

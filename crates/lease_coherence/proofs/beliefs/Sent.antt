@@ -136,21 +136,22 @@ changed_trusted off c file file_id number patch t =
     }) refl t
 
 -- a request leaves its place
+pub off_fresh : (world off : World) (c file : ℕ) (request : FileRequest) → IsSource world off c request
+    → off.server.expired (machine_key off c file) ≡ false → world.server.expired (machine_key world c file) ≡ false
+off_fresh world off c file request source = ⊎_elim
+    (λ x. subst (λ (o : World). o.server.expired (machine_key o c file) ≡ false
+    → world.server.expired (machine_key world c file) ≡ false) (sym x.is_off) (λ e. e))
+    (λ h. subst (λ (o : World). o.server.expired (machine_key o c file) ≡ false
+    → world.server.expired (machine_key world c file) ≡ false) (sym h.is_off) (λ e. e))
+    source.from
+
 pub off_trust : (world off : World) (c : ℕ) (request : FileRequest) → IsSource world off c request
     → HasTrust world c → HasTrust off c
 off_trust world off c request source t = record {
   lowered = subst (λ (r : ℕ → List Reply). Each LowersWell (r c)) (sym (off_rest world off c request source).1.1) t.lowered;
-  files = λ file fresh. off_trusted world off c file request source (t.files file (still_fresh file fresh));
+  files = λ file fresh. off_trusted world off c file request source
+      (t.files file (off_fresh world off c file request source fresh));
 }
-  where
-    still_fresh : (file : ℕ) → off.server.expired (machine_key off c file) ≡ false
-        → world.server.expired (machine_key world c file) ≡ false
-    still_fresh file = ⊎_elim
-        (λ x. subst (λ (o : World). o.server.expired (machine_key o c file) ≡ false
-        → world.server.expired (machine_key world c file) ≡ false) (sym x.is_off) (λ e. e))
-        (λ h. subst (λ (o : World). o.server.expired (machine_key o c file) ≡ false
-        → world.server.expired (machine_key world c file) ≡ false) (sym h.is_off) (λ e. e))
-        source.from
 
 -- ---- breaks
 

@@ -122,8 +122,45 @@ rest_keeps : (key : List ℕ) (queue : List Request) → Each (AckKeeps key) que
 rest_keeps key [] each = tt
 rest_keeps key (request ∷ queue) each = each.1
 
+-- what it asks closes no anchor
+first_open : (world : World) (c file : ℕ) (request : FileRequest) → IsOldest world c (Request.OnFile request)
+    → (a : IsAnchored world c file) → IsNoClose a.file_id (Request.OnFile request)
+first_open world c file request oldest a = let whole : OpenTillAck (file_key world c file) a.file_id
+    (Request.OnFile request ∷ oldest.queue) =
+    subst (OpenTillAck (file_key world c file) a.file_id) oldest.is_first a.till in whole.0
+
+-- an anchor that the request doesn't close
+pub record IsAnchoredBut (world : World) (client file : ℕ) (request : FileRequest) : Type 0 where
+  pub anchored : IsAnchored world client file
+  pub stays : IsNoClose anchored.file_id (Request.OnFile request)
+
 -- a request about a file that leaves its queue
-pub popped_trusted : (world : World) (c file : ℕ) (request : FileRequest) → IsOldest world c (Request.OnFile request)
+pub popped_anchor : (world : World) (c file : ℕ) (request : FileRequest) → IsOldest world c (Request.OnFile request)
+    → IsAnchored world c file → IsAnchoredBut (popped world c) c file request
+popped_anchor world c file request oldest a = record {
+  anchored = record {
+    file_id = a.file_id;
+    opened = record {
+      one = a.opened.one;
+      there = a.opened.there;
+      id = a.opened.id;
+      by = a.opened.by;
+      on_file = a.opened.on_file;
+      up = a.opened.up;
+    };
+    till = subst (OpenTillAck (file_key world c file) a.file_id)
+        (sym (put_same world.requests c (rest_of (world.requests c)))) (rest_open a.till);
+    held = a.held;
+  };
+  stays = first_open world c file request oldest a;
+}
+  where
+    rest_open : OpenTillAck (file_key world c file) a.file_id (world.requests c)
+        → OpenTillAck (file_key world c file) a.file_id (rest_of (world.requests c))
+    rest_open o = subst (λ q. OpenTillAck (file_key world c file) a.file_id q
+        → OpenTillAck (file_key world c file) a.file_id (rest_of q)) (sym oldest.is_first) (λ x. x.1) o
+
+popped_trusted : (world : World) (c file : ℕ) (request : FileRequest) → IsOldest world c (Request.OnFile request)
     → IsTrustedFor world c file → IsTrustedFor (popped world c) c file
 popped_trusted world c file request oldest t =
     let key = file_key world c file in
@@ -134,40 +171,16 @@ popped_trusted world c file request oldest t =
           ((world.clients c).entries file).phase q (world.replies c)) (sym left)
           (asked_less key file (world.server.leases (machine_key world c file)) ((world.clients c).entries file).phase
           queue (rest_of queue) (world.replies c) same (rest_keeps key queue) t.believed);
-      anchor = ⊎_elim (λ zero. inl (ap (acks key) left ∙ same ∙ zero)) (λ a. inr (record {
-        file_id = a.file_id;
-        opened = record {
-          one = a.opened.one;
-          there = a.opened.there;
-          id = a.opened.id;
-          by = a.opened.by;
-          on_file = a.opened.on_file;
-          up = a.opened.up;
-        };
-        till = subst (OpenTillAck key a.file_id) (sym left) (rest_open a.file_id a.till);
-        held = a.held;
-      })) t.anchor;
+      anchor = ⊎_elim (λ zero. inl (ap (acks key) left ∙ same ∙ zero))
+          (λ a. inr ((popped_anchor world c file request oldest a).anchored)) t.anchor;
     }
-  where
-    rest_open : (file_id : ℕ) → OpenTillAck (file_key world c file) file_id (world.requests c)
-        → OpenTillAck (file_key world c file) file_id (rest_of (world.requests c))
-    rest_open file_id o = subst (λ q. OpenTillAck (file_key world c file) file_id q
-        → OpenTillAck (file_key world c file) file_id (rest_of q)) (sym oldest.is_first) (λ x. x.1) o
-
--- what it asks closes no anchor
-pub first_open : (world : World) (c file : ℕ) (request : FileRequest) → IsOldest world c (Request.OnFile request)
-    → (a : IsAnchored world c file) → IsNoClose a.file_id (Request.OnFile request)
-first_open world c file request oldest a = let whole : OpenTillAck (file_key world c file) a.file_id
-    (Request.OnFile request ∷ oldest.queue) =
-    subst (OpenTillAck (file_key world c file) a.file_id) oldest.is_first a.till in whole.0
 
 -- one that was held
-left_trusted : (world : World) (c file at : ℕ) (before behind : List Held) (one : Held)
-    → world.server.held at ≡ before ++ one ∷ behind → IsTrustedFor world c file
-    → IsTrustedFor (with_held world at (before ++ behind)) c file
-left_trusted world c file at before behind one held t = record {
-  believed = t.believed;
-  anchor = ⊎_elim (λ zero. inl zero) (λ a. inr (record {
+left_anchor : (world : World) (c file at : ℕ) (before behind : List Held) (request : FileRequest)
+    → world.server.held at ≡ before ++ held_of c request ∷ behind → IsAnchored world c file
+    → IsAnchoredBut (with_held world at (before ++ behind)) c file request
+left_anchor world c file at before behind request held a = record {
+  anchored = record {
     file_id = a.file_id;
     opened = record {
       one = a.opened.one;
@@ -179,26 +192,41 @@ left_trusted world c file at before behind one held t = record {
     };
     till = a.till;
     held = λ f x b own. ⊎_elim (λ old. a.held f x old own)
-        (λ left. a.held at x (subst (λ (l : List Held). Among x l) (sym held) (among_more x one before behind left.1)) own)
+        (λ left. a.held at x (subst (λ (l : List Held). Among x l) (sym held)
+        (among_more x (held_of c request) before behind left.1)) own)
         (among_put world.server.held at (before ++ behind) f x b);
-  })) t.anchor;
+  };
+  stays = a.held at (held_of c request) (subst (λ (l : List Held). Among (held_of c request) l) (sym held)
+      (among_behind (held_of c request) before (held_of c request ∷ behind) (inl refl))) refl;
 }
+
+left_trusted : (world : World) (c file at : ℕ) (before behind : List Held) (request : FileRequest)
+    → world.server.held at ≡ before ++ held_of c request ∷ behind → IsTrustedFor world c file
+    → IsTrustedFor (with_held world at (before ++ behind)) c file
+left_trusted world c file at before behind request held t = record {
+  believed = t.believed;
+  anchor = ⊎_elim (λ zero. inl zero)
+      (λ a. inr ((left_anchor world c file at before behind request held a).anchored)) t.anchor;
+}
+
+pub off_anchors : (world off : World) (c file : ℕ) (request : FileRequest) → IsSource world off c request
+    → IsTrustedFor world c file
+    → (acks (file_key off c file) (off.requests c) ≡ 0) ⊎ IsAnchoredBut off c file request
+off_anchors world off c file request source t = ⊎_elim
+    (λ x. subst (λ o. (acks (file_key o c file) (o.requests c) ≡ 0) ⊎ IsAnchoredBut o c file request) (sym x.is_off)
+    (⊎_elim (λ zero. inl (ap (acks (file_key world c file)) (put_same world.requests c (rest_of (world.requests c)))
+    ∙ file_acks (file_key world c file) (world.requests c) x.oldest.queue request x.oldest.is_first ∙ zero))
+    (λ a. inr (popped_anchor world c file request x.oldest a)) t.anchor))
+    (λ h. subst (λ o. (acks (file_key o c file) (o.requests c) ≡ 0) ⊎ IsAnchoredBut o c file request) (sym h.is_off)
+    (⊎_elim (λ zero. inl zero) (λ a. inr (left_anchor world c file h.file h.before h.behind request h.held a)) t.anchor))
+    source.from
 
 pub off_trusted : (world off : World) (c file : ℕ) (request : FileRequest) → IsSource world off c request
     → IsTrustedFor world c file → IsTrustedFor off c file
 off_trusted world off c file request source t = ⊎_elim
     (λ a. subst (λ o. IsTrustedFor o c file) (sym a.is_off) (popped_trusted world c file request a.oldest t))
     (λ h. subst (λ o. IsTrustedFor o c file) (sym h.is_off)
-    (left_trusted world c file h.file h.before h.behind (held_of c request) h.held t))
-    source.from
-
--- the anchor isn't closed by the request
-pub source_open : (world off : World) (c file : ℕ) (request : FileRequest) → IsSource world off c request
-    → (a : IsAnchored world c file) → IsNoClose a.file_id (Request.OnFile request)
-source_open world off c file request source a = ⊎_elim
-    (λ x. first_open world c file request x.oldest a)
-    (λ h. a.held h.file (held_of c request) (subst (λ (l : List Held). Among (held_of c request) l) (sym h.held)
-    (among_behind (held_of c request) h.before (held_of c request ∷ h.behind) (inl refl))) refl)
+    (left_trusted world c file h.file h.before h.behind request h.held t))
     source.from
 
 -- ---- what is sent
