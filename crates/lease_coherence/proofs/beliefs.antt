@@ -1,3 +1,4 @@
+pub mod Acked
 pub mod Anchors
 pub mod Clients
 pub mod Closed

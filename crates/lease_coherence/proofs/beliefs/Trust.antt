@@ -160,7 +160,7 @@ popped_anchor world c file request oldest a = record {
     rest_open o = subst (λ q. OpenTillAck (file_key world c file) a.file_id q
         → OpenTillAck (file_key world c file) a.file_id (rest_of q)) (sym oldest.is_first) (λ x. x.1) o
 
-popped_trusted : (world : World) (c file : ℕ) (request : FileRequest) → IsOldest world c (Request.OnFile request)
+pub popped_trusted : (world : World) (c file : ℕ) (request : FileRequest) → IsOldest world c (Request.OnFile request)
     → IsTrustedFor world c file → IsTrustedFor (popped world c) c file
 popped_trusted world c file request oldest t =
     let key = file_key world c file in
