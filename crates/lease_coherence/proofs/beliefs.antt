@@ -7,5 +7,6 @@ pub mod Given
 pub mod Grants
 pub mod Leases
 pub mod Sent
+pub mod Steps
 pub mod Trust
 pub mod Words

@@ -202,19 +202,19 @@ fits_of world c file (Reply.Break notice) w = tt
 fits_of world c file (Reply.AckDone response) w = tt
 fits_of world c file (Reply.AckFailed status) w = tt
 
-entries_of : (world : World) (c : ℕ) → IsStandingAt world c → AllEntries world c (world.replies c)
+pub entries_of : (world : World) (c : ℕ) → IsStandingAt world c → AllEntries world c (world.replies c)
 entries_of world c s file = record {
   stands = s.phases file;
   given = each_weaker (GivenWell world c) (FitsGiven file ((world.clients c).entries file).phase) (world.replies c)
       (fits_of world c file) s.given;
 }
 
-was_up : (world : World) (c : ℕ) (step : Step) → is_up ((stepped_in world c step).links c) ≡ true
+pub was_up : (world : World) (c : ℕ) (step : Step) → is_up ((stepped_in world c step).links c) ≡ true
     → is_up (world.links c) ≡ true
 was_up world c step up = ap (λ (l : ℕ → Link). is_up (l c)) (sym (stepped_links world c step)) ∙ up
 
 -- a reply leaves its queue
-gone_standing : (world : World) (c : ℕ) (reply : Reply) (queue : List Reply) → world.replies c ≡ reply ∷ queue
+pub gone_standing : (world : World) (c : ℕ) (reply : Reply) (queue : List Reply) → world.replies c ≡ reply ∷ queue
     → IsStandingAt world c → IsStandingAt (reply_gone world c queue) c
 gone_standing world c reply queue first s = record {
   phases = λ file. phase_same file ((world.clients c).entries file).phase (s.phases file);
@@ -264,7 +264,7 @@ gone_standing world c reply queue first s = record {
 
 -- ---- a client connects
 
-each_flat : (P : Request → Type 0) (turn : ℕ → List Request) (files : List ℕ) → ((file : ℕ) → Each P (turn file))
+pub each_flat : (P : Request → Type 0) (turn : ℕ → List Request) (files : List ℕ) → ((file : ℕ) → Each P (turn file))
     → Each P (flat_map turn files)
 each_flat P turn [] each = tt
 each_flat P turn (file ∷ files) each =
@@ -366,7 +366,7 @@ connect_standing world c g down =
         by_phase (Phase.Reconnecting parted) sound = clash (world.clients c).is_online sound.0 off
 
 -- a message that is taken makes no client stray
-took_strayed : (c : ℕ) (past : List Fact) → has_strayed c past ≡ false → has_strayed c (Fact.Took c ∷ past) ≡ false
+pub took_strayed : (c : ℕ) (past : List Fact) → has_strayed c past ≡ false → has_strayed c (Fact.Took c ∷ past) ≡ false
 unfolding has_strayed
 took_strayed c past good = good
 

@@ -29,13 +29,13 @@ use Rattle.lease_coherence.proofs.standing.Words.{asked_weaker}
 -- ---- what a step leaves
 
 -- the step of a client whose link is up, seen from its world
-record IsStepped (world : World) (new : World) (client : ℕ) (machine : Client) (requests : List Request) : Type 0 where
-  server : new.server ≡ world.server
-  clients : new.clients client ≡ machine
-  guid : machine.guid ≡ (world.clients client).guid
-  queued : new.requests client ≡ world.requests client ++ requests
+pub record IsStepped (world : World) (new : World) (client : ℕ) (machine : Client) (requests : List Request) : Type 0 where
+  pub server : new.server ≡ world.server
+  pub clients : new.clients client ≡ machine
+  pub guid : machine.guid ≡ (world.clients client).guid
+  pub queued : new.requests client ≡ world.requests client ++ requests
 
-step_of : (world : World) (client : ℕ) (step : Step) → is_up (world.links client) ≡ true
+pub step_of : (world : World) (client : ℕ) (step : Step) → is_up (world.links client) ≡ true
     → step.client.guid ≡ (world.clients client).guid
     → IsStepped world (stepped_in world client step) client step.client step.requests
 step_of world client step up guid = record {

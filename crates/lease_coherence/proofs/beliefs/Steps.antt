@@ -1,0 +1,205 @@
+-- What a client does keeps its trust.
+use Rattle.std.proofs.Common.{◌≡◌, ◌⊎◌, inl, inr, ⊎_elim, ℕ, ◌+◌, Bool, true, false, not, List, [], ◌∷◌, ◌++◌, flat_map, Some, None, refl, sym, ap, ap₂, ◌∙◌, subst, arith, true≢false, ◌==◌}
+use Rattle.std.specs.Prelude.{⊤}
+use Rattle.lease_model.specs.client.Connection.{connection_made, all_turned, connect_turn}
+use Rattle.lease_model.specs.client.State.{Client, LiveEntry, Pending, Phase, lease_key}
+use Rattle.lease_model.specs.client.Step.{Step}
+use Rattle.lease_model.specs.messages.Replies.{Reply}
+use Rattle.lease_model.specs.messages.Requests.{Request}
+use Rattle.lease_model.specs.server.Calls.{joined}
+use Rattle.lease_model.specs.server.Naming.{key_of}
+use Rattle.lease_model.specs.server.State.{Server, Held, Lease}
+use Rattle.lease_model.specs.values.Keys.{Key}
+use Rattle.lease_model.specs.values.Lists.{numbers_to}
+use Rattle.lease_model.specs.world.Events.{machine_key, stepped_in}
+use Rattle.lease_model.specs.world.World.{World, Link, sent_over}
+use Rattle.lease_laws.specs.client.Laws.{IsSoundPhase}
+use Rattle.lease_laws.specs.server.Laws.{Among}
+use Rattle.lease_laws.specs.world.Links.{is_up, is_down}
+use Rattle.lease_laws.proofs.client.Thin.{put_same}
+use Rattle.lease_laws.proofs.server.Lists.{clash}
+use Rattle.lease_coherence.specs.Names.{Each}
+use Rattle.lease_coherence.specs.Standing.{IsNoClose, IsOpenFor, IsStandingAt, NotClosed, PhaseStands, Stands}
+use Rattle.lease_coherence.proofs.clients.Takes.{is_live}
+use Rattle.lease_coherence.proofs.creates.Creates.{stepped_machine}
+use Rattle.lease_coherence.proofs.moves.Events.{Ground, come_back, connected}
+use Rattle.lease_coherence.proofs.moves.Frames.{stepped_requests, stepped_replies}
+use Rattle.lease_coherence.proofs.standing.Runs.{each_flat}
+use Rattle.lease_coherence.proofs.standing.Standing.{IsStepped, step_of}
+use Rattle.lease_coherence.proofs.beliefs.Anchors.{AnchorsOn, AnchorsLive}
+use Rattle.lease_coherence.proofs.beliefs.Clients.{IsAboutFile, file_no_acks}
+use Rattle.lease_coherence.proofs.beliefs.Leases.{lease_gone}
+use Rattle.lease_coherence.proofs.beliefs.Trust.{file_key, IsAnchored, IsTrustedFor, HasTrust}
+use Rattle.lease_coherence.proofs.beliefs.Words.{acks, acks_append, LowersWell, OpenTillAck, open_behind, open_before, IsBelieved}
+
+-- ---- a step
+
+-- what is known of a file before it, with the replies that were there
+pub record IsKnown (world : World) (c file : ℕ) (before : List Reply) : Type 0 where
+  pub believed : IsBelieved (file_key world c file) file (world.server.leases (machine_key world c file))
+      ((world.clients c).entries file).phase (world.requests c) before
+  pub anchor : (acks (file_key world c file) (world.requests c) ≡ 0) ⊎ IsAnchored world c file
+
+-- an anchor in another world, by what it is asked there
+anchored_in : (world new : World) (c file : ℕ) (machine : Client) (requests : List Request)
+    → IsStepped world new c machine requests → (file_id : ℕ) → IsOpenFor world c file file_id
+    → OpenTillAck (file_key world c file) file_id (world.requests c ++ requests)
+    → ((at : ℕ) (one : Held) → Among one (world.server.held at) → one.client ≡ c
+    → IsNoClose file_id (Request.OnFile one.request)) → IsAnchored new c file
+anchored_in world new c file machine requests is file_id o till held = record {
+  file_id = file_id;
+  opened = record {
+    one = o.one;
+    there = subst (λ (s : Server). Among o.one s.opens) (sym is.server) o.there;
+    id = o.id;
+    by = o.by;
+    on_file = o.on_file;
+    up = o.up;
+  };
+  till = subst (λ (m : Client). OpenTillAck (lease_key m.guid file) file_id (new.requests c)) (sym is.clients)
+      (subst (λ g. OpenTillAck (lease_key g file) file_id (new.requests c)) (sym is.guid)
+      (subst (OpenTillAck (file_key world c file) file_id) (sym is.queued) till));
+  held = λ at one a own. held at one (subst (λ (s : Server). Among one (s.held at)) is.server a) own;
+}
+
+-- the live entry's open
+live_anchored : (world new : World) (c file : ℕ) (machine : Client) (requests : List Request)
+    → IsStepped world new c machine requests → (live : LiveEntry)
+    → ((world.clients c).entries file).phase ≡ Phase.Live live
+    → world.server.expired (machine_key world c file) ≡ false → IsStandingAt world c
+    → OpenTillAck (file_key world c file) live.file_id requests → IsAnchored new c file
+live_anchored world new c file machine requests is live was fresh s till =
+    by_parts (subst (PhaseStands world c file) was (s.phases file))
+  where
+    by_parts : PhaseStands world c file (Phase.Live live) → IsAnchored new c file
+    by_parts p = ⊎_elim (λ out. clash (world.server.expired (machine_key world c file)) out fresh)
+        (λ o. anchored_in world new c file machine requests is live.file_id o
+        (open_before (file_key world c file) live.file_id (world.requests c) requests p.1.queued till) p.1.held) p.0
+
+-- the anchor after a step
+step_anchor : (world new : World) (c file : ℕ) (machine : Client) (step : Step)
+    → IsStepped world new c machine step.requests → AnchorsOn (world.clients c) step → IsStandingAt world c
+    → world.server.expired (machine_key world c file) ≡ false → (before : List Reply) → IsKnown world c file before
+    → (acks (file_key new c file) (new.requests c) ≡ 0) ⊎ IsAnchored new c file
+step_anchor world new c file machine step is on s fresh before known =
+    let key = file_key world c file in
+    let same : acks (file_key new c file) (new.requests c) ≡ acks key (world.requests c) + acks key step.requests =
+    ap₂ (λ (m : Client) q. acks (lease_key m.guid file) q) is.clients is.queued
+    ∙ ap (λ g. acks (lease_key g file) (world.requests c ++ step.requests)) is.guid
+    ∙ acks_append key (world.requests c) step.requests in
+    ⊎_elim
+    (λ zero. ⊎_elim (λ none. inl (same ∙ zeros (acks key (world.requests c)) (acks key step.requests) zero none))
+    (λ (l : AnchorsLive (world.clients c) file step). inr (live_anchored world new c file machine step.requests is l.live l.was fresh s l.till)) (on file))
+    (λ a. ⊎_elim (λ zero. absurd (none_one (acks key (world.requests c)) zero a.one))
+    (λ (x : IsAnchored world c file). inr (anchored_in world new c file machine step.requests is x.file_id x.opened
+    (open_behind key x.file_id (world.requests c) step.requests a.one x.till) x.held)) known.anchor)
+    known.believed.answers
+  where
+    zeros : (m n : ℕ) → m ≡ 0 → n ≡ 0 → m + n ≡ 0
+    zeros m n e f = omega (arith, e, f)
+
+    none_one : (n : ℕ) → n ≡ 0 → n ≡ 1 → ⊥
+    none_one n e f = omega (arith, e, f)
+
+pub step_trusted : (world : World) (c : ℕ) (step : Step) (before : List Reply) → is_up (world.links c) ≡ true
+    → step.client.guid ≡ (world.clients c).guid → AnchorsOn (world.clients c) step
+    → ((file : ℕ) → IsBelieved (file_key world c file) file (world.server.leases (machine_key world c file))
+    ((world.clients c).entries file).phase (world.requests c) before
+    → IsBelieved (file_key world c file) file (world.server.leases (machine_key world c file))
+    (step.client.entries file).phase (world.requests c ++ step.requests) (world.replies c))
+    → Each LowersWell (world.replies c)
+    → ((file : ℕ) → world.server.expired (machine_key world c file) ≡ false → IsKnown world c file before)
+    → IsStandingAt world c → HasTrust (stepped_in world c step) c
+step_trusted world c step before up guid on believes lowered files s = record {
+  lowered = subst (λ (r : ℕ → List Reply). Each LowersWell (r c)) (sym (stepped_replies world c step)) lowered;
+  files = λ file fresh. let was = was_fresh file fresh in
+      let known = files file was in record {
+        believed = believed_after file (believes file known.believed);
+        anchor = step_anchor world (stepped_in world c step) c file step.client step is on s was before known;
+      };
+}
+  where
+    is : IsStepped world (stepped_in world c step) c step.client step.requests
+    is = step_of world c step up guid
+
+    was_fresh : (file : ℕ) → (stepped_in world c step).server.expired (machine_key (stepped_in world c step) c file) ≡ false
+        → world.server.expired (machine_key world c file) ≡ false
+    was_fresh file fresh = ap (λ g. world.server.expired (key_of c (lease_key g file)))
+        (sym (step_of world c step up guid).guid)
+        ∙ ap₂ (λ (x : Server) (m : Client). x.expired (key_of c (lease_key m.guid file)))
+        (sym (step_of world c step up guid).server) (sym (step_of world c step up guid).clients) ∙ fresh
+
+    believed_after : (file : ℕ) → IsBelieved (file_key world c file) file (world.server.leases (machine_key world c file))
+        (step.client.entries file).phase (world.requests c ++ step.requests) (world.replies c)
+        → IsBelieved (file_key (stepped_in world c step) c file) file
+        ((stepped_in world c step).server.leases (machine_key (stepped_in world c step) c file))
+        (((stepped_in world c step).clients c).entries file).phase ((stepped_in world c step).requests c)
+        ((stepped_in world c step).replies c)
+    believed_after file b = let new = stepped_in world c step in
+        let so = step_of world c step up guid in
+        subst (λ (m : Client). IsBelieved (lease_key m.guid file) file (new.server.leases (key_of c (lease_key m.guid file)))
+        (m.entries file).phase (new.requests c) (new.replies c)) (sym so.clients)
+        (subst (λ g. IsBelieved (lease_key g file) file (new.server.leases (key_of c (lease_key g file)))
+        (step.client.entries file).phase (new.requests c) (new.replies c)) (sym so.guid)
+        (subst (λ (x : Server). IsBelieved (file_key world c file) file (x.leases (machine_key world c file))
+        (step.client.entries file).phase (new.requests c) (new.replies c)) (sym so.server)
+        (subst (λ q. IsBelieved (file_key world c file) file (world.server.leases (machine_key world c file))
+        (step.client.entries file).phase q (new.replies c)) (sym so.queued)
+        (subst (λ (r : ℕ → List Reply). IsBelieved (file_key world c file) file
+        (world.server.leases (machine_key world c file)) (step.client.entries file).phase
+        (world.requests c ++ step.requests) (r c)) (sym (stepped_replies world c step)) b))))
+
+-- ---- a client connects
+
+pub connect_trusted : (world : World) (c : ℕ) → Ground world → world.links c ≡ Link.Down
+    → HasTrust (connected world c) c
+unfolding joined connection_made all_turned
+connect_trusted world c g down =
+    let machine = world.clients c in
+    let back = come_back world c in
+    let step = connection_made machine in
+    let new = connected world c in
+    let is_off : is_up (world.links c) ≡ false = ap is_up down in
+    let online : machine.is_online ≡ false = g.online c ∙ ap (λ l. not (is_down l)) down in
+    let turn : ℕ → List Request =
+    λ f. (connect_turn machine f (machine.entries f).sent (machine.entries f).phase).requests in
+    let queued : new.requests c ≡ flat_map turn (numbers_to machine.files) =
+    ap (λ (q : ℕ → List Request). q c) (stepped_requests back c step) ∙ put_same back.requests c _
+    ∙ ap (λ link. sent_over link (world.requests c) step.requests) (put_same world.links c Link.Up)
+    ∙ ap (λ (q : List Request). q ++ flat_map turn (numbers_to machine.files)) ((g.tied c).requests is_off) in
+    let replies : new.replies c ≡ [] =
+    ap (λ (r : ℕ → List Reply). r c) (stepped_replies back c step) ∙ (g.tied c).replies is_off in
+    let mine = stepped_machine back c step in
+    let zero : (key : List ℕ) → acks key (new.requests c) ≡ 0 = λ key. ap (acks key) queued
+    ∙ file_no_acks key (flat_map turn (numbers_to machine.files))
+    (each_flat IsAboutFile turn (numbers_to machine.files)
+    (λ file. about file (machine.entries file).sent (machine.entries file).phase)) in record {
+      lowered = subst (Each LowersWell) (sym replies) tt;
+      files = λ file fresh. record {
+        believed = subst (λ r. IsBelieved (file_key new c file) file (new.server.leases (machine_key new c file))
+            ((new.clients c).entries file).phase (new.requests c) r) (sym replies)
+            (lease_gone (file_key new c file) file (new.server.leases (machine_key new c file))
+            ((new.clients c).entries file).phase (new.requests c) []
+            (ap (λ (m : Client). is_live (m.entries file).phase) mine
+            ∙ idle file online (machine.entries file).phase ((g.clients c).entries file))
+            tt (zero (file_key new c file)));
+        anchor = inl (zero (file_key new c file));
+      };
+    }
+  where
+    about : (file : ℕ) (sent : List Pending) (phase : Phase)
+        → Each IsAboutFile (connect_turn (world.clients c) file sent phase).requests
+    about file sent Phase.Closed = tt
+    about file sent (Phase.Opening access share) = tt
+    about file sent (Phase.Live live) = tt
+    about file sent (Phase.Offline parted) = (tt, tt)
+    about file sent (Phase.Reconnecting parted) = tt
+
+    idle : (file : ℕ) → (world.clients c).is_online ≡ false → (phase : Phase)
+        → IsSoundPhase (world.clients c).is_online ((world.clients c).entries file).sent phase
+        → is_live (connect_turn (world.clients c) file ((world.clients c).entries file).sent phase).entry.phase ≡ false
+    idle file off Phase.Closed sound = refl
+    idle file off (Phase.Opening access share) sound = refl
+    idle file off (Phase.Live live) sound = clash (world.clients c).is_online sound.0 off
+    idle file off (Phase.Offline parted) sound = refl
+    idle file off (Phase.Reconnecting parted) sound = clash (world.clients c).is_online sound.0 off
