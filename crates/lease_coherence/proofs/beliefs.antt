@@ -6,6 +6,7 @@ pub mod Entries
 pub mod Given
 pub mod Grants
 pub mod Leases
+pub mod Runs
 pub mod Sent
 pub mod Steps
 pub mod Trust

@@ -203,3 +203,9 @@ timer_trusted world c file s own t =
         (sym (is_key-one (machine_key world c at) (machine_key world c file) one.client one.lease_key
         (open_has_key world c at a.file_id a.opened (own one a.opened.there a.opened.by)) has))
         ∙ key_eq-refl (machine_key world c at)) (apart_key at fresh)
+
+-- the opens that are left were there
+pub left_there : (world : World) (test : Open → Bool) (one : Open)
+    → Among one (without_opens world test).server.opens → Among one world.server.opens
+unfolding with_opens
+left_there world test one there = (among_filter (λ o. not (test o)) one world.server.opens there).0
