@@ -11,3 +11,4 @@ pub mod Sent
 pub mod Steps
 pub mod Trust
 pub mod Words
+pub mod WriteCaches

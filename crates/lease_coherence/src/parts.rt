@@ -1,10 +1,17 @@
-ghost use Rattle.lease_coherence.specs.Parts.{RunsAreWellFormed, NothingIsFalselyDone};
+ghost use Rattle.lease_coherence.specs.Parts.{RunsAreWellFormed, RunsHaveOneWriteCache, NothingIsFalselyDone};
 
 /// Where the setup is allowed, the record of every run is well formed: a file is started once and before any other fact
 /// names it, a message that is taken was sent before, a patch ends within the limit of a file, and a client uses the
 /// number of a write once. Does nothing.
 pub fn runs_are_well_formed()
     ensures facts { RunsAreWellFormed }
+{}
+
+/// Wherever the events of a run lead, with no premise: where a client that the server has, that never strayed and let no
+/// break timer run out since it connected, believes that it may cache writes of a file, as the record tells, no other such
+/// client believes that it may cache anything of that file. Does nothing.
+pub fn runs_have_one_write_cache()
+    ensures facts { RunsHaveOneWriteCache }
 {}
 
 /// Where the setup is allowed, a write of a client that hasn't strayed is settled as done in a run only if the server

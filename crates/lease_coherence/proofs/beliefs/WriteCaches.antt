@@ -1,0 +1,105 @@
+-- At every point of a run that its events reach, one client caches writes of a file.
+use Rattle.std.proofs.Common.{◌≡◌, ◌≢◌, inl, inr, ⊎_elim, ℕ, Bool, true, false, not, List, Some, None, refl, sym, ap, ap₂, ◌∙◌, subst, true≢false, ◌==◌}
+use Rattle.std.specs.Prelude.{◌&&◌}
+use Rattle.lease_state.specs.State.{State, nothing_cached}
+use Rattle.lease_model.specs.client.State.{LiveEntry, Phase, belief, belief_in}
+use Rattle.lease_model.specs.records.Past.{believed, has_strayed, is_good, is_served}
+use Rattle.lease_model.specs.server.State.{has_key}
+use Rattle.lease_model.specs.world.Events.{Event, after, machine_key}
+use Rattle.lease_model.specs.world.World.{World, Setup, first_world}
+use Rattle.lease_laws.specs.world.Links.{is_up}
+use Rattle.lease_laws.proofs.server.Lists.{clash, and_parts, not_parts, not_true}
+use Rattle.lease_laws.proofs.world.Beliefs.{beliefs_of_runs}
+use Rattle.lease_laws.proofs.world.Timers.{timers_are_told}
+use Rattle.lease_coherence.specs.Parts.{RunsHaveOneWriteCache}
+use Rattle.lease_coherence.specs.Standing.{IsOpenFor, IsStandingAt, PhaseStands}
+use Rattle.lease_coherence.proofs.moves.Events.{Ground, IsCarried, Both, carried_both, runs_have}
+use Rattle.lease_coherence.proofs.moves.Foreign.{key_client}
+use Rattle.lease_coherence.proofs.moves.Own.{OfGood, own_moves}
+use Rattle.lease_coherence.proofs.standing.AllRuns.{HasStructure, structure_carried, first_structure}
+use Rattle.lease_coherence.proofs.beliefs.Runs.{trust_moves}
+use Rattle.lease_coherence.proofs.beliefs.Trust.{IsUpTrusted, open_has_key}
+
+abbrev pub HasBeliefs : World → Type 0
+HasBeliefs = Both HasStructure (OfGood IsUpTrusted)
+
+pub beliefs_carried : IsCarried HasBeliefs
+beliefs_carried = carried_both HasStructure (OfGood IsUpTrusted) structure_carried
+    (own_moves HasStructure IsUpTrusted (λ world all. all.0.0.0) trust_moves)
+
+pub first_beliefs : (setup : Setup) → HasBeliefs (first_world setup)
+unfolding first_world
+first_beliefs setup = (first_structure setup, λ client good up. absurd (true≢false (sym up)))
+
+pub run_beliefs : (setup : Setup) (events : List Event) → HasBeliefs (after (first_world setup) events)
+run_beliefs setup events = runs_have HasBeliefs (λ world all. all.0.0.0.0) beliefs_carried setup
+    (first_beliefs setup) events
+
+-- ---- two clients in one world
+
+-- the open of a live entry
+live_open : (world : World) (c file : ℕ) (live : LiveEntry) → ((world.clients c).entries file).phase ≡ Phase.Live live
+    → world.server.expired (machine_key world c file) ≡ false → IsStandingAt world c
+    → IsOpenFor world c file live.file_id
+live_open world c file live is fresh s = by_parts (subst (PhaseStands world c file) is (s.phases file))
+  where
+    by_parts : PhaseStands world c file (Phase.Live live) → IsOpenFor world c file live.file_id
+    by_parts p = ⊎_elim (λ out. clash (world.server.expired (machine_key world c file)) out fresh) (λ o. o) p.0
+
+writer_live : (phase : Phase) → (belief_in phase).write ≡ true → (live : LiveEntry) × (phase ≡ Phase.Live live)
+writer_live Phase.Closed w = absurd (true≢false (sym w))
+writer_live (Phase.Opening access share) w = absurd (true≢false (sym w))
+writer_live (Phase.Live live) w = (live, refl)
+writer_live (Phase.Offline parted) w = absurd (true≢false (sym w))
+writer_live (Phase.Reconnecting parted) w = absurd (true≢false (sym w))
+
+never_live : (phase : Phase) → ((live : LiveEntry) → phase ≡ Phase.Live live → ⊥) → belief_in phase ≡ nothing_cached
+never_live Phase.Closed never = refl
+never_live (Phase.Opening access share) never = refl
+never_live (Phase.Live live) never = absurd (never live refl)
+never_live (Phase.Offline parted) never = refl
+never_live (Phase.Reconnecting parted) never = refl
+
+pub one_writer : (world : World) → HasBeliefs world → (file c other : ℕ) → other ≢ c
+    → has_strayed c world.past ≡ false → is_up (world.links c) ≡ true
+    → world.server.expired (machine_key world c file) ≡ false → (belief (world.clients c) file).write ≡ true
+    → has_strayed other world.past ≡ false → is_up (world.links other) ≡ true
+    → world.server.expired (machine_key world other file) ≡ false
+    → belief (world.clients other) file ≡ nothing_cached
+one_writer world v file c other ne good up fresh w fine on unexpired =
+    let writer = writer_live ((world.clients c).entries file).phase w in
+    let mine = live_open world c file writer.0 writer.1 fresh (v.0.1 c good up) in
+    let n = v.0.0.0.1.0 c good in
+    let has = open_has_key world c file (writer.0).file_id mine (n.opens mine.one mine.there mine.by) in
+    let trusted = (v.1 c good up).files file fresh in
+    let held = trusted.believed.own writer.0 writer.1
+    (subst (λ p. (belief_in p).write ≡ true) writer.1 w) in
+    never_live ((world.clients other).entries file).phase (λ live is.
+    let theirs = live_open world other file live is unexpired (v.0.1 other fine on) in
+    ne (sym theirs.by ∙ sym (key_client (machine_key world c file) theirs.one
+    (v.0.0.0.0.fine.sound.one_writer (machine_key world c file) mine.one theirs.one held.1 mine.there has theirs.there
+    (theirs.on_file ∙ sym mine.on_file)))))
+
+-- ---- every run
+
+pub runs_have_one_write_cache : RunsHaveOneWriteCache
+unfolding is_good
+runs_have_one_write_cache setup events file client other ne good w fine =
+    let world = after (first_world setup) events in
+    let v = run_beliefs setup events in
+    let parts = and_parts (not (has_strayed client world.past)) (is_served client world.past) good in
+    let others = and_parts (not (has_strayed other world.past)) (is_served other world.past) fine in
+    beliefs_of_runs setup events other file
+    ∙ one_writer world v file client other ne (not_parts (has_strayed client world.past) parts.0)
+    ((v.0.0.0.0.tied client).served parts.1) (timely setup events client file parts.1)
+    (ap (λ (s : State). s.write) (sym (beliefs_of_runs setup events client file)) ∙ w)
+    (not_parts (has_strayed other world.past) others.0) ((v.0.0.0.0.tied other).served others.1)
+    (timely setup events other file others.1)
+  where
+    timely : (setup : Setup) (events : List Event) (c file : ℕ)
+        → is_served c (after (first_world setup) events).past ≡ true
+        → (after (first_world setup) events).server.expired (machine_key (after (first_world setup) events) c file) ≡ false
+    timely setup events c file served = not_true
+        ((after (first_world setup) events).server.expired (machine_key (after (first_world setup) events) c file))
+        (λ out. clash (is_served c (after (first_world setup) events).past) served
+        (timers_are_told setup events (machine_key (after (first_world setup) events) c file) out))
