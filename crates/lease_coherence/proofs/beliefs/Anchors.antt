@@ -1,6 +1,6 @@
 -- Which steps of a client send an acknowledgment, and what stands before it.
-use Rattle.std.proofs.Common.{◌≡◌, ◌≢◌, ◌⊎◌, inl, inr, ⊎_elim, ℕ, ◌+◌, Bool, true, false, not, List, [], ◌∷◌, ◌++◌, Option, Some, None, refl, sym, ap, ap₂, ◌∙◌, subst, arith, true≢false, ◌==◌}
-use Rattle.std.specs.Prelude.{⊤, ◌&&◌, bytes_eq, if◌then◌else◌}
+use Rattle.std.proofs.Common.{◌≡◌, ◌⊎◌, inl, inr, ℕ, ◌+◌, true, not, List, [], ◌∷◌, ◌++◌, Some, refl, ap, ap₂, ◌∙◌, arith, ◌==◌}
+use Rattle.std.specs.Prelude.{◌&&◌, bytes_eq}
 use Rattle.std.proofs.lemmas.Bool.{eq-eqb, eqb-true}
 use Rattle.lease_state.specs.State.{State}
 use Rattle.lease_model.specs.client.Commanded.{create_request, cached_read, opened_anew, write_buffered, write_sent, flush_on_live}
@@ -8,16 +8,14 @@ use Rattle.lease_model.specs.client.State.{Client, LiveEntry, Phase, lease_key}
 use Rattle.lease_model.specs.client.Step.{Step, Turn, turned, write_requests}
 use Rattle.lease_model.specs.client.Taken.{is_key_of, break_turn, parked_closed, belief_lowered, acknowledgment, flushed, opened_turn, reconnected_turn, promoted_turn, read_turn, read_failed_turn, is_file_closed, closed_by_server, write_done_turn, write_failed_in}
 use Rattle.lease_model.specs.client.State.{Pending}
-use Rattle.lease_model.specs.messages.Replies.{Reply, BreakNotice}
+use Rattle.lease_model.specs.messages.Replies.{BreakNotice}
 use Rattle.lease_model.specs.messages.Requests.{FileRequest, Request}
 use Rattle.lease_model.specs.values.LeaseStates.{meet}
 use Rattle.lease_state.specs.declared.status.Status.{Status}
 use Rattle.lease_laws.proofs.server.Lists.{if_cases, either, clash}
 use Rattle.lease_coherence.specs.Names.{Each}
-use Rattle.lease_coherence.specs.Standing.{IsNoClose}
 use Rattle.lease_coherence.proofs.clients.Commands.{HasCommands, sent_of}
 use Rattle.lease_coherence.proofs.clients.Takes.{HasTakes, found_so}
-use Rattle.lease_coherence.proofs.names.Words.{each_append}
 use Rattle.lease_coherence.proofs.standing.Clients.{writes_close}
 use Rattle.lease_coherence.proofs.beliefs.Clients.{IsAboutFile, file_no_acks, writes_about, writes_close_about, ack_elsewhere}
 use Rattle.lease_coherence.proofs.beliefs.Words.{acks, acks_append, OpenTillAck, open_before}

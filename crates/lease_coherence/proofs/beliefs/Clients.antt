@@ -1,17 +1,16 @@
 -- Every step of a client keeps what is believed of each of its files.
-use Rattle.std.proofs.Common.{◌≡◌, ◌≢◌, ◌⊎◌, inl, inr, ⊎_elim, ℕ, suc, ◌+◌, Bool, true, false, not, List, [], ◌∷◌, ◌++◌, take, Option, Some, None, refl, sym, ap, ap₂, ◌∙◌, subst, arith, true≢false, ◌==◌}
-use Rattle.std.specs.Prelude.{⊤, ◌&&◌, ◌||◌, bytes_eq, is_some, find, if◌then◌else◌}
-use Rattle.std.proofs.lemmas.Bool.{eq-eqb, eqb-true}
+use Rattle.std.proofs.Common.{◌≡◌, ◌≢◌, ◌⊎◌, inl, inr, ℕ, ◌+◌, true, false, not, List, [], ◌∷◌, ◌++◌, take, Option, Some, None, refl, sym, ap, ap₂, ◌∙◌, subst, arith, ◌==◌}
+use Rattle.std.specs.Prelude.{⊤, ◌&&◌, bytes_eq, if◌then◌else◌}
 use Rattle.std.proofs.lemmas.Slice.Eq.{bytes_eq-Decides}
-use Rattle.lease_state.specs.State.{State, nothing_cached}
+use Rattle.lease_state.specs.State.{State}
 use Rattle.lease_state.specs.declared.status.Status.{Status}
-use Rattle.lease_model.specs.client.Commanded.{create_request, joint_terms, next_write, cached_read, opened_anew, write_buffered, write_sent, flush_on_live, wrote_step}
-use Rattle.lease_model.specs.client.Commands.{Answer, OpenTerms}
-use Rattle.lease_model.specs.client.State.{Client, Entry, LiveEntry, Asked, Parted, Pending, Phase, lease_key}
+use Rattle.lease_model.specs.client.Commanded.{create_request, next_write, cached_read, opened_anew, write_buffered, write_sent, flush_on_live, wrote_step}
+use Rattle.lease_model.specs.client.Commands.{Answer}
+use Rattle.lease_model.specs.client.State.{Client, Entry, LiveEntry, Asked, Pending, Phase, lease_key}
 use Rattle.lease_model.specs.client.Step.{Step, Turn, turned, quiet_step, write_requests}
-use Rattle.lease_model.specs.client.Taken.{given_state, is_key_of, break_turn, parked_closed, belief_lowered, acknowledgment, flushed, unflushed, opened_turn, reconnected_turn, promoted_turn, promoted_belief, first_belief, read_turn, read_failed_turn, is_file_closed, closed_by_server, without_open, is_numbered, phase_with, write_done_turn, write_failed_in, sent_without}
+use Rattle.lease_model.specs.client.Taken.{given_state, is_key_of, break_turn, parked_closed, belief_lowered, acknowledgment, flushed, unflushed, opened_turn, reconnected_turn, promoted_turn, promoted_belief, read_turn, read_failed_turn, is_file_closed, closed_by_server, without_open, phase_with, write_done_turn, write_failed_in}
 use Rattle.lease_model.specs.messages.Replies.{Reply, BreakNotice, CreateAnswer, LeaseGiven}
-use Rattle.lease_model.specs.messages.Requests.{FileRequest, Request, LeaseOf}
+use Rattle.lease_model.specs.messages.Requests.{FileRequest, Request}
 use Rattle.lease_model.specs.server.State.{Lease}
 use Rattle.lease_model.specs.values.LeaseStates.{meet}
 use Rattle.lease_model.specs.values.Tables.{put}
@@ -20,7 +19,7 @@ use Rattle.lease_laws.proofs.server.Lists.{if_cases, either, clash, and_parts, a
 use Rattle.lease_laws.proofs.world.Links.{by_client}
 use Rattle.lease_coherence.specs.Creates.{one_if}
 use Rattle.lease_coherence.specs.Names.{Each}
-use Rattle.lease_coherence.proofs.clients.Commands.{HasCommands, IsEntry, sent_of}
+use Rattle.lease_coherence.proofs.clients.Commands.{HasCommands, sent_of}
 use Rattle.lease_coherence.proofs.clients.Takes.{HasTakes, found_so, is_live}
 use Rattle.lease_coherence.proofs.names.Words.{each_append}
 use Rattle.lease_coherence.proofs.beliefs.Entries.{WasLive, step_kept, reply_kept, created_kept, break_kept}

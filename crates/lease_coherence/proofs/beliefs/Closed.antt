@@ -1,13 +1,10 @@
 -- Opens that are closed take no trust away: a lease that stays is as it was, and of one that goes nothing is believed.
-use Rattle.std.proofs.Common.{◌≡◌, ◌≢◌, ◌⊎◌, inl, inr, ⊎_elim, ℕ, Bool, true, false, not, List, [], ◌∷◌, ◌++◌, Option, Some, None, refl, sym, ap, ◌∙◌, subst, true≢false, ◌==◌}
-use Rattle.std.specs.Prelude.{⊤, if◌then◌else◌}
+use Rattle.std.proofs.Common.{◌≡◌, ◌⊎◌, inl, inr, ⊎_elim, ℕ, Bool, true, false, not, List, [], ◌∷◌, ◌++◌, refl, sym, ap, ◌∙◌, subst, true≢false, ◌==◌}
 use Rattle.std.specs.List.{list_any}
-use Rattle.lease_model.specs.client.State.{lease_key}
 use Rattle.lease_model.specs.messages.Replies.{Reply}
 use Rattle.lease_model.specs.messages.Requests.{FileRequest}
 use Rattle.lease_model.specs.records.Facts.{Fact}
 use Rattle.lease_model.specs.server.Calls.{key_expired}
-use Rattle.lease_model.specs.server.Naming.{key_of}
 use Rattle.lease_model.specs.server.Progress.{opens_dropped, with_opens}
 use Rattle.lease_model.specs.server.State.{Server, Open, Lease, has_key, no_lease}
 use Rattle.lease_model.specs.values.Keys.{Key, key_eq}

@@ -1,13 +1,10 @@
 -- What a create is given keeps the trust of its client.
-use Rattle.std.proofs.Common.{◌≡◌, inl, inr, ⊎_elim, ℕ, ◌+◌, Bool, true, false, List, [], ◌∷◌, ◌++◌, map, Option, Some, None, refl, sym, ap, ◌∙◌, subst, ◌==◌}
-use Rattle.std.specs.Prelude.{⊤, if◌then◌else◌}
-use Rattle.std.proofs.lemmas.Bool.{eqb-true}
+use Rattle.std.proofs.Common.{◌≡◌, ℕ, true, false, [], ◌∷◌, ◌++◌, Some, refl, sym, ap, ◌∙◌, subst, ◌==◌}
 use Rattle.lease_state.specs.State.{State}
 use Rattle.lease_state.specs.declared.access.Access.{Access}
 use Rattle.lease_state.specs.declared.access.Share.{Share}
 use Rattle.lease_model.specs.client.State.{lease_key}
 use Rattle.lease_model.specs.client.Taken.{given_state}
-use Rattle.lease_model.specs.messages.Replies.{Reply}
 use Rattle.lease_model.specs.messages.Requests.{CreateAsk, LeaseOf}
 use Rattle.lease_model.specs.server.Grant.{connected_again, lease_after, lease_granted, new_open}
 use Rattle.lease_model.specs.server.Naming.{key_of, own_key}
@@ -15,7 +12,7 @@ use Rattle.lease_model.specs.server.State.{Open, Lease, is_breaking}
 use Rattle.lease_model.specs.values.Keys.{Key, key_eq}
 use Rattle.lease_model.specs.world.Events.{machine_key}
 use Rattle.lease_model.specs.world.World.{World}
-use Rattle.lease_laws.specs.server.Laws.{Among, IsSound}
+use Rattle.lease_laws.specs.server.Laws.{IsSound}
 use Rattle.lease_laws.specs.server.SmallSteps.{IsFree}
 use Rattle.lease_laws.proofs.client.Thin.{put_same}
 use Rattle.lease_laws.proofs.server.Keys.{put_key-cases, key_eq-refl}
@@ -141,8 +138,12 @@ reconnected_trusted off c file ask file_id asked e named sound t = subst
 
     told_state : ℕ → State
     told_state at = given_state (file_key off c at)
-        (Some (record { key = asked.key; state = (off.server.leases (key_of c asked.key)).state; in_progress =
-        is_breaking (off.server.leases (key_of c asked.key)) }))
+        (Some (record {
+          key = asked.key;
+          state = (off.server.leases (key_of c asked.key)).state;
+          in_progress =
+              is_breaking (off.server.leases (key_of c asked.key));
+        }))
 
     stays : (o : Open) → o.connected ≡ true → connected_again file_id o ≡ o
     stays o up = if_cases (λ x. x ≡ o) (o.file_id == file_id) (record o { connected = true }) o

@@ -1,19 +1,17 @@
 -- What a grant gives is held by the lease, and takes no writes from it.
-use Rattle.std.proofs.Common.{◌≡◌, inl, inr, ⊎_elim, ℕ, Bool, true, false, not, List, [], ◌∷◌, Option, Some, None, refl, sym, ap, ◌∙◌, subst, true≢false, ◌==◌}
-use Rattle.std.specs.Prelude.{◌&&◌, bytes_eq, if◌then◌else◌}
+use Rattle.std.proofs.Common.{◌≡◌, ℕ, true, false, not, List, Some, refl, sym, ap, ◌∙◌, true≢false, ◌==◌}
+use Rattle.std.specs.Prelude.{◌&&◌, bytes_eq}
 use Rattle.std.specs.List.{list_any}
 use Rattle.std.proofs.lemmas.Bool.{eqb-true}
 use Rattle.lease_state.specs.State.{State, nothing_cached, granted_form_of, is_state_within}
 use Rattle.lease_state.specs.declared.access.Access.{Access}
 use Rattle.lease_state.specs.declared.access.Share.{Share}
 use Rattle.lease_model.specs.client.Taken.{given_state}
-use Rattle.lease_model.specs.messages.Requests.{LeaseOf}
 use Rattle.lease_model.specs.server.Allowed.{allowed, is_other_on}
 use Rattle.lease_model.specs.server.Grant.{offered, lease_granted}
-use Rattle.lease_model.specs.server.State.{Server, Open, Lease, no_lease, is_breaking, has_key, has_own_key}
+use Rattle.lease_model.specs.server.State.{Server, Lease, is_breaking, has_key}
 use Rattle.lease_model.specs.values.Keys.{Key}
-use Rattle.lease_model.specs.values.LeaseStates.{without_write}
-use Rattle.lease_laws.specs.server.Laws.{Among, IsSound}
+use Rattle.lease_laws.specs.server.Laws.{IsSound}
 use Rattle.lease_laws.specs.server.SmallSteps.{IsFree}
 use Rattle.lease_laws.proofs.server.Lists.{if_cases, either, clash, and_parts, not_parts, any_has}
 use Rattle.lease_laws.proofs.server.States.{write_of_part}

@@ -1,18 +1,18 @@
 -- What the server does to one file's lease, and sends to its client, keeps what is believed of it.
-use Rattle.std.proofs.Common.{◌≡◌, ◌≢◌, ◌⊎◌, inl, inr, ⊎_elim, ℕ, ◌+◌, Bool, true, false, List, [], ◌∷◌, ◌++◌, Option, Some, None, refl, sym, ap, ◌∙◌, subst, arith, true≢false, ◌==◌}
-use Rattle.std.specs.Prelude.{⊤, ◌&&◌, ◌||◌, bytes_eq, is_some}
+use Rattle.std.proofs.Common.{◌≡◌, inl, inr, ⊎_elim, ℕ, ◌+◌, true, false, List, [], ◌∷◌, ◌++◌, Some, None, sym, ap, ◌∙◌, arith, ◌==◌}
+use Rattle.std.specs.Prelude.{bytes_eq}
 use Rattle.std.proofs.lemmas.Bool.{eq-eqb}
 use Rattle.lease_state.specs.State.{State}
-use Rattle.lease_model.specs.client.State.{LiveEntry, Phase}
-use Rattle.lease_model.specs.messages.Replies.{Reply, CreateAnswer}
-use Rattle.lease_model.specs.messages.Requests.{FileRequest, Request, LeaseOf}
+use Rattle.lease_model.specs.client.State.{Phase}
+use Rattle.lease_model.specs.messages.Replies.{Reply}
+use Rattle.lease_model.specs.messages.Requests.{Request, LeaseOf}
 use Rattle.lease_model.specs.server.State.{Lease, is_breaking}
 use Rattle.lease_laws.proofs.server.Lists.{clash}
 use Rattle.lease_coherence.specs.Creates.{one_if}
 use Rattle.lease_coherence.specs.Names.{Each}
 use Rattle.lease_coherence.proofs.clients.Takes.{is_live}
 use Rattle.lease_coherence.proofs.names.Words.{each_append, each_weaker}
-use Rattle.lease_coherence.proofs.beliefs.Words.{acks, ack_of, is_created, is_ack_break, OnGiven, GivesNoWrite, HoldsWrites, AckKeeps, IsMet, BreaksAreMet, met_mapped, met_last, met_none, met_nowhere, IsAnswering, IsBelieved}
+use Rattle.lease_coherence.proofs.beliefs.Words.{acks, is_created, is_ack_break, OnGiven, GivesNoWrite, HoldsWrites, AckKeeps, met_mapped, met_last, met_nowhere, IsBelieved}
 
 each_last : {X : Type 0} (P : X → Type 0) (xs : List X) (x : X) → Each P xs → P x → Each P (xs ++ x ∷ [])
 each_last P xs x each last = each_append P xs (x ∷ []) each (last, tt)

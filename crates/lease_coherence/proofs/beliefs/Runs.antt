@@ -1,5 +1,5 @@
 -- Every move keeps the trust of each client that hasn't strayed.
-use Rattle.std.proofs.Common.{◌≡◌, ◌⊎◌, inl, inr, ⊎_elim, ℕ, ◌+◌, true, false, List, [], ◌∷◌, ◌++◌, Some, refl, sym, ap, ap₂, ◌∙◌, subst, true≢false, ◌==◌}
+use Rattle.std.proofs.Common.{◌≡◌, inl, inr, ⊎_elim, ℕ, true, false, List, ◌∷◌, ◌++◌, Some, refl, sym, ap, ap₂, ◌∙◌, subst, true≢false, ◌==◌}
 use Rattle.std.proofs.lemmas.Bool.{eq-eqb}
 use Rattle.lease_state.specs.declared.access.Access.{Access}
 use Rattle.lease_state.specs.declared.access.Share.{Share}
@@ -7,17 +7,14 @@ use Rattle.lease_state.specs.declared.status.Status.{Status}
 use Rattle.lease_model.specs.client.Commanded.{commanded}
 use Rattle.lease_model.specs.client.Connection.{noticed}
 use Rattle.lease_model.specs.client.State.{Client, lease_key}
-use Rattle.lease_model.specs.client.Step.{Step}
 use Rattle.lease_model.specs.client.Taken.{taken}
 use Rattle.lease_model.specs.messages.Replies.{Reply}
-use Rattle.lease_model.specs.messages.Requests.{FileRequest, Request, CreateAsk}
-use Rattle.lease_model.specs.records.Past.{has_strayed}
+use Rattle.lease_model.specs.messages.Requests.{FileRequest, CreateAsk}
 use Rattle.lease_model.specs.server.Naming.{key_of}
 use Rattle.lease_model.specs.server.Progress.{refusal_of}
-use Rattle.lease_model.specs.server.State.{Server, Open, Held, Lease}
-use Rattle.lease_model.specs.values.Keys.{Key}
+use Rattle.lease_model.specs.server.State.{Held, Lease}
 use Rattle.lease_model.specs.values.Tables.{put}
-use Rattle.lease_model.specs.world.Events.{machine_key, stepped_in}
+use Rattle.lease_model.specs.world.Events.{machine_key}
 use Rattle.lease_model.specs.world.World.{World, Link}
 use Rattle.lease_laws.specs.server.Laws.{Among, IsSound}
 use Rattle.lease_laws.specs.world.Links.{is_up}
@@ -25,13 +22,13 @@ use Rattle.lease_laws.proofs.client.Forms.{commanded-stays, taken-stays}
 use Rattle.lease_laws.proofs.client.Thin.{put_same}
 use Rattle.lease_laws.proofs.server.Lists.{among_filter, among_filtered}
 use Rattle.lease_laws.proofs.world.Links.{stepped_links}
-use Rattle.lease_coherence.specs.Names.{Each, IsNamedAt, IsNamedOnFile, IsOwnOpen, IsOwnCreate}
+use Rattle.lease_coherence.specs.Names.{Each, IsNamedAt, IsOwnCreate}
 use Rattle.lease_coherence.specs.Standing.{IsStandingAt}
 use Rattle.lease_coherence.proofs.clients.Commands.{any_command}
 use Rattle.lease_coherence.proofs.clients.Takes.{any_reply}
 use Rattle.lease_coherence.proofs.creates.Creates.{off_rest}
-use Rattle.lease_coherence.proofs.moves.Deeds.{IsSource, told_to, without_opens}
-use Rattle.lease_coherence.proofs.moves.Events.{Ground, reply_gone, reply_taken}
+use Rattle.lease_coherence.proofs.moves.Deeds.{IsSource}
+use Rattle.lease_coherence.proofs.moves.Events.{reply_gone, reply_taken}
 use Rattle.lease_coherence.proofs.moves.Foreign.{IsUnmoved}
 use Rattle.lease_coherence.proofs.moves.Own.{IsOwnMoved}
 use Rattle.lease_coherence.proofs.names.Names.{off_named}

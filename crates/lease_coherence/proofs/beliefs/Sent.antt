@@ -1,32 +1,31 @@
 -- What the server sends to a client keeps its trust, where the lease of each file bears it.
-use Rattle.std.proofs.Common.{◌≡◌, ◌⊎◌, inl, inr, ⊎_elim, ℕ, ◌+◌, Bool, true, false, not, List, [], ◌∷◌, ◌++◌, Option, Some, None, refl, sym, ap, ◌∙◌, subst, arith, true≢false, ◌==◌}
+use Rattle.std.proofs.Common.{◌≡◌, ⊎_elim, ℕ, Bool, true, false, List, [], ◌∷◌, ◌++◌, Some, None, refl, sym, ap, ◌∙◌, subst, ◌==◌}
 use Rattle.std.specs.Prelude.{⊤, ◌&&◌, bytes_eq}
 use Rattle.std.proofs.lemmas.Bool.{eq-eqb}
 use Rattle.lease_state.specs.State.{State, granted_form_of, needs_acknowledgment}
 use Rattle.lease_state.specs.declared.patch.Patch.{Patch}
 use Rattle.lease_state.specs.declared.status.Status.{Status}
-use Rattle.lease_model.specs.client.State.{Client, Phase, lease_key}
+use Rattle.lease_model.specs.client.State.{Client, lease_key}
 use Rattle.lease_model.specs.messages.Replies.{Reply}
-use Rattle.lease_model.specs.messages.Requests.{FileRequest, Request, LeaseOf}
+use Rattle.lease_model.specs.messages.Requests.{FileRequest}
 use Rattle.lease_model.specs.server.Naming.{key_of}
 use Rattle.lease_model.specs.server.Progress.{break_notice, refusal_of}
-use Rattle.lease_model.specs.server.State.{Server, Open, Held, Lease, is_breaking}
+use Rattle.lease_model.specs.server.State.{Open, Lease, is_breaking}
 use Rattle.lease_model.specs.values.Keys.{Key, key_eq}
-use Rattle.lease_model.specs.values.Tables.{put_key}
 use Rattle.lease_model.specs.world.Events.{machine_key}
 use Rattle.lease_model.specs.world.World.{World}
 use Rattle.lease_laws.specs.server.Laws.{Among}
 use Rattle.lease_laws.specs.server.SmallSteps.{MayLower}
 use Rattle.lease_laws.proofs.client.Thin.{put_same}
-use Rattle.lease_laws.proofs.server.Keys.{put_key-cases, key_eq-refl}
-use Rattle.lease_laws.proofs.server.Lists.{if_cases, either, clash, and_parts, and_both, not_true, true_or}
+use Rattle.lease_laws.proofs.server.Keys.{put_key-cases}
+use Rattle.lease_laws.proofs.server.Lists.{clash, and_parts, and_both, not_true, true_or}
 use Rattle.lease_coherence.specs.Names.{Each}
 use Rattle.lease_coherence.proofs.creates.Creates.{off_rest}
 use Rattle.lease_coherence.proofs.moves.Deeds.{IsSource, told_to, changed_in, leased_in}
 use Rattle.lease_coherence.proofs.names.Words.{each_append}
 use Rattle.lease_coherence.proofs.beliefs.Grants.{writes_read}
 use Rattle.lease_coherence.proofs.beliefs.Leases.{plain_sent, settled_changed, break_sent}
-use Rattle.lease_coherence.proofs.beliefs.Trust.{file_key, IsTrustedFor, HasTrust, off_trusted, trusted_by}
+use Rattle.lease_coherence.proofs.beliefs.Trust.{file_key, HasTrust, off_trusted, trusted_by}
 use Rattle.lease_coherence.proofs.beliefs.Words.{is_ack_break, OnGiven, GivesNoWrite, HoldsWrites, LowersWell, IsBelieved}
 
 -- ---- one more reply

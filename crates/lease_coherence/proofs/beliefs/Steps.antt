@@ -1,6 +1,5 @@
 -- What a client does keeps its trust.
-use Rattle.std.proofs.Common.{◌≡◌, ◌⊎◌, inl, inr, ⊎_elim, ℕ, ◌+◌, Bool, true, false, not, List, [], ◌∷◌, ◌++◌, flat_map, Some, None, refl, sym, ap, ap₂, ◌∙◌, subst, arith, true≢false, ◌==◌}
-use Rattle.std.specs.Prelude.{⊤}
+use Rattle.std.proofs.Common.{◌≡◌, ◌⊎◌, inl, inr, ⊎_elim, ℕ, ◌+◌, true, false, not, List, [], ◌++◌, flat_map, refl, sym, ap, ap₂, ◌∙◌, subst, arith}
 use Rattle.lease_model.specs.client.Connection.{connection_made, all_turned, connect_turn}
 use Rattle.lease_model.specs.client.State.{Client, LiveEntry, Pending, Phase, lease_key}
 use Rattle.lease_model.specs.client.Step.{Step}
@@ -8,8 +7,7 @@ use Rattle.lease_model.specs.messages.Replies.{Reply}
 use Rattle.lease_model.specs.messages.Requests.{Request}
 use Rattle.lease_model.specs.server.Calls.{joined}
 use Rattle.lease_model.specs.server.Naming.{key_of}
-use Rattle.lease_model.specs.server.State.{Server, Held, Lease}
-use Rattle.lease_model.specs.values.Keys.{Key}
+use Rattle.lease_model.specs.server.State.{Server, Held}
 use Rattle.lease_model.specs.values.Lists.{numbers_to}
 use Rattle.lease_model.specs.world.Events.{machine_key, stepped_in}
 use Rattle.lease_model.specs.world.World.{World, Link, sent_over}
@@ -19,7 +17,7 @@ use Rattle.lease_laws.specs.world.Links.{is_up, is_down}
 use Rattle.lease_laws.proofs.client.Thin.{put_same}
 use Rattle.lease_laws.proofs.server.Lists.{clash}
 use Rattle.lease_coherence.specs.Names.{Each}
-use Rattle.lease_coherence.specs.Standing.{IsNoClose, IsOpenFor, IsStandingAt, NotClosed, PhaseStands, Stands}
+use Rattle.lease_coherence.specs.Standing.{IsNoClose, IsOpenFor, IsStandingAt, PhaseStands}
 use Rattle.lease_coherence.proofs.clients.Takes.{is_live}
 use Rattle.lease_coherence.proofs.creates.Creates.{stepped_machine}
 use Rattle.lease_coherence.proofs.moves.Events.{Ground, come_back, connected}
@@ -29,7 +27,7 @@ use Rattle.lease_coherence.proofs.standing.Standing.{IsStepped, step_of}
 use Rattle.lease_coherence.proofs.beliefs.Anchors.{AnchorsOn, AnchorsLive}
 use Rattle.lease_coherence.proofs.beliefs.Clients.{IsAboutFile, file_no_acks}
 use Rattle.lease_coherence.proofs.beliefs.Leases.{lease_gone}
-use Rattle.lease_coherence.proofs.beliefs.Trust.{file_key, IsAnchored, IsTrustedFor, HasTrust}
+use Rattle.lease_coherence.proofs.beliefs.Trust.{file_key, IsAnchored, HasTrust}
 use Rattle.lease_coherence.proofs.beliefs.Words.{acks, acks_append, LowersWell, OpenTillAck, open_behind, open_before, IsBelieved}
 
 -- ---- a step

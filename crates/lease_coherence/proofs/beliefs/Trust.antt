@@ -1,37 +1,32 @@
 -- While a client's link is up, what it believes it may do with writes its lease holds, of each file whose timer didn't run
 -- out.
-use Rattle.std.proofs.Common.{◌≡◌, ◌≢◌, ◌⊎◌, inl, inr, ⊎_elim, ℕ, suc, ◌+◌, Bool, true, false, not, List, [], ◌∷◌, ◌++◌, Option, Some, None, refl, sym, ap, ap₂, ◌∙◌, subst, arith, true≢false, ◌==◌}
-use Rattle.std.specs.Prelude.{⊤, ◌&&◌, ◌||◌, bytes_eq, if◌then◌else◌}
+use Rattle.std.proofs.Common.{◌≡◌, ◌⊎◌, inl, inr, ⊎_elim, ℕ, ◌+◌, true, false, List, [], ◌∷◌, ◌++◌, Some, refl, sym, ap, ap₂, ◌∙◌, subst, arith, ◌==◌}
 use Rattle.std.specs.List.{list_any}
-use Rattle.std.proofs.lemmas.Bool.{eq-eqb, eqb-true}
-use Rattle.lease_model.specs.client.State.{Client, LiveEntry, Phase, lease_key}
+use Rattle.std.proofs.lemmas.Bool.{eqb-true}
+use Rattle.lease_model.specs.client.State.{Client, Phase, lease_key}
 use Rattle.lease_model.specs.messages.Replies.{Reply}
-use Rattle.lease_model.specs.messages.Requests.{FileRequest, Request, LeaseOf}
+use Rattle.lease_model.specs.messages.Requests.{FileRequest, Request}
 use Rattle.lease_model.specs.server.Calls.{held_of}
 use Rattle.lease_model.specs.server.Naming.{key_of}
-use Rattle.lease_model.specs.server.Progress.{with_opens}
-use Rattle.lease_model.specs.server.State.{Server, Open, Held, Lease, no_lease, is_breaking, has_key, is_key}
-use Rattle.lease_model.specs.values.Keys.{Key}
-use Rattle.lease_model.specs.values.Tables.{put}
+use Rattle.lease_model.specs.server.State.{Open, Held, has_key, is_key}
 use Rattle.lease_model.specs.world.Events.{machine_key}
 use Rattle.lease_model.specs.world.World.{World}
 use Rattle.lease_laws.specs.server.Laws.{Among}
 use Rattle.lease_laws.specs.world.Links.{is_up}
-use Rattle.lease_laws.proofs.client.Thin.{put_same, put_other}
+use Rattle.lease_laws.proofs.client.Thin.{put_same}
 use Rattle.lease_laws.proofs.server.Keys.{is_key-refl}
-use Rattle.lease_laws.proofs.server.Lists.{either, clash, not_true, not_false, has_any}
-use Rattle.lease_coherence.specs.Names.{Each, IsNamedAt, IsOwnOpen}
+use Rattle.lease_laws.proofs.server.Lists.{clash, not_true, has_any}
+use Rattle.lease_coherence.specs.Names.{Each, IsOwnOpen}
 use Rattle.lease_coherence.specs.Standing.{IsOpenFor, Stands, IsNoClose, GivenWell, PhaseStands, IsStandingAt}
-use Rattle.lease_coherence.proofs.creates.Creates.{off_rest}
 use Rattle.lease_coherence.proofs.clients.Takes.{is_live}
-use Rattle.lease_coherence.proofs.moves.Deeds.{IsSource, HasArrived, WasHeld, told_to, with_held}
+use Rattle.lease_coherence.proofs.moves.Deeds.{IsSource, with_held}
 use Rattle.lease_coherence.proofs.moves.Ground.{among_put}
 use Rattle.lease_coherence.proofs.moves.Moves.{IsOldest, rest_of, popped}
-use Rattle.lease_coherence.proofs.names.Words.{each_append, each_weaker}
+use Rattle.lease_coherence.proofs.names.Words.{each_weaker}
 use Rattle.lease_laws.proofs.server.PassWaits.{among_more}
-use Rattle.lease_laws.proofs.server.Lists.{among_behind, among_append}
-use Rattle.lease_coherence.proofs.beliefs.Leases.{plain_sent, lease_gone, asked_less}
-use Rattle.lease_coherence.proofs.beliefs.Words.{acks, is_created, is_ack_break, OnGiven, GivesNoWrite, HoldsWrites, LowersWell, AckKeeps, OpenTillAck, IsBelieved}
+use Rattle.lease_laws.proofs.server.Lists.{among_behind}
+use Rattle.lease_coherence.proofs.beliefs.Leases.{asked_less}
+use Rattle.lease_coherence.proofs.beliefs.Words.{acks, is_created, LowersWell, AckKeeps, OpenTillAck, IsBelieved}
 
 abbrev pub file_key : World → ℕ → ℕ → List ℕ
 file_key world client file = lease_key (world.clients client).guid file

@@ -1,18 +1,17 @@
 -- What a client believes it may do with writes, against its lease: in words of one file's lease, entry and queues.
-use Rattle.std.proofs.Common.{◌≡◌, ◌≢◌, ◌⊎◌, inl, inr, ⊎_elim, ℕ, ◌+◌, Bool, true, false, List, [], ◌∷◌, ◌++◌, Option, Some, None, refl, sym, ap, ◌∙◌, subst, arith, true≢false, ◌==◌}
+use Rattle.std.proofs.Common.{◌≡◌, ◌⊎◌, ⊎_elim, ℕ, ◌+◌, Bool, true, false, List, [], ◌∷◌, ◌++◌, Some, None, refl, sym, ap, ◌∙◌, arith, ◌==◌}
 use Rattle.std.specs.Prelude.{⊤, ◌&&◌, ◌||◌, bytes_eq}
 use Rattle.lease_state.specs.State.{State}
 use Rattle.lease_model.specs.client.State.{LiveEntry, Phase}
 use Rattle.lease_model.specs.client.Taken.{given_state}
-use Rattle.lease_model.specs.messages.Replies.{Reply, CreateAnswer}
-use Rattle.lease_model.specs.messages.Requests.{FileRequest, Request}
+use Rattle.lease_model.specs.messages.Replies.{Reply}
+use Rattle.lease_model.specs.messages.Requests.{Request}
 use Rattle.lease_model.specs.server.State.{Lease, is_breaking}
 use Rattle.lease_laws.proofs.server.Lists.{clash, or_true}
 use Rattle.lease_coherence.specs.Creates.{one_if}
 use Rattle.lease_coherence.specs.Names.{Each}
 use Rattle.lease_coherence.specs.Standing.{IsNoClose}
 use Rattle.lease_coherence.proofs.clients.Takes.{is_live}
-use Rattle.lease_coherence.proofs.names.Words.{each_append, each_weaker}
 
 -- ---- messages of one file
 

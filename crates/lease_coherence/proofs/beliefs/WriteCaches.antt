@@ -1,10 +1,8 @@
 -- At every point of a run that its events reach, one client caches writes of a file.
-use Rattle.std.proofs.Common.{◌≡◌, ◌≢◌, inl, inr, ⊎_elim, ℕ, Bool, true, false, not, List, Some, None, refl, sym, ap, ap₂, ◌∙◌, subst, true≢false, ◌==◌}
-use Rattle.std.specs.Prelude.{◌&&◌}
+use Rattle.std.proofs.Common.{◌≡◌, ◌≢◌, ⊎_elim, ℕ, true, false, not, List, refl, sym, ap, ◌∙◌, subst, true≢false}
 use Rattle.lease_state.specs.State.{State, nothing_cached}
 use Rattle.lease_model.specs.client.State.{LiveEntry, Phase, belief, belief_in}
-use Rattle.lease_model.specs.records.Past.{believed, has_strayed, is_good, is_served}
-use Rattle.lease_model.specs.server.State.{has_key}
+use Rattle.lease_model.specs.records.Past.{has_strayed, is_good, is_served}
 use Rattle.lease_model.specs.world.Events.{Event, after, machine_key}
 use Rattle.lease_model.specs.world.World.{World, Setup, first_world}
 use Rattle.lease_laws.specs.world.Links.{is_up}
@@ -13,7 +11,7 @@ use Rattle.lease_laws.proofs.world.Beliefs.{beliefs_of_runs}
 use Rattle.lease_laws.proofs.world.Timers.{timers_are_told}
 use Rattle.lease_coherence.specs.Parts.{RunsHaveOneWriteCache}
 use Rattle.lease_coherence.specs.Standing.{IsOpenFor, IsStandingAt, PhaseStands}
-use Rattle.lease_coherence.proofs.moves.Events.{Ground, IsCarried, Both, carried_both, runs_have}
+use Rattle.lease_coherence.proofs.moves.Events.{IsCarried, Both, carried_both, runs_have}
 use Rattle.lease_coherence.proofs.moves.Foreign.{key_client}
 use Rattle.lease_coherence.proofs.moves.Own.{OfGood, own_moves}
 use Rattle.lease_coherence.proofs.standing.AllRuns.{HasStructure, structure_carried, first_structure}
