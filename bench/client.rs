@@ -1,4 +1,4 @@
-// The same work as bench/client.rt, written by hand in plain Rust, for bench/client: a client of one file
+// The same work as crates/client_bench, written by hand in plain Rust, for bench/client: a client of one file
 // with the parts that this work needs, and for reads two plain copies of the file.
 use std::env;
 use std::hint::black_box;

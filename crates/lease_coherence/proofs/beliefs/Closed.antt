@@ -20,7 +20,7 @@ use Rattle.lease_coherence.specs.Names.{Each, IsOwnOpen}
 use Rattle.lease_coherence.specs.Standing.{IsStandingAt}
 use Rattle.lease_coherence.proofs.moves.Deeds.{IsSource, told_to, without_opens}
 use Rattle.lease_coherence.proofs.moves.Events.{timed_out}
-use Rattle.lease_coherence.proofs.moves.Foreign.{apart}
+use Rattle.lease_coherence.proofs.moves.Foreign.{apart, false_not}
 use Rattle.lease_coherence.proofs.names.Words.{each_append}
 use Rattle.lease_coherence.proofs.beliefs.Leases.{plain_sent, lease_gone}
 use Rattle.lease_coherence.proofs.beliefs.Sent.{off_fresh, off_trust}
@@ -96,10 +96,6 @@ unfolding with_opens
 lease_stays server opens key some = if_cases (λ l. l ≡ server.leases key) (list_any (has_key key) opens)
     (server.leases key) no_lease (λ there. refl) (λ none. clash (list_any (has_key key) opens) some none)
 
-flip : (b : Bool) → b ≡ false → not b ≡ true
-flip true e = let x : ⊥ = cc in absurd x
-flip false e = refl
-
 -- ---- opens that aren't connected
 
 pub dropped_trusted : (world : World) (c : ℕ) (test : Open → Bool)
@@ -117,7 +113,7 @@ dropped_trusted world c test away s own t =
       anchors = λ file fresh was. ⊎_elim (λ zero. inl zero)
           (λ a. inr (anchor_stays world server world.replies world.past c file refl a
           (among_filtered (λ o. not (test o)) a.opened.one world.server.opens a.opened.there
-          (flip (test a.opened.one) (not_true (test a.opened.one)
+          (false_not (test a.opened.one) (not_true (test a.opened.one)
           (λ x. clash (a.opened.one).connected a.opened.up (away a.opened.one x))))))) was.anchor;
     }) s own t
 
@@ -149,7 +145,7 @@ closed_trusted world off c file_id source s own t =
           (λ a. let one = a.anchored.opened.one in
           inr (anchor_stays off server replies past c file refl a.anchored
           (among_filtered (λ o. not (test o)) one off.server.opens a.anchored.opened.there
-          (flip (one.file_id == file_id)
+          (false_not (one.file_id == file_id)
           (apart one.file_id file_id (λ e. a.stays (sym e ∙ a.anchored.opened.id)))))))
           (off_anchors world off c file (FileRequest.Close file_id) source
           (t.files file (off_fresh world off c file (FileRequest.Close file_id) source fresh)));
@@ -173,7 +169,7 @@ timer_trusted world c file s own t =
       anchors = λ at fresh was. ⊎_elim (λ zero. inl zero)
           (λ a. inr (anchor_stays world server world.replies past c at refl a
           (among_filtered (λ o. not (has_key key o)) a.opened.one world.server.opens a.opened.there
-          (flip (has_key key a.opened.one) (not_true (has_key key a.opened.one) (λ has. none_other at a fresh has))))))
+          (false_not (has_key key a.opened.one) (not_true (has_key key a.opened.one) (λ has. none_other at a fresh has))))))
           was.anchor;
     }) s (λ one there by. own one (among_filter (λ o. not (has_key key o)) one world.server.opens there).0 by) t
   where

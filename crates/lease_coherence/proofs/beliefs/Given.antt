@@ -19,6 +19,7 @@ use Rattle.lease_laws.proofs.server.Keys.{put_key-cases, key_eq-refl}
 use Rattle.lease_laws.proofs.server.Lists.{if_cases, either, clash, among_before}
 use Rattle.lease_coherence.proofs.moves.Deeds.{granted_in, granted_reply, reconnected_in, reconnected_reply}
 use Rattle.lease_coherence.proofs.moves.Foreign.{map_kept}
+use Rattle.lease_coherence.proofs.standing.Servers.{again_up}
 use Rattle.lease_coherence.proofs.beliefs.Grants.{writes_read, given_holds, given_none, grant_reads, grant_settled, grant_breaking, grant_keeps}
 use Rattle.lease_coherence.proofs.beliefs.Leases.{plain_sent, settled_changed}
 use Rattle.lease_coherence.proofs.beliefs.Sent.{LeaseBears, sent_trusted}
@@ -61,14 +62,14 @@ lease_bears off c file access share asked sound free at fresh same b =
     (grant_settled off.server key file asked.state settled) b)
 
 grant_bears : (off : World) (c file : ℕ) (access : Access) (share : Share) (ask : CreateAsk) (asked : LeaseOf)
-    → ask.lease ≡ Some asked → asked.key ≡ lease_key (off.clients c).guid file → IsSound off.server
+    → asked.key ≡ lease_key (off.clients c).guid file → IsSound off.server
     → IsFree off.server.opens off.server.leases (Some (key_of c asked.key)) file access share → (at : ℕ)
     → off.server.expired (machine_key off c at) ≡ false
     → LeaseBears off (granted_in off c file access share (record ask { lease = Some asked })
     (lease_granted off.server (key_of c asked.key) file asked.state)) c
     (granted_reply off.server file (record ask { lease = Some asked })
     (lease_granted off.server (key_of c asked.key) file asked.state)) at
-grant_bears off c file access share ask asked e named sound free at fresh b =
+grant_bears off c file access share ask asked named sound free at fresh b =
     let key = key_of c asked.key in
     let lease = lease_granted off.server key file asked.state in
     let own = file_key off c at in
@@ -103,7 +104,7 @@ granted_trusted off c file access share ask asked e named sound free t = subst
       kept = λ x own up a. among_before x off.server.opens (one ∷ []) a;
       expired = refl;
       replies = put_same off.replies c (off.replies c ++ reply ∷ []);
-    }) tt (grant_bears off c file access share ask asked e named sound f) t) free
+    }) tt (grant_bears off c file access share ask asked named sound f) t) free
 
 -- ---- a durable open
 
@@ -118,7 +119,7 @@ reconnected_trusted off c file ask file_id asked e named sound t = subst
       machine = refl;
       requests = refl;
       held = refl;
-      kept = λ x own up a. map_kept (connected_again file_id) x off.server.opens (stays x up) a;
+      kept = λ x own up a. map_kept (connected_again file_id) x off.server.opens (again_up file_id x up) a;
       expired = refl;
       replies = put_same off.replies c (off.replies c ++ reply ∷ []);
     }) tt (λ at fresh b. plain_sent (file_key off c at) at (off.server.leases (machine_key off c at))
@@ -144,7 +145,3 @@ reconnected_trusted off c file ask file_id asked e named sound t = subst
           in_progress =
               is_breaking (off.server.leases (key_of c asked.key));
         }))
-
-    stays : (o : Open) → o.connected ≡ true → connected_again file_id o ≡ o
-    stays o up = if_cases (λ x. x ≡ o) (o.file_id == file_id) (record o { connected = true }) o
-        (λ same. ap (λ b. record o { connected = b }) (sym up)) (λ other. refl)

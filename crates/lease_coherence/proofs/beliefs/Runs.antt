@@ -33,7 +33,7 @@ use Rattle.lease_coherence.proofs.moves.Foreign.{IsUnmoved}
 use Rattle.lease_coherence.proofs.moves.Own.{IsOwnMoved}
 use Rattle.lease_coherence.proofs.names.Names.{off_named}
 use Rattle.lease_coherence.proofs.standing.AllRuns.{HasStructure}
-use Rattle.lease_coherence.proofs.standing.Runs.{standing_moves, was_up, gone_standing}
+use Rattle.lease_coherence.proofs.standing.Runs.{link_of, standing_moves, was_up, gone_standing}
 use Rattle.lease_coherence.proofs.beliefs.Acked.{failed_trusted, done_trusted, held_trusted}
 use Rattle.lease_coherence.proofs.beliefs.Anchors.{AnchorsOn, commands_anchor, takes_anchor}
 use Rattle.lease_coherence.proofs.beliefs.Clients.{BelievesOn, TakesBelief, commands_believe, takes_believe}
@@ -208,8 +208,3 @@ trust_moves = record {
       (noticed (world.clients c)))
       ∙ ap is_up (put_same world.links c Link.Down)));
 }
-  where
-    link_of : (world off : World) (c : ℕ) (request : FileRequest) → IsSource world off c request
-        → is_up (off.links c) ≡ true → is_up (world.links c) ≡ true
-    link_of world off c request source up =
-        ap (λ (l : ℕ → Link). is_up (l c)) (sym (off_rest world off c request source).1.0) ∙ up

@@ -75,6 +75,10 @@ unmoved_then a b c client h k = record {
 pub apart : (a b : ℕ) → a ≢ b → (a == b) ≡ false
 apart a b ne = not_true (a == b) (λ e. ne (eqb-true a b e))
 
+pub false_not : (b : Bool) → b ≡ false → not b ≡ true
+false_not true e = let x : ⊥ = cc in absurd x
+false_not false e = refl
+
 -- one of another client is taken off, or put behind
 pub filter_off : (test : Held → Bool) (before behind : List Held) (one : Held) → test one ≡ false
     → filter test (before ++ behind) ≡ filter test (before ++ one ∷ behind)
@@ -216,12 +220,8 @@ pub unmoved_without : (world : World) (test : Open → Bool) (c : ℕ)
     → ((one : Open) → one.client ≡ c → Among one world.server.opens → test one ≡ false)
     → IsUnmoved world (without_opens world test) c
 unmoved_without world test c law stays = unmoved_opens world (without test world.server.opens) c law
-    (λ one own a. among_filtered (λ x. not (test x)) one world.server.opens a (flip (test one) (stays one own a)))
+    (λ one own a. among_filtered (λ x. not (test x)) one world.server.opens a (false_not (test one) (stays one own a)))
     (λ one own a. (among_filter (λ x. not (test x)) one world.server.opens a).0)
-  where
-    flip : (b : Bool) → b ≡ false → not b ≡ true
-    flip true e = let x : ⊥ = cc in absurd x
-    flip false e = refl
 
 -- a lease of another
 pub unmoved_leased : (world : World) (key : Key) (lease : Lease) (reply : Reply) (c : ℕ) → key.client ≢ c

@@ -38,7 +38,7 @@ use Rattle.lease_laws.proofs.world.Runs.{stepped_server, stepped_clients}
 use Rattle.lease_coherence.specs.Creates.{held_by}
 use Rattle.lease_coherence.proofs.moves.Deeds.{HasDeeds, IsSource, step_deed, told_to, granted_in, reconnected_in, changed_in, without_opens, leased_in, held_in}
 use Rattle.lease_coherence.proofs.moves.Events.{Ground, IsMoved, cut_off, timed_out, come_back, connected, reply_gone, reply_taken, noticed_by, strayed}
-use Rattle.lease_coherence.proofs.moves.Foreign.{IsUnmoved, unmoved_same, unmoved_then, apart, key_client, filter_last, filter_twice, unmoved_off, off_ground, unmoved_told, unmoved_popped, unmoved_held, unmoved_without, unmoved_leased, unmoved_granted, unmoved_mapped, unmoved_content}
+use Rattle.lease_coherence.proofs.moves.Foreign.{false_not, IsUnmoved, unmoved_same, unmoved_then, apart, key_client, filter_last, filter_twice, unmoved_off, off_ground, unmoved_told, unmoved_popped, unmoved_held, unmoved_without, unmoved_leased, unmoved_granted, unmoved_mapped, unmoved_content}
 use Rattle.lease_coherence.proofs.moves.Frames.{stepped_past, stepped_requests, stepped_replies}
 use Rattle.lease_coherence.proofs.moves.Ground.{moved_past}
 use Rattle.lease_coherence.proofs.moves.Moves.{IsOldest, popped}
@@ -248,7 +248,7 @@ unmoved_cut world client c g ne =
       requests = put_other world.requests client [] c (λ e. ne (sym e));
       replies = put_other world.replies client [] c (λ e. ne (sym e));
       held = λ file. filter_twice (λ h. h.client == c) (λ h. not (h.client == client)) (world.server.held file)
-          (λ h mine. flip (h.client == client)
+          (λ h mine. false_not (h.client == client)
           (apart h.client client (λ e. ne (sym e ∙ eqb-true h.client c mine))));
       kept = λ one own a. off.kept one own (lost.kept one own a);
       from = λ one own a. lost.from one own (off.from one own a);
@@ -256,10 +256,6 @@ unmoved_cut world client c g ne =
       expired = lost.expired;
     }
   where
-    flip : (b : Bool) → b ≡ false → not b ≡ true
-    flip true e = let x : ⊥ = cc in absurd x
-    flip false e = refl
-
     chosen_other : (one : Open) → (one.client == client) ≡ false → disconnected client one ≡ one
     chosen_other one e = if_cases (λ o. o ≡ one) (one.client == client) (record one { connected = false }) one
         (λ same. clash (one.client == client) same e) (λ other. refl)

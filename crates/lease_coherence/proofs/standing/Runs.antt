@@ -389,6 +389,12 @@ given_gone world c queue (_) w = w
 
 -- ---- all moves
 
+-- the link was up where the request came from
+pub link_of : (world off : World) (c : ℕ) (request : FileRequest) → IsSource world off c request
+    → is_up (off.links c) ≡ true → is_up (world.links c) ≡ true
+link_of world off c request source up =
+    ap (λ (l : ℕ → Link). is_up (l c)) (sym (off_rest world off c request source).1.0) ∙ up
+
 abbrev pub HasCreates : World → Type 0
 HasCreates = Both HasNames (OfGood IsCountedAt)
 
@@ -458,11 +464,6 @@ standing_moves = record {
       ∙ ap is_up (put_same world.links c Link.Down)));
 }
   where
-    link_of : (world off : World) (c : ℕ) (request : FileRequest) → IsSource world off c request
-        → is_up (off.links c) ≡ true → is_up (world.links c) ≡ true
-    link_of world off c request source up =
-        ap (λ (l : ℕ → Link). is_up (l c)) (sym (off_rest world off c request source).1.0) ∙ up
-
     fits_off : (world off : World) (c : ℕ) (request : FileRequest) → IsSource world off c request
         → IsStandingAt world c → AskFits (off.clients c) (Request.OnFile request)
     fits_off world off c request source s =

@@ -29,7 +29,7 @@ use Rattle.lease_coherence.specs.Standing.{AllAsked, AskFits, FitsPhase, GivenWe
 use Rattle.lease_coherence.proofs.creates.Creates.{off_rest}
 use Rattle.lease_coherence.proofs.moves.Deeds.{IsSource, told_to, with_held, granted_in, granted_reply, reconnected_in, reconnected_reply, changed_in, without_opens, leased_in, held_in}
 use Rattle.lease_coherence.proofs.moves.Events.{timed_out}
-use Rattle.lease_coherence.proofs.moves.Foreign.{IsUnmoved, map_kept, apart}
+use Rattle.lease_coherence.proofs.moves.Foreign.{false_not, IsUnmoved, map_kept, apart}
 use Rattle.lease_coherence.proofs.moves.Frames.{lease_put_rest}
 use Rattle.lease_coherence.proofs.moves.Moves.{IsOldest, popped}
 use Rattle.lease_coherence.proofs.names.Names.{IsCountedOff, awaits_parts}
@@ -222,6 +222,11 @@ granted_standing off c file access share ask counted n fits none s =
       fits = new_fits off c file counted n (sym fits ∙ none);
     }) s
 
+-- one that is connected stays as it is
+pub again_up : (file_id : ℕ) (one : Open) → one.connected ≡ true → connected_again file_id one ≡ one
+again_up file_id one up = if_cases (λ x. x ≡ one) (one.file_id == file_id) (record one { connected = true }) one
+    (λ same. ap (λ b. record one { connected = b }) (sym up)) (λ other. refl)
+
 -- an open that is connected again
 pub reconnected_standing : (off : World) (c file : ℕ) (access : Access) (share : Share) (ask : CreateAsk) (file_id : ℕ)
     → AskFits (off.clients c) (Request.OnFile (FileRequest.Create file access share (Some ask)))
@@ -231,7 +236,7 @@ reconnected_standing off c file access share ask file_id fits again waits s =
     let new = reconnected_in off c file ask file_id in
     let parts = awaits_parts c file (own_key c ask.lease) file_id waits.one waits.waits in
     let f : IsFrame off new c = frame_same off new c refl refl
-    (λ o own up a. map_kept (connected_again file_id) o off.server.opens (stays o up) a)
+    (λ o own up a. map_kept (connected_again file_id) o off.server.opens (again_up file_id o up) a)
     (λ P a. record { queued = a.queued; held = a.held }) in
     given_more off new c (reconnected_reply off.server c file ask file_id) f refl (record {
       stands = inr (again_there waits.one parts.0 parts.1.0 parts.1.1 waits.is_there);
@@ -239,10 +244,6 @@ reconnected_standing off c file access share ask file_id fits again waits s =
       fits = (by_phase ((off.clients c).entries file).phase refl (sym fits ∙ again)).1;
     }) s
   where
-    stays : (o : Open) → o.connected ≡ true → connected_again file_id o ≡ o
-    stays o up = if_cases (λ x. x ≡ o) (o.file_id == file_id) (record o { connected = true }) o
-        (λ same. ap (λ b. record o { connected = b }) (sym up)) (λ other. refl)
-
     some_same : (m n : ℕ) → Some m ≡ Some n → n ≡ m
     some_same m n e = cc
 
@@ -280,10 +281,6 @@ reconnected_standing off c file access share ask file_id fits again waits s =
             (λ later. inr (mapped opens later)) x
 
 -- opens are closed by their client
-flip : (b : Bool) → b ≡ false → not b ≡ true
-flip true e = let x : ⊥ = cc in absurd x
-flip false e = refl
-
 pub closed_standing : (world off : World) (c file_id : ℕ)
     → IsSource world off c (FileRequest.Close file_id) → IsStandingAt world c
     → IsStandingAt (told_to (without_opens off (λ other. other.file_id == file_id)) c (Reply.Closed file_id)) c
@@ -296,7 +293,7 @@ closed_standing world off c file_id source s =
       machine = off_frame.machine;
       stands = λ file id n x. stands_by off new c file id refl refl
           (λ one own up same a. among_filtered (λ o. not (test o)) one off.server.opens a
-          (flip (one.file_id == file_id) (apart one.file_id file_id
+          (false_not (one.file_id == file_id) (apart one.file_id file_id
           (λ e. (asked_off (IsNoClose id) world off c (FileRequest.Close file_id) source n).1 (sym e ∙ same)))))
           (off_frame.stands file id n x);
       closes = λ id n. let m = off_frame.closes id n in record { queued = m.queued; held = m.held };
@@ -315,7 +312,7 @@ dropped_standing world c test away s =
     let new = without_opens world test in
     let f : IsFrame world new c = frame_same world new c refl refl
     (λ one own up a. among_filtered (λ o. not (test o)) one world.server.opens a
-    (flip (test one) (not_true (test one) (λ t. clash one.connected up (away one t)))))
+    (false_not (test one) (not_true (test one) (λ t. clash one.connected up (away one t)))))
     (λ P a. record { queued = a.queued; held = a.held }) in
     framed_at world new c f
     (each_weaker (GivenWell world c) (GivenWell new c) (world.replies c) (λ r w. framed_given world new c f r w) s.given) s
@@ -371,7 +368,7 @@ timer_standing world c file n s =
           (λ other. inr (record {
             one = o.one;
             there = among_filtered (λ y. not (has_key key y)) o.one world.server.opens o.there
-                (flip (has_key key o.one) other);
+                (false_not (has_key key o.one) other);
             id = o.id;
             by = o.by;
             on_file = o.on_file;
