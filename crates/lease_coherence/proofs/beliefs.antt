@@ -1,5 +1,6 @@
 pub mod Acked
 pub mod Anchors
+pub mod Between
 pub mod Clients
 pub mod Closed
 pub mod Entries

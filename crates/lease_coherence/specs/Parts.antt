@@ -2,7 +2,7 @@
 use Rattle.std.specs.Prelude.{◌≡◌, ℕ, true, false, List, reverse}
 use Rattle.lease_model.specs.records.Facts.{Fact}
 use Rattle.lease_model.specs.records.Past.{has_strayed}
-use Rattle.lease_model.specs.records.Safe.{EachFact, WellFormed, OneWriteCache, NoFalseDone}
+use Rattle.lease_model.specs.records.Safe.{EachFact, EachBeginning, WellFormed, OneWriteCache, NoFalseDone}
 use Rattle.lease_model.specs.world.Allowed.{is_allowed_setup}
 use Rattle.lease_model.specs.world.Events.{Event, after, recorded}
 use Rattle.lease_model.specs.world.World.{World, Setup, first_world}
@@ -23,9 +23,10 @@ RunsAreWellFormed = InRuns WellFormed
 abbrev pub NothingIsFalselyDone : Type 0
 NothingIsFalselyDone = InRuns NoFalseDone
 
--- Wherever a run's events lead, where a client may cache writes of a file, as the record tells, no other caches it.
+-- At every place of every record: where a client may cache writes of a file, no other caches it.
 abbrev pub RunsHaveOneWriteCache : Type 0
-RunsHaveOneWriteCache = (setup : Setup) (events : List Event) → OneWriteCache (after (first_world setup) events).past
+RunsHaveOneWriteCache = (setup : Setup) (events : List Event)
+    → EachBeginning OneWriteCache (reverse (recorded setup events))
 
 -- ---- what every run has, of each client that hasn't strayed
 

@@ -7,9 +7,9 @@ pub fn runs_are_well_formed()
     ensures facts { RunsAreWellFormed }
 {}
 
-/// Wherever the events of a run lead, with no premise: where a client that the server has, that never strayed and let no
-/// break timer run out since it connected, believes that it may cache writes of a file, as the record tells, no other such
-/// client believes that it may cache anything of that file. Does nothing.
+/// At every place of the record of every run, with no premise: where a client that the server has, that never strayed and
+/// let no break timer run out since it connected, believes that it may cache writes of a file, no other such client
+/// believes that it may cache anything of that file. Does nothing.
 pub fn runs_have_one_write_cache()
     ensures facts { RunsHaveOneWriteCache }
 {}

@@ -26,7 +26,6 @@ use Rattle.lease_coherence.specs.Names.{Each, IsNamedAt, IsOwnCreate}
 use Rattle.lease_coherence.specs.Standing.{IsStandingAt}
 use Rattle.lease_coherence.proofs.clients.Commands.{any_command}
 use Rattle.lease_coherence.proofs.clients.Takes.{any_reply}
-use Rattle.lease_coherence.proofs.creates.Creates.{off_rest}
 use Rattle.lease_coherence.proofs.moves.Deeds.{IsSource}
 use Rattle.lease_coherence.proofs.moves.Events.{reply_gone, reply_taken}
 use Rattle.lease_coherence.proofs.moves.Foreign.{IsUnmoved}

@@ -3,13 +3,13 @@ use Rattle.std.proofs.Common.{◌≡◌, ◌≢◌, ⊎_elim, ℕ, true, false, 
 use Rattle.lease_state.specs.State.{State, nothing_cached}
 use Rattle.lease_model.specs.client.State.{LiveEntry, Phase, belief, belief_in}
 use Rattle.lease_model.specs.records.Past.{has_strayed, is_good, is_served}
+use Rattle.lease_model.specs.records.Safe.{OneWriteCache}
 use Rattle.lease_model.specs.world.Events.{Event, after, machine_key}
 use Rattle.lease_model.specs.world.World.{World, Setup, first_world}
 use Rattle.lease_laws.specs.world.Links.{is_up}
 use Rattle.lease_laws.proofs.server.Lists.{clash, and_parts, not_parts, not_true}
 use Rattle.lease_laws.proofs.world.Beliefs.{beliefs_of_runs}
 use Rattle.lease_laws.proofs.world.Timers.{timers_are_told}
-use Rattle.lease_coherence.specs.Parts.{RunsHaveOneWriteCache}
 use Rattle.lease_coherence.specs.Standing.{IsOpenFor, IsStandingAt, PhaseStands}
 use Rattle.lease_coherence.proofs.moves.Events.{IsCarried, Both, carried_both, runs_have}
 use Rattle.lease_coherence.proofs.moves.Foreign.{key_client}
@@ -78,11 +78,11 @@ one_writer world v file c other ne good up fresh w fine on unexpired =
     (v.0.0.0.0.fine.sound.one_writer (machine_key world c file) mine.one theirs.one held.1 mine.there has theirs.there
     (theirs.on_file ∙ sym mine.on_file)))))
 
--- ---- every run
+-- ---- after each event
 
-pub runs_have_one_write_cache : RunsHaveOneWriteCache
+pub after_one_write_cache : (setup : Setup) (events : List Event) → OneWriteCache (after (first_world setup) events).past
 unfolding is_good
-runs_have_one_write_cache setup events file client other ne good w fine =
+after_one_write_cache setup events file client other ne good w fine =
     let world = after (first_world setup) events in
     let v = run_beliefs setup events in
     let parts = and_parts (not (has_strayed client world.past)) (is_served client world.past) good in

@@ -1,5 +1,5 @@
 -- The notes of a client name files that it knows, and writes that end within the limit.
-use Rattle.std.proofs.Common.{◌≡◌, ℕ, Bool, true, false, List, [], ◌∷◌, ◌++◌, flat_map, refl, sym, ◌∙◌, inl, inr, ◌==◌}
+use Rattle.std.proofs.Common.{◌≡◌, ℕ, Bool, true, false, List, [], ◌∷◌, ◌++◌, flat_map, refl, sym, ap, ◌∙◌, inl, inr, ◌==◌}
 use Rattle.std.specs.Prelude.{⊤, ◌&&◌, not, if◌then◌else◌}
 use Rattle.lease_state.specs.State.{State}
 use Rattle.lease_state.specs.declared.access.Access.{Access}
@@ -8,7 +8,7 @@ use Rattle.lease_state.specs.declared.status.Status.{Status}
 use Rattle.lease_model.specs.client.Calls.{ClientCall, client_called}
 use Rattle.lease_model.specs.client.Commands.{Note, Settlement}
 use Rattle.lease_model.specs.client.Connection.{all_turned, noticed, connection_made, notice_turn, connect_turn, live_noticed, live_parted}
-use Rattle.lease_model.specs.client.State.{Client, Entry, LiveEntry, Parted, Pending, Phase, belief_of, knows_file, lease_key}
+use Rattle.lease_model.specs.client.State.{Client, Entry, LiveEntry, Parted, Pending, Phase, belief, belief_of, knows_file, lease_key}
 use Rattle.lease_model.specs.client.Step.{Step, Turn, turned, believes_noted, settled_as}
 use Rattle.lease_model.specs.client.Commanded.{cached_read, opened_anew, write_buffered, write_sent, flush_on_live}
 use Rattle.lease_model.specs.client.Taken.{read_failed_turn, is_file_closed, closed_by_server, write_failed_in, is_key_of, break_turn, parked_closed, belief_lowered, opened_turn, reconnected_turn, promoted_turn, promoted_belief, first_belief, read_turn, write_done_turn, sent_without}
@@ -16,9 +16,11 @@ use Rattle.lease_model.specs.messages.Replies.{BreakNotice}
 use Rattle.lease_model.specs.values.LeaseStates.{same_state, meet}
 use Rattle.lease_model.specs.values.Lists.{numbers_to}
 use Rattle.lease_model.specs.values.Patches.{is_within_limit}
+use Rattle.lease_model.specs.values.Tables.{put}
 use Rattle.lease_laws.specs.client.Laws.{IsSoundClient}
 use Rattle.lease_laws.specs.server.Laws.{Among}
 use Rattle.lease_laws.proofs.client.InFiles.{numbers_known, found_known}
+use Rattle.lease_laws.proofs.client.Thin.{put_same}
 use Rattle.lease_laws.proofs.server.Lists.{if_cases, not_false}
 use Rattle.lease_coherence.proofs.clients.Commands.{HasCommands, any_command, sent_of}
 use Rattle.lease_coherence.proofs.clients.Takes.{HasTakes, any_reply}
@@ -32,32 +34,50 @@ pub notes_append : (P : Note → Type 0) (notes more : List Note) → EachNote P
 notes_append P [] more each others = others
 notes_append P (note ∷ notes) more each others = (each.0, notes_append P notes more each.1 others)
 
-abbrev pub IsFineNote : Client → Note → Type 0
-IsFineNote client (Note.Settled number outcome) = ⊤
-IsFineNote client (Note.Wrote file number patch buffered) =
+-- of a step of the client that leads to `after`
+abbrev pub IsFineNote : Client → Client → Note → Type 0
+IsFineNote client after (Note.Settled number outcome) = ⊤
+IsFineNote client after (Note.Wrote file number patch buffered) =
     (knows_file client file ≡ true) × (is_within_limit patch ≡ true)
-IsFineNote client (Note.Believes file state) = knows_file client file ≡ true
-IsFineNote client (Note.CachedRead file bytes) = knows_file client file ≡ true
+IsFineNote client after (Note.Believes file state) = (knows_file client file ≡ true) × (state ≡ belief after file)
+IsFineNote client after (Note.CachedRead file bytes) = knows_file client file ≡ true
 
-pub settled_fine : (client : Client) (outcome : Settlement) (writes : List Pending)
-    → EachNote (IsFineNote client) (settled_as outcome writes)
-settled_fine client outcome [] = tt
-settled_fine client outcome (write ∷ writes) = (tt, settled_fine client outcome writes)
+-- a note that settles a write
+abbrev IsSettling : Note → Type 0
+IsSettling (Note.Settled number outcome) = ⊤
+IsSettling note = ⊥
 
-believed_fine : (client : Client) (file : ℕ) (old new : State) → knows_file client file ≡ true
-    → EachNote (IsFineNote client) (believes_noted file old new)
-believed_fine client file old new known = if_cases (EachNote (IsFineNote client)) (same_state old new) []
-    (Note.Believes file new ∷ []) (λ same. tt) (λ other. (known, tt))
+settling_fine : (client after : Client) (notes : List Note) → EachNote IsSettling notes
+    → EachNote (IsFineNote client after) notes
+settling_fine client after [] each = tt
+settling_fine client after (Note.Settled number outcome ∷ notes) each = (tt, settling_fine client after notes each.1)
+settling_fine client after (Note.Wrote file number patch buffered ∷ notes) each = absurd each.0
+settling_fine client after (Note.Believes file state ∷ notes) each = absurd each.0
+settling_fine client after (Note.CachedRead file bytes ∷ notes) each = absurd each.0
+
+settles : (outcome : Settlement) (writes : List Pending)
+    → EachNote IsSettling (settled_as outcome writes)
+settles outcome [] = tt
+settles outcome (write ∷ writes) = (tt, settles outcome writes)
+
+believed_fine : (client after : Client) (file : ℕ) (old new : State) → knows_file client file ≡ true
+    → new ≡ belief after file → EachNote (IsFineNote client after) (believes_noted file old new)
+believed_fine client after file old new known is = if_cases (EachNote (IsFineNote client after)) (same_state old new) []
+    (Note.Believes file new ∷ []) (λ same. tt) (λ other. ((known, is), tt))
 
 -- a turn that settles writes
 turned_fine : (client : Client) (file : ℕ) (turn : Turn) → knows_file client file ≡ true
-    → EachNote (IsFineNote client) turn.settled → EachNote (IsFineNote client) (turned client file turn).notes
+    → EachNote IsSettling turn.settled
+    → EachNote (IsFineNote client (turned client file turn).client) (turned client file turn).notes
 unfolding turned
-turned_fine client file turn known each = notes_append (IsFineNote client) turn.settled _ each
-    (believed_fine client file (belief_of (client.entries file)) (belief_of turn.entry) known)
+turned_fine client file turn known each =
+    let after : Client = record client { entries = put client.entries file turn.entry } in
+    notes_append (IsFineNote client after) turn.settled _ (settling_fine client after turn.settled each)
+    (believed_fine client after file (belief_of (client.entries file)) (belief_of turn.entry) known
+    (ap belief_of (sym (put_same client.entries file turn.entry))))
 
 abbrev HasFineNotes : Client → Step → Type 0
-HasFineNotes client step = EachNote (IsFineNote client) step.notes
+HasFineNotes client step = EachNote (IsFineNote client step.client) step.notes
 
 commands_fine : (client : Client) → HasCommands client (HasFineNotes client)
 unfolding cached_read opened_anew write_buffered write_sent flush_on_live
@@ -84,35 +104,34 @@ known_open client file s open_phase =
     not_false (knows_file client file) (λ unknown. open_phase (s.in_files file unknown))
 
 read_failed_fine : (client : Client) (file : ℕ) (live : LiveEntry) (status : Status) → knows_file client file ≡ true
-    → EachNote (IsFineNote client)
+    → EachNote (IsFineNote client (turned client file (read_failed_turn live (sent_of client file) status)).client)
     (turned client file (read_failed_turn live (sent_of client file) status)).notes
 unfolding read_failed_turn closed_by_server
 read_failed_fine client file live status known = turned_fine client file _ known
-    (if_cases (λ (t : Turn). EachNote (IsFineNote client) t.settled) (is_file_closed status) _ _
-    (λ gone. settled_fine client Settlement.Failed live.unsent) (λ there. tt))
+    (if_cases (λ (t : Turn). EachNote IsSettling t.settled) (is_file_closed status) _ _ (λ gone. settles Settlement.Failed live.unsent) (λ there. tt))
 
-write_failed_fine : (client : Client) (file_id number : ℕ) (status : Status) (sent : List Pending) (phase : Phase)
-    → EachNote (IsFineNote client) (write_failed_in file_id number status sent phase).settled
+write_failed_settles : (file_id number : ℕ) (status : Status) (sent : List Pending) (phase : Phase)
+    → EachNote IsSettling (write_failed_in file_id number status sent phase).settled
 unfolding closed_by_server
-write_failed_fine client file_id number status sent Phase.Closed = (tt, tt)
-write_failed_fine client file_id number status sent (Phase.Opening access share) = (tt, tt)
-write_failed_fine client file_id number status sent (Phase.Live live) =
-    if_cases (λ (t : Turn). EachNote (IsFineNote client) t.settled)
+write_failed_settles file_id number status sent Phase.Closed = (tt, tt)
+write_failed_settles file_id number status sent (Phase.Opening access share) = (tt, tt)
+write_failed_settles file_id number status sent (Phase.Live live) =
+    if_cases (λ (t : Turn). EachNote IsSettling t.settled)
     (is_file_closed status && live.file_id == file_id) _ _
-    (λ gone. (tt, settled_fine client Settlement.Failed live.unsent)) (λ there. (tt, tt))
-write_failed_fine client file_id number status sent (Phase.Offline parted) = (tt, tt)
-write_failed_fine client file_id number status sent (Phase.Reconnecting parted) = (tt, tt)
+    (λ gone. (tt, settles Settlement.Failed live.unsent)) (λ there. (tt, tt))
+write_failed_settles file_id number status sent (Phase.Offline parted) = (tt, tt)
+write_failed_settles file_id number status sent (Phase.Reconnecting parted) = (tt, tt)
 
-break_fine : (client : Client) (live : LiveEntry) (sent : List Pending) (notice : BreakNotice) (new : State)
-    → EachNote (IsFineNote client) (break_turn live sent notice new).settled
+break_settles : (live : LiveEntry) (sent : List Pending) (notice : BreakNotice) (new : State)
+    → EachNote IsSettling (break_turn live sent notice new).settled
 unfolding break_turn parked_closed belief_lowered
-break_fine client live sent notice new = if_cases (λ (t : Turn). EachNote (IsFineNote client) t.settled)
+break_settles live sent notice new = if_cases (λ (t : Turn). EachNote IsSettling t.settled)
     (live.handles == 0 && (live.belief.handle && not new.handle)) _ _ (λ parked. tt) (λ stays. tt)
 
-either_fine : (client : Client) (b : Bool) (outcome : Settlement) (writes : List Pending)
-    → EachNote (IsFineNote client) (if b then [] else settled_as outcome writes)
-either_fine client b outcome writes = if_cases (EachNote (IsFineNote client)) b [] (settled_as outcome writes)
-    (λ keeps. tt) (λ loses. settled_fine client outcome writes)
+either_settles : (b : Bool) (outcome : Settlement) (writes : List Pending)
+    → EachNote IsSettling (if b then [] else settled_as outcome writes)
+either_settles b outcome writes = if_cases (EachNote IsSettling) b [] (settled_as outcome writes)
+    (λ keeps. tt) (λ loses. settles outcome writes)
 
 takes_fine : (client : Client) → IsSoundClient client → HasTakes client (λ reply step. HasFineNotes client step)
 unfolding opened_turn reconnected_turn promoted_turn read_turn write_done_turn
@@ -120,19 +139,19 @@ takes_fine client s = record {
   passed = λ reply why. tt;
   broken = λ file notice live at is. turned_fine client file _
       (found_known client (is_key_of client notice.key) file at)
-      (break_fine client live (sent_of client file) notice (meet live.belief notice.lowered));
+      (break_settles live (sent_of client file) notice (meet live.belief notice.lowered));
   opened = λ file file_id answer access share is. turned_fine client file _ (open_known file (λ e. no_opening access share (sym is ∙ e))) tt;
   reconnected = λ file file_id answer parted is. turned_fine client file _
       (open_known file (λ e. no_parted parted (sym is ∙ e)))
-      (either_fine client (first_belief client file answer).write Settlement.Lost parted.writes);
+      (either_settles (first_belief client file answer).write Settlement.Lost parted.writes);
   promoted = λ file file_id answer live asked is asks. turned_fine client file _
       (open_known file (λ e. no_live live (sym is ∙ e)))
-      (either_fine client (promoted_belief (lease_key client.guid file) live.belief answer.lease).write
+      (either_settles (promoted_belief (lease_key client.guid file) live.belief answer.lease).write
       Settlement.Failed live.unsent);
   not_opened = λ file status access share is. turned_fine client file _
       (open_known file (λ e. no_opening access share (sym is ∙ e))) tt;
   not_reconnected = λ file status parted is. turned_fine client file _
-      (open_known file (λ e. no_parted parted (sym is ∙ e))) (settled_fine client Settlement.Lost parted.writes);
+      (open_known file (λ e. no_parted parted (sym is ∙ e))) (settles Settlement.Lost parted.writes);
   not_promoted = λ file status live asked is asks. turned_fine client file _
       (open_known file (λ e. no_live live (sym is ∙ e))) tt;
   read = λ file file_id bytes live is id some. turned_fine client file _
@@ -141,7 +160,7 @@ takes_fine client s = record {
       (open_known file (λ e. no_live live (sym is ∙ e)));
   written = λ file file_id number at known. turned_fine client file _ known (tt, tt);
   not_written = λ file file_id number status at known. turned_fine client file _ known
-      (write_failed_fine client file_id number status (sent_without number (sent_of client file))
+      (write_failed_settles file_id number status (sent_without number (sent_of client file))
       (client.entries file).phase);
 }
   where
@@ -158,57 +177,59 @@ takes_fine client s = record {
     no_parted parted e = cc
 
 -- every entry has a turn
-each_fine : (client : Client) (turn : ℕ → Entry → Turn) (count : ℕ)
-    → ((file : ℕ) → EachNote (IsFineNote client) (turn file (client.entries file)).settled)
+each_fine : (client after : Client) (turn : ℕ → Entry → Turn)
+    → ((file : ℕ) → belief_of (turn file (client.entries file)).entry ≡ belief after file)
+    → ((file : ℕ) → EachNote IsSettling (turn file (client.entries file)).settled)
     → (files : List ℕ) → ((file : ℕ) → Among file files → knows_file client file ≡ true)
-    → EachNote (IsFineNote client) (flat_map
+    → EachNote (IsFineNote client after) (flat_map
     (λ file. (turn file (client.entries file)).settled
     ++ believes_noted file (belief_of (client.entries file)) (belief_of (turn file (client.entries file)).entry)) files)
-each_fine client turn count settled [] known = tt
-each_fine client turn count settled (file ∷ files) known = notes_append (IsFineNote client) _ _
-    (notes_append (IsFineNote client) (turn file (client.entries file)).settled _ (settled file)
-    (believed_fine client file (belief_of (client.entries file)) (belief_of (turn file (client.entries file)).entry)
-    (known file (inl refl))))
-    (each_fine client turn count settled files (λ f a. known f (inr a)))
+each_fine client after turn same settled [] known = tt
+each_fine client after turn same settled (file ∷ files) known = notes_append (IsFineNote client after) _ _
+    (notes_append (IsFineNote client after) (turn file (client.entries file)).settled _
+    (settling_fine client after (turn file (client.entries file)).settled (settled file))
+    (believed_fine client after file (belief_of (client.entries file))
+    (belief_of (turn file (client.entries file)).entry) (known file (inl refl)) (same file)))
+    (each_fine client after turn same settled files (λ f a. known f (inr a)))
 
 all_fine : (client : Client) (online : Bool) (turn : ℕ → Entry → Turn)
-    → ((file : ℕ) → EachNote (IsFineNote client) (turn file (client.entries file)).settled)
-    → EachNote (IsFineNote client) (all_turned client online turn).notes
+    → ((file : ℕ) → EachNote IsSettling (turn file (client.entries file)).settled)
+    → EachNote (IsFineNote client (all_turned client online turn).client) (all_turned client online turn).notes
 unfolding all_turned
-all_fine client online turn settled = each_fine client turn client.files settled (numbers_to client.files)
-    (λ file a. numbers_known client.files file a)
+all_fine client online turn settled = each_fine client (all_turned client online turn).client turn (λ file. refl)
+    settled (numbers_to client.files) (λ file a. numbers_known client.files file a)
 
-notice_fine : (client : Client) (sent : List Pending) (phase : Phase)
-    → EachNote (IsFineNote client) (notice_turn sent phase).settled
+notice_settles : (sent : List Pending) (phase : Phase)
+    → EachNote IsSettling (notice_turn sent phase).settled
 unfolding live_noticed live_parted
-notice_fine client sent Phase.Closed = settled_fine client Settlement.Unknown sent
-notice_fine client sent (Phase.Opening access share) = settled_fine client Settlement.Unknown sent
-notice_fine client sent (Phase.Live live) = if_cases (λ (t : Turn). EachNote (IsFineNote client) t.settled)
+notice_settles sent Phase.Closed = settles Settlement.Unknown sent
+notice_settles sent (Phase.Opening access share) = settles Settlement.Unknown sent
+notice_settles sent (Phase.Live live) = if_cases (λ (t : Turn). EachNote IsSettling t.settled)
     live.durable _ _
-    (λ lasts. if_cases (λ (t : Turn). EachNote (IsFineNote client) t.settled) live.belief.write _ _
-    (λ caches. settled_fine client Settlement.Unknown _) (λ not. settled_fine client Settlement.Unknown _))
-    (λ ends. settled_fine client Settlement.Unknown _)
-notice_fine client sent (Phase.Offline parted) = settled_fine client Settlement.Unknown sent
-notice_fine client sent (Phase.Reconnecting parted) = settled_fine client Settlement.Unknown sent
+    (λ lasts. if_cases (λ (t : Turn). EachNote IsSettling t.settled) live.belief.write _ _
+    (λ caches. settles Settlement.Unknown _) (λ not. settles Settlement.Unknown _))
+    (λ ends. settles Settlement.Unknown _)
+notice_settles sent (Phase.Offline parted) = settles Settlement.Unknown sent
+notice_settles sent (Phase.Reconnecting parted) = settles Settlement.Unknown sent
 
-connect_fine : (client : Client) (file : ℕ) (sent : List Pending) (phase : Phase)
-    → EachNote (IsFineNote client) (connect_turn client file sent phase).settled
-connect_fine client file sent Phase.Closed = tt
-connect_fine client file sent (Phase.Opening access share) = tt
-connect_fine client file sent (Phase.Live live) = tt
-connect_fine client file sent (Phase.Offline parted) = tt
-connect_fine client file sent (Phase.Reconnecting parted) = tt
+connect_settles : (client : Client) (file : ℕ) (sent : List Pending) (phase : Phase)
+    → EachNote IsSettling (connect_turn client file sent phase).settled
+connect_settles client file sent Phase.Closed = tt
+connect_settles client file sent (Phase.Opening access share) = tt
+connect_settles client file sent (Phase.Live live) = tt
+connect_settles client file sent (Phase.Offline parted) = tt
+connect_settles client file sent (Phase.Reconnecting parted) = tt
 
 -- any call
 pub call_fine : (client : Client) (call : ClientCall) → IsSoundClient client
-    → EachNote (IsFineNote client) (client_called client call).notes
+    → EachNote (IsFineNote client (client_called client call).client) (client_called client call).notes
 unfolding noticed connection_made
 call_fine client (ClientCall.Commanded command) s =
     any_command client (HasFineNotes client) (commands_fine client) command
 call_fine client (ClientCall.Taken reply) s =
     any_reply client (λ r step. HasFineNotes client step) (takes_fine client s) reply
 call_fine client ClientCall.Noticed s = all_fine client false (λ file entry. notice_turn entry.sent entry.phase)
-    (λ file. notice_fine client (client.entries file).sent (client.entries file).phase)
+    (λ file. notice_settles (client.entries file).sent (client.entries file).phase)
 call_fine client ClientCall.Connected s = all_fine client true
     (λ file entry. connect_turn client file entry.sent entry.phase)
-    (λ file. connect_fine client file (client.entries file).sent (client.entries file).phase)
+    (λ file. connect_settles client file (client.entries file).sent (client.entries file).phase)

@@ -165,21 +165,21 @@ other_writer client writer number used more ne = rw (apart) refl
     apart = not_true (writer == client) (λ e. ne (eqb-true writer client e))
 
 -- notes keep the record well formed
-noted_well : (client : ℕ) (machine : Client) (last new : ℕ) (past : List Fact) (notes : List Note)
+noted_well : (client : ℕ) (machine after : Client) (last new : ℕ) (past : List Fact) (notes : List Note)
     → ((file : ℕ) → knows_file machine file ≡ true → is_started file past ≡ true)
-    → EachNote (IsFineNote machine) notes → TellNumbers last notes new
+    → EachNote (IsFineNote machine after) notes → TellNumbers last notes new
     → ((number : ℕ) → has_number client number past ≡ true → number ≤ last) → EachFact WellFormed past
     → EachFact WellFormed (past_noted client past notes)
     × ((number : ℕ) → has_number client number (past_noted client past notes) ≡ true → number ≤ new)
 unfolding is_well_formed has_number
-noted_well client machine last new past [] started fine tells low facts =
+noted_well client machine after last new past [] started fine tells low facts =
     (facts, λ number used. subst (λ n. number ≤ n) tells (low number used))
-noted_well client machine last new past (Note.Settled number outcome ∷ notes) started fine tells low facts =
-    noted_well client machine last new (Fact.Settled client number outcome ∷ past) notes
+noted_well client machine after last new past (Note.Settled number outcome ∷ notes) started fine tells low facts =
+    noted_well client machine after last new (Fact.Settled client number outcome ∷ past) notes
     (λ file k. (later_fact past (Fact.Settled client number outcome)).started file (started file k))
     fine.1 tells.1 low (refl, facts)
-noted_well client machine last new past (Note.Wrote file number patch buffered ∷ notes) started fine tells low facts =
-    noted_well client machine number new (Fact.Wrote client file number patch buffered ∷ past) notes
+noted_well client machine after last new past (Note.Wrote file number patch buffered ∷ notes) started fine tells low facts =
+    noted_well client machine after number new (Fact.Wrote client file number patch buffered ∷ past) notes
     (λ f k. (later_fact past (Fact.Wrote client file number patch buffered)).started f (started f k))
     fine.1 tells.1 used_low (
       and_both _ _ (and_both _ _ (started file fine.0.0) fine.0.1) (not_of (has_number client number past)
@@ -205,12 +205,12 @@ noted_well client machine last new past (Note.Wrote file number patch buffered �
       where
         same_number : (m : ℕ) → number ≡ m → m ≤ number
         same_number m e = omega (arith, e)
-noted_well client machine last new past (Note.Believes file state ∷ notes) started fine tells low facts =
-    noted_well client machine last new (Fact.Believes client file state ∷ past) notes
+noted_well client machine after last new past (Note.Believes file state ∷ notes) started fine tells low facts =
+    noted_well client machine after last new (Fact.Believes client file state ∷ past) notes
     (λ f k. (later_fact past (Fact.Believes client file state)).started f (started f k))
-    fine.1 tells low (started file fine.0, facts)
-noted_well client machine last new past (Note.CachedRead file bytes ∷ notes) started fine tells low facts =
-    noted_well client machine last new (Fact.CachedRead client file bytes ∷ past) notes
+    fine.1 tells low (started file fine.0.0, facts)
+noted_well client machine after last new past (Note.CachedRead file bytes ∷ notes) started fine tells low facts =
+    noted_well client machine after last new (Fact.CachedRead client file bytes ∷ past) notes
     (λ f k. (later_fact past (Fact.CachedRead client file bytes)).started f (started f k))
     fine.1 tells low (started file fine.0, facts)
 
@@ -237,7 +237,7 @@ stepped_well world client call sound same w =
     let step = client_called machine call in
     let next = stepped_in world client step in
     let new = past_noted client world.past step.notes in
-    let noted = noted_well client machine machine.last_number step.client.last_number world.past step.notes
+    let noted = noted_well client machine step.client machine.last_number step.client.last_number world.past step.notes
     (λ file k. w.started file (known file k)) (call_fine machine call (sound client))
     (called_tells machine call (sound client)) (w.numbers client) w.facts in
     let whole : IsWellIn new (put world.clients client step.client) world.links world.server = record {

@@ -1,4 +1,4 @@
-use Rattle.lease_coherence.proofs.beliefs.WriteCaches as caches
+use Rattle.lease_coherence.proofs.beliefs.Between as caches
 use Rattle.lease_coherence.proofs.parts.runs_have_one_write_cache.Goals as goal
 
 pub returns : goal.returns

@@ -1,0 +1,448 @@
+-- One write cache also between the facts of an event: where a client notes several beliefs, each is what it believes once
+-- the event is over, so that of each file all is believed that was believed before it, or all that is believed after it.
+use Rattle.std.proofs.Common.{◌≡◌, ◌≢◌, ◌⊎◌, inl, inr, ⊎_elim, ℕ, Bool, true, false, not, List, [], ◌∷◌, ◌++◌, Option, Some, None, refl, sym, ap, ◌∙◌, subst, true≢false, ◌==◌}
+use Rattle.std.specs.Prelude.{⊤, ◌&&◌, ◌||◌, if◌then◌else◌, reverse}
+use Rattle.std.specs.List.{list_all}
+use Rattle.std.proofs.lemmas.Bool.{eqb-true, eq-eqb}
+use Rattle.std.proofs.lemmas.List.{reverse-reverse}
+use Rattle.lease_state.specs.State.{State, nothing_cached}
+use Rattle.lease_model.specs.client.Calls.{ClientCall, client_called}
+use Rattle.lease_model.specs.client.Commands.{Note}
+use Rattle.lease_model.specs.client.State.{Client, Phase, belief, belief_in}
+use Rattle.lease_model.specs.messages.Replies.{Reply, Out}
+use Rattle.lease_model.specs.messages.Requests.{Request}
+use Rattle.lease_model.specs.records.Facts.{Fact}
+use Rattle.lease_model.specs.records.Past.{is_good, is_served, has_strayed, believed}
+use Rattle.lease_model.specs.records.Safe.{EachBeginning, OneWriteCache}
+use Rattle.lease_model.specs.server.Calls.{receive, join, cut, expire, scavenge}
+use Rattle.lease_model.specs.server.Progress.{Progress}
+use Rattle.lease_model.specs.server.Queries.{breaking, kept}
+use Rattle.lease_model.specs.server.State.{has_file}
+use Rattle.lease_model.specs.values.Tables.{put}
+use Rattle.lease_model.specs.world.Events.{Event, served, stepped_in, server_takes, client_takes, link_cut, cut_over, link_noticed, notice_over, link_connected, connect_over, machine_key, timer_expired, scavenged, strayed_over, applied, client_of, happens, after}
+use Rattle.lease_model.specs.world.World.{World, Setup, Link, first_world, has_client, happened, requests_sent, fact_of, starts_from}
+use Rattle.lease_laws.specs.client.Laws.{IsSoundClient, IsSoundPhase}
+use Rattle.lease_laws.specs.records.Runs.{is_start}
+use Rattle.lease_laws.specs.world.Links.{is_down}
+use Rattle.lease_laws.proofs.client.Thin.{put_same}
+use Rattle.lease_laws.proofs.records.Runs.{all_starts, all_reversed}
+use Rattle.lease_laws.proofs.server.Lists.{if_cases, either, clash, and_parts, and_both}
+use Rattle.lease_laws.proofs.world.Beliefs.{beliefs_of_runs}
+use Rattle.lease_laws.proofs.world.FileIds.{fact_told, told, all_delivered_past}
+use Rattle.lease_laws.proofs.world.Kept.{served-clients}
+use Rattle.lease_laws.proofs.world.Links.{by_client}
+use Rattle.lease_laws.proofs.world.Runs.{stepped_clients}
+use Rattle.lease_coherence.specs.Parts.{RunsHaveOneWriteCache}
+use Rattle.lease_coherence.proofs.beliefs.WriteCaches.{after_one_write_cache, run_beliefs}
+use Rattle.lease_coherence.proofs.moves.Frames.{stepped_past}
+use Rattle.lease_coherence.proofs.records.Later.{past_noted}
+use Rattle.lease_coherence.proofs.wellformed.Notes.{EachNote, IsFineNote, call_fine}
+
+-- ---- facts that say nothing of beliefs, and make no client good
+
+abbrev IsNeutral : Fact → Type 0
+IsNeutral (Fact.Joined client) = ⊥
+IsNeutral (Fact.Believes client file state) = ⊥
+IsNeutral fact = ⊤
+
+right_of : (a b : Bool) → (a && b) ≡ true → b ≡ true
+right_of a b e = (and_parts a b e).1
+
+neutral_served : (fact : Fact) (past : List Fact) (c : ℕ) → IsNeutral fact → is_served c (fact ∷ past) ≡ true
+    → is_served c past ≡ true
+unfolding is_served
+neutral_served (Fact.Joined client) past c n e = absurd n
+neutral_served (Fact.Believes client file state) past c n e = absurd n
+neutral_served (Fact.Dropped client) past c n e = right_of (not (client == c)) (is_served c past) e
+neutral_served (Fact.Expired client file) past c n e = right_of (not (client == c)) (is_served c past) e
+neutral_served (Fact.Start file bytes) past c n e = e
+neutral_served (Fact.Sent client) past c n e = e
+neutral_served (Fact.Took client) past c n e = e
+neutral_served (Fact.Opened file client) past c n e = e
+neutral_served (Fact.Changed file client number patch) past c n e = e
+neutral_served (Fact.Wrote client file number patch buffered) past c n e = e
+neutral_served (Fact.Settled client number outcome) past c n e = e
+neutral_served (Fact.CachedRead client file bytes) past c n e = e
+neutral_served (Fact.Strayed client) past c n e = e
+
+not_strayed : (fact : Fact) (past : List Fact) (c : ℕ) → not (has_strayed c (fact ∷ past)) ≡ true
+    → not (has_strayed c past) ≡ true
+unfolding has_strayed
+not_strayed (Fact.Strayed client) past c e = if_or (client == c) (has_strayed c past) e
+  where
+    if_or : (a b : Bool) → not (a || b) ≡ true → not b ≡ true
+    if_or true b e = let x : ⊥ = cc in absurd x
+    if_or false b e = e
+not_strayed (_) past c e = e
+
+neutral_good : (fact : Fact) (past : List Fact) (c : ℕ) → IsNeutral fact → is_good c (fact ∷ past) ≡ true
+    → is_good c past ≡ true
+unfolding is_good
+neutral_good fact past c n e = let p = and_parts (not (has_strayed c (fact ∷ past))) (is_served c (fact ∷ past)) e in
+    and_both (not (has_strayed c past)) (is_served c past) (not_strayed fact past c p.0) (neutral_served fact past c n p.1)
+
+neutral_believed : (fact : Fact) (past : List Fact) (c file : ℕ) → IsNeutral fact
+    → believed c file (fact ∷ past) ≡ believed c file past
+unfolding believed
+neutral_believed (Fact.Believes client of_file state) past c file n = absurd n
+neutral_believed (_) past c file n = refl
+
+neutral_cache : (fact : Fact) (past : List Fact) → IsNeutral fact → OneWriteCache past → OneWriteCache (fact ∷ past)
+neutral_cache fact past n o file c other ne good w fine = neutral_believed fact past other file n
+    ∙ o file c other ne (neutral_good fact past c n good)
+    (ap (λ (s : State). s.write) (sym (neutral_believed fact past c file n)) ∙ w) (neutral_good fact past other n fine)
+
+-- ---- all beginnings
+
+abbrev Always : List Fact → Type 0
+Always past = EachBeginning OneWriteCache past
+
+always_now : (past : List Fact) → Always past → OneWriteCache past
+always_now [] a = a
+always_now (fact ∷ past) a = a.0
+
+neutral_always : (fact : Fact) (past : List Fact) → IsNeutral fact → Always past → Always (fact ∷ past)
+neutral_always fact past n a = (neutral_cache fact past n (always_now past a), a)
+
+told_neutral : (out : Out) → IsNeutral (fact_told out)
+told_neutral (Out.Sent client reply) = tt
+told_neutral (Out.Opened file client) = tt
+told_neutral (Out.Changed file client number patch) = tt
+
+told_always : (past : List Fact) (outs : List Out) → Always past → Always (told past outs)
+told_always past [] a = a
+told_always past (out ∷ outs) a =
+    told_always (fact_told out ∷ past) outs (neutral_always (fact_told out) past (told_neutral out) a)
+
+served_always : (world : World) (progress : Progress) → Always world.past → Always (served world progress).past
+unfolding served
+served_always world progress a = subst Always
+    (sym (all_delivered_past (record world { server = progress.server }) progress.outs))
+    (told_always world.past progress.outs a)
+
+starts_always : (past : List Fact) → list_all is_start past ≡ true → Always past
+unfolding is_good is_served has_strayed
+starts_always [] all = λ file c other ne good. absurd (none (not (has_strayed c [])) good)
+  where
+    none : (a : Bool) → (a && false) ≡ true → ⊥
+    none true e = true≢false (sym e)
+    none false e = true≢false (sym e)
+starts_always (Fact.Start file bytes ∷ past) all = neutral_always (Fact.Start file bytes) past tt (starts_always past all)
+starts_always (_ ∷ past) all = let x : ⊥ = cc in absurd x
+
+-- ---- notes of one client
+
+-- what it notes that it believes it believes at the end
+abbrev LastsTo : ℕ → List Fact → Note → Type 0
+LastsTo c end (Note.Believes file state) = state ≡ believed c file end
+LastsTo c end note = ⊤
+
+-- two pasts say the same of a file
+abbrev SameOf : ℕ → List Fact → List Fact → Type 0
+SameOf file past other = (c : ℕ) → believed c file past ≡ believed c file other
+
+-- between `start` and `end`
+record IsBetween (start end past : List Fact) : Type 0 where
+  good : (c : ℕ) → (is_good c past ≡ is_good c start) × (is_good c past ≡ is_good c end)
+  files : (file : ℕ) → SameOf file past start ⊎ SameOf file past end
+
+same_cache : (past other : List Fact) (file : ℕ) → SameOf file past other
+    → ((c : ℕ) → is_good c past ≡ is_good c other) → OneWriteCache other → (c d : ℕ) → d ≢ c
+    → is_good c past ≡ true → (believed c file past).write ≡ true → is_good d past ≡ true
+    → believed d file past ≡ nothing_cached
+same_cache past other file same good o c d ne fine w also = same d
+    ∙ o file c d ne (sym (good c) ∙ fine) (ap (λ (s : State). s.write) (sym (same c)) ∙ w) (sym (good d) ∙ also)
+
+between_cache : (start end past : List Fact) → IsBetween start end past → OneWriteCache start → OneWriteCache end
+    → OneWriteCache past
+between_cache start end past b o p file c d ne fine w also = ⊎_elim
+    (λ same. same_cache past start file same (λ x. (b.good x).0) o c d ne fine w also)
+    (λ same. same_cache past end file same (λ x. (b.good x).1) p c d ne fine w also) (b.files file)
+
+note_good : (client : ℕ) (note : Note) (past : List Fact) (c : ℕ)
+    → is_good c (fact_of client note ∷ past) ≡ is_good c past
+unfolding is_good is_served has_strayed
+note_good client (Note.Settled number outcome) past c = refl
+note_good client (Note.Wrote file number patch buffered) past c = refl
+note_good client (Note.Believes file state) past c = refl
+note_good client (Note.CachedRead file bytes) past c = refl
+
+notes_good : (client : ℕ) (past : List Fact) (notes : List Note) (c : ℕ)
+    → is_good c (past_noted client past notes) ≡ is_good c past
+notes_good client past [] c = refl
+notes_good client past (note ∷ notes) c =
+    notes_good client (fact_of client note ∷ past) notes c ∙ note_good client note past c
+
+-- notes say nothing of what others believe
+note_others : (client : ℕ) (note : Note) (past : List Fact) (c file : ℕ) → (client == c) ≡ false
+    → believed c file (fact_of client note ∷ past) ≡ believed c file past
+unfolding believed
+note_others client (Note.Settled number outcome) past c file apart = refl
+note_others client (Note.Wrote f number patch buffered) past c file apart = refl
+note_others client (Note.Believes f state) past c file apart = rw (apart) refl
+note_others client (Note.CachedRead f bytes) past c file apart = refl
+
+notes_others : (client : ℕ) (past : List Fact) (notes : List Note) (c file : ℕ) → (client == c) ≡ false
+    → believed c file (past_noted client past notes) ≡ believed c file past
+notes_others client past [] c file apart = refl
+notes_others client past (note ∷ notes) c file apart =
+    notes_others client (fact_of client note ∷ past) notes c file apart ∙ note_others client note past c file apart
+
+-- one more note
+noted_files : (client : ℕ) (end past : List Fact) (note : Note) → LastsTo client end note
+    → ((c file : ℕ) → (client == c) ≡ false → believed c file past ≡ believed c file end)
+    → (file : ℕ) → SameOf file (fact_of client note ∷ past) past ⊎ SameOf file (fact_of client note ∷ past) end
+unfolding believed
+noted_files client end past (Note.Settled number outcome) lasts others file = inl (λ c. refl)
+noted_files client end past (Note.Wrote f number patch buffered) lasts others file = inl (λ c. refl)
+noted_files client end past (Note.Believes f state) lasts others file = either (f == file)
+    (λ same. inr (λ c. by_client
+    (λ d. (if client == d && f == file then state else believed d file past) ≡ believed d file end) client c
+    (rw (eq-eqb client client refl, same) (lasts ∙ ap (λ x. believed client x end) (eqb-true f file same)))
+    (λ ne apart. rw (apart) (others c file apart))))
+    (λ other. inl (λ c. no_file (client == c) (f == file) state (believed c file past) other))
+  where
+    no_file : (a b : Bool) (s t : State) → b ≡ false → (if a && b then s else t) ≡ t
+    no_file true b s t e = rw (e) refl
+    no_file false b s t e = refl
+noted_files client end past (Note.CachedRead f bytes) lasts others file = inl (λ c. refl)
+
+noted_between : (client : ℕ) (start end past : List Fact) (note : Note) → LastsTo client end note
+    → ((c file : ℕ) → (client == c) ≡ false → believed c file past ≡ believed c file end)
+    → IsBetween start end past → IsBetween start end (fact_of client note ∷ past)
+noted_between client start end past note lasts others b = record {
+  good = λ c. (note_good client note past c ∙ (b.good c).0, note_good client note past c ∙ (b.good c).1);
+  files = λ file. ⊎_elim
+      (λ same. ⊎_elim (λ before. inl (λ c. same c ∙ before c)) (λ later. inr (λ c. same c ∙ later c)) (b.files file))
+      (λ new. inr new) (noted_files client end past note lasts others file);
+}
+
+notes_always : (client : ℕ) (start end past : List Fact) (notes : List Note) → OneWriteCache start → OneWriteCache end
+    → past_noted client past notes ≡ end → EachNote (LastsTo client end) notes → IsBetween start end past
+    → Always past → Always (past_noted client past notes)
+notes_always client start end past [] o p e each b a = a
+notes_always client start end past (note ∷ notes) o p e each b a =
+    let others : (c file : ℕ) → (client == c) ≡ false → believed c file past ≡ believed c file end =
+    λ c file apart. sym (note_others client note past c file apart)
+    ∙ sym (notes_others client (fact_of client note ∷ past) notes c file apart) ∙ ap (λ x. believed c file x) e in
+    let next = noted_between client start end past note each.0 others b in
+    notes_always client start end (fact_of client note ∷ past) notes o p e each.1 next
+    (between_cache start end (fact_of client note ∷ past) next o p, a)
+
+-- a client steps
+lasting : (c : ℕ) (client after : Client) (end : List Fact) (notes : List Note)
+    → ((file : ℕ) → believed c file end ≡ belief after file) → EachNote (IsFineNote client after) notes
+    → EachNote (LastsTo c end) notes
+lasting c client after end [] agrees each = tt
+lasting c client after end (Note.Settled number outcome ∷ notes) agrees each =
+    (tt, lasting c client after end notes agrees each.1)
+lasting c client after end (Note.Wrote file number patch buffered ∷ notes) agrees each =
+    (tt, lasting c client after end notes agrees each.1)
+lasting c client after end (Note.Believes file state ∷ notes) agrees each =
+    (each.0.1 ∙ sym (agrees file), lasting c client after end notes agrees each.1)
+lasting c client after end (Note.CachedRead file bytes ∷ notes) agrees each =
+    (tt, lasting c client after end notes agrees each.1)
+
+stepped_always : (world : World) (c : ℕ) (call : ClientCall) → IsSoundClient (world.clients c) → Always world.past
+    → OneWriteCache (stepped_in world c (client_called (world.clients c) call)).past
+    → ((file : ℕ) → believed c file (stepped_in world c (client_called (world.clients c) call)).past
+    ≡ belief ((stepped_in world c (client_called (world.clients c) call)).clients c) file)
+    → Always (stepped_in world c (client_called (world.clients c) call)).past
+stepped_always world c call sound a o agrees =
+    let step = client_called (world.clients c) call in
+    let end = past_noted c world.past step.notes in
+    let is = stepped_past world c step in
+    subst Always (sym is) (notes_always c world.past end world.past step.notes (always_now world.past a)
+    (subst OneWriteCache is o) refl
+    (lasting c (world.clients c) step.client end step.notes
+    (λ file. ap (λ x. believed c file x) (sym is) ∙ agrees file
+    ∙ ap (λ (t : ℕ → Client). belief (t c) file) (stepped_clients world c step)
+    ∙ ap (λ x. belief x file) (put_same world.clients c step.client))
+    (call_fine (world.clients c) call sound))
+    (record { good = λ d. (refl, sym (notes_good c world.past step.notes d)); files = λ file. inl (λ d. refl) }) a)
+
+-- ---- a client that joins believes nothing
+
+joined_cache : (past : List Fact) (client : ℕ) → ((file : ℕ) → believed client file past ≡ nothing_cached)
+    → OneWriteCache past → OneWriteCache (Fact.Joined client ∷ past)
+unfolding is_good is_served has_strayed believed
+joined_cache past client none o file c other ne good w fine = either (client == c)
+    (λ same. absurd (true≢false (sym w ∙ ap (λ (s : State). s.write)
+    (ap (λ d. believed d file past) (sym (eqb-true client c same)) ∙ none file))))
+    (λ apart. either (client == other)
+    (λ same. ap (λ d. believed d file past) (sym (eqb-true client other same)) ∙ none file)
+    (λ also. o file c other ne (still c apart good) w (still other also fine)))
+  where
+    still : (d : ℕ) → (client == d) ≡ false → (not (has_strayed d past) && (client == d || is_served d past)) ≡ true
+        → (not (has_strayed d past) && is_served d past) ≡ true
+    still d apart e = subst (λ b. (not (has_strayed d past) && (b || is_served d past)) ≡ true) apart e
+
+down_nothing : (client : Client) → IsSoundClient client → client.is_online ≡ false → (file : ℕ)
+    → belief client file ≡ nothing_cached
+down_nothing client s off file = by_phase (client.entries file).phase (s.entries file)
+  where
+    by_phase : (phase : Phase) → IsSoundPhase client.is_online (client.entries file).sent phase
+        → belief_in phase ≡ nothing_cached
+    by_phase Phase.Closed p = refl
+    by_phase (Phase.Opening access share) p = refl
+    by_phase (Phase.Live live) p = clash client.is_online p.0 off
+    by_phase (Phase.Offline parted) p = refl
+    by_phase (Phase.Reconnecting parted) p = refl
+
+-- ---- events
+
+-- a world that events of a run lead to
+record IsReached (world : World) : Type 0 where
+  sound : (c : ℕ) → IsSoundClient (world.clients c)
+  online : (c : ℕ) → (world.clients c).is_online ≡ not (is_down (world.links c))
+  cache : OneWriteCache world.past
+  agrees : (c file : ℕ) → believed c file world.past ≡ belief (world.clients c) file
+
+server_takes_always : (world : World) (client : ℕ) (queue : List Request) → Always world.past
+    → Always (server_takes world client queue).past
+server_takes_always world client [] a = a
+server_takes_always world client (request ∷ queue) a =
+    served_always (record world { requests = put world.requests client queue }) (receive world.server client request) a
+
+client_takes_always : (world : World) (client : ℕ) (queue : List Reply) → IsReached world
+    → IsReached (client_takes world client queue) → Always world.past → Always (client_takes world client queue).past
+client_takes_always world client [] r n a = a
+client_takes_always world client (reply ∷ queue) r n a =
+    stepped_always (happened (record world { replies = put world.replies client queue }) (Fact.Took client)) client
+    (ClientCall.Taken reply) (r.sound client) (neutral_always (Fact.Took client) world.past tt a) n.cache
+    (n.agrees client)
+
+cut_always : (world : World) (client : ℕ) (link : Link) → Always world.past → Always (cut_over world client link).past
+unfolding link_cut
+cut_always world client Link.Up a = served_always (happened (record world {
+  links = put world.links client Link.Cut;
+  requests = put world.requests client [];
+  replies = put world.replies client [];
+}) (Fact.Dropped client)) (cut world.server client) (neutral_always (Fact.Dropped client) world.past tt a)
+cut_always world client Link.Down a = a
+cut_always world client Link.Cut a = a
+
+notice_always : (world : World) (client : ℕ) (link : Link) → IsReached world
+    → IsReached (notice_over world client link) → Always world.past → Always (notice_over world client link).past
+unfolding link_noticed
+notice_always world client Link.Cut r n a = stepped_always (record world { links = put world.links client Link.Down })
+    client ClientCall.Noticed (r.sound client) a n.cache (n.agrees client)
+notice_always world client Link.Down r n a = a
+notice_always world client Link.Up r n a = a
+
+connect_always : (world : World) (client : ℕ) (link : Link) → world.links client ≡ link → IsReached world
+    → IsReached (connect_over world client link) → Always world.past → Always (connect_over world client link).past
+unfolding link_connected
+connect_always world client Link.Down down r n a =
+    let back : World = happened (record world { links = put world.links client Link.Up }) (Fact.Joined client) in
+    let joins = served back (join world.server client) in
+    let nothing : (file : ℕ) → believed client file world.past ≡ nothing_cached =
+    λ file. r.agrees client file ∙ down_nothing (world.clients client) (r.sound client)
+    (r.online client ∙ ap (λ l. not (is_down l)) down) file in
+    let same : joins.clients ≡ world.clients = served-clients back (join world.server client) in
+    subst (λ (m : Client). Always (stepped_in joins client (client_called m ClientCall.Connected)).past)
+    (ap (λ (t : ℕ → Client). t client) same)
+    (stepped_always joins client ClientCall.Connected
+    (subst (λ (t : ℕ → Client). IsSoundClient (t client)) (sym same) (r.sound client))
+    (served_always back (join world.server client)
+    (joined_cache world.past client nothing (always_now world.past a), a))
+    (subst (λ (m : Client). OneWriteCache (stepped_in joins client (client_called m ClientCall.Connected)).past)
+    (ap (λ (t : ℕ → Client). t client) (sym same)) n.cache)
+    (subst (λ (m : Client). (file : ℕ)
+    → believed client file (stepped_in joins client (client_called m ClientCall.Connected)).past
+    ≡ belief ((stepped_in joins client (client_called m ClientCall.Connected)).clients client) file)
+    (ap (λ (t : ℕ → Client). t client) (sym same)) (n.agrees client)))
+connect_always world client Link.Up up r n a = a
+connect_always world client Link.Cut cut r n a = a
+
+timer_always : (world : World) (client file : ℕ) → Always world.past → Always (timer_expired world client file).past
+unfolding timer_expired
+timer_always world client file a = served_always (happened world (Fact.Expired client file))
+    (expire world.server (machine_key world client file)) (neutral_always (Fact.Expired client file) world.past tt a)
+
+scavenged_always : (world : World) (found : Option ℕ) → Always world.past → Always (scavenged world found).past
+scavenged_always world None a = a
+scavenged_always world (Some file_id) a = served_always world (scavenge world.server file_id) a
+
+strayed_always : (world : World) (client : ℕ) (request : Request) (link : Link) → Always world.past
+    → Always (strayed_over world client request link).past
+unfolding strayed_over requests_sent
+strayed_always world client request Link.Up a = neutral_always (Fact.Strayed client) world.past tt a
+strayed_always world client request Link.Down a = a
+strayed_always world client request Link.Cut a = a
+
+applied_always : (world : World) (event : Event) → IsReached world → IsReached (applied world event)
+    → Always world.past → Always (applied world event).past
+unfolding applied
+applied_always world (Event.App client command) r n a =
+    stepped_always world client (ClientCall.Commanded command) (r.sound client) a n.cache (n.agrees client)
+applied_always world (Event.ServerTakes client) r n a = server_takes_always world client (world.requests client) a
+applied_always world (Event.ClientTakes client) r n a = client_takes_always world client (world.replies client) r n a
+applied_always world (Event.Cut client) r n a = cut_always world client (world.links client) a
+applied_always world (Event.Notice client) r n a = notice_always world client (world.links client) r n a
+applied_always world (Event.Connect client) r n a = connect_always world client (world.links client) refl r n a
+applied_always world (Event.Expire client file) r n a = if_cases (λ (w : World). Always w.past)
+    (has_file world.server file)
+    (if breaking world.server (machine_key world client file) then timer_expired world client file else world) world
+    (λ on. if_cases (λ (w : World). Always w.past) (breaking world.server (machine_key world client file))
+    (timer_expired world client file) world (λ breaks. timer_always world client file a) (λ settled. a))
+    (λ off. a)
+applied_always world (Event.Scavenge client file) r n a = scavenged_always world (kept world.server client file) a
+applied_always world (Event.Raw client request) r n a =
+    strayed_always world client request (world.links client) a
+
+happens_always : (world : World) (event : Event) → IsReached world → IsReached (happens world event)
+    → Always world.past → Always (happens world event).past
+unfolding happens
+happens_always world event r n a = by_client_known (has_client world (client_of event)) n
+  where
+    by_client_known : (b : Bool) → IsReached (if b then applied world event else world)
+        → Always (if b then applied world event else world).past
+    by_client_known true m = applied_always world event r m a
+    by_client_known false m = a
+
+-- ---- runs
+
+after_last : (world : World) (events : List Event) (event : Event)
+    → after world (events ++ event ∷ []) ≡ happens (after world events) event
+unfolding after
+after_last world [] event = refl
+after_last world (first ∷ events) event = after_last (happens world first) events event
+
+reached : (setup : Setup) (events : List Event) → IsReached (after (first_world setup) events)
+reached setup events = let v = run_beliefs setup events in record {
+  sound = v.0.0.0.0.clients;
+  online = v.0.0.0.0.online;
+  cache = after_one_write_cache setup events;
+  agrees = beliefs_of_runs setup events;
+}
+
+append_last : {X : Type 0} (xs : List X) (x : X) (ys : List X) → (xs ++ x ∷ []) ++ ys ≡ xs ++ x ∷ ys
+append_last [] x ys = refl
+append_last (y ∷ xs) x ys = ap (λ l. y ∷ l) (append_last xs x ys)
+
+append_nothing : {X : Type 0} (xs : List X) → xs ++ [] ≡ xs
+append_nothing [] = refl
+append_nothing (x ∷ xs) = ap (λ l. x ∷ l) (append_nothing xs)
+
+run_always : (setup : Setup) (before events : List Event) → Always (after (first_world setup) before).past
+    → Always (after (first_world setup) (before ++ events)).past
+run_always setup before [] a =
+    subst (λ l. Always (after (first_world setup) l).past) (sym (append_nothing before)) a
+run_always setup before (event ∷ events) a =
+    subst (λ l. Always (after (first_world setup) l).past) (append_last before event events)
+    (run_always setup (before ++ event ∷ []) events
+    (subst (λ (w : World). Always w.past) (sym (after_last (first_world setup) before event))
+    (happens_always (after (first_world setup) before) event (reached setup before)
+    (subst IsReached (after_last (first_world setup) before event) (reached setup (before ++ event ∷ []))) a)))
+
+first_always : (setup : Setup) → Always (first_world setup).past
+unfolding first_world
+first_always setup = starts_always (reverse (starts_from 1 setup.files))
+    (all_reversed (starts_from 1 setup.files) [] (all_starts 1 setup.files) refl)
+
+pub runs_have_one_write_cache : RunsHaveOneWriteCache
+unfolding after
+runs_have_one_write_cache setup events = subst (EachBeginning OneWriteCache)
+    (sym (reverse-reverse (after (first_world setup) events).past))
+    (run_always setup [] events (first_always setup))
