@@ -6,3 +6,4 @@ pub mod Ground
 pub mod Moves
 pub mod Own
 pub mod Shift
+pub mod Spared

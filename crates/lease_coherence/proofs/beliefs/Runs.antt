@@ -28,7 +28,7 @@ use Rattle.lease_coherence.proofs.clients.Commands.{any_command}
 use Rattle.lease_coherence.proofs.clients.Takes.{any_reply}
 use Rattle.lease_coherence.proofs.moves.Deeds.{IsSource}
 use Rattle.lease_coherence.proofs.moves.Events.{reply_gone, reply_taken}
-use Rattle.lease_coherence.proofs.moves.Foreign.{IsUnmoved}
+use Rattle.lease_coherence.proofs.moves.Foreign.{IsUnmoved, off_sound}
 use Rattle.lease_coherence.proofs.moves.Own.{IsOwnMoved}
 use Rattle.lease_coherence.proofs.names.Names.{off_named}
 use Rattle.lease_coherence.proofs.standing.AllRuns.{HasStructure}
@@ -95,15 +95,6 @@ unmoved_trusted world new c u t = record {
     }
 
 -- ---- a create, by what its client names
-
-off_sound : (world off : World) (c : ℕ) (request : FileRequest) → IsSource world off c request → IsSound world.server
-    → IsSound off.server
-off_sound world off c request source sound = ⊎_elim
-    (λ a. subst (λ (o : World). IsSound o.server) (sym a.is_off) (same sound))
-    (λ h. subst (λ (o : World). IsSound o.server) (sym h.is_off) (same sound)) source.from
-  where
-    same : IsSound world.server → IsSound world.server
-    same s = s
 
 own_create : (world off : World) (c file : ℕ) (access : Access) (share : Share) (ask : CreateAsk)
     → IsSource world off c (FileRequest.Create file access share (Some ask)) → IsNamedAt world c

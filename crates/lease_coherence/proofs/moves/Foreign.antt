@@ -1,9 +1,10 @@
 -- What others do leaves a client's part of a world alone: its queues, its requests that are held, its opens and its
 -- leases. So what is said of one client has to be shown for its own moves alone.
 use Rattle.std.proofs.Common.{◌≡◌, ◌≢◌, inl, inr, ⊎_elim, ℕ, Bool, true, false, not, List, [], ◌∷◌, ◌++◌, map, filter, Option, Some, None, refl, sym, ap, ◌∙◌, subst, true≢false, ◌==◌}
-use Rattle.std.specs.Prelude.{if◌then◌else◌}
+use Rattle.std.specs.Prelude.{if◌then◌else◌, ◌||◌}
 use Rattle.std.specs.List.{list_any}
 use Rattle.std.proofs.lemmas.Bool.{eqb-true}
+use Rattle.lease_state.specs.State.{State, nothing_cached, is_state_within}
 use Rattle.lease_state.specs.declared.access.Access.{Access}
 use Rattle.lease_state.specs.declared.access.Share.{Share}
 use Rattle.lease_state.specs.declared.patch.Patch.{Patch}
@@ -12,14 +13,16 @@ use Rattle.lease_model.specs.messages.Requests.{FileRequest, CreateAsk, LeaseOf}
 use Rattle.lease_model.specs.records.Facts.{Fact}
 use Rattle.lease_model.specs.server.Calls.{held_of}
 use Rattle.lease_model.specs.server.Grant.{lease_put, new_open}
-use Rattle.lease_model.specs.server.Naming.{key_of}
+use Rattle.lease_model.specs.server.Naming.{key_of, own_key, key_under}
 use Rattle.lease_model.specs.server.Progress.{with_opens}
-use Rattle.lease_model.specs.server.State.{Open, Held, Lease, no_lease, is_key, has_key}
+use Rattle.lease_model.specs.server.State.{Server, Open, Held, Lease, no_lease, is_key, has_key, has_own_key}
 use Rattle.lease_model.specs.values.Keys.{Key}
 use Rattle.lease_model.specs.values.Lists.{without}
 use Rattle.lease_model.specs.values.Tables.{put}
 use Rattle.lease_model.specs.world.World.{World}
-use Rattle.lease_laws.specs.server.Laws.{Among}
+use Rattle.lease_laws.specs.server.Laws.{Among, IsLawful, IsSound}
+use Rattle.lease_laws.specs.server.Outs.{CachesAlone, IsGivenUp}
+use Rattle.lease_laws.specs.server.SmallSteps.{IsFree}
 use Rattle.lease_laws.proofs.client.Thin.{put_other}
 use Rattle.lease_laws.proofs.server.Keys.{put_key-cases}
 use Rattle.lease_laws.proofs.server.Lists.{if_cases, clash, and_parts, not_true, among_append, among_before, among_filter, among_filtered, among_map, any_has, has_any}
@@ -27,11 +30,21 @@ use Rattle.lease_coherence.specs.Creates.{held_by}
 use Rattle.lease_coherence.proofs.moves.Deeds.{IsSource, with_held, told_to, granted_in, changed_in, without_opens, leased_in}
 use Rattle.lease_coherence.proofs.moves.Events.{not_chosen, Ground}
 use Rattle.lease_coherence.proofs.moves.Moves.{popped}
+use Rattle.lease_coherence.proofs.moves.Spared.{IsSpared, HasNoWriter, HasNoReader, ends_by, ends_as, spared_same, spared_then, spared_fact, spared_two}
 use Rattle.lease_coherence.proofs.records.Later.{IsLater, later_same, later_then, later_fact, later_two}
+
+-- a key's client is that of its open
+pub key_client : (key : Key) (one : Open) → has_key key one ≡ true → key.client ≡ one.client
+key_client key one e = parts one.lease_key e
+  where
+    parts : (bytes : Option (List ℕ)) → is_key key one.client bytes ≡ true → key.client ≡ one.client
+    parts None never = absurd (true≢false (sym never))
+    parts (Some bytes) e = eqb-true key.client one.client (and_parts _ _ e).0
 
 -- a client's part of a world stays as it is
 pub record IsUnmoved (world : World) (new : World) (client : ℕ) : Type 0 where
   pub later : IsLater world.past new.past
+  pub spared : IsSpared client world.server.opens world.server.leases world.past new.past
   pub machine : new.clients client ≡ world.clients client
   pub link : new.links client ≡ world.links client
   pub requests : new.requests client ≡ world.requests client
@@ -45,6 +58,7 @@ pub record IsUnmoved (world : World) (new : World) (client : ℕ) : Type 0 where
 pub unmoved_same : (world : World) (client : ℕ) → IsUnmoved world world client
 unmoved_same world client = record {
   later = later_same world.past;
+  spared = spared_same client world.server.opens world.server.leases world.past;
   machine = refl;
   link = refl;
   requests = refl;
@@ -59,6 +73,8 @@ unmoved_same world client = record {
 pub unmoved_then : (a b c : World) (client : ℕ) → IsUnmoved a b client → IsUnmoved b c client → IsUnmoved a c client
 unmoved_then a b c client h k = record {
   later = later_then a.past b.past c.past h.later k.later;
+  spared = spared_then client a.server.opens b.server.opens a.server.leases b.server.leases a.past b.past c.past h.kept
+      (λ key one own has. h.leases key (key_client key one has ∙ own)) h.spared k.spared;
   machine = k.machine ∙ h.machine;
   link = k.link ∙ h.link;
   requests = k.requests ∙ h.requests;
@@ -100,14 +116,6 @@ filter_twice test keep (x ∷ held) stays = if_cases
     ∙ sym (not_chosen (test x) (x ∷ filter test held) (filter test held)
     (not_true (test x) (λ passes. clash (keep x) (stays x passes) gone))))
 
--- a key's client is that of its open
-pub key_client : (key : Key) (one : Open) → has_key key one ≡ true → key.client ≡ one.client
-key_client key one e = parts one.lease_key e
-  where
-    parts : (bytes : Option (List ℕ)) → is_key key one.client bytes ≡ true → key.client ≡ one.client
-    parts None never = absurd (true≢false (sym never))
-    parts (Some bytes) e = eqb-true key.client one.client (and_parts _ _ e).0
-
 -- leases of a client's keys stay where its opens do
 pub leases_stay : (world : World) (opens : List Open) (client : ℕ) → Ground world
     → ((one : Open) → one.client ≡ client → Among one world.server.opens → Among one opens)
@@ -120,12 +128,72 @@ leases_stay world opens client g kept key own = if_cases (λ l. l ≡ world.serv
     clash (list_any (has_key key) opens)
     (has_any (has_key key) x.0 opens (kept x.0 (sym (key_client key x.0 x.2) ∙ own) x.1) x.2) gone))))
 
+-- ---- what may be granted or changed for another
+
+-- the key of a request is its client's
+own_client : (client : ℕ) (asked : Option LeaseOf) (c : ℕ) (one : Open) → client ≢ c → one.client ≡ c
+    → has_own_key (own_key client asked) one ≡ false
+own_client client None c one ne own = refl
+own_client client (Some asked) c one ne own = not_true (has_key (key_of client asked.key) one)
+    (λ has. ne (key_client (key_of client asked.key) one has ∙ own))
+
+-- where another opens a file, no lease of this client's opens holds writes
+pub free_no_writer : (opens : List Open) (leases : Key → Lease) (client : ℕ) (asked : Option LeaseOf) (file : ℕ)
+    (access : Access) (share : Share) (c : ℕ) → client ≢ c
+    → IsFree opens leases (own_key client asked) file access share → HasNoWriter c opens leases file
+free_no_writer opens leases client asked file access share c ne free key one own there on has =
+    free.unwritten key one there on (own_client client asked c one ne own) has
+
+-- where another changes it, none holds writes or is left with reads
+pub change_no_writer : (server : Server) (one : Open) (c : ℕ) → one.client ≢ c → IsSound server
+    → Among one server.opens → HasNoWriter c server.opens server.leases one.file
+change_no_writer server one c ne sound there key mine own is on has = not_true (server.leases key).state.write
+    (λ writes. ne (sym (key_client key one (sound.one_writer key mine one writes is has there (sym on)))
+    ∙ key_client key mine has ∙ own))
+
+open_client : (one : Open) (bytes : Option (List ℕ)) → one.lease_key ≡ bytes → (c : ℕ) (mine : Open)
+    → one.client ≢ c → mine.client ≡ c → has_own_key (key_under one.client bytes) mine ≡ false
+open_client one None e c mine ne own = refl
+open_client one (Some bytes) e c mine ne own = not_true (has_key (key_of one.client bytes) mine)
+    (λ has. ne (key_client (key_of one.client bytes) mine has ∙ own))
+
+given_up : (lease : Lease) → IsLawful lease → IsGivenUp lease → (ends_as lease).read ≡ false
+given_up lease lawful up = by_end lease.broken_to refl
+  where
+    by_end : (to : Option State) → lease.broken_to ≡ to → (ends_by to lease.state).read ≡ false
+    by_end None e = ⊎_elim (λ nothing. ap (λ (s : State). s.read) nothing)
+        (λ breaks. absurd (never (sym e ∙ breaks))) up
+      where
+        never : None ≡ Some nothing_cached → ⊥
+        never x = cc
+    by_end (Some lowered) e = ⊎_elim
+        (λ nothing. less lowered (lawful.is_broken_so lowered e).is_part nothing)
+        (λ breaks. ap (λ (s : State). s.read) (one lowered (sym e ∙ breaks))) up
+      where
+        one : (s : State) → Some s ≡ Some nothing_cached → s ≡ nothing_cached
+        one s x = cc
+
+        less : (s : State) → is_state_within s lease.state ≡ true → lease.state ≡ nothing_cached → s.read ≡ false
+        less s within nothing = not_true s.read (λ reads. clash lease.state.read
+            (both s.read lease.state.read (and_parts _ _ (and_parts _ _ within).0).0 reads)
+            (ap (λ (x : State). x.read) nothing))
+          where
+            both : (a b : Bool) → (not a || b) ≡ true → a ≡ true → b ≡ true
+            both true b e f = e
+            both false b e f = absurd (true≢false (sym f))
+
+pub change_no_reader : (server : Server) (one : Open) (c : ℕ) → one.client ≢ c → IsSound server
+    → CachesAlone server one → HasNoReader c server.opens server.leases one.file
+change_no_reader server one c ne sound alone key mine own is on has = given_up (server.leases key) (sound.lawful key)
+    (alone key mine is on (open_client one one.lease_key refl c mine ne own) has)
+
 -- ---- steps of the server for another
 
 pub unmoved_told : (world : World) (client : ℕ) (reply : Reply) (c : ℕ) → client ≢ c
     → IsUnmoved world (told_to world client reply) c
 unmoved_told world client reply c ne = let s = unmoved_same world c in record {
   later = later_fact world.past (Fact.Sent client);
+  spared = spared_fact c world.server.opens world.server.leases (Fact.Sent client) world.past ne;
   machine = refl;
   link = refl;
   requests = refl;
@@ -140,6 +208,7 @@ unmoved_told world client reply c ne = let s = unmoved_same world c in record {
 pub unmoved_popped : (world : World) (client c : ℕ) → client ≢ c → IsUnmoved world (popped world client) c
 unmoved_popped world client c ne = let s = unmoved_same world c in record {
   later = s.later;
+  spared = s.spared;
   machine = refl;
   link = refl;
   requests = put_other world.requests client _ c (λ e. ne (sym e));
@@ -157,6 +226,7 @@ pub unmoved_held : (world : World) (file : ℕ) (left : List Held) (c : ℕ)
 unfolding put
 unmoved_held world file left c same = let s = unmoved_same world c in record {
   later = s.later;
+  spared = s.spared;
   machine = refl;
   link = refl;
   requests = refl;
@@ -189,6 +259,17 @@ off_ground world off client request source g = ⊎_elim
     (sym h.is_off) (λ key e. g.fine.sound.no_open key e))
     source.from
 
+pub off_sound : (world off : World) (client : ℕ) (request : FileRequest) → IsSource world off client request
+    → IsSound world.server → IsSound off.server
+off_sound world off client request source sound = ⊎_elim
+    (λ a. subst (λ (o : World). IsSound o.server) (sym a.is_off) (same sound))
+    (λ h. subst (λ (o : World). IsSound o.server) (sym h.is_off) (same sound)) source.from
+  where
+    same : IsSound world.server → IsSound world.server
+    same s = s
+
+-- ---- opens and leases of others
+
 -- opens of others change
 pub unmoved_opens : (world : World) (opens : List Open) (c : ℕ)
     → ((key : Key) → list_any (has_key key) world.server.opens ≡ false → world.server.leases key ≡ no_lease)
@@ -198,6 +279,7 @@ pub unmoved_opens : (world : World) (opens : List Open) (c : ℕ)
 unfolding with_opens
 unmoved_opens world opens c law kept from = let s = unmoved_same world c in record {
   later = s.later;
+  spared = s.spared;
   machine = refl;
   link = refl;
   requests = refl;
@@ -228,6 +310,7 @@ pub unmoved_leased : (world : World) (key : Key) (lease : Lease) (reply : Reply)
     → IsUnmoved world (leased_in world key lease reply) c
 unmoved_leased world key lease reply c ne = let s = unmoved_same world c in record {
   later = later_fact world.past (Fact.Sent key.client);
+  spared = spared_fact c world.server.opens world.server.leases (Fact.Sent key.client) world.past ne;
   machine = refl;
   link = refl;
   requests = refl;
@@ -241,9 +324,12 @@ unmoved_leased world key lease reply c ne = let s = unmoved_same world c in reco
 }
 
 pub unmoved_granted : (world : World) (client file : ℕ) (access : Access) (share : Share) (ask : CreateAsk) (lease : Lease)
-    (c : ℕ) → client ≢ c → IsUnmoved world (granted_in world client file access share ask lease) c
-unmoved_granted world client file access share ask lease c ne = let s = unmoved_same world c in record {
+    (c : ℕ) → client ≢ c → HasNoWriter c world.server.opens world.server.leases file
+    → IsUnmoved world (granted_in world client file access share ask lease) c
+unmoved_granted world client file access share ask lease c ne none = let s = unmoved_same world c in record {
   later = later_two world.past (Fact.Opened file client) (Fact.Sent client);
+  spared = spared_two c world.server.opens world.server.leases (Fact.Opened file client) (Fact.Sent client) world.past
+      none ne;
   machine = refl;
   link = refl;
   requests = refl;
@@ -287,6 +373,7 @@ pub unmoved_mapped : (world : World) (f : Open → Open) (c : ℕ)
     → IsUnmoved world (record world { server = record world.server { opens = map f world.server.opens } }) c
 unmoved_mapped world f c same client = let s = unmoved_same world c in record {
   later = s.later;
+  spared = s.spared;
   machine = refl;
   link = refl;
   requests = refl;
@@ -301,9 +388,12 @@ unmoved_mapped world f c same client = let s = unmoved_same world c in record {
 }
 
 pub unmoved_content : (world : World) (client file file_id number : ℕ) (patch : Patch) (c : ℕ) → client ≢ c
+    → HasNoWriter c world.server.opens world.server.leases file → HasNoReader c world.server.opens world.server.leases file
     → IsUnmoved world (changed_in world client file file_id number patch) c
-unmoved_content world client file file_id number patch c ne = let s = unmoved_same world c in record {
+unmoved_content world client file file_id number patch c ne none blind = let s = unmoved_same world c in record {
   later = later_two world.past (Fact.Changed file client number patch) (Fact.Sent client);
+  spared = spared_two c world.server.opens world.server.leases (Fact.Changed file client number patch)
+      (Fact.Sent client) world.past (none, blind) ne;
   machine = refl;
   link = refl;
   requests = refl;

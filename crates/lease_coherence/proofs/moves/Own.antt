@@ -38,10 +38,11 @@ use Rattle.lease_laws.proofs.world.Runs.{stepped_server, stepped_clients}
 use Rattle.lease_coherence.specs.Creates.{held_by}
 use Rattle.lease_coherence.proofs.moves.Deeds.{HasDeeds, IsSource, step_deed, told_to, granted_in, reconnected_in, changed_in, without_opens, leased_in, held_in}
 use Rattle.lease_coherence.proofs.moves.Events.{Ground, IsMoved, cut_off, timed_out, come_back, connected, reply_gone, reply_taken, noticed_by, strayed}
-use Rattle.lease_coherence.proofs.moves.Foreign.{false_not, IsUnmoved, unmoved_same, unmoved_then, apart, key_client, filter_last, filter_twice, unmoved_off, off_ground, unmoved_told, unmoved_popped, unmoved_held, unmoved_without, unmoved_leased, unmoved_granted, unmoved_mapped, unmoved_content}
+use Rattle.lease_coherence.proofs.moves.Foreign.{free_no_writer, change_no_writer, change_no_reader, off_sound, false_not, IsUnmoved, unmoved_same, unmoved_then, apart, key_client, filter_last, filter_twice, unmoved_off, off_ground, unmoved_told, unmoved_popped, unmoved_held, unmoved_without, unmoved_leased, unmoved_granted, unmoved_mapped, unmoved_content}
 use Rattle.lease_coherence.proofs.moves.Frames.{stepped_past, stepped_requests, stepped_replies}
 use Rattle.lease_coherence.proofs.moves.Ground.{moved_past}
 use Rattle.lease_coherence.proofs.moves.Moves.{IsOldest, popped}
+use Rattle.lease_coherence.proofs.moves.Spared.{IsSpared, spared_fact, spared_noted}
 use Rattle.lease_coherence.proofs.names.Names.{off_counted, awaits_parts, open_parts}
 use Rattle.lease_coherence.proofs.names.Words.{opened_by}
 use Rattle.lease_coherence.proofs.records.Later.{IsLater, later_then, later_fact, later_told, later_noted}
@@ -181,7 +182,8 @@ deeds_all V A ground k world v a = record {
   granted = λ off client file access share ask source none on free. for_all V A k world _ client v a
       (λ g x. k.granted world off client file access share ask v g source none on free x)
       (λ c ne. unmoved_then world off _ c (unmoved_off world off client _ c source ne)
-      (unmoved_granted off client file access share ask _ c ne));
+      (unmoved_granted off client file access share ask _ c ne
+      (free_no_writer off.server.opens off.server.leases client ask.lease file access share c ne free)));
   reconnected = λ off client file access share ask file_id source again on waits. for_all V A k world _ client v a
       (λ g x. k.reconnected world off client file access share ask file_id v g source again on waits x)
       (λ c ne. unmoved_then world off _ c (unmoved_off world off client _ c source ne)
@@ -199,8 +201,14 @@ deeds_all V A ground k world v a = record {
       (unmoved_told off client _ c ne));
   changed = λ off client file_id number patch one source found may. for_all V A k world _ client v a
       (λ g x. k.changed world off client file_id number patch one v g source found may x)
-      (λ c ne. unmoved_then world off _ c (unmoved_off world off client _ c source ne)
-      (unmoved_content off client one.file file_id number patch c ne));
+      (λ c ne. let there = find_has _ one off.server.opens found in
+      let mine = (open_parts client file_id one there.1).1.0 in
+      let apart : one.client ≢ c = λ e. ne (sym mine ∙ e) in
+      let sound = off_sound world off client _ source (ground world v).fine.sound in
+      unmoved_then world off _ c (unmoved_off world off client _ c source ne)
+      (unmoved_content off client one.file file_id number patch c ne
+      (change_no_writer off.server one c apart sound there.0)
+      (change_no_reader off.server one c apart sound may.alone)));
   closed = λ off client file_id one source found. for_all V A k world _ client v a
       (λ g x. k.closed world off client file_id one v g source found x)
       (λ c ne. let there = find_has _ one off.server.opens found in
@@ -243,6 +251,7 @@ unmoved_cut world client c g ne =
     let off = unmoved_mapped (without_opens world (is_lost world.server client)) (disconnected client) c
     (λ one own a. chosen_other one (apart one.client client (λ e. ne (sym e ∙ own)))) client_same in record {
       later = later_fact world.past (Fact.Dropped client);
+      spared = spared_fact c world.server.opens world.server.leases (Fact.Dropped client) world.past tt;
       machine = refl;
       link = put_other world.links client Link.Cut c (λ e. ne (sym e));
       requests = put_other world.requests client [] c (λ e. ne (sym e));
@@ -272,6 +281,7 @@ unmoved_timer world client file c g ne =
     let gone = unmoved_without world (has_key key) c g.fine.sound.no_open
     (λ one own a. no_key key c ne one own) in record {
       later = later_fact world.past (Fact.Expired client file);
+      spared = spared_fact c world.server.opens world.server.leases (Fact.Expired client file) world.past tt;
       machine = refl;
       link = refl;
       requests = refl;
@@ -288,6 +298,7 @@ unmoved_back : (world : World) (client c : ℕ) → client ≢ c → IsUnmoved w
 unfolding joined
 unmoved_back world client c ne = let s = unmoved_same world c in record {
   later = later_fact world.past (Fact.Joined client);
+  spared = spared_fact c world.server.opens world.server.leases (Fact.Joined client) world.past ne;
   machine = refl;
   link = put_other world.links client Link.Up c (λ e. ne (sym e));
   requests = refl;
@@ -308,6 +319,8 @@ unmoved_stepped world client step c ne =
     let away : c ≢ client = λ e. ne (sym e) in record {
       later = subst (IsLater world.past) (sym (stepped_past world client step))
           (later_noted client world.past step.notes);
+      spared = subst (IsSpared c world.server.opens world.server.leases world.past) (sym (stepped_past world client step))
+          (spared_noted c world.server.opens world.server.leases client world.past step.notes ne);
       machine = ap (λ (t : ℕ → _). t c) (stepped_clients world client step)
           ∙ put_other world.clients client step.client c away;
       link = ap (λ (l : ℕ → Link). l c) (stepped_links world client step);
@@ -325,6 +338,7 @@ unmoved_gone : (world : World) (client : ℕ) (queue : List Reply) (c : ℕ) →
     → IsUnmoved world (reply_gone world client queue) c
 unmoved_gone world client queue c ne = let s = unmoved_same world c in record {
   later = later_fact world.past (Fact.Took client);
+  spared = spared_fact c world.server.opens world.server.leases (Fact.Took client) world.past ne;
   machine = refl;
   link = refl;
   requests = refl;
@@ -340,6 +354,7 @@ unmoved_link : (world : World) (client : ℕ) (link : Link) (c : ℕ) → client
     → IsUnmoved world (record world { links = put world.links client link }) c
 unmoved_link world client link c ne = let s = unmoved_same world c in record {
   later = s.later;
+  spared = s.spared;
   machine = refl;
   link = put_other world.links client link c (λ e. ne (sym e));
   requests = refl;
@@ -356,6 +371,7 @@ unmoved_strayed : (world : World) (client : ℕ) (request : Request) (c : ℕ) �
 unfolding requests_sent
 unmoved_strayed world client request c ne = let s = unmoved_same world c in record {
   later = later_fact world.past (Fact.Strayed client);
+  spared = spared_fact c world.server.opens world.server.leases (Fact.Strayed client) world.past tt;
   machine = refl;
   link = refl;
   requests = put_other world.requests client _ c (λ e. ne (sym e));
