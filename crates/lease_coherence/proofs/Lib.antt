@@ -6,3 +6,4 @@ pub mod names
 pub mod records
 pub mod standing
 pub mod wellformed
+pub mod writes

@@ -1,14 +1,16 @@
 -- What others do, in a client's eyes: nothing that is sent to it or taken by it, no write of it, no open or change of a
 -- file whose writes it caches, and no change of a file that it reads from its cache.
-use Rattle.std.proofs.Common.{◌≡◌, ◌≢◌, ◌⊎◌, ⊎_elim, ℕ, ◌+◌, Bool, true, false, not, List, [], ◌∷◌, ◌++◌, Option, Some, None, refl, sym, ap, ◌∙◌, subst, ◌==◌}
-use Rattle.std.specs.Prelude.{⊤, ◌&&◌, ◌||◌, if◌then◌else◌}
-use Rattle.std.proofs.lemmas.Bool.{eqb-true, eq-eqb}
+use Rattle.std.proofs.Common.{◌≡◌, ◌≢◌, ℕ, Bool, true, false, not, List, [], ◌∷◌, Option, Some, None, refl, sym, ap, ◌∙◌, ◌==◌}
+use Rattle.std.specs.Prelude.{⊤, ◌&&◌, ◌||◌}
+use Rattle.std.proofs.lemmas.Bool.{eqb-true}
 use Rattle.lease_state.specs.State.{State}
+use Rattle.lease_state.specs.declared.patch.Patch.{Patch}
 use Rattle.lease_model.specs.client.Commands.{Note}
 use Rattle.lease_model.specs.records.Facts.{Fact}
-use Rattle.lease_model.specs.records.Past.{sendings, takings, has_buffered, is_touched}
+use Rattle.lease_model.specs.records.Past.{sendings, takings, has_buffered, has_written, is_touched}
 use Rattle.lease_model.specs.server.State.{Open, Lease, has_key}
 use Rattle.lease_model.specs.values.Keys.{Key}
+use Rattle.lease_model.specs.values.Patches.{same_patch}
 use Rattle.lease_model.specs.world.World.{fact_of}
 use Rattle.lease_laws.specs.records.Runs.{content_of}
 use Rattle.lease_laws.specs.server.Laws.{Among}
@@ -47,6 +49,8 @@ Spares c opens leases fact = ⊤
 pub record IsSpared (c : ℕ) (opens : List Open) (leases : Key → Lease) (past new : List Fact) : Type 0 where
   pub sent : sendings c new ≡ sendings c past
   pub took : takings c new ≡ takings c past
+  pub written : (file number : ℕ) (patch : Patch)
+      → has_written c file number patch new ≡ has_written c file number patch past
   pub buffered : (file number : ℕ) → has_buffered c file number new ≡ has_buffered c file number past
   pub clean : (key : Key) (one : Open) → one.client ≡ c → Among one opens → has_key key one ≡ true → (number : ℕ)
       → (has_buffered c one.file number past ≡ true → (leases key).state.write ≡ true)
@@ -59,6 +63,7 @@ pub spared_same : (c : ℕ) (opens : List Open) (leases : Key → Lease) (past :
 spared_same c opens leases past = record {
   sent = refl;
   took = refl;
+  written = λ file number patch. refl;
   buffered = λ file number. refl;
   clean = λ key one own there has number writes e. e;
   content = λ key one own there has reads. refl;
@@ -71,6 +76,7 @@ pub spared_then : (c : ℕ) (opens next : List Open) (leases after : Key → Lea
 spared_then c opens next leases after past middle new kept same h k = record {
   sent = k.sent ∙ h.sent;
   took = k.took ∙ h.took;
+  written = λ file number patch. k.written file number patch ∙ h.written file number patch;
   buffered = λ file number. k.buffered file number ∙ h.buffered file number;
   clean = λ key one own there has number writes e. k.clean key one own (kept one own there) has number
       (λ b. ap (λ (l : Lease). l.state.write) (same key one own has) ∙ writes (sym (h.buffered one.file number) ∙ b))
@@ -107,11 +113,12 @@ opened_clean c opens leases past file client none key one own there has number w
 
 pub spared_fact : (c : ℕ) (opens : List Open) (leases : Key → Lease) (fact : Fact) (past : List Fact)
     → Spares c opens leases fact → IsSpared c opens leases past (fact ∷ past)
-unfolding sendings takings has_buffered is_touched content_of
+unfolding sendings takings has_buffered has_written is_touched content_of
 spared_fact c opens leases (Fact.Start file bytes) past s = absurd s
 spared_fact c opens leases (Fact.Joined client) past s = let was = spared_same c opens leases past in record {
   sent = rw (no client s) refl;
   took = rw (no client s) refl;
+  written = was.written;
   buffered = was.buffered;
   clean = was.clean;
   content = was.content;
@@ -122,6 +129,7 @@ spared_fact c opens leases (Fact.Joined client) past s = let was = spared_same c
 spared_fact c opens leases (Fact.Dropped client) past s = record {
   sent = refl;
   took = refl;
+  written = λ f n p. refl;
   buffered = λ f n. refl;
   clean = λ key one own there has number writes e. e;
   content = λ key one own there has reads. refl;
@@ -129,6 +137,7 @@ spared_fact c opens leases (Fact.Dropped client) past s = record {
 spared_fact c opens leases (Fact.Expired client file) past s = record {
   sent = refl;
   took = refl;
+  written = λ f n p. refl;
   buffered = λ f n. refl;
   clean = λ key one own there has number writes e. e;
   content = λ key one own there has reads. refl;
@@ -136,6 +145,7 @@ spared_fact c opens leases (Fact.Expired client file) past s = record {
 spared_fact c opens leases (Fact.Sent client) past s = record {
   sent = rw (no client s) refl;
   took = refl;
+  written = λ f n p. refl;
   buffered = λ f n. refl;
   clean = λ key one own there has number writes e. e;
   content = λ key one own there has reads. refl;
@@ -146,6 +156,7 @@ spared_fact c opens leases (Fact.Sent client) past s = record {
 spared_fact c opens leases (Fact.Took client) past s = record {
   sent = refl;
   took = rw (no client s) refl;
+  written = λ f n p. refl;
   buffered = λ f n. refl;
   clean = λ key one own there has number writes e. e;
   content = λ key one own there has reads. refl;
@@ -156,6 +167,7 @@ spared_fact c opens leases (Fact.Took client) past s = record {
 spared_fact c opens leases (Fact.Opened file client) past s = record {
   sent = refl;
   took = refl;
+  written = λ f n p. refl;
   buffered = λ f n. refl;
   clean = λ key one own there has number writes e.
       untouched (file == one.file) (not (client == c)) (has_buffered c one.file number past)
@@ -166,6 +178,7 @@ spared_fact c opens leases (Fact.Opened file client) past s = record {
 spared_fact c opens leases (Fact.Changed file client number patch) past s = record {
   sent = refl;
   took = refl;
+  written = λ f n p. refl;
   buffered = λ f n. refl;
   clean = λ key one own there has n writes e.
       untouched (file == one.file) (not (client == c)) (has_buffered c one.file n past)
@@ -179,6 +192,7 @@ spared_fact c opens leases (Fact.Changed file client number patch) past s = reco
 spared_fact c opens leases (Fact.Wrote client file number patch buffered) past s = record {
   sent = refl;
   took = refl;
+  written = λ f n p. none client f n p s;
   buffered = λ f n. no client f n s;
   clean = λ key one own there has n writes e. e;
   content = λ key one own there has reads. refl;
@@ -187,9 +201,15 @@ spared_fact c opens leases (Fact.Wrote client file number patch buffered) past s
     no : (d f n : ℕ) → d ≢ c → ((d == c && file == f && number == n && buffered) || has_buffered c f n past)
         ≡ has_buffered c f n past
     no d f n ne = rw (not_true (d == c) (λ e. ne (eqb-true d c e))) refl
+
+    none : (d f n : ℕ) (p : Patch) → d ≢ c
+        → ((d == c && file == f && number == n && same_patch patch p) || has_written c f n p past)
+        ≡ has_written c f n p past
+    none d f n p ne = rw (not_true (d == c) (λ e. ne (eqb-true d c e))) refl
 spared_fact c opens leases (Fact.Settled client number outcome) past s = record {
   sent = refl;
   took = refl;
+  written = λ f n p. refl;
   buffered = λ f n. refl;
   clean = λ key one own there has n writes e. e;
   content = λ key one own there has reads. refl;
@@ -197,6 +217,7 @@ spared_fact c opens leases (Fact.Settled client number outcome) past s = record 
 spared_fact c opens leases (Fact.Believes client file state) past s = record {
   sent = refl;
   took = refl;
+  written = λ f n p. refl;
   buffered = λ f n. refl;
   clean = λ key one own there has n writes e. e;
   content = λ key one own there has reads. refl;
@@ -204,6 +225,7 @@ spared_fact c opens leases (Fact.Believes client file state) past s = record {
 spared_fact c opens leases (Fact.CachedRead client file bytes) past s = record {
   sent = refl;
   took = refl;
+  written = λ f n p. refl;
   buffered = λ f n. refl;
   clean = λ key one own there has n writes e. e;
   content = λ key one own there has reads. refl;
@@ -211,6 +233,7 @@ spared_fact c opens leases (Fact.CachedRead client file bytes) past s = record {
 spared_fact c opens leases (Fact.Strayed client) past s = record {
   sent = refl;
   took = refl;
+  written = λ f n p. refl;
   buffered = λ f n. refl;
   clean = λ key one own there has n writes e. e;
   content = λ key one own there has reads. refl;

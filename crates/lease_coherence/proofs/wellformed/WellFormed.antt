@@ -43,14 +43,14 @@ use Rattle.lease_coherence.proofs.wellformed.Notes.{EachNote, IsFineNote, call_f
 
 -- The record is well formed; what the server and the clients know as files was started; a client whose link is up has
 -- joined; the numbers of a client's writes are those that it gave.
-record IsWellIn (past : List Fact) (clients : ℕ → Client) (links : ℕ → Link) (server : Server) : Type 0 where
-  facts : EachFact WellFormed past
-  started : (file : ℕ) → has_file server file ≡ true → is_started file past ≡ true
-  files : (client : ℕ) → (clients client).files ≡ server.files
-  joined_so : (client : ℕ) → is_up (links client) ≡ true → has_joined client past ≡ true
-  numbers : (client number : ℕ) → has_number client number past ≡ true → number ≤ (clients client).last_number
+pub record IsWellIn (past : List Fact) (clients : ℕ → Client) (links : ℕ → Link) (server : Server) : Type 0 where
+  pub facts : EachFact WellFormed past
+  pub started : (file : ℕ) → has_file server file ≡ true → is_started file past ≡ true
+  pub files : (client : ℕ) → (clients client).files ≡ server.files
+  pub joined_so : (client : ℕ) → is_up (links client) ≡ true → has_joined client past ≡ true
+  pub numbers : (client number : ℕ) → has_number client number past ≡ true → number ≤ (clients client).last_number
 
-abbrev IsWell : World → Type 0
+abbrev pub IsWell : World → Type 0
 IsWell world = IsWellIn world.past world.clients world.links world.server
 
 -- one more fact of the server
@@ -312,7 +312,7 @@ put_up links client link c up = by_client
     client c (λ u. inr (refl, sym (ap is_up (put_same links client link)) ∙ u))
     (λ ne apart u. inl (sym (ap is_up (put_other links client link c ne)) ∙ u)) up
 
-well_moves : IsMoved Ground IsWell
+pub well_moves : IsMoved Ground IsWell
 unfolding joined key_expired opens_dropped with_opens opens_disconnected client_forgotten is_well_formed has_number requests_sent has_joined noticed connection_made all_turned
 well_moves = record {
   step = λ world step g next w. step_deed world IsWell (deeds_well world g w) step next;
@@ -421,7 +421,7 @@ no_starts = record {
     none : (n : ℕ) → 1 ≤ n → n < 1 → ⊥
     none n up low = omega (arith, up, low)
 
-first_well : (setup : Setup) → is_allowed_setup setup ≡ true → IsWell (first_world setup)
+pub first_well : (setup : Setup) → is_allowed_setup setup ≡ true → IsWell (first_world setup)
 unfolding first_world new_server is_allowed_setup new_client
 first_well setup allowed =
     let h = all_starts_well 1 setup.files [] no_starts in

@@ -1,0 +1,38 @@
+-- Where no file of a client passes a test.
+use Rattle.std.proofs.Common.{◌≡◌, inl, ⊎_elim, ℕ, zero, suc, Bool, true, false, List, [], ◌∷◌, Option, Some, None, ap, ◌∙◌, arith, ◌==◌}
+use Rattle.std.specs.Prelude.{◌&&◌, nat_le, find}
+use Rattle.std.proofs.lemmas.Bool.{eqb-true}
+use Rattle.lease_model.specs.client.State.{Client, knows_file}
+use Rattle.lease_model.specs.client.Taken.{file_where}
+use Rattle.lease_model.specs.values.Lists.{numbers_to}
+use Rattle.lease_laws.specs.server.Laws.{Among}
+use Rattle.lease_laws.proofs.server.Lists.{if_cases, either, among_before, among_behind}
+
+pub among_numbers : (n file : ℕ) → (nat_le 1 file && nat_le file n) ≡ true → Among file (numbers_to n)
+among_numbers zero file e = absurd (none file e)
+  where
+    none : (f : ℕ) → (nat_le 1 f && nat_le f 0) ≡ true → ⊥
+    none f e = grind arith
+among_numbers (suc n) file e = either (file == suc n)
+    (λ last. among_behind file (numbers_to n) (suc n ∷ []) (inl (eqb-true file (suc n) last)))
+    (λ before. among_before file (numbers_to n) (suc n ∷ []) (among_numbers n file (lower file n e before)))
+  where
+    lower : (f m : ℕ) → (nat_le 1 f && nat_le f (suc m)) ≡ true → (f == suc m) ≡ false
+        → (nat_le 1 f && nat_le f m) ≡ true
+    lower f m e g = grind arith
+
+pub find_absent : {X : Type 0} (test : X → Bool) (x : X) (xs : List X) → find test xs ≡ None → Among x xs
+    → test x ≡ false
+find_absent test x [] none a = absurd a
+find_absent {X} test x (y ∷ xs) none a = if_cases (λ (o : Option X). o ≡ None → test x ≡ false) (test y) (Some y)
+    (find test xs) (λ found e. absurd (never y e))
+    (λ other e. ⊎_elim (λ same. ap test same ∙ other) (λ later. find_absent test x xs e later) a) none
+  where
+    never : (z : X) → Some z ≡ None → ⊥
+    never z e = cc
+
+-- no known file passes
+pub never_found : (client : Client) (test : ℕ → Bool) (file : ℕ) → knows_file client file ≡ true
+    → file_where client test ≡ None → test file ≡ false
+never_found client test file known absent =
+    find_absent test file (numbers_to client.files) absent (among_numbers client.files file known)

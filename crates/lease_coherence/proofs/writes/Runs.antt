@@ -1,0 +1,649 @@
+-- While a client's link is up, each write that it has sent is under way once: asked, held, or answered and not yet taken.
+use Rattle.std.proofs.Common.{◌≡◌, ◌≢◌, inl, inr, ⊎_elim, ℕ, ◌+◌, ◌≤◌, ◌<◌, Bool, true, false, not, List, [], ◌∷◌, ◌++◌, flat_map, Option, Some, None, refl, sym, ap, ap₂, ◌∙◌, subst, arith, true≢false, ◌==◌}
+use Rattle.std.specs.Prelude.{Result, Ok, Err}
+use Rattle.std.proofs.lemmas.Bool.{eq-eqb, eqb-true}
+use Rattle.lease_state.specs.State.{granted_form_of}
+use Rattle.lease_state.specs.declared.patch.Patch.{Patch}
+use Rattle.lease_state.specs.declared.status.Status.{Status}
+use Rattle.lease_model.specs.client.Calls.{ClientCall}
+use Rattle.lease_model.specs.client.Commanded.{commanded}
+use Rattle.lease_model.specs.client.Commands.{Command}
+use Rattle.lease_model.specs.client.Connection.{all_turned, noticed, connection_made, connect_turn}
+use Rattle.lease_model.specs.client.State.{Client, Entry, Pending, Phase, knows_file}
+use Rattle.lease_model.specs.client.Step.{Step}
+use Rattle.lease_model.specs.client.Taken.{taken}
+use Rattle.lease_model.specs.messages.Replies.{Reply}
+use Rattle.lease_model.specs.messages.Requests.{FileRequest, Request, LeaseOf}
+use Rattle.lease_model.specs.records.Facts.{Fact}
+use Rattle.lease_model.specs.records.Past.{has_number, has_strayed, has_written}
+use Rattle.lease_model.specs.server.Calls.{held_of, file_asked, file_of_open, joined, key_expired}
+use Rattle.lease_model.specs.server.Findings.{connected_open}
+use Rattle.lease_model.specs.server.Grant.{lease_after}
+use Rattle.lease_model.specs.server.Naming.{key_of}
+use Rattle.lease_model.specs.server.Progress.{opens_dropped, with_opens, break_notice, refusal_of}
+use Rattle.lease_model.specs.server.State.{Server, Open, Held}
+use Rattle.lease_model.specs.values.Lists.{numbers_to}
+use Rattle.lease_model.specs.values.Tables.{put}
+use Rattle.lease_model.specs.world.Events.{stepped_in}
+use Rattle.lease_model.specs.world.World.{World, Link, sent_over}
+use Rattle.lease_laws.specs.client.Laws.{IsSoundEntry, IsSoundPhase, TellNumbers}
+use Rattle.lease_laws.specs.server.Laws.{Among}
+use Rattle.lease_laws.specs.world.FileIds.{was_opened}
+use Rattle.lease_laws.specs.world.Links.{is_up, is_down}
+use Rattle.lease_laws.proofs.client.Forms.{commanded-stays, taken-stays}
+use Rattle.lease_laws.proofs.client.Notes.{called_tells}
+use Rattle.lease_laws.proofs.client.Thin.{put_same, put_other}
+use Rattle.lease_laws.proofs.server.Lists.{either, clash, not_true, among_append, among_behind, among_filter, among_filtered, find_has}
+use Rattle.lease_laws.proofs.server.PassWaits.{among_more}
+use Rattle.lease_laws.proofs.world.Links.{stepped_links}
+use Rattle.lease_laws.proofs.world.Runs.{stepped_server}
+use Rattle.lease_coherence.specs.Creates.{held_by, one_if}
+use Rattle.lease_coherence.specs.Names.{IsNamedAt, IsNamedOnFile, IsNamedRequest, WasWrittenOn}
+use Rattle.lease_coherence.proofs.beliefs.WriteCaches.{HasBeliefs, beliefs_carried}
+use Rattle.lease_coherence.proofs.clients.Commands.{any_command}
+use Rattle.lease_coherence.proofs.clients.Takes.{any_reply}
+use Rattle.lease_coherence.proofs.creates.Creates.{up_link, stepped_machine, none_held, off_rest}
+use Rattle.lease_coherence.proofs.moves.Deeds.{IsSource, HasArrived, WasHeld, with_held, told_to, held_in, granted_in, reconnected_in, changed_in, without_opens, leased_in, granted_reply, reconnected_reply, done_reply}
+use Rattle.lease_coherence.proofs.moves.Events.{Ground, IsMoved, IsCarried, Both, carried_both, timed_out, come_back, connected, reply_gone, reply_taken}
+use Rattle.lease_coherence.proofs.moves.Foreign.{IsUnmoved}
+use Rattle.lease_coherence.proofs.moves.Frames.{lease_put_rest, stepped_past, stepped_requests, stepped_replies}
+use Rattle.lease_coherence.proofs.moves.Ground.{among_put}
+use Rattle.lease_coherence.proofs.moves.Moves.{IsOldest, rest_of, popped}
+use Rattle.lease_coherence.proofs.moves.Own.{IsOwnMoved, OfGood, own_moves}
+use Rattle.lease_coherence.proofs.moves.Shift.{append_none}
+use Rattle.lease_coherence.proofs.names.Names.{open_parts}
+use Rattle.lease_coherence.proofs.names.Words.{entry_later, opened_once}
+use Rattle.lease_coherence.proofs.records.Later.{later_fact, later_noted, past_noted}
+use Rattle.lease_coherence.proofs.records.Once.{written_once, written_number}
+use Rattle.lease_coherence.proofs.standing.Runs.{link_of, was_up}
+use Rattle.lease_coherence.proofs.standing.Words.{head_of}
+use Rattle.lease_coherence.proofs.wellformed.WellFormed.{IsWell, well_moves}
+use Rattle.lease_coherence.proofs.writes.Counts.{write_of, writes, held_writes, settles_of, settling, numbered_in, writes_left, writes_under_way, writes_append, settling_last, held_writes_among, refusal_settles}
+use Rattle.lease_coherence.proofs.writes.Steps.{IsKnownBy, IsOwnNumber, AddsUpWell, AddsUpTaken, no_answers, own_before, commands_add, takes_add}
+
+-- ---- what is known so far, with records that are well formed
+
+abbrev pub HasRecords : World → Type 0
+HasRecords = Both HasBeliefs IsWell
+
+pub ground_of : (world : World) → HasRecords world → Ground world
+ground_of world v = v.0.0.0.0.0
+
+pub names_of : (world : World) → HasRecords world → (c : ℕ)
+    → has_strayed c world.past ≡ false → IsNamedAt world c
+names_of world v c good = v.0.0.0.0.1.0 c good
+
+-- a client by the record
+pub known_by : (world : World) → HasRecords world → (c : ℕ)
+    → has_strayed c world.past ≡ false → IsKnownBy c (world.clients c) world.past
+known_by world v c good = record {
+  once = λ file other number patch bytes. written_once c file other number patch bytes world.past v.1.facts;
+  names = (names_of world v c good).entries;
+  low = v.1.numbers c;
+}
+
+-- what is kept where less is known is kept where more is
+pub moved_under : (V W P : World → Type 0) → ((world : World) → V world → W world) → IsMoved W P → IsMoved V P
+moved_under V W P weaker m = record {
+  step = λ world step v next p. m.step world step (weaker world v) next p;
+  cut = λ world client v up p. m.cut world client (weaker world v) up p;
+  timer = λ world client file v on breaks p. m.timer world client file (weaker world v) on breaks p;
+  scavenge = λ world file_id v p. m.scavenge world file_id (weaker world v) p;
+  connect = λ world client v down p. m.connect world client (weaker world v) down p;
+  command = λ world client command v p. m.command world client command (weaker world v) p;
+  take = λ world client reply queue v first p. m.take world client reply queue (weaker world v) first p;
+  notice = λ world client v cut p. m.notice world client (weaker world v) cut p;
+  stray = λ world client request v up p. m.stray world client request (weaker world v) up p;
+}
+
+pub records_carried : IsCarried HasRecords
+records_carried = carried_both HasBeliefs IsWell beliefs_carried
+    (moved_under HasBeliefs Ground IsWell (λ world v. v.0.0.0.0) well_moves)
+
+-- ---- the layer
+
+pub record IsSentOnce (world : World) (c : ℕ) : Type 0 where
+  pub counts : (file number : ℕ) → knows_file (world.clients c) file ≡ true
+      → IsOwnNumber c (world.clients c).last_number world.past file number
+      → writes_under_way world c file number ≡ numbered_in number ((world.clients c).entries file).sent
+  pub held_on : (at : ℕ) (one : Held) → Among one (world.server.held at) → one.client ≡ c
+      → (file_id number : ℕ) (patch : Patch) → one.request ≡ FileRequest.Write file_id number patch
+      → has_written c at number patch world.past ≡ true
+
+abbrev pub IsUpSentOnce : World → ℕ → Type 0
+IsUpSentOnce world c = is_up (world.links c) ≡ true → IsSentOnce world c
+
+-- ---- requests that are answered
+
+-- a write of another file doesn't count
+abbrev CountsOf : World → ℕ → ℕ → ℕ → FileRequest → Type 0
+CountsOf world c file number request = (at : ℕ) (file_id used : ℕ) (patch : Patch)
+    → request ≡ FileRequest.Write file_id used patch → has_written c at used patch world.past ≡ true
+    → at ≢ file → (used == number) ≡ false
+
+own_counts : (world : World) (c : ℕ) → IsKnownBy c (world.clients c) world.past → (file number : ℕ)
+    → IsOwnNumber c (world.clients c).last_number world.past file number → (request : FileRequest)
+    → CountsOf world c file number request
+own_counts world c k file number own request at file_id used patch is written ne =
+    not_true (used == number) (λ same. never (eqb-true used number same))
+  where
+    never : used ≡ number → ⊥
+    never same =
+        let mine = subst (λ n. has_written c at n patch world.past ≡ true) same written in ⊎_elim
+        (λ w. ne (k.once at file number patch w.0 mine w.1).file_is)
+        (λ more. above (k.low number (written_number c at number patch world.past mine)) more) own
+      where
+        above : {a b : ℕ} → a ≤ b → b < a → ⊥
+        above h l = omega (arith, h, l)
+
+first_off : (number : ℕ) (queue rest : List Request) (request : FileRequest) → queue ≡ Request.OnFile request ∷ rest
+    → writes number queue ≡ write_of number request + writes number (rest_of queue)
+first_off number queue rest request e =
+    subst (λ q. writes number q ≡ write_of number request + writes number (rest_of q)) (sym e) refl
+
+-- a request that counts nothing for the file
+not_counted : (world : World) (c file number : ℕ) (request : FileRequest) → CountsOf world c file number request
+    → (at : ℕ) → at ≢ file
+    → ((file_id used : ℕ) (patch : Patch) → request ≡ FileRequest.Write file_id used patch
+    → has_written c at used patch world.past ≡ true) → write_of number request ≡ 0
+not_counted world c file number (FileRequest.Create f access share contexts) counts at ne written = refl
+not_counted world c file number (FileRequest.Read file_id) counts at ne written = refl
+not_counted world c file number (FileRequest.Write file_id used patch) counts at ne written =
+    ap one_if (counts at file_id used patch refl (written file_id used patch refl) ne)
+not_counted world c file number (FileRequest.Close file_id) counts at ne written = refl
+
+source_left : (world off : World) (c : ℕ) (request : FileRequest) → IsSource world off c request → IsSentOnce world c
+    → (file number : ℕ) → CountsOf world c file number request
+    → writes_left world c file number ≡ write_of number request + writes_left off c file number
+source_left world off c request source s file number counts = ⊎_elim
+    (λ a. subst (λ (o : World). writes_left world c file number ≡ write_of number request + writes_left o c file number)
+    (sym a.is_off) (arrived_left a))
+    (λ h. subst (λ (o : World). writes_left world c file number ≡ write_of number request + writes_left o c file number)
+    (sym h.is_off) (held_left_over h))
+    source.from
+  where
+    plus_held : (a b n h : ℕ) → a ≡ n + b → a + h ≡ n + (b + h)
+    plus_held a b n h e = omega (arith, e)
+
+    plus_queue : (a b n q : ℕ) → a ≡ n + b → q + a ≡ n + (q + b)
+    plus_queue a b n q e = omega (arith, e)
+
+    arrived_left : HasArrived world off c request
+        → writes_left world c file number ≡ write_of number request + writes_left (popped world c) c file number
+    arrived_left a = plus_held _ _ _ _ (first_off number (world.requests c) a.oldest.queue request a.oldest.is_first
+        ∙ ap (λ (q : List Request). write_of number request + writes number q)
+        (sym (put_same world.requests c (rest_of (world.requests c)))))
+
+    none_here : (n a b : ℕ) → n ≡ 0 → a ≡ b → a ≡ n + b
+    none_here n a b e f = omega (arith, e, f)
+
+    held_left_over : (h : WasHeld world off c request) → writes_left world c file number
+        ≡ write_of number request + writes_left (with_held world h.file (h.before ++ h.behind)) c file number
+    held_left_over h = either (file == h.file)
+        (λ here. let same = eqb-true file h.file here in
+        plus_queue _ _ _ _ (ap (λ n. held_writes number (held_by c (world.server.held n))) same
+        ∙ ap (λ (l : List Held). held_writes number (held_by c l)) h.held
+        ∙ held_writes_among number c h.before h.behind (held_of c request) (eq-eqb c c refl)
+        ∙ ap (λ (l : List Held). write_of number request + held_writes number (held_by c l))
+        (sym (put_same world.server.held h.file (h.before ++ h.behind)))
+        ∙ ap (λ n. write_of number request
+        + held_writes number (held_by c (put world.server.held h.file (h.before ++ h.behind) n))) (sym same)))
+        (λ there. let ne : file ≢ h.file = λ e. clash (file == h.file) (eq-eqb file h.file e) there in
+        none_here _ _ _ (not_counted world c file number request counts h.file (λ e. ne (sym e))
+        (λ file_id used patch is. s.held_on h.file (held_of c request)
+        (subst (λ (l : List Held). Among (held_of c request) l) (sym h.held)
+        (among_behind (held_of c request) h.before (held_of c request ∷ h.behind) (inl refl))) refl file_id used patch is))
+        (ap (λ (l : List Held). writes number (world.requests c) + held_writes number (held_by c l))
+        (sym (put_other world.server.held h.file (h.before ++ h.behind) file ne))))
+
+-- what was held on files, of the part from which a request was taken off
+off_held_on : (world off : World) (c : ℕ) (request : FileRequest) → IsSource world off c request → IsSentOnce world c
+    → (at : ℕ) (one : Held) → Among one (off.server.held at) → one.client ≡ c
+    → (file_id number : ℕ) (patch : Patch) → one.request ≡ FileRequest.Write file_id number patch
+    → has_written c at number patch world.past ≡ true
+off_held_on world off c request source s at one a own file_id number patch is = ⊎_elim
+    (λ x. s.held_on at one (subst (λ (o : World). Among one (o.server.held at)) x.is_off a) own file_id number patch is)
+    (λ h. ⊎_elim (λ old. s.held_on at one old own file_id number patch is)
+    (λ left. subst (λ n. has_written c n number patch world.past ≡ true) (sym left.0)
+    (s.held_on h.file one (subst (λ (l : List Held). Among one l) (sym h.held)
+    (among_more one (held_of c request) h.before h.behind left.1)) own
+    file_id number patch is))
+    (among_put world.server.held h.file (h.before ++ h.behind) at one
+    (subst (λ (o : World). Among one (o.server.held at)) h.is_off a)))
+    source.from
+
+-- the same queues, with these writes given so far
+same_once : (world new : World) (c : ℕ) → new.clients c ≡ world.clients c
+    → ((file number : ℕ) (patch : Patch) → has_written c file number patch new.past
+    ≡ has_written c file number patch world.past)
+    → ((file number : ℕ) → IsOwnNumber c (world.clients c).last_number world.past file number
+    → writes_under_way new c file number ≡ writes_under_way world c file number)
+    → ((at : ℕ) (one : Held) → Among one (new.server.held at) → one.client ≡ c
+    → (file_id number : ℕ) (patch : Patch) → one.request ≡ FileRequest.Write file_id number patch
+    → has_written c at number patch world.past ≡ true)
+    → IsSentOnce world c → IsSentOnce new c
+same_once world new c machine written same held s = record {
+  counts = λ file number known own.
+      let was = own_was file number (subst (λ (m : Client). IsOwnNumber c m.last_number new.past file number) machine own) in
+      same file number was
+      ∙ s.counts file number (subst (λ (m : Client). knows_file m file ≡ true) machine known) was
+      ∙ ap (λ (m : Client). numbered_in number (m.entries file).sent) (sym machine);
+  held_on = λ at one a own file_id number patch is. written at number patch ∙ held at one a own file_id number patch is;
+}
+  where
+    own_was : (file number : ℕ) → IsOwnNumber c (world.clients c).last_number new.past file number
+        → IsOwnNumber c (world.clients c).last_number world.past file number
+    own_was file number own = ⊎_elim (λ w. inl (w.0, sym (written file number w.0) ∙ w.1)) (λ more. inr more) own
+
+-- a request is answered
+answered_once : (world off new : World) (c : ℕ) (request : FileRequest) (reply : Reply) → IsSource world off c request
+    → IsKnownBy c (world.clients c) world.past → new.clients ≡ off.clients → new.requests c ≡ off.requests c
+    → new.server.held ≡ off.server.held → new.replies ≡ put off.replies c (off.replies c ++ reply ∷ [])
+    → ((file number : ℕ) (patch : Patch) → has_written c file number patch new.past
+    ≡ has_written c file number patch off.past)
+    → ((number : ℕ) → settles_of number reply ≡ write_of number request) → IsSentOnce world c → IsSentOnce new c
+answered_once world off new c request reply source k clients requests held replies written answers s =
+    let rest = off_rest world off c request source in
+    same_once world new c (ap (λ (t : ℕ → Client). t c) (clients ∙ rest.0))
+    (λ file number patch. written file number patch
+    ∙ ap (λ past. has_written c file number patch past) (off_past world off c request source))
+    (λ file number own. whole _ _ _ _ _ _ _ _ _ _ (ap (λ (q : List Request). writes number q) requests)
+    (ap (λ (h : ℕ → List Held). held_writes number (held_by c (h file))) held)
+    (ap (λ (q : List Reply). settling number q) (ap (λ (r : ℕ → List Reply). r c) replies
+    ∙ put_same off.replies c (off.replies c ++ reply ∷ []) ∙ ap (λ (r : ℕ → List Reply). r c ++ reply ∷ []) rest.1.1)
+    ∙ settling_last number (world.replies c) reply)
+    (answers number)
+    (source_left world off c request source s file number (own_counts world c k file number own request)))
+    (λ at one a own file_id number patch is. off_held_on world off c request source s at one
+    (subst (λ (h : ℕ → List Held). Among one (h at)) held a) own file_id number patch is) s
+  where
+    whole : (q0 q h0 h a0 a1 n w1 w2 t : ℕ) → q ≡ q0 → h ≡ h0 → a1 ≡ t + a0 → a0 ≡ n → w1 + w2 ≡ n + (q0 + h0)
+        → q + h + a1 ≡ w1 + w2 + t
+    whole q0 q h0 h a0 a1 n w1 w2 t e f i j k = omega (arith, e, f, i, j, k)
+
+    off_past : (world off : World) (c : ℕ) (request : FileRequest) → IsSource world off c request → off.past ≡ world.past
+    off_past world off c request source = ⊎_elim (λ a. ap (λ (o : World). o.past) a.is_off)
+        (λ h. ap (λ (o : World). o.past) h.is_off) source.from
+
+-- a reply that settles no write
+told_once : (world new : World) (c : ℕ) (reply : Reply) → new.clients ≡ world.clients
+    → ((number : ℕ) → writes number (new.requests c) ≡ writes number (world.requests c))
+    → new.server.held ≡ world.server.held → new.replies ≡ put world.replies c (world.replies c ++ reply ∷ [])
+    → ((file number : ℕ) (patch : Patch) → has_written c file number patch new.past
+    ≡ has_written c file number patch world.past)
+    → ((number : ℕ) → settles_of number reply ≡ 0) → IsSentOnce world c → IsSentOnce new c
+told_once world new c reply clients requests held replies written none s =
+    same_once world new c (ap (λ (t : ℕ → Client). t c) clients) written
+    (λ file number own. whole _ _ _ _ _ _ _ (requests number)
+    (ap (λ (h : ℕ → List Held). held_writes number (held_by c (h file))) held)
+    (ap (λ (r : ℕ → List Reply). settling number (r c)) replies
+    ∙ ap (λ (q : List Reply). settling number q) (put_same world.replies c (world.replies c ++ reply ∷ []))
+    ∙ settling_last number (world.replies c) reply) (none number))
+    (λ at one a own file_id number patch is. s.held_on at one (subst (λ (h : ℕ → List Held). Among one (h at)) held a) own
+    file_id number patch is) s
+  where
+    whole : (q q0 h h0 a1 t n : ℕ) → q ≡ q0 → h ≡ h0 → a1 ≡ t + n → n ≡ 0 → q + h + a1 ≡ q0 + h0 + t
+    whole q q0 h h0 a1 t n e f i j = omega (arith, e, f, i, j)
+
+-- an acknowledgment that leaves its queue is no write
+ack_off : (world : World) (c : ℕ) (given : Option LeaseOf) → IsOldest world c (Request.Acknowledge given)
+    → (number : ℕ) → writes number ((popped world c).requests c) ≡ writes number (world.requests c)
+ack_off world c given oldest number =
+    ap (λ (q : List Request). writes number q) (put_same world.requests c (rest_of (world.requests c)))
+    ∙ subst (λ q. writes number (rest_of q) ≡ writes number q) (sym oldest.is_first) refl
+
+-- ---- a request is held
+
+no_file : (asked : Result ℕ Status) (status : Status) (at : ℕ) → asked ≡ Err status → asked ≡ Ok at → ⊥
+no_file asked status at e f = cc
+
+same_file : (asked : Result ℕ Status) (file at : ℕ) → asked ≡ Ok file → asked ≡ Ok at → file ≡ at
+same_file asked file at e f = cc
+
+-- a write that comes is one of the file that it asks for
+asked_on : (world : World) (c at : ℕ) (request : FileRequest) → Ground world
+    → IsNamedOnFile c (world.clients c).guid world.past request → file_asked world.server c request ≡ Ok at
+    → (file_id number : ℕ) (patch : Patch) → request ≡ FileRequest.Write file_id number patch
+    → has_written c at number patch world.past ≡ true
+unfolding file_asked
+asked_on world c at request g named asked file_id number patch is = by_open
+    (subst (IsNamedOnFile c (world.clients c).guid world.past) is named)
+    (connected_open world.server c file_id) refl (subst (λ r. file_asked world.server c r ≡ Ok at) is asked)
+  where
+    by_open : WasWrittenOn c file_id number patch world.past → (found : Option Open)
+        → connected_open world.server c file_id ≡ found → file_of_open found ≡ Ok at
+        → has_written c at number patch world.past ≡ true
+    by_open w None e a = absurd (no_file _ Status.FileClosed at refl a)
+    by_open w (Some one) e a =
+        let there = find_has _ one world.server.opens e in
+        let parts = open_parts c file_id one there.1 in
+        subst (λ f. has_written c f number patch world.past ≡ true)
+        (opened_once file_id w.file c one.file one.client world.past w.opened
+        (subst (λ i. was_opened i one.file one.client world.past ≡ true) parts.0 (g.counted.opens one there.0))
+        ∙ same_file _ one.file at refl a) w.written
+
+hold_once : (world : World) (at : ℕ) (one : Held) → IsOldest world one.client (Request.OnFile one.request)
+    → ((file_id number : ℕ) (patch : Patch) → one.request ≡ FileRequest.Write file_id number patch
+    → has_written one.client at number patch world.past ≡ true)
+    → IsKnownBy one.client (world.clients one.client) world.past → IsSentOnce world one.client
+    → IsSentOnce (held_in (popped world one.client) at one) one.client
+hold_once world at one oldest written k s = same_once world (held_in (popped world one.client) at one) one.client refl
+    (λ file number patch. refl)
+    (λ file number own. either (file == at)
+    (λ here. moved _ _ _ _ _ _ _ (first_off number (world.requests one.client) oldest.queue one.request oldest.is_first)
+    (ap (λ (q : List Request). writes number q) (put_same world.requests one.client (rest_of (world.requests one.client))))
+    (ap (λ n. held_writes number (held_by one.client (put world.server.held at (world.server.held at ++ one ∷ []) n)))
+    (eqb-true file at here)
+    ∙ ap (λ (l : List Held). held_writes number (held_by one.client l))
+    (put_same world.server.held at (world.server.held at ++ one ∷ []))
+    ∙ held_writes_among number one.client (world.server.held at) [] one (eq-eqb one.client one.client refl)
+    ∙ ap (λ (l : List Held). write_of number one.request + held_writes number (held_by one.client l))
+    (append_none (world.server.held at))
+    ∙ ap (λ n. write_of number one.request + held_writes number (held_by one.client (world.server.held n)))
+    (sym (eqb-true file at here))))
+    (λ there. let ne : file ≢ at = λ e. clash (file == at) (eq-eqb file at e) there in
+    stays _ _ _ _ _ _ _ (first_off number (world.requests one.client) oldest.queue one.request oldest.is_first)
+    (not_counted world one.client file number one.request
+    (own_counts world one.client k file number own one.request) at (λ e. ne (sym e)) written)
+    (ap (λ (q : List Request). writes number q) (put_same world.requests one.client (rest_of (world.requests one.client))))
+    (ap (λ (l : List Held). held_writes number (held_by one.client l))
+    (put_other world.server.held at (world.server.held at ++ one ∷ []) file ne))))
+    (λ place x a own file_id number patch is. ⊎_elim
+    (λ old. s.held_on place x old own file_id number patch is)
+    (λ new. subst (λ n. has_written one.client n number patch world.past ≡ true) (sym new.0)
+    (⊎_elim (λ old. s.held_on at x old own file_id number patch is)
+    (λ last. ⊎_elim (λ same. written file_id number patch (ap (λ (h : Held). h.request) (sym same) ∙ is))
+    (λ none. absurd none) last)
+    (among_append x (world.server.held at) (one ∷ []) new.1)))
+    (among_put world.server.held at (world.server.held at ++ one ∷ []) place x a)) s
+  where
+    moved : (q q1 r h h1 n t : ℕ) → q ≡ n + r → q1 ≡ r → h1 ≡ n + h → q1 + h1 + t ≡ q + h + t
+    moved q q1 r h h1 n t e f i = omega (arith, e, f, i)
+
+    stays : (q q1 r h h1 n t : ℕ) → q ≡ n + r → n ≡ 0 → q1 ≡ r → h1 ≡ h → q1 + h1 + t ≡ q + h + t
+    stays q q1 r h h1 n t e z f i = omega (arith, e, z, f, i)
+
+-- ---- steps of the client
+
+stepped_writes : (world : World) (c : ℕ) (step : Step) → is_up (world.links c) ≡ true → (file number : ℕ)
+    → writes_under_way (stepped_in world c step) c file number
+    ≡ writes_under_way world c file number + writes number step.requests
+stepped_writes world c step up file number = whole _ _ _ _ _ _ _
+    (ap (λ (q : ℕ → List Request). writes number (q c)) (stepped_requests world c step)
+    ∙ ap (λ (q : List Request). writes number q) (put_same world.requests c _)
+    ∙ ap (λ link. writes number (sent_over link (world.requests c) step.requests)) (up_link (world.links c) up)
+    ∙ writes_append number (world.requests c) step.requests)
+    (ap (λ (s : Server). held_writes number (held_by c (s.held file))) (stepped_server world c step))
+    (ap (λ (r : ℕ → List Reply). settling number (r c)) (stepped_replies world c step))
+  where
+    whole : (q q1 h h1 a a1 n : ℕ) → q1 ≡ q + n → h1 ≡ h → a1 ≡ a → q1 + h1 + a1 ≡ q + h + a + n
+    whole q q1 h h1 a a1 n e f i = omega (arith, e, f, i)
+
+stepped_once : (world : World) (c : ℕ) (step : Step) (answered : ℕ → ℕ) → is_up (world.links c) ≡ true
+    → step.client.files ≡ (world.clients c).files
+    → TellNumbers (world.clients c).last_number step.notes step.client.last_number
+    → AddsUpWell c (world.clients c) world.past answered step
+    → ((file number : ℕ) → knows_file (world.clients c) file ≡ true
+    → IsOwnNumber c (world.clients c).last_number world.past file number
+    → writes_under_way world c file number + answered number
+    ≡ numbered_in number ((world.clients c).entries file).sent)
+    → ((at : ℕ) (one : Held) → Among one (world.server.held at) → one.client ≡ c
+    → (file_id number : ℕ) (patch : Patch) → one.request ≡ FileRequest.Write file_id number patch
+    → has_written c at number patch world.past ≡ true)
+    → IsSentOnce (stepped_in world c step) c
+stepped_once world c step answered up files tells adds counts held = record {
+  counts = λ file number known own.
+      let machine = stepped_machine world c step in
+      let after = subst (λ (m : Client). IsOwnNumber c m.last_number (past_noted c world.past step.notes) file number)
+      machine (subst (λ past. IsOwnNumber c ((stepped_in world c step).clients c).last_number past file number)
+      (stepped_past world c step) own) in
+      let was = own_before c (world.clients c).last_number step.client.last_number world.past step.notes tells file
+      number after in
+      let knows = sym (ap (λ n. knows_file (record (world.clients c) { files = n }) file) files)
+      ∙ subst (λ (m : Client). knows_file m file ≡ true) machine known in
+      whole _ _ _ _ _ _ (stepped_writes world c step up file number) (counts file number knows was)
+      (adds file number knows was after).sum
+      ∙ ap (λ (m : Client). numbered_in number (m.entries file).sent) (sym machine);
+  held_on = λ at one a own file_id number patch is.
+      subst (λ past. has_written c at number patch past ≡ true) (sym (stepped_past world c step))
+      ((later_noted c world.past step.notes).written c at number patch
+      (held at one (subst (λ (s : Server). Among one (s.held at)) (stepped_server world c step) a) own file_id number
+      patch is));
+}
+  where
+    whole : (u u1 a s s1 w : ℕ) → u1 ≡ u + w → u + a ≡ s → s1 + a ≡ s + w → u1 ≡ s1
+    whole u u1 a s s1 w e f i = omega (arith, e, f, i)
+
+command_once : (world : World) (c : ℕ) (command : Command) → is_up (world.links c) ≡ true → Ground world
+    → IsKnownBy c (world.clients c) world.past → IsSentOnce world c
+    → IsSentOnce (stepped_in world c (commanded (world.clients c) command)) c
+command_once world c command up g k s = stepped_once world c (commanded (world.clients c) command) no_answers up
+    (commanded-stays (world.clients c) command).files
+    (called_tells (world.clients c) (ClientCall.Commanded command) (g.clients c))
+    (any_command (world.clients c) (AddsUpWell c (world.clients c) world.past no_answers)
+    (commands_add c (world.clients c) world.past k) command)
+    (λ file number known own. plus_none _ ∙ s.counts file number known own) s.held_on
+  where
+    plus_none : (n : ℕ) → n + 0 ≡ n
+    plus_none n = omega arith
+
+pub known_took : (c : ℕ) (client : Client) (past : List Fact) → IsKnownBy c client past
+    → IsKnownBy c client (Fact.Took c ∷ past)
+unfolding has_written has_number
+known_took c client past k = record {
+  once = k.once;
+  names = λ file. entry_later c file past (Fact.Took c ∷ past) (later_fact past (Fact.Took c)) (client.entries file)
+      (k.names file);
+  low = k.low;
+}
+
+took_own : (c last : ℕ) (past : List Fact) (file number : ℕ) → IsOwnNumber c last (Fact.Took c ∷ past) file number
+    → IsOwnNumber c last past file number
+unfolding has_written
+took_own c last past file number own = own
+
+took_written : (c file number : ℕ) (patch : Patch) (past : List Fact) → has_written c file number patch past ≡ true
+    → has_written c file number patch (Fact.Took c ∷ past) ≡ true
+unfolding has_written
+took_written c file number patch past e = e
+
+take_once : (world : World) (c : ℕ) (reply : Reply) (queue : List Reply) → is_up (world.links c) ≡ true → Ground world
+    → world.replies c ≡ reply ∷ queue → IsKnownBy c (world.clients c) world.past → IsSentOnce world c
+    → IsSentOnce (reply_taken world c reply queue) c
+take_once world c reply queue up g first k s =
+    let gone = reply_gone world c queue in
+    let machine = world.clients c in
+    let sum : (file number : ℕ) → knows_file machine file ≡ true
+    → IsOwnNumber c machine.last_number gone.past file number
+    → writes_under_way gone c file number + settles_of number reply
+    ≡ numbered_in number (machine.entries file).sent =
+    λ file number known own. whole _ _ _ _ _ _
+    (ap (λ (q : List Reply). settling number q) (put_same world.replies c queue))
+    (ap (λ (q : List Reply). settling number q) first)
+    (s.counts file number known (took_own c machine.last_number world.past file number own)) in
+    stepped_once gone c (taken machine reply) (λ number. settles_of number reply) up
+    (taken-stays machine reply).files (called_tells machine (ClientCall.Taken reply) (g.clients c))
+    (any_reply machine (AddsUpTaken c machine gone.past) (takes_add c machine gone.past (known_took c machine world.past k))
+    reply (λ file number known own. low _ _ _ (sum file number known own))) sum
+    (λ at one a own file_id number patch is. took_written c at number patch world.past
+    (s.held_on at one a own file_id number patch is))
+  where
+    whole : (l y z x m b : ℕ) → y ≡ z → x ≡ m + z → l + x ≡ b → l + y + m ≡ b
+    whole l y z x m b e f i = omega (arith, e, f, i)
+
+    low : (u a s : ℕ) → u + a ≡ s → a ≤ s
+    low u a s e = omega (arith, e)
+
+-- ---- connections
+
+away_sent : (online : Bool) (entry : Entry) → online ≡ false → IsSoundEntry online entry → entry.sent ≡ []
+away_sent online entry off sound = by_phase entry.phase refl
+  where
+    by_phase : (phase : Phase) → entry.phase ≡ phase → entry.sent ≡ []
+    by_phase Phase.Closed is = (subst (λ p. IsSoundPhase online entry.sent p) is sound) off
+    by_phase (Phase.Opening access share) is =
+        clash online (subst (λ p. IsSoundPhase online entry.sent p) is sound) off
+    by_phase (Phase.Live live) is =
+        clash online (subst (λ p. IsSoundPhase online entry.sent p) is sound).0 off
+    by_phase (Phase.Offline parted) is = (subst (λ p. IsSoundPhase online entry.sent p) is sound).1
+    by_phase (Phase.Reconnecting parted) is =
+        clash online (subst (λ p. IsSoundPhase online entry.sent p) is sound).0 off
+
+connect_none : (client : Client) (number file : ℕ) (sent : List Pending) (phase : Phase)
+    → writes number (connect_turn client file sent phase).requests ≡ 0
+connect_none client number file sent Phase.Closed = refl
+connect_none client number file sent (Phase.Opening access share) = refl
+connect_none client number file sent (Phase.Live live) = refl
+connect_none client number file sent (Phase.Offline parted) = zeros
+  where
+    zeros : 0 + 0 ≡ 0
+    zeros = omega arith
+connect_none client number file sent (Phase.Reconnecting parted) = refl
+
+all_none : (number : ℕ) (turn : ℕ → List Request) (files : List ℕ) → ((f : ℕ) → writes number (turn f) ≡ 0)
+    → writes number (flat_map turn files) ≡ 0
+all_none number turn [] none = refl
+all_none number turn (file ∷ files) none = writes_append number (turn file) (flat_map turn files)
+    ∙ ap₂ (λ a b. a + b) (none file) (all_none number turn files none) ∙ zeros
+  where
+    zeros : 0 + 0 ≡ 0
+    zeros = omega arith
+
+connect_sent : (client : Client) (file : ℕ) (sent : List Pending) (phase : Phase)
+    → (connect_turn client file sent phase).entry.sent ≡ sent
+connect_sent client file sent Phase.Closed = refl
+connect_sent client file sent (Phase.Opening access share) = refl
+connect_sent client file sent (Phase.Live live) = refl
+connect_sent client file sent (Phase.Offline parted) = refl
+connect_sent client file sent (Phase.Reconnecting parted) = refl
+
+connect_once : (world : World) (c : ℕ) → Ground world → world.links c ≡ Link.Down → IsSentOnce (connected world c) c
+unfolding joined connection_made all_turned
+connect_once world c g down =
+    let machine = world.clients c in
+    let back = come_back world c in
+    let step = connection_made machine in
+    let is_off : is_up (world.links c) ≡ false = ap is_up down in
+    let online : machine.is_online ≡ false = g.online c ∙ ap (λ l. not (is_down l)) down in record {
+      counts = λ file number known own. whole _ _ _ _ _
+          (stepped_writes back c step (ap is_up (put_same world.links c Link.Up)) file number)
+          (ap (λ (q : List Request). writes number q) ((g.tied c).requests is_off))
+          (ap (λ (l : List Held). held_writes number l) (none_held world c g is_off file))
+          (ap (λ (q : List Reply). settling number q) ((g.tied c).replies is_off))
+          (all_none number (λ f. (connect_turn machine f (machine.entries f).sent (machine.entries f).phase).requests)
+          (numbers_to machine.files) (λ f. connect_none machine number f (machine.entries f).sent (machine.entries f).phase))
+          ∙ sym (ap (λ (m : Client). numbered_in number (m.entries file).sent) (stepped_machine back c step)
+          ∙ ap (λ l. numbered_in number l)
+          (connect_sent machine file (machine.entries file).sent (machine.entries file).phase
+          ∙ away_sent machine.is_online (machine.entries file) online ((g.clients c).entries file)));
+      held_on = λ at one a own. absurd (not_there one
+          (subst (λ (l : List Held). Among one l) (none_held world c g is_off at)
+          (among_filtered (λ h. h.client == c) one (world.server.held at)
+          (subst (λ (s : Server). Among one (s.held at)) (stepped_server back c step) a) (eq-eqb one.client c own))));
+    }
+  where
+    whole : (u q h a n : ℕ) → u ≡ q + h + a + n → q ≡ 0 → h ≡ 0 → a ≡ 0 → n ≡ 0 → u ≡ 0
+    whole u q h a n e f i j k = omega (arith, e, f, i, j, k)
+
+    not_there : (one : Held) → Among one [] → ⊥
+    not_there one a = a
+
+-- ---- all moves
+
+unmoved_once : (world new : World) (c : ℕ) → IsUnmoved world new c → IsSentOnce world c → IsSentOnce new c
+unmoved_once world new c u s = same_once world new c u.machine u.spared.written
+    (λ file number own.
+    ap₂ (λ (q : List Request) (l : List Held). writes number q + held_writes number l + settling number (new.replies c))
+    u.requests (u.held file)
+    ∙ ap (λ (q : List Reply). writes number (world.requests c)
+    + held_writes number (held_by c (world.server.held file)) + settling number q) u.replies)
+    (λ at one a own file_id number patch is. s.held_on at one
+    (among_filter (λ h. h.client == c) one (world.server.held at)
+    (subst (λ (l : List Held). Among one l) (u.held at)
+    (among_filtered (λ h. h.client == c) one (new.server.held at) a (eq-eqb one.client c own)))).0 own file_id number
+    patch is) s
+
+pub once_moves : IsOwnMoved HasRecords IsUpSentOnce
+unfolding with_opens key_expired opens_dropped has_written
+once_moves = record {
+  unmoved = λ world new c v good u a up. unmoved_once world new c u (a (ap is_up (sym u.link) ∙ up));
+  refused = λ world off c request status v good source may a up.
+      answered_once world off (told_to off c (refusal_of request status)) c request (refusal_of request status) source
+      (known_by world v c good) refl refl refl refl (λ f n p. refl) (λ n. refusal_settles n request status)
+      (a (link_of world off c request source up));
+  full = λ world off c file access share ask v good source a up.
+      answered_once world off (told_to off c (Reply.CreateFailed file Status.InsufficientResources)) c
+      (FileRequest.Create file access share (Some ask)) (Reply.CreateFailed file Status.InsufficientResources) source
+      (known_by world v c good) refl refl refl refl (λ f n p. refl) (λ n. refl) (a (link_of world off c _ source up));
+  granted = λ world off c file access share ask v good source none on free a up.
+      let lease = lease_after off.server c file ask.lease in
+      answered_once world off (granted_in off c file access share ask lease) c
+      (FileRequest.Create file access share (Some ask)) (granted_reply off.server file ask lease) source
+      (known_by world v c good) refl refl
+      (lease_put_rest off.server c ask.lease (lease_after off.server c file ask.lease)
+      (λ s. s.held ≡ off.server.held) (λ l. refl)) refl (λ f n p. refl) (λ n. refl)
+      (a (link_of world off c _ source up));
+  reconnected = λ world off c file access share ask file_id v good source again on waits a up.
+      answered_once world off (reconnected_in off c file ask file_id) c (FileRequest.Create file access share (Some ask))
+      (reconnected_reply off.server c file ask file_id) source (known_by world v c good) refl refl refl refl
+      (λ f n p. refl) (λ n. refl) (a (link_of world off c _ source up));
+  read = λ world off c file_id one v good source found may a up.
+      answered_once world off (told_to off c (Reply.ReadDone file_id (off.server.contents one.file))) c
+      (FileRequest.Read file_id) (Reply.ReadDone file_id (off.server.contents one.file)) source
+      (known_by world v c good) refl refl refl refl (λ f n p. refl) (λ n. refl) (a (link_of world off c _ source up));
+  changed = λ world off c file_id number patch one v good source found may a up.
+      answered_once world off (changed_in off c one.file file_id number patch) c
+      (FileRequest.Write file_id number patch) (Reply.WriteDone file_id number) source
+      (known_by world v c good) refl refl refl refl (λ f n p. refl) (λ n. refl) (a (link_of world off c _ source up));
+  closed = λ world off c file_id one v good source found a up.
+      answered_once world off (told_to (without_opens off (λ other. other.file_id == file_id)) c (Reply.Closed file_id)) c
+      (FileRequest.Close file_id) (Reply.Closed file_id) source (known_by world v c good) refl refl refl refl
+      (λ f n p. refl) (λ n. refl) (a (link_of world off c _ source up));
+  ack_failed = λ world c given status v good oldest a up. told_once world
+      (told_to (popped world c) c (Reply.AckFailed status)) c (Reply.AckFailed status) refl
+      (ack_off world c given oldest) refl refl (λ f n p. refl) (λ n. refl) (a up);
+  ack_done = λ world c given lowered v good oldest there breaks within a up. told_once world
+      (leased_in (popped world c) (key_of c given.key) (record { state = granted_form_of given.state; broken_to = None })
+      (done_reply given)) c (done_reply given) refl
+      (ack_off world c (Some given) oldest) refl refl (λ f n p. refl) (λ n. refl) (a up);
+  hold = λ world file one v good oldest may turn a up. hold_once world file one oldest
+      (asked_on world one.client file one.request (ground_of world v)
+      (head_of (IsNamedRequest one.client (world.clients one.client).guid world.past) (world.requests one.client)
+      oldest.queue (Request.OnFile one.request) oldest.is_first (names_of world v one.client good).requests) turn)
+      (known_by world v one.client good) (a up);
+  dropped = λ world c test v good away a up. same_once world (without_opens world test) c refl (λ f n p. refl)
+      (λ f n own. refl) (a up).held_on (a up);
+  lower = λ world key lowered v good may light a up. told_once world
+      (leased_in world key (record { state = lowered; broken_to = None })
+      (break_notice key (world.server.leases key).state lowered)) key.client
+      (break_notice key (world.server.leases key).state lowered) refl (λ n. refl) refl refl
+      (λ f n p. refl) (λ n. refl) (a up);
+  begin = λ world key lowered v good may heavy a up. told_once world
+      (leased_in world key (record { state = (world.server.leases key).state; broken_to = Some lowered })
+      (break_notice key (world.server.leases key).state lowered)) key.client
+      (break_notice key (world.server.leases key).state lowered) refl (λ n. refl) refl refl
+      (λ f n p. refl) (λ n. refl) (a up);
+  cut = λ world c v good up a on. absurd (true≢false (sym on ∙ ap is_up (put_same world.links c Link.Cut)));
+  timer = λ world c file v good on breaks a up. same_once world (timed_out world c file) c refl (λ f n p. refl)
+      (λ f n own. refl) (a up).held_on (a up);
+  connect = λ world c v good down a up. connect_once world c (ground_of world v) down;
+  command = λ world c command v good a up.
+      let was = was_up world c (commanded (world.clients c) command) up in
+      command_once world c command was (ground_of world v) (known_by world v c good) (a was);
+  take = λ world c reply queue v good first a up.
+      let was : is_up (world.links c) ≡ true =
+      was_up (reply_gone world c queue) c (taken (world.clients c) reply) up in
+      take_once world c reply queue was (ground_of world v) first (known_by world v c good) (a was);
+  notice = λ world c v good cut a on. absurd (true≢false (sym on
+      ∙ ap (λ (l : ℕ → Link). is_up (l c)) (stepped_links (record world { links = put world.links c Link.Down }) c
+      (noticed (world.clients c)))
+      ∙ ap is_up (put_same world.links c Link.Down)));
+}
+
+-- all that is known so far
+abbrev pub HasOnce : World → Type 0
+HasOnce = Both HasRecords (OfGood IsUpSentOnce)
+
+pub once_carried : IsCarried HasOnce
+once_carried = carried_both HasRecords (OfGood IsUpSentOnce) records_carried
+    (own_moves HasRecords IsUpSentOnce ground_of once_moves)
