@@ -1,6 +1,7 @@
 pub mod beliefs
 pub mod clients
 pub mod creates
+pub mod fresh
 pub mod moves
 pub mod names
 pub mod records

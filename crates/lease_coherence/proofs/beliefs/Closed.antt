@@ -90,7 +90,7 @@ anchor_stays world server replies past c file held a there = record {
   held = λ at one x mine. a.held at one (subst (λ h. Among one (h at)) held x) mine;
 }
 
-lease_stays : (server : Server) (opens : List Open) (key : Key) → list_any (has_key key) opens ≡ true
+pub lease_stays : (server : Server) (opens : List Open) (key : Key) → list_any (has_key key) opens ≡ true
     → (with_opens server opens).leases key ≡ server.leases key
 unfolding with_opens
 lease_stays server opens key some = if_cases (λ l. l ≡ server.leases key) (list_any (has_key key) opens)

@@ -164,7 +164,7 @@ created_kept key file file_id answer lease old new asked more queue from none b 
         → new.belief.write ≡ true → Each (AckKeeps key) asked
     bound_new a w = ⊎_elim
         (λ given. clash (given_state key answer.lease).write (ap (λ (s : State). s.write) (sym given) ∙ w)
-        ((a.no_grant.0) refl))
+        ((a.no_grant.0) refl).0)
         (λ x. a.bounds x.live x.was (x.less w)) (from w)
 
 -- a break that asks for an acknowledgment, which is sent with what is then believed

@@ -15,7 +15,7 @@ use Rattle.lease_laws.specs.server.Laws.{IsSound}
 use Rattle.lease_laws.specs.server.SmallSteps.{IsFree}
 use Rattle.lease_laws.proofs.server.Lists.{if_cases, either, clash, and_parts, not_parts, any_has}
 use Rattle.lease_laws.proofs.server.States.{write_of_part}
-use Rattle.lease_coherence.proofs.beliefs.Words.{GivesNoWrite, HoldsWrites}
+use Rattle.lease_coherence.proofs.beliefs.Words.{GivesNothing, HoldsWrites}
 
 -- a state that is granted caches writes only with reads
 pub writes_read : (state : State) → granted_form_of state ≡ state → state.write ≡ true → state.read ≡ true
@@ -36,13 +36,13 @@ given_holds key asked lease reads = if_cases (HoldsWrites lease.state) (bytes_eq
     lease.state nothing_cached (λ told w. (reads w, w)) (λ none w. absurd (true≢false (sym w)))
 
 pub given_none : (key : List ℕ) (asked : List ℕ) (lease : Lease) → is_breaking lease ≡ true
-    → GivesNoWrite
+    → GivesNothing
     (given_state key (Some (record { key = asked; state = lease.state; in_progress = is_breaking lease })))
-given_none key asked lease breaks = if_cases GivesNoWrite (bytes_eq asked key && not (is_breaking lease))
+given_none key asked lease breaks = if_cases GivesNothing (bytes_eq asked key && not (is_breaking lease))
     lease.state nothing_cached
     (λ told. clash (is_breaking lease) breaks
     (not_parts (is_breaking lease) (and_parts (bytes_eq asked key) (not (is_breaking lease)) told).1))
-    (λ none. refl)
+    (λ none. (refl, refl))
 
 -- ---- the lease after a grant
 

@@ -12,7 +12,7 @@ use Rattle.lease_coherence.specs.Creates.{one_if}
 use Rattle.lease_coherence.specs.Names.{Each}
 use Rattle.lease_coherence.proofs.clients.Takes.{is_live}
 use Rattle.lease_coherence.proofs.names.Words.{each_append, each_weaker}
-use Rattle.lease_coherence.proofs.beliefs.Words.{acks, is_created, is_ack_break, OnGiven, GivesNoWrite, HoldsWrites, AckKeeps, met_mapped, met_last, met_nowhere, IsBelieved}
+use Rattle.lease_coherence.proofs.beliefs.Words.{acks, is_created, is_ack_break, OnGiven, GivesNothing, HoldsWrites, AckKeeps, met_mapped, met_last, met_nowhere, IsBelieved}
 
 each_last : {X : Type 0} (P : X → Type 0) (xs : List X) (x : X) → Each P xs → P x → Each P (xs ++ x ∷ [])
 each_last P xs x each last = each_append P xs (x ∷ []) each (last, tt)
@@ -36,7 +36,7 @@ given_all T U key file f (Reply.AckFailed status) g = tt
 -- acknowledgment
 pub plain_sent : (key : List ℕ) (file : ℕ) (lease : Lease) (phase : Phase) (asked : List Request) (queue : List Reply)
     (reply : Reply) → OnGiven (HoldsWrites lease.state) key file reply
-    → (is_breaking lease ≡ true → OnGiven GivesNoWrite key file reply) → is_ack_break key reply ≡ false
+    → (is_breaking lease ≡ true → OnGiven GivesNothing key file reply) → is_ack_break key reply ≡ false
     → IsBelieved key file lease phase asked queue → IsBelieved key file lease phase asked (queue ++ reply ∷ [])
 plain_sent key file lease phase asked queue reply given none plain b = record {
   own = b.own;
@@ -46,7 +46,7 @@ plain_sent key file lease phase asked queue reply given none plain b = record {
       (λ rest m. record {
         is_so = m.is_so;
         none_answered = m.none_answered;
-        no_grant = each_last (OnGiven GivesNoWrite key file) rest reply m.no_grant (none m.is_so);
+        no_grant = each_last (OnGiven GivesNothing key file) rest reply m.no_grant (none m.is_so);
         no_break = each_last (λ r. is_ack_break key r ≡ false) rest reply m.no_break plain;
       })
       (λ is. clash (is_ack_break key reply) is plain) b.breaks;
@@ -54,12 +54,12 @@ plain_sent key file lease phase asked queue reply given none plain b = record {
     one = a.one;
     breaking = a.breaking;
     bounds = a.bounds;
-    no_grant = each_last (OnGiven GivesNoWrite key file) queue reply a.no_grant (none a.breaking);
+    no_grant = each_last (OnGiven GivesNothing key file) queue reply a.no_grant (none a.breaking);
   })) b.answers;
 }
 
 -- nothing is answered while nothing breaks
-settled_none : (key : List ℕ) (file : ℕ) (lease : Lease) (phase : Phase) (asked : List Request) (queue : List Reply)
+pub settled_none : (key : List ℕ) (file : ℕ) (lease : Lease) (phase : Phase) (asked : List Request) (queue : List Reply)
     → is_breaking lease ≡ false → IsBelieved key file lease phase asked queue → acks key asked ≡ 0
 settled_none key file lease phase asked queue settled b = ⊎_elim (λ zero. zero)
     (λ a. clash (is_breaking lease) a.breaking settled) b.answers
@@ -158,8 +158,8 @@ ack_served key file lease new phase given left queue own keeps b = ⊎_elim
       own = λ live is w.
           let h = a.bounds live is w in
           let kept = (h.0) own in ((b.own live is w).0, keeps kept.0 kept.1);
-      given = each_weaker (OnGiven GivesNoWrite key file) (OnGiven (HoldsWrites new.state) key file) queue
-          (λ reply g. given_all GivesNoWrite (HoldsWrites new.state) key file (λ s none w. clash s.write w none) reply g)
+      given = each_weaker (OnGiven GivesNothing key file) (OnGiven (HoldsWrites new.state) key file) queue
+          (λ reply g. given_all GivesNothing (HoldsWrites new.state) key file (λ s none w. clash s.write w none.0) reply g)
           a.no_grant;
       breaks = met_mapped key file (is_breaking lease) (is_breaking new)
           (acks key (Request.Acknowledge (Some given) ∷ left)) (acks key left) (is_live phase) queue

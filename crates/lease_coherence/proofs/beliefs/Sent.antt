@@ -26,7 +26,7 @@ use Rattle.lease_coherence.proofs.names.Words.{each_append}
 use Rattle.lease_coherence.proofs.beliefs.Grants.{writes_read}
 use Rattle.lease_coherence.proofs.beliefs.Leases.{plain_sent, settled_changed, break_sent}
 use Rattle.lease_coherence.proofs.beliefs.Trust.{file_key, HasTrust, off_trusted, trusted_by}
-use Rattle.lease_coherence.proofs.beliefs.Words.{is_ack_break, OnGiven, GivesNoWrite, HoldsWrites, LowersWell, IsBelieved}
+use Rattle.lease_coherence.proofs.beliefs.Words.{is_ack_break, OnGiven, GivesNothing, HoldsWrites, LowersWell, IsBelieved}
 
 -- ---- one more reply
 
@@ -94,7 +94,7 @@ bare_bears world new c reply file bare same b = subst
     (plain_sent (file_key world c file) file (world.server.leases (machine_key world c file))
     ((world.clients c).entries file).phase (world.requests c) (world.replies c) reply
     (bare_given (HoldsWrites (world.server.leases (machine_key world c file)).state) (file_key world c file) file reply bare)
-    (λ breaks. bare_given GivesNoWrite (file_key world c file) file reply bare)
+    (λ breaks. bare_given GivesNothing (file_key world c file) file reply bare)
     (bare_break (file_key world c file) reply bare) b)
 
 pub bare_trusted : (world new : World) (c : ℕ) (reply : Reply) → is_bare reply → IsSentTo world new c reply

@@ -37,8 +37,8 @@ abbrev pub OnGiven : (State → Type 0) → List ℕ → ℕ → Reply → Type 
 OnGiven T key file (Reply.Created other file_id (Some answer)) = other ≡ file → T (given_state key answer.lease)
 OnGiven T key file reply = ⊤
 
-abbrev pub GivesNoWrite : State → Type 0
-GivesNoWrite state = state.write ≡ false
+abbrev pub GivesNothing : State → Type 0
+GivesNothing state = (state.write ≡ false) × (state.read ≡ false)
 
 -- writes are cached only with reads, and where the lease holds them
 abbrev pub HoldsWrites : State → State → Type 0
@@ -69,7 +69,7 @@ OpenTillAck key file_id (Request.Acknowledge (Some lease) ∷ queue) =
 pub record IsMet (key : List ℕ) (file : ℕ) (breaking : Bool) (count : ℕ) (rest : List Reply) : Type 0 where
   pub is_so : breaking ≡ true
   pub none_answered : count ≡ 0
-  pub no_grant : Each (OnGiven GivesNoWrite key file) rest
+  pub no_grant : Each (OnGiven GivesNothing key file) rest
   pub no_break : Each (λ reply. is_ack_break key reply ≡ false) rest
 
 -- whether an entry is live there is known from the entry now, and from the grants before
@@ -88,7 +88,7 @@ pub record IsAnswering (key : List ℕ) (file : ℕ) (lease : Lease) (phase : Ph
   pub one : acks key asked ≡ 1
   pub breaking : is_breaking lease ≡ true
   pub bounds : (live : LiveEntry) → phase ≡ Phase.Live live → live.belief.write ≡ true → Each (AckKeeps key) asked
-  pub no_grant : Each (OnGiven GivesNoWrite key file) queue
+  pub no_grant : Each (OnGiven GivesNothing key file) queue
 
 pub record IsBelieved (key : List ℕ) (file : ℕ) (lease : Lease) (phase : Phase) (asked : List Request)
     (queue : List Reply) : Type 0 where

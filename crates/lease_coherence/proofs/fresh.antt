@@ -1,0 +1,6 @@
+pub mod Clients
+pub mod Contents
+pub mod Runs
+pub mod Sent
+pub mod Takes
+pub mod Words

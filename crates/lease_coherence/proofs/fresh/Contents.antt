@@ -1,0 +1,108 @@
+-- At every point of a run the contents of the server are those of the record.
+use Rattle.std.proofs.Common.{◌≡◌, ◌≢◌, ℕ, Bool, true, false, List, [], ◌∷◌, Option, Some, None, refl, sym, ap, ◌∙◌, subst, ◌==◌}
+use Rattle.std.specs.Prelude.{if◌then◌else◌}
+use Rattle.std.proofs.lemmas.Bool.{eqb-true, eq-eqb}
+use Rattle.lease_state.specs.Content.{patch as patched}
+use Rattle.lease_state.specs.declared.patch.Patch.{Patch}
+use Rattle.lease_model.specs.client.Commands.{Note}
+use Rattle.lease_model.specs.client.Step.{Step}
+use Rattle.lease_model.specs.messages.Requests.{FileRequest}
+use Rattle.lease_model.specs.records.Facts.{Fact}
+use Rattle.lease_model.specs.server.Calls.{joined, key_expired, opens_disconnected, client_forgotten}
+use Rattle.lease_model.specs.server.Grant.{lease_put, lease_after}
+use Rattle.lease_model.specs.server.Progress.{opens_dropped, with_opens}
+use Rattle.lease_model.specs.server.State.{Server}
+use Rattle.lease_model.specs.values.Tables.{put}
+use Rattle.lease_model.specs.world.Events.{stepped_in}
+use Rattle.lease_model.specs.world.World.{World, Link, requests_sent, fact_of}
+use Rattle.lease_laws.specs.records.Runs.{content_of}
+use Rattle.lease_laws.proofs.client.Thin.{put_same, put_other}
+use Rattle.lease_laws.proofs.server.Lists.{either, clash}
+use Rattle.lease_laws.proofs.world.Runs.{stepped_server}
+use Rattle.lease_coherence.proofs.moves.Deeds.{HasDeeds, IsSource, step_deed}
+use Rattle.lease_coherence.proofs.moves.Events.{Ground, IsMoved, reply_gone, come_back}
+use Rattle.lease_coherence.proofs.moves.Frames.{from_source, lease_put_rest, stepped_past}
+use Rattle.lease_coherence.proofs.records.Later.{past_noted}
+
+abbrev pub AreContents : List Fact → (ℕ → List ℕ) → Type 0
+AreContents past contents = (file : ℕ) → contents file ≡ content_of file past
+
+abbrev pub HasContents : World → Type 0
+HasContents world = AreContents world.past world.server.contents
+
+off_contents : (world off : World) (client : ℕ) (request : FileRequest) → IsSource world off client request
+    → HasContents world → HasContents off
+off_contents world off client request source h =
+    from_source world off client request HasContents source h (λ file left. h)
+
+changed_contents : (contents : ℕ → List ℕ) (past : List Fact) (at client number : ℕ) (patch : Patch)
+    → AreContents past contents
+    → AreContents (Fact.Sent client ∷ Fact.Changed at client number patch ∷ past)
+    (put contents at (patched (contents at) patch))
+unfolding content_of
+changed_contents contents past at client number patch has file = either (at == file)
+    (λ same. subst (λ f. put contents at (patched (contents at) patch) f
+    ≡ (if at == f then patched (content_of f past) patch else content_of f past)) (eqb-true at file same)
+    (rw (eq-eqb at at refl, put_same contents at (patched (contents at) patch))
+    (ap (λ c. patched c patch) (has at))))
+    (λ apart. rw (apart) (put_other contents at (patched (contents at) patch) file
+    (λ e. clash (at == file) (eq-eqb at file (sym e)) apart) ∙ has file))
+
+deeds_contents : (world : World) → HasContents world → HasDeeds world HasContents
+unfolding with_opens content_of
+deeds_contents world h = record {
+  refused = λ off client request status source may. off_contents world off client request source h;
+  full = λ off client file access share ask source. off_contents world off client _ source h;
+  granted = λ off client file access share ask source none on free file_of.
+      lease_put_rest off.server client ask.lease (lease_after off.server client file ask.lease)
+      (λ s. s.contents file_of ≡ content_of file_of off.past) (λ l. off_contents world off client _ source h file_of);
+  reconnected = λ off client file access share ask file_id source again on waits.
+      off_contents world off client _ source h;
+  read = λ off client file_id one source found may. off_contents world off client _ source h;
+  changed = λ off client file_id number patch one source found may.
+      changed_contents off.server.contents off.past one.file client number patch
+      (off_contents world off client _ source h);
+  closed = λ off client file_id one source found. off_contents world off client _ source h;
+  ack_failed = λ client given status oldest up. h;
+  ack_done = λ client given lowered oldest up there breaks within. h;
+  hold = λ file one oldest may turn. h;
+  drop = λ key. h;
+  lower = λ key lowered may light. h;
+  begin = λ key lowered may heavy. h;
+}
+
+-- ---- steps of a client
+
+note_content : (client : ℕ) (note : Note) (past : List Fact) (file : ℕ)
+    → content_of file (fact_of client note ∷ past) ≡ content_of file past
+unfolding content_of
+note_content client (Note.Settled number outcome) past file = refl
+note_content client (Note.Wrote f number patch buffered) past file = refl
+note_content client (Note.Believes f state) past file = refl
+note_content client (Note.CachedRead f bytes) past file = refl
+
+pub noted_content : (client : ℕ) (past : List Fact) (notes : List Note) (file : ℕ)
+    → content_of file (past_noted client past notes) ≡ content_of file past
+noted_content client past [] file = refl
+noted_content client past (note ∷ notes) file =
+    noted_content client (fact_of client note ∷ past) notes file ∙ note_content client note past file
+
+stepped_contents : (world : World) (client : ℕ) (step : Step) → HasContents world
+    → HasContents (stepped_in world client step)
+stepped_contents world client step h file = ap (λ (s : Server). s.contents file) (stepped_server world client step)
+    ∙ h file ∙ sym (ap (content_of file) (stepped_past world client step)
+    ∙ noted_content client world.past step.notes file)
+
+pub contents_moves : IsMoved Ground HasContents
+unfolding joined key_expired opens_dropped with_opens opens_disconnected client_forgotten requests_sent content_of
+contents_moves = record {
+  step = λ world step g next h. step_deed world HasContents (deeds_contents world h) step next;
+  cut = λ world client g up h. h;
+  timer = λ world client file g on breaks h. h;
+  scavenge = λ world file_id g h. h;
+  connect = λ world client g down h. stepped_contents (come_back world client) client _ h;
+  command = λ world client command g h. stepped_contents world client _ h;
+  take = λ world client reply queue g first h. stepped_contents (reply_gone world client queue) client _ h;
+  notice = λ world client g cut h. stepped_contents (record world { links = put world.links client Link.Down }) client _ h;
+  stray = λ world client request g up h. h;
+}

@@ -1,0 +1,992 @@
+-- Every move keeps a client's bytes fresh, of each file whose timer didn't run out, while its link is up.
+use Rattle.std.proofs.Common.{◌≡◌, ◌≢◌, ◌⊎◌, inl, inr, ⊎_elim, ℕ, zero, suc, ◌+◌, ◌≤◌, Bool, true, false, not, List, [], ◌∷◌, ◌++◌, length, flat_map, Option, Some, None, refl, sym, ap, ap₂, ◌∙◌, subst, arith, true≢false, ◌==◌}
+use Rattle.std.specs.Prelude.{⊤, ◌&&◌, if◌then◌else◌, is_some, bytes_eq, drop, slice_get}
+use Rattle.std.specs.List.{list_any}
+use Rattle.std.proofs.lemmas.Bool.{eqb-true, eq-eqb}
+use Rattle.std.proofs.lemmas.Slice.Eq.{bytes_eq-Decides}
+use Rattle.lease_state.specs.Content.{patch as patched}
+use Rattle.lease_state.specs.State.{State, nothing_cached, granted_form_of}
+use Rattle.lease_state.specs.declared.access.Access.{Access}
+use Rattle.lease_state.specs.declared.access.Share.{Share}
+use Rattle.lease_state.specs.declared.patch.Patch.{Patch}
+use Rattle.lease_state.specs.declared.status.Status.{Status}
+use Rattle.lease_model.specs.client.Commanded.{commanded}
+use Rattle.lease_model.specs.client.Commands.{Command, Note}
+use Rattle.lease_model.specs.client.Connection.{all_turned, noticed, connection_made, connect_turn}
+use Rattle.lease_model.specs.client.State.{Client, Entry, LiveEntry, Pending, Phase, lease_key, knows_file, belief_in}
+use Rattle.lease_model.specs.client.Step.{Step}
+use Rattle.lease_model.specs.client.Taken.{taken}
+use Rattle.lease_model.specs.messages.Replies.{Reply}
+use Rattle.lease_model.specs.messages.Requests.{FileRequest, Request, CreateAsk, LeaseOf}
+use Rattle.lease_model.specs.records.Facts.{Fact}
+use Rattle.lease_model.specs.records.Past.{has_strayed, has_written, sendings, takings, last_of, last_sending}
+use Rattle.lease_model.specs.server.Calls.{joined, key_expired}
+use Rattle.lease_model.specs.server.Findings.{connected_open}
+use Rattle.lease_model.specs.server.Grant.{connected_again, lease_granted, lease_after, lease_put, standing_lease}
+use Rattle.lease_model.specs.server.Naming.{key_of, own_key}
+use Rattle.lease_model.specs.server.Progress.{opens_dropped, with_opens, break_notice, refusal_of}
+use Rattle.lease_model.specs.server.State.{Server, Open, Held, Lease, is_breaking, has_key}
+use Rattle.lease_model.specs.values.Keys.{Key, key_eq}
+use Rattle.lease_model.specs.values.Lists.{numbers_to, without}
+use Rattle.lease_model.specs.values.Tables.{put, put_key}
+use Rattle.lease_model.specs.world.Events.{stepped_in, machine_key}
+use Rattle.lease_model.specs.world.World.{World, Link, sent_over, fact_of}
+use Rattle.lease_laws.specs.client.Laws.{IsSoundPhase}
+use Rattle.lease_laws.specs.records.Runs.{content_of}
+use Rattle.lease_laws.specs.server.Laws.{Among, IsSound}
+use Rattle.lease_laws.specs.server.SmallSteps.{IsFree, MayLower}
+use Rattle.lease_laws.specs.world.FileIds.{was_opened}
+use Rattle.lease_laws.specs.world.Links.{is_up, is_down}
+use Rattle.lease_laws.proofs.client.Forms.{commanded-stays, taken-stays}
+use Rattle.lease_laws.proofs.client.Thin.{put_same, put_other}
+use Rattle.lease_laws.proofs.server.Keys.{key_eq-refl, put_key-cases}
+use Rattle.lease_laws.proofs.server.Lists.{if_cases, either, clash, and_parts, and_both, not_true, find_has, among_before, among_filter}
+use Rattle.lease_laws.proofs.world.Links.{stepped_links}
+use Rattle.lease_laws.proofs.world.Runs.{stepped_server}
+use Rattle.lease_coherence.specs.Creates.{answers, answer_of, asked_by}
+use Rattle.lease_coherence.specs.Names.{Each, IsNamedAt, IsNamedOnFile, IsOwnOpen, WasWrittenOn}
+use Rattle.lease_coherence.specs.Standing.{IsStandingAt}
+use Rattle.lease_coherence.proofs.beliefs.Clients.{IsAboutFile, keys_apart}
+use Rattle.lease_coherence.proofs.beliefs.Closed.{lease_stays, left_there}
+use Rattle.lease_coherence.proofs.beliefs.Grants.{grant_settled, grant_breaking}
+use Rattle.lease_coherence.proofs.beliefs.Leases.{settled_none}
+use Rattle.lease_coherence.proofs.beliefs.Sent.{is_bare, off_fresh, off_trust, refusal_bare}
+use Rattle.lease_coherence.proofs.beliefs.Trust.{file_key, HasTrust}
+use Rattle.lease_coherence.proofs.beliefs.Words.{acks, is_ack_break, OnGiven, GivesNothing, BreaksAreMet}
+use Rattle.lease_coherence.proofs.clients.Commands.{any_command}
+use Rattle.lease_coherence.proofs.clients.Takes.{any_reply, is_live}
+use Rattle.lease_coherence.proofs.creates.Creates.{up_link, stepped_machine}
+use Rattle.lease_coherence.proofs.fresh.Clients.{WasSoLive, KeepsLive, commands_keep, all_about, IsMetBy, IsFreshAfter, IsDueTo, TakesFresh}
+use Rattle.lease_coherence.proofs.fresh.Contents.{HasContents, AreContents, contents_moves, noted_content}
+use Rattle.lease_coherence.proofs.fresh.Sent.{IsFreshIn, IsUpFresh, IsToldTo, left_reads, HasMore, seen_more, base_more, unmoved_fresh, IsToldIn, SendsFresh, sent_fresh, bare_reads, is_still, still_sends, gone_reads}
+use Rattle.lease_coherence.proofs.fresh.Takes.{takes_fresh}
+use Rattle.lease_coherence.proofs.fresh.Words.{given_reads, reads_by, reads_after, reads_last, after_fewer, AckReads, acks_fewer, no_acks_read, Follows, TellsBytes, IsRelayed, relayed_later, relayed_fewer, relayed_now, IsLastSeen, HasBase, places_of, IsFreshFor}
+use Rattle.lease_coherence.proofs.moves.Deeds.{IsSource, told_to, granted_in, reconnected_in, changed_in, without_opens, leased_in, held_in, with_held, granted_reply, reconnected_reply, done_reply}
+use Rattle.lease_coherence.proofs.moves.Events.{Ground, IsCarried, Both, carried_both, timed_out, come_back, connected, reply_gone, reply_taken}
+use Rattle.lease_coherence.proofs.moves.Foreign.{IsUnmoved, off_sound, map_kept}
+use Rattle.lease_coherence.proofs.moves.Frames.{from_source, lease_put_rest, stepped_past, stepped_requests, stepped_replies}
+use Rattle.lease_coherence.proofs.moves.Moves.{IsOldest, rest_of, popped}
+use Rattle.lease_coherence.proofs.moves.Own.{IsOwnMoved, OfGood, own_moves}
+use Rattle.lease_coherence.proofs.moves.Spared.{ends_by, ends_as}
+use Rattle.lease_coherence.proofs.names.Names.{off_named, off_counted, open_parts}
+use Rattle.lease_coherence.proofs.names.Words.{each_append, each_weaker, each_rest, opened_once}
+use Rattle.lease_coherence.proofs.records.Later.{IsLater, later_same, later_then, later_fact, later_noted, past_noted}
+use Rattle.lease_coherence.proofs.standing.Runs.{link_of, was_up, each_flat, standing_moves}
+use Rattle.lease_coherence.proofs.standing.Servers.{again_up}
+use Rattle.lease_coherence.proofs.standing.Standing.{IsStepped, step_of}
+use Rattle.lease_coherence.proofs.writes.Counts.{settles_of, settling, numbered_in}
+use Rattle.lease_coherence.proofs.writes.Runs.{HasRecords, HasOnce, once_carried, ground_of, names_of, known_by, moved_under}
+
+-- ---- what is known so far
+
+abbrev pub HasSeen : World → Type 0
+HasSeen = Both HasOnce HasContents
+
+pub seen_carried : IsCarried HasSeen
+seen_carried = carried_both HasOnce HasContents once_carried
+    (moved_under HasOnce Ground HasContents (λ world v. ground_of world v.0) contents_moves)
+
+own_of : (world : World) → HasSeen world → (c : ℕ) → has_strayed c world.past ≡ false
+    → (one : Open) → Among one world.server.opens → one.client ≡ c → IsOwnOpen (world.clients c).guid one
+own_of world v c good one there by = (names_of world v.0.0 c good).opens one there by
+
+low_of : (world : World) → Ground world → (c : ℕ) → is_up (world.links c) ≡ true
+    → takings c world.past ≤ length (sendings c world.past)
+low_of world g c up = let e = (g.tied c).counted up in below _ _ _ e
+  where
+    below : (s t n : ℕ) → s ≡ t + n → t ≤ s
+    below s t n e = omega (arith, e)
+
+-- ---- the part from which a request was taken off
+
+popped_fresh : (world : World) (c file : ℕ) → IsFreshIn world c file → IsFreshIn (popped world c) c file
+popped_fresh world c file f = subst
+    (λ q. IsFreshFor c (file_key world c file) file (world.server.leases (machine_key world c file))
+    ((world.clients c).entries file).phase q (world.replies c) world.past)
+    (sym (put_same world.requests c (rest_of (world.requests c)))) (record {
+      old = f.old;
+      base = f.base;
+      relay = f.relay;
+      bound = f.bound;
+      acks_read = each_rest (AckReads (file_key world c file) (left_reads world c file)) (world.requests c) f.acks_read;
+    })
+
+off_fresh_in : (world off : World) (c file : ℕ) (request : FileRequest) → IsSource world off c request
+    → IsFreshIn world c file → IsFreshIn off c file
+off_fresh_in world off c file request source f = from_source world off c request
+    (λ o. IsFreshIn o c file) source (popped_fresh world c file f) (λ at left. f)
+
+off_low : (world off : World) (c : ℕ) (request : FileRequest) → IsSource world off c request
+    → takings c world.past ≤ length (sendings c world.past) → takings c off.past ≤ length (sendings c off.past)
+off_low world off c request source low = from_source world off c request
+    (λ (o : World). takings c o.past ≤ length (sendings c o.past)) source low (λ at left. low)
+
+off_contents : (world off : World) (c : ℕ) (request : FileRequest) → IsSource world off c request → HasContents world
+    → HasContents off
+off_contents world off c request source h = from_source world off c request HasContents source h (λ at left. h)
+
+-- ---- a reply that gives nothing and tells nothing
+
+plain_sent : (world : World) (c : ℕ) (reply : Reply) → IsToldTo world (told_to world c reply) c reply
+plain_sent world c reply = record {
+  machine = refl;
+  requests = refl;
+  replies = put_same world.replies c (world.replies c ++ reply ∷ []);
+}
+
+plain_told : (c : ℕ) (past : List Fact) → IsToldIn c past past (Fact.Sent c ∷ past)
+plain_told c past = record { is = refl; later = later_same past; sent = refl; took = refl }
+
+told_fresh : (world : World) (c : ℕ) (reply : Reply) (file : ℕ) → is_bare reply → is_still reply
+    → takings c world.past ≤ length (sendings c world.past) → IsFreshIn world c file
+    → IsFreshIn (told_to world c reply) c file
+told_fresh world c reply file bare still low f = sent_fresh world (told_to world c reply) c world.past reply
+    (plain_sent world c reply) (plain_told c world.past) low file
+    (still_sends world (told_to world c reply) c world.past reply file still refl
+    (λ e. f.bound (sym (bare_reads (file_key world c file) file (left_reads world c file) reply bare) ∙ e))
+    (inl (λ e. sym (bare_reads (file_key world c file) file (left_reads world c file) reply bare) ∙ e))) f
+
+refusal_still : (request : FileRequest) (status : Status) → is_still (refusal_of request status)
+refusal_still (FileRequest.Create file access share contexts) status = tt
+refusal_still (FileRequest.Read file_id) status = tt
+refusal_still (FileRequest.Write file_id number patch) status = tt
+refusal_still (FileRequest.Close file_id) status = tt
+
+-- ---- reads and writes
+
+read_fresh : (world off : World) (c file_id : ℕ) (one : Open) → IsSource world off c (FileRequest.Read file_id)
+    → Ground world → HasContents world → connected_open off.server c file_id ≡ Some one → (file : ℕ)
+    → takings c off.past ≤ length (sendings c off.past) → IsFreshIn off c file
+    → IsFreshIn (told_to off c (Reply.ReadDone file_id (off.server.contents one.file))) c file
+unfolding was_opened
+read_fresh world off c file_id one source g h found file low f =
+    let there = find_has _ one off.server.opens found in
+    let parts = open_parts c file_id one there.1 in
+    let told = (off_counted world off c (FileRequest.Read file_id) source g).opens one there.0 in
+    sent_fresh off (told_to off c (Reply.ReadDone file_id (off.server.contents one.file))) c off.past
+    (Reply.ReadDone file_id (off.server.contents one.file))
+    (plain_sent off c (Reply.ReadDone file_id (off.server.contents one.file))) (plain_told c off.past) low file (record {
+      follows = λ from now reads. now reads;
+      tells = record {
+        file = one.file;
+        opened = subst (λ i. was_opened i one.file c off.past ≡ true) parts.0
+            (subst (λ d. was_opened one.file_id one.file d off.past ≡ true) parts.1.0 told);
+        is = off_contents world off c (FileRequest.Read file_id) source h one.file;
+      };
+      bound = f.bound;
+      fewer = inl (λ e. e);
+    }) f
+
+change_told : (c file number : ℕ) (patch : Patch) (past : List Fact)
+    → IsToldIn c past (Fact.Changed file c number patch ∷ past)
+    (Fact.Sent c ∷ Fact.Changed file c number patch ∷ past)
+unfolding sendings takings
+change_told c file number patch past = record {
+  is = refl;
+  later = later_fact past (Fact.Changed file c number patch);
+  sent = refl;
+  took = refl;
+}
+
+change_follows : (c at file number : ℕ) (patch : Patch) (past new : List Fact) (from : List ℕ) (file_id : ℕ)
+    → has_written c at number patch new ≡ true → content_of file past ≡ from
+    → Follows c file new from (content_of file (Fact.Changed at c number patch ∷ past)) (Reply.WriteDone file_id number)
+unfolding content_of
+change_follows c at file number patch past new from file_id written now = either (at == file)
+    (λ same. inl (record {
+      patch = patch;
+      written = subst (λ f. has_written c f number patch new ≡ true) (eqb-true at file same) written;
+      is = rw (same) (ap (λ x. patched x patch) now);
+    }))
+    (λ apart. inr (record {
+      other = at;
+      patch = patch;
+      written = written;
+      apart = λ e. clash (at == file) (eq-eqb at file e) apart;
+      is = rw (apart) now;
+    }))
+
+changed_fresh : (world off : World) (c file_id number : ℕ) (patch : Patch) (one : Open)
+    → IsSource world off c (FileRequest.Write file_id number patch) → Ground world → IsNamedAt world c
+    → connected_open off.server c file_id ≡ Some one → (file : ℕ)
+    → takings c off.past ≤ length (sendings c off.past) → IsFreshIn off c file
+    → IsFreshIn (changed_in off c one.file file_id number patch) c file
+unfolding has_written
+changed_fresh world off c file_id number patch one source g n found file low f =
+    let there = find_has _ one off.server.opens found in
+    let parts = open_parts c file_id one there.1 in
+    let told = (off_counted world off c (FileRequest.Write file_id number patch) source g).opens one there.0 in
+    let w : WasWrittenOn c file_id number patch off.past =
+    (off_named world off c (FileRequest.Write file_id number patch) c source n).1 refl in
+    let at = opened_once file_id w.file c one.file c off.past w.opened
+    (subst (λ i. was_opened i one.file c off.past ≡ true) parts.0
+    (subst (λ d. was_opened one.file_id one.file d off.past ≡ true) parts.1.0 told)) in
+    sent_fresh off (changed_in off c one.file file_id number patch) c
+    (Fact.Changed one.file c number patch ∷ off.past) (Reply.WriteDone file_id number) (record {
+      machine = refl;
+      requests = refl;
+      replies = put_same off.replies c (off.replies c ++ Reply.WriteDone file_id number ∷ []);
+    }) (change_told c one.file number patch off.past) low file (record {
+      follows = λ from now reads. change_follows c one.file file number patch off.past
+          (changed_in off c one.file file_id number patch).past from file_id
+          (subst (λ x. has_written c x number patch off.past ≡ true) at w.written) (now reads);
+      tells = tt;
+      bound = f.bound;
+      fewer = inl (λ e. e);
+    }) f
+
+-- ---- grants
+
+-- a grant tells what the lease then is
+told_lease : (key : List ℕ) (asked : List ℕ) (left : Bool) (lease : Lease)
+    → (is_breaking lease ≡ true → left ≡ true → (ends_as lease).read ≡ true)
+    → given_reads key left (Some (record { key = asked; state = lease.state; in_progress = is_breaking lease })) ≡ true
+    → (ends_as lease).read ≡ true
+told_lease key asked left lease breaks e = by_end lease.broken_to refl e
+  where
+    by_end : (to : Option State) → lease.broken_to ≡ to
+        → (if is_breaking lease then left else (bytes_eq asked key && lease.state.read)) ≡ true
+        → (ends_as lease).read ≡ true
+    by_end None is h = settled (subst (λ o. (if is_some o then left
+        else (bytes_eq asked key && lease.state.read)) ≡ true) is h)
+      where
+        settled : (bytes_eq asked key && lease.state.read) ≡ true → (ends_as lease).read ≡ true
+        settled x = subst (λ o. (ends_by o lease.state).read ≡ true) (sym is)
+            (and_parts (bytes_eq asked key) lease.state.read x).1
+    by_end (Some lowered) is h = breaks (ap is_some is)
+        (subst (λ o. (if is_some o then left
+        else (bytes_eq asked key && lease.state.read)) ≡ true) is h)
+
+busy_left : (key : List ℕ) (asked : List ℕ) (left busy : Bool) (state : State) → busy ≡ true
+    → given_reads key left (Some (record { key = asked; state = state; in_progress = busy })) ≡ true → left ≡ true
+busy_left key asked left true state e h = h
+busy_left key asked left false state e h = absurd (true≢false (sym e))
+
+opened_told : (c file : ℕ) (past : List Fact)
+    → IsToldIn c past (Fact.Opened file c ∷ past) (Fact.Sent c ∷ Fact.Opened file c ∷ past)
+unfolding sendings takings
+opened_told c file past =
+    record { is = refl; later = later_fact past (Fact.Opened file c); sent = refl; took = refl }
+
+opened_content : (at file client : ℕ) (past : List Fact) → content_of at (Fact.Opened file client ∷ past) ≡ content_of at past
+unfolding content_of
+opened_content at file client past = refl
+
+-- what the queue tells where a grant stands at its end, of the file itself and of others
+created_bound : (key : List ℕ) (at file file_id : ℕ) (asked : List ℕ) (left : Bool) (lease : Lease) (durable : Bool) (P : Type 0)
+    → ((file == at) ≡ true → given_reads key left
+    (Some (record { key = asked; state = lease.state; in_progress = is_breaking lease })) ≡ true → P)
+    → ((file == at) ≡ false → left ≡ true → P)
+    → reads_by key at left (Reply.Created file file_id (Some (record {
+      lease = Some (record { key = asked; state = lease.state; in_progress = is_breaking lease });
+      durable = durable;
+    }))) ≡ true → P
+created_bound key at file file_id asked left lease durable P here there e = by_file (file == at) refl e
+  where
+    by_file : (b : Bool) → (file == at) ≡ b → (if b then given_reads key left
+        (Some (record { key = asked; state = lease.state; in_progress = is_breaking lease })) else left) ≡ true → P
+    by_file true same h = here same h
+    by_file false apart h = there apart h
+
+-- the key of the create is that of its file alone
+key_files : (world : World) (c file at : ℕ) (asked : LeaseOf) → asked.key ≡ lease_key (world.clients c).guid file
+    → machine_key world c at ≡ key_of c asked.key → (file == at) ≡ true
+key_files world c file at asked named same = either (file == at) (λ e. e)
+    (λ apart. clash (bytes_eq (lease_key (world.clients c).guid at) (lease_key (world.clients c).guid file))
+    ((bytes_eq-Decides (lease_key (world.clients c).guid at) (lease_key (world.clients c).guid file)).1
+    (ap (λ (k : Key). k.bytes) same ∙ named))
+    (keys_apart (world.clients c).guid at file (λ e. clash (file == at) (eq-eqb file at (sym e)) apart)))
+
+key_same : (world : World) (c file at : ℕ) (asked : LeaseOf) → asked.key ≡ lease_key (world.clients c).guid file
+    → (file == at) ≡ true → machine_key world c at ≡ key_of c asked.key
+key_same world c file at asked named same =
+    ap (λ f. key_of c (lease_key (world.clients c).guid f)) (sym (eqb-true file at same))
+    ∙ ap (λ bytes. key_of c bytes) (sym named)
+
+granted_asked : (off : World) (c file : ℕ) (access : Access) (share : Share) (ask : CreateAsk) (asked : LeaseOf)
+    → asked.key ≡ lease_key (off.clients c).guid file → HasTrust off c → (at : ℕ)
+    → off.server.expired (machine_key off c at) ≡ false → takings c off.past ≤ length (sendings c off.past)
+    → IsFreshIn off c at
+    → IsFreshIn (granted_in off c file access share (record ask { lease = Some asked })
+    (lease_granted off.server (key_of c asked.key) file asked.state)) c at
+granted_asked off c file access share ask asked named t at fresh low f =
+    let key = key_of c asked.key in
+    let lease = lease_granted off.server key file asked.state in
+    let told : CreateAsk = record ask { lease = Some asked } in
+    let reply = granted_reply off.server file told lease in
+    let new = granted_in off c file access share told lease in
+    let own = file_key off c at in
+    let left = left_reads off c at in
+    sent_fresh off new c (Fact.Opened file c ∷ off.past) reply (record {
+      machine = refl;
+      requests = refl;
+      replies = put_same off.replies c (off.replies c ++ reply ∷ []);
+    }) (opened_told c file off.past) low at
+    (still_sends off new c (Fact.Opened file c ∷ off.past) reply at tt (opened_content at file c off.past)
+    (created_bound own at file (off.server.last_id + 1) asked.key left lease (ask.durable && lease.state.handle)
+    ((ends_as (new.server.leases (machine_key off c at))).read ≡ true)
+    (λ same e. put_key-cases (λ (l : Lease). (ends_as l).read ≡ true) off.server.leases key lease (machine_key off c at)
+    (λ mine. told_lease own asked.key left lease (λ breaks reads. still_bound mine breaks reads) e)
+    (λ other. clash (key_eq (machine_key off c at) key)
+    (ap (λ k. key_eq (machine_key off c at) k) (sym (key_same off c file at asked named same))
+    ∙ key_eq-refl (machine_key off c at)) other))
+    (λ apart reads. put_key-cases (λ (l : Lease). (ends_as l).read ≡ true) off.server.leases key lease
+    (machine_key off c at)
+    (λ mine. clash (file == at) (key_files off c file at asked named mine) apart)
+    (λ other. f.bound reads)))
+    (either (file == at)
+    (λ same. either (is_breaking (off.server.leases key))
+    (λ breaks. inl (created_bound own at file (off.server.last_id + 1) asked.key left lease (ask.durable && lease.state.handle) (left ≡ true)
+    (λ s e. busy_left own asked.key left (is_breaking lease) lease.state
+    (ap is_breaking (grant_breaking off.server key file asked.state breaks) ∙ breaks) e) (λ a e. e)))
+    (λ settled. inr (settled_none own at (off.server.leases (machine_key off c at)) ((off.clients c).entries at).phase
+    (off.requests c) (off.replies c)
+    (ap (λ k. is_breaking (off.server.leases k)) (key_same off c file at asked named same) ∙ settled)
+    (t.files at fresh).believed)))
+    (λ apart. inl (created_bound own at file (off.server.last_id + 1) asked.key left lease (ask.durable && lease.state.handle) (left ≡ true)
+    (λ same e. clash (file == at) same apart) (λ a e. e))))) f
+  where
+    still_bound : machine_key off c at ≡ key_of c asked.key
+        → is_breaking (lease_granted off.server (key_of c asked.key) file asked.state) ≡ true → left_reads off c at ≡ true
+        → (ends_as (lease_granted off.server (key_of c asked.key) file asked.state)).read ≡ true
+    still_bound mine breaks reads = either (is_breaking (off.server.leases (key_of c asked.key)))
+        (λ busy. ap (λ (l : Lease). (ends_as l).read)
+        (grant_breaking off.server (key_of c asked.key) file asked.state busy)
+        ∙ ap (λ k. (ends_as (off.server.leases k)).read) (sym mine) ∙ f.bound reads)
+        (λ settled. clash (is_breaking (lease_granted off.server (key_of c asked.key) file asked.state)) breaks
+        (grant_settled off.server (key_of c asked.key) file asked.state settled))
+
+-- a grant lets no timer run out
+granted_was : (off : World) (c file : ℕ) (access : Access) (share : Share) (ask : CreateAsk) (at : ℕ)
+    → (granted_in off c file access share ask (lease_after off.server c file ask.lease)).server.expired
+    (machine_key off c at) ≡ false → off.server.expired (machine_key off c at) ≡ false
+granted_was off c file access share ask at e = lease_put_rest off.server c ask.lease
+    (lease_after off.server c file ask.lease)
+    (λ s. s.expired (machine_key off c at) ≡ false → off.server.expired (machine_key off c at) ≡ false) (λ l x. x) e
+
+granted_fresh : (off : World) (c file : ℕ) (access : Access) (share : Share) (ask : CreateAsk) (asked : LeaseOf)
+    → ask.lease ≡ Some asked → asked.key ≡ lease_key (off.clients c).guid file → HasTrust off c → (at : ℕ)
+    → off.server.expired (machine_key off c at) ≡ false → takings c off.past ≤ length (sendings c off.past)
+    → IsFreshIn off c at
+    → IsFreshIn (granted_in off c file access share ask (lease_after off.server c file ask.lease)) c at
+granted_fresh off c file access share ask asked e named t at fresh low f = subst
+    (λ o. IsFreshIn (granted_in off c file access share (record ask { lease = o }) (lease_after off.server c file o)) c at)
+    (sym e) (granted_asked off c file access share ask asked named t at fresh low f)
+
+reconnected_asked : (off : World) (c file : ℕ) (ask : CreateAsk) (file_id : ℕ) (asked : LeaseOf)
+    → asked.key ≡ lease_key (off.clients c).guid file → HasTrust off c → (at : ℕ)
+    → off.server.expired (machine_key off c at) ≡ false → takings c off.past ≤ length (sendings c off.past)
+    → IsFreshIn off c at → IsFreshIn (reconnected_in off c file (record ask { lease = Some asked }) file_id) c at
+reconnected_asked off c file ask file_id asked named t at fresh low f =
+    let lease = off.server.leases (key_of c asked.key) in
+    let told : CreateAsk = record ask { lease = Some asked } in
+    let reply = reconnected_reply off.server c file told file_id in
+    let new = reconnected_in off c file told file_id in
+    let own = file_key off c at in
+    let left = left_reads off c at in
+    sent_fresh off new c off.past reply (record {
+      machine = refl;
+      requests = refl;
+      replies = put_same off.replies c (off.replies c ++ reply ∷ []);
+    }) (plain_told c off.past) low at
+    (still_sends off new c off.past reply at tt refl
+    (created_bound own at file file_id asked.key left lease false
+    ((ends_as (off.server.leases (machine_key off c at))).read ≡ true)
+    (λ same e. let mine = key_same off c file at asked named same in
+    subst (λ k. (ends_as (off.server.leases k)).read ≡ true) (sym mine)
+    (told_lease own asked.key left lease
+    (λ breaks reads. ap (λ k. (ends_as (off.server.leases k)).read) (sym mine) ∙ f.bound reads) e))
+    (λ apart reads. f.bound reads))
+    (either (file == at)
+    (λ same. either (is_breaking lease)
+    (λ breaks. inl (created_bound own at file file_id asked.key left lease false (left ≡ true)
+    (λ s e. busy_left own asked.key left (is_breaking lease) lease.state breaks e) (λ a e. e)))
+    (λ settled. inr (settled_none own at (off.server.leases (machine_key off c at)) ((off.clients c).entries at).phase
+    (off.requests c) (off.replies c)
+    (ap (λ k. is_breaking (off.server.leases k)) (key_same off c file at asked named same) ∙ settled)
+    (t.files at fresh).believed)))
+    (λ apart. inl (created_bound own at file file_id asked.key left lease false (left ≡ true)
+    (λ same e. clash (file == at) same apart) (λ a e. e))))) f
+
+reconnected_fresh : (off : World) (c file : ℕ) (ask : CreateAsk) (file_id : ℕ) (asked : LeaseOf)
+    → ask.lease ≡ Some asked → asked.key ≡ lease_key (off.clients c).guid file → HasTrust off c → (at : ℕ)
+    → off.server.expired (machine_key off c at) ≡ false → takings c off.past ≤ length (sendings c off.past)
+    → IsFreshIn off c at → IsFreshIn (reconnected_in off c file ask file_id) c at
+reconnected_fresh off c file ask file_id asked e named t at fresh low f = subst
+    (λ o. IsFreshIn (reconnected_in off c file (record ask { lease = o }) file_id) c at) (sym e)
+    (reconnected_asked off c file ask file_id asked named t at fresh low f)
+
+-- ---- leases that are put
+
+-- the break is over
+acked_fresh : (world : World) (c : ℕ) (given : LeaseOf) → IsOldest world c (Request.Acknowledge (Some given)) → (file : ℕ)
+    → takings c world.past ≤ length (sendings c world.past) → IsFreshIn world c file
+    → IsFreshIn (leased_in (popped world c) (key_of c given.key)
+    (record { state = granted_form_of given.state; broken_to = None }) (done_reply given)) c file
+acked_fresh world c given oldest file low f =
+    let lease : Lease = record { state = granted_form_of given.state; broken_to = None } in
+    let off = popped world c in
+    let new = leased_in off (key_of c given.key) lease (done_reply given) in
+    let head : Each (AckReads (file_key world c file) (left_reads world c file))
+    (Request.Acknowledge (Some given) ∷ oldest.queue) =
+    subst (Each (AckReads (file_key world c file) (left_reads world c file))) oldest.is_first f.acks_read in
+    sent_fresh off new c world.past (done_reply given) (record {
+      machine = refl;
+      requests = refl;
+      replies = put_same world.replies c (world.replies c ++ done_reply given ∷ []);
+    }) (plain_told c world.past) low file
+    (still_sends off new c world.past (done_reply given) file tt refl
+    (λ reads. put_key-cases (λ (l : Lease). (ends_as l).read ≡ true) world.server.leases (key_of c given.key) lease
+    (machine_key world c file)
+    (λ mine. form_reads given.state ((head.0)
+    ((bytes_eq-Decides (file_key world c file) given.key).1 (ap (λ (k : Key). k.bytes) mine)) reads))
+    (λ other. f.bound reads))
+    (inl (λ e. e))) (popped_fresh world c file f)
+  where
+    form_reads : (state : State) → state.read ≡ true → (granted_form_of state).read ≡ true
+    form_reads state reads = if_cases (λ (s : State). s.read ≡ true) state.read state nothing_cached (λ r. reads)
+        (λ none. clash state.read reads none)
+
+-- a break is told
+broken_fresh : (world : World) (key : Key) (lease : Lease) (lowered : State) (file : ℕ)
+    → (ends_as lease) ≡ lowered → takings key.client world.past ≤ length (sendings key.client world.past)
+    → IsFreshIn world key.client file
+    → IsFreshIn (leased_in world key lease (break_notice key (world.server.leases key).state lowered)) key.client file
+broken_fresh world key lease lowered file ends low f =
+    let c = key.client in
+    let reply = break_notice key (world.server.leases key).state lowered in
+    let new = leased_in world key lease reply in
+    let left = left_reads world c file in
+    let own = file_key world c file in
+    sent_fresh world new c world.past reply (record {
+      machine = refl;
+      requests = refl;
+      replies = put_same world.replies c (world.replies c ++ reply ∷ []);
+    }) (plain_told c world.past) low file
+    (still_sends world new c world.past reply file tt refl
+    (λ e. put_key-cases (λ (l : Lease). (ends_as l).read ≡ true) world.server.leases key lease (machine_key world c file)
+    (λ mine. ap (λ (s : State). s.read) ends ∙ told_read own ((bytes_eq-Decides own key.bytes).1 (ap (λ (k : Key). k.bytes) mine)) left e)
+    (λ other. f.bound (left_read own left e)))
+    (inl (λ e. left_read own left e))) f
+  where
+    told_read : (own : List ℕ) → bytes_eq own key.bytes ≡ true → (left : Bool)
+        → (if bytes_eq own key.bytes then left && lowered.read else left) ≡ true → lowered.read ≡ true
+    told_read own same left e = if_cases (λ b. b ≡ true → lowered.read ≡ true) (bytes_eq own key.bytes)
+        (left && lowered.read) left (λ is h. (and_parts left lowered.read h).1)
+        (λ other h. clash (bytes_eq own key.bytes) same other) e
+
+    left_read : (own : List ℕ) (left : Bool) → (if bytes_eq own key.bytes then left && lowered.read else left) ≡ true
+        → left ≡ true
+    left_read own left e = if_cases (λ b. b ≡ true → left ≡ true) (bytes_eq own key.bytes)
+        (left && lowered.read) left (λ is h. (and_parts left lowered.read h).0) (λ other h. h) e
+
+-- ---- opens that close
+
+-- leases that may be gone, where a reply may be sent
+fewer_bound : (world new : World) (c file : ℕ) (opens : List Open)
+    → new.server.opens ≡ opens → new.clients c ≡ world.clients c
+    → (list_any (has_key (machine_key world c file)) opens ≡ true
+    → new.server.leases (machine_key world c file) ≡ world.server.leases (machine_key world c file))
+    → left_reads new c file ≡ left_reads world c file
+    → IsStandingAt new c
+    → ((one : Open) → Among one new.server.opens → one.client ≡ c → IsOwnOpen (new.clients c).guid one)
+    → new.server.expired (machine_key new c file) ≡ false → IsFreshIn world c file
+    → left_reads world c file ≡ true → (ends_as (new.server.leases (machine_key world c file))).read ≡ true
+fewer_bound world new c file opens are machine stays left s own fresh f reads =
+    either (list_any (has_key (machine_key world c file)) opens)
+    (λ some. ap (λ (l : Lease). (ends_as l).read) (stays some) ∙ f.bound reads)
+    (λ none. clash (left_reads world c file) reads (sym left ∙ gone_reads new c file s own fresh
+    (ap (λ l. list_any (has_key (machine_key new c file)) l) are
+    ∙ ap (λ (m : Client). list_any (has_key (key_of c (lease_key m.guid file))) opens) machine ∙ none)))
+
+dropped_fresh : (world : World) (c : ℕ) (test : Open → Bool) (file : ℕ) → IsStandingAt (without_opens world test) c
+    → ((one : Open) → Among one (without_opens world test).server.opens → one.client ≡ c
+    → IsOwnOpen (world.clients c).guid one)
+    → world.server.expired (machine_key world c file) ≡ false → IsFreshIn world c file
+    → IsFreshIn (without_opens world test) c file
+unfolding with_opens
+dropped_fresh world c test file s own fresh f = record {
+  old = f.old;
+  base = f.base;
+  relay = f.relay;
+  bound = fewer_bound world (without_opens world test) c file (without test world.server.opens) refl refl
+      (λ some. lease_stays world.server (without test world.server.opens) (machine_key world c file) some)
+      refl s own fresh f;
+  acks_read = f.acks_read;
+}
+
+closed_fresh : (off : World) (c file_id : ℕ) (file : ℕ)
+    → IsStandingAt (told_to (without_opens off (λ other. other.file_id == file_id)) c (Reply.Closed file_id)) c
+    → ((one : Open) → Among one (without_opens off (λ other. other.file_id == file_id)).server.opens → one.client ≡ c
+    → IsOwnOpen (off.clients c).guid one)
+    → off.server.expired (machine_key off c file) ≡ false → takings c off.past ≤ length (sendings c off.past)
+    → IsFreshIn off c file
+    → IsFreshIn (told_to (without_opens off (λ other. other.file_id == file_id)) c (Reply.Closed file_id)) c file
+unfolding with_opens
+closed_fresh off c file_id file s own fresh low f =
+    let test : Open → Bool = λ other. other.file_id == file_id in
+    let reply = Reply.Closed file_id in
+    let new = told_to (without_opens off test) c reply in
+    let own_key = file_key off c file in
+    let sent = put_same off.replies c (off.replies c ++ reply ∷ []) in
+    sent_fresh off new c off.past reply (record {
+      machine = refl;
+      requests = refl;
+      replies = sent;
+    }) (plain_told c off.past) low file
+    (still_sends off new c off.past reply file tt refl
+    (fewer_bound off new c file (without test off.server.opens) refl refl
+    (λ some. lease_stays off.server (without test off.server.opens) (machine_key off c file) some)
+    (ap (λ q. reads_after own_key file (belief_in ((off.clients c).entries file).phase).read q) sent
+    ∙ reads_last own_key file (belief_in ((off.clients c).entries file).phase).read (off.replies c) reply)
+    s own fresh f) (inl (λ e. e))) f
+
+-- a timer that runs out
+timed_past : (c client file at : ℕ) (past : List Fact) → HasMore c past (Fact.Expired client file ∷ past)
+    × (content_of at (Fact.Expired client file ∷ past) ≡ content_of at past)
+    × (places_of c (Fact.Expired client file ∷ past) ≡ places_of c past)
+unfolding sendings takings content_of
+timed_past c client file at past =
+    (record { more = []; sent = append_nothing (sendings c past); took = refl }, refl, refl)
+  where
+    append_nothing : {X : Type 0} (xs : List X) → xs ≡ xs ++ []
+    append_nothing [] = refl
+    append_nothing (x ∷ xs) = ap (λ l. x ∷ l) (append_nothing xs)
+
+timer_fresh : (world : World) (c at file : ℕ) → IsStandingAt (timed_out world c at) c
+    → ((one : Open) → Among one world.server.opens → one.client ≡ c → IsOwnOpen (world.clients c).guid one)
+    → (timed_out world c at).server.expired (machine_key world c file) ≡ false → IsFreshIn world c file
+    → IsFreshIn (timed_out world c at) c file
+unfolding key_expired opens_dropped with_opens
+timer_fresh world c at file s own fresh f =
+    let key = machine_key world c at in
+    let past = timed_past c c at file world.past in
+    let reads = (belief_in ((world.clients c).entries file).phase).read in record {
+      old = f.old;
+      base = λ live is bytes b. base_more c file f.old world.past (Fact.Expired c at ∷ world.past) bytes past.0
+          (f.base live is bytes b);
+      relay = subst (λ p. IsRelayed c (file_key world c file) file (Fact.Expired c at ∷ world.past) reads f.old p
+          (world.replies c) (content_of file (Fact.Expired c at ∷ world.past))) (sym past.2)
+          (subst (IsRelayed c (file_key world c file) file (Fact.Expired c at ∷ world.past) reads f.old
+          (places_of c world.past) (world.replies c)) (sym past.1)
+          (relayed_later c (file_key world c file) file world.past (Fact.Expired c at ∷ world.past) reads f.old
+          (places_of c world.past) (world.replies c) (content_of file world.past)
+          (later_fact world.past (Fact.Expired c at)) f.relay));
+      bound = fewer_bound world (timed_out world c at) c file (without (has_key key) world.server.opens) refl refl
+          (λ some. lease_stays world.server (without (has_key key) world.server.opens) (machine_key world c file) some)
+          refl s (λ one there by. own one (among_filter (λ o. not (has_key key o)) one world.server.opens there).0 by)
+          fresh f;
+      acks_read = f.acks_read;
+    }
+
+timer_was : (world : World) (c at file : ℕ)
+    → (timed_out world c at).server.expired (machine_key world c file) ≡ false
+    → world.server.expired (machine_key world c file) ≡ false
+unfolding key_expired opens_dropped with_opens
+timer_was world c at file = put_key-cases (λ b. b ≡ false → world.server.expired (machine_key world c file) ≡ false)
+    world.server.expired (machine_key world c at) true (machine_key world c file)
+    (λ same e. absurd (true≢false e)) (λ other e. e)
+
+-- ---- a step of the client
+
+noted_places : (c : ℕ) (past : List Fact) (notes : List Note) → (sendings c (past_noted c past notes) ≡ sendings c past)
+    × (takings c (past_noted c past notes) ≡ takings c past)
+unfolding sendings takings
+noted_places c past [] = (refl, refl)
+noted_places c past (Note.Settled number outcome ∷ notes) =
+    noted_places c (fact_of c (Note.Settled number outcome) ∷ past) notes
+noted_places c past (Note.Wrote file number patch buffered ∷ notes) =
+    noted_places c (fact_of c (Note.Wrote file number patch buffered) ∷ past) notes
+noted_places c past (Note.Believes file state ∷ notes) = noted_places c (fact_of c (Note.Believes file state) ∷ past) notes
+noted_places c past (Note.CachedRead file bytes ∷ notes) =
+    noted_places c (fact_of c (Note.CachedRead file bytes) ∷ past) notes
+
+noted_more : (c : ℕ) (past : List Fact) (notes : List Note) → HasMore c past (past_noted c past notes)
+noted_more c past notes = let n = noted_places c past notes in
+    record { more = []; sent = n.0 ∙ append_nothing (sendings c past); took = n.1 }
+  where
+    append_nothing : {X : Type 0} (xs : List X) → xs ≡ xs ++ []
+    append_nothing [] = refl
+    append_nothing (x ∷ xs) = ap (λ l. x ∷ l) (append_nothing xs)
+
+same_places : (c : ℕ) (past : List Fact) (notes : List Note) → places_of c (past_noted c past notes) ≡ places_of c past
+same_places c past notes = let n = noted_places c past notes in ap₂ (λ t p. drop t p) n.1 n.0
+
+-- what is known after it, in the new world
+stepped_fresh : (world : World) (c : ℕ) (step : Step) → is_up (world.links c) ≡ true
+    → step.client.guid ≡ (world.clients c).guid → (file : ℕ)
+    → IsFreshFor c (file_key world c file) file (world.server.leases (machine_key world c file))
+    (step.client.entries file).phase (world.requests c ++ step.requests) (world.replies c)
+    (past_noted c world.past step.notes) → IsFreshIn (stepped_in world c step) c file
+stepped_fresh world c step up guid file f = let new = stepped_in world c step in
+    let so = step_of world c step up guid in
+    subst (λ (m : Client). IsFreshFor c (lease_key m.guid file) file (new.server.leases (key_of c (lease_key m.guid file)))
+    (m.entries file).phase (new.requests c) (new.replies c) new.past) (sym so.clients)
+    (subst (λ g. IsFreshFor c (lease_key g file) file (new.server.leases (key_of c (lease_key g file)))
+    (step.client.entries file).phase (new.requests c) (new.replies c) new.past) (sym so.guid)
+    (subst (λ (x : Server). IsFreshFor c (file_key world c file) file (x.leases (machine_key world c file))
+    (step.client.entries file).phase (new.requests c) (new.replies c) new.past) (sym so.server)
+    (subst (λ q. IsFreshFor c (file_key world c file) file (world.server.leases (machine_key world c file))
+    (step.client.entries file).phase q (new.replies c) new.past) (sym so.queued)
+    (subst (λ (r : ℕ → List Reply). IsFreshFor c (file_key world c file) file
+    (world.server.leases (machine_key world c file)) (step.client.entries file).phase
+    (world.requests c ++ step.requests) (r c) new.past) (sym (stepped_replies world c step))
+    (subst (IsFreshFor c (file_key world c file) file
+    (world.server.leases (machine_key world c file)) (step.client.entries file).phase
+    (world.requests c ++ step.requests) (world.replies c)) (sym (stepped_past world c step)) f)))))
+
+stepped_was : (world : World) (c : ℕ) (step : Step) → is_up (world.links c) ≡ true
+    → step.client.guid ≡ (world.clients c).guid → (file : ℕ)
+    → (stepped_in world c step).server.expired (machine_key (stepped_in world c step) c file) ≡ false
+    → world.server.expired (machine_key world c file) ≡ false
+stepped_was world c step up guid file fresh = ap (λ g. world.server.expired (key_of c (lease_key g file)))
+    (sym (step_of world c step up guid).guid)
+    ∙ ap₂ (λ (x : Server) (m : Client). x.expired (key_of c (lease_key m.guid file)))
+    (sym (step_of world c step up guid).server) (sym (step_of world c step up guid).clients) ∙ fresh
+
+kept_reads : (old new : Phase) → ((now : LiveEntry) → new ≡ Phase.Live now → WasSoLive old now)
+    → (belief_in new).read ≡ true → (belief_in old).read ≡ true
+kept_reads old Phase.Closed live e = absurd (true≢false (sym e))
+kept_reads old (Phase.Opening access share) live e = absurd (true≢false (sym e))
+kept_reads old (Phase.Live now) live e = let w = live now refl in
+    ap (λ p. (belief_in p).read) w.was ∙ ap (λ (b : State). b.read) (sym w.belief) ∙ e
+kept_reads old (Phase.Offline parted) live e = absurd (true≢false (sym e))
+kept_reads old (Phase.Reconnecting parted) live e = absurd (true≢false (sym e))
+
+command_fresh : (world : World) (c : ℕ) (command : Command) → is_up (world.links c) ≡ true → (file : ℕ)
+    → IsFreshIn world c file → IsFreshIn (stepped_in world c (commanded (world.clients c) command)) c file
+command_fresh world c command up file f =
+    let machine = world.clients c in
+    let step = commanded machine command in
+    let k = any_command machine (KeepsLive machine) (commands_keep machine) command in
+    let key = file_key world c file in
+    let past = past_noted c world.past step.notes in
+    let fewer = kept_reads (machine.entries file).phase (step.client.entries file).phase (k.live file) in
+    let after = after_fewer key file (belief_in (machine.entries file).phase).read
+    (belief_in (step.client.entries file).phase).read (world.replies c) fewer in
+    let reads = (belief_in (step.client.entries file).phase).read in
+    let left = reads_after key file reads (world.replies c) in
+    stepped_fresh world c step up (commanded-stays machine command).guid file (record {
+      old = f.old;
+      base = λ now is bytes b. let w = k.live file now is in
+          base_more c file f.old world.past past bytes (noted_more c world.past step.notes)
+          (f.base w.live w.was bytes (sym w.base ∙ b));
+      relay = subst (λ p. IsRelayed c key file past reads f.old p (world.replies c) (content_of file past))
+          (sym (same_places c world.past step.notes))
+          (subst (IsRelayed c key file past reads f.old (places_of c world.past) (world.replies c))
+          (sym (noted_content c world.past step.notes file))
+          (relayed_later c key file world.past past reads f.old (places_of c world.past) (world.replies c)
+          (content_of file world.past) (later_noted c world.past step.notes)
+          (relayed_fewer c key file world.past _ _ f.old (places_of c world.past) (world.replies c)
+          (content_of file world.past) fewer f.relay)));
+      bound = λ e. f.bound (after e);
+      acks_read = each_append (AckReads key left) (world.requests c) step.requests
+          (each_weaker (AckReads key (left_reads world c file)) (AckReads key left) (world.requests c)
+          (acks_fewer key (left_reads world c file) left after) f.acks_read)
+          (all_about key left step.requests k.about);
+    })
+
+-- ---- a reply is taken
+
+-- the next place
+drop_next : {X : Type 0} (count : ℕ) (xs rest : List X) (x : X) → drop count xs ≡ x ∷ rest
+    → (drop (suc count) xs ≡ rest) × (slice_get xs count ≡ Some x)
+drop_next {X} zero [] rest x e = let c : ⊥ = cc in absurd c
+drop_next {X} zero (y ∷ xs) rest x e = (tails e, heads e)
+  where
+    tails : {z w : X} {ys zs : List X} → z ∷ ys ≡ w ∷ zs → ys ≡ zs
+    tails e = cc
+
+    heads : {z w : X} {ys zs : List X} → z ∷ ys ≡ w ∷ zs → Some z ≡ Some w
+    heads e = cc
+drop_next {X} (suc count) [] rest x e = let c : ⊥ = cc in absurd c
+drop_next {X} (suc count) (y ∷ xs) rest x e = drop_next count xs rest x e
+
+one_more : (count : ℕ) → count + 1 ≡ suc count
+one_more count = omega arith
+
+took_places : (c : ℕ) (past : List Fact) (place : List Fact) (rest : List (List Fact))
+    → places_of c past ≡ place ∷ rest
+    → (places_of c (Fact.Took c ∷ past) ≡ rest) × (last_sending c (Fact.Took c ∷ past) ≡ Some place)
+unfolding sendings takings last_sending
+took_places c past place rest e =
+    let n = drop_next (takings c past) (sendings c past) rest place e in
+    let t : (if c == c then takings c past + 1 else takings c past) ≡ suc (takings c past) =
+    own (c == c) (eq-eqb c c refl) in
+    (ap (λ k. drop k (sendings c past)) t ∙ n.0, ap (λ k. last_of k (sendings c past)) t ∙ n.1)
+  where
+    own : (b : Bool) → b ≡ true → (if b then takings c past + 1 else takings c past) ≡ suc (takings c past)
+    own true e = one_more (takings c past)
+    own false e = absurd (true≢false (sym e))
+
+took_content : (c file : ℕ) (past : List Fact) → content_of file (Fact.Took c ∷ past) ≡ content_of file past
+unfolding content_of
+took_content c file past = refl
+
+record HasNext (c : ℕ) (key : List ℕ) (file : ℕ) (past : List Fact) (reads : Bool) (old : List ℕ)
+    (places : List (List Fact)) (reply : Reply) (queue : List Reply) (now : List ℕ) : Type 0 where
+  place : List Fact
+  rest : List (List Fact)
+  are : places ≡ place ∷ rest
+  follows : reads ≡ true → Follows c file past old (content_of file place) reply
+  tells : TellsBytes c past place reply
+  relay : IsRelayed c key file past (reads_by key file reads reply) (content_of file place) rest queue now
+
+next_of : (c : ℕ) (key : List ℕ) (file : ℕ) (past : List Fact) (reads : Bool) (old : List ℕ)
+    (places : List (List Fact)) (reply : Reply) (queue : List Reply) (now : List ℕ)
+    → IsRelayed c key file past reads old places (reply ∷ queue) now
+    → HasNext c key file past reads old places reply queue now
+next_of c key file past reads old [] reply queue now r = absurd r
+next_of c key file past reads old (place ∷ rest) reply queue now r =
+    record { place = place; rest = rest; are = refl; follows = r.0; tells = r.1; relay = r.2 }
+
+take_fresh : (world : World) (c : ℕ) (reply : Reply) (queue : List Reply) → is_up (world.links c) ≡ true
+    → world.replies c ≡ reply ∷ queue → (file : ℕ)
+    → TakesFresh c (world.clients c) world.past reply (taken (world.clients c) reply)
+    → IsDueTo c (world.clients c) world.past reply
+    → (is_live ((world.clients c).entries file).phase ≡ true
+    → is_ack_break (file_key world c file) reply ≡ true
+    → Each (OnGiven GivesNothing
+    (file_key world c file) file) queue)
+    → IsFreshIn world c file → IsFreshIn (reply_taken world c reply queue) c file
+take_fresh world c reply queue up first file takes due quiet f =
+    let machine = world.clients c in
+    let gone = reply_gone world c queue in
+    let step = taken machine reply in
+    let key = file_key world c file in
+    let reads = (belief_in (machine.entries file).phase).read in
+    let n = next_of c key file world.past reads f.old (places_of c world.past) reply queue (content_of file world.past)
+    (subst (λ q. IsRelayed c key file world.past reads f.old (places_of c world.past) q (content_of file world.past)) first
+    f.relay) in
+    let after = takes due n.place queue file f.old (record {
+      base = λ live is bytes b. (f.base live is bytes b).same;
+      follows = n.follows;
+      tells = n.tells;
+      no_grant = quiet;
+    }) in
+    let took = took_places c world.past n.place n.rest n.are in
+    let start = Fact.Took c ∷ world.past in
+    let past = past_noted c start step.notes in
+    let fewer = after_fewer key file (reads_by key file reads reply) (belief_in (step.client.entries file).phase).read queue
+    after.reads in
+    let now = (belief_in (step.client.entries file).phase).read in
+    let end = reads_after key file now queue in
+    let left : gone.replies c ≡ queue = put_same world.replies c queue in
+    stepped_fresh gone c step up (taken-stays machine reply).guid file
+    (subst (λ q. IsFreshFor c key file (world.server.leases (machine_key world c file)) (step.client.entries file).phase
+    (world.requests c ++ step.requests) q past) (sym left) (record {
+      old = content_of file n.place;
+      base = λ live is bytes b. record {
+        same = after.base live is bytes b;
+        seen = seen_more c file (content_of file n.place) start past (noted_more c start step.notes)
+            (record { place = n.place; is_last = took.1; content = refl });
+      };
+      relay = subst (λ p. IsRelayed c key file past now (content_of file n.place) p queue (content_of file past))
+          (sym (same_places c start step.notes ∙ took.0))
+          (subst (IsRelayed c key file past now (content_of file n.place) n.rest queue)
+          (sym (noted_content c start step.notes file ∙ took_content c file world.past))
+          (relayed_later c key file world.past past now (content_of file n.place) n.rest queue (content_of file world.past)
+          (later_then world.past start past (later_fact world.past (Fact.Took c)) (later_noted c start step.notes))
+          (relayed_fewer c key file world.past _ _ (content_of file n.place) n.rest queue (content_of file world.past)
+          after.reads n.relay)));
+      bound = λ e. f.bound (ap (λ q. reads_after key file reads q) first ∙ fewer e);
+      acks_read = each_append (AckReads key end) (world.requests c) step.requests
+          (each_weaker (AckReads key (left_reads world c file)) (AckReads key end) (world.requests c)
+          (acks_fewer key (left_reads world c file) end (λ e. ap (λ q. reads_after key file reads q) first ∙ fewer e)) f.acks_read)
+          after.acks;
+    }))
+
+-- ---- a client connects
+
+joined_places : (d : ℕ) (past : List Fact) → places_of d (Fact.Joined d ∷ past) ≡ []
+unfolding sendings takings
+joined_places d past = by_same (d == d) (eq-eqb d d refl)
+  where
+    by_same : (b : Bool) → b ≡ true → drop (if b then 0 else takings d past) (if b then [] else sendings d past) ≡ []
+    by_same true e = refl
+    by_same false e = absurd (true≢false (sym e))
+
+connect_fresh : (world : World) (c : ℕ) → Ground world → world.links c ≡ Link.Down → (file : ℕ)
+    → IsFreshIn (connected world c) c file
+unfolding joined connection_made all_turned
+connect_fresh world c g down file =
+    let machine = world.clients c in
+    let back = come_back world c in
+    let step = connection_made machine in
+    let is_off : is_up (world.links c) ≡ false = ap is_up down in
+    let online : machine.is_online ≡ false = g.online c ∙ ap (λ l. not (is_down l)) down in
+    let turn : ℕ → List Request =
+    λ f. (connect_turn machine f (machine.entries f).sent (machine.entries f).phase).requests in
+    let past = past_noted c back.past step.notes in
+    let phase = (step.client.entries file).phase in
+    let dark : (belief_in phase).read ≡ false =
+    idle file online (machine.entries file).phase ((g.clients c).entries file) in
+    let none : back.replies c ≡ [] = (g.tied c).replies is_off in
+    let nothing : places_of c past ≡ [] = same_places c back.past step.notes ∙ joined_places c world.past in
+    stepped_fresh back c step (ap is_up (put_same world.links c Link.Up)) refl file
+    (subst (λ q. IsFreshFor c (file_key back c file) file (back.server.leases (machine_key back c file)) phase
+    (back.requests c ++ step.requests) q past) (sym none) (record {
+      old = [];
+      base = λ live is bytes b. absurd (not_live file online (machine.entries file).phase ((g.clients c).entries file) live
+          is);
+      relay = subst (λ p. IsRelayed c (file_key back c file) file past (belief_in phase).read [] p []
+          (content_of file past)) (sym nothing) (λ reads. absurd (true≢false (sym reads ∙ dark)));
+      bound = λ reads. absurd (true≢false (sym reads ∙ dark));
+      acks_read = subst (λ q. Each (AckReads (file_key back c file) (belief_in phase).read) (q ++ step.requests))
+          (sym ((g.tied c).requests is_off))
+          (all_about (file_key back c file) (belief_in phase).read step.requests (each_flat IsAboutFile turn (numbers_to machine.files)
+          (λ f. about f (machine.entries f).sent (machine.entries f).phase)));
+    }))
+  where
+    about : (f : ℕ) (sent : List Pending) (phase : Phase)
+        → Each IsAboutFile (connect_turn (world.clients c) f sent phase).requests
+    about f sent Phase.Closed = tt
+    about f sent (Phase.Opening access share) = tt
+    about f sent (Phase.Live live) = tt
+    about f sent (Phase.Offline parted) = (tt, tt)
+    about f sent (Phase.Reconnecting parted) = tt
+
+    idle : (f : ℕ) → (world.clients c).is_online ≡ false → (phase : Phase)
+        → IsSoundPhase (world.clients c).is_online ((world.clients c).entries f).sent phase
+        → (belief_in (connect_turn (world.clients c) f ((world.clients c).entries f).sent phase).entry.phase).read ≡ false
+    idle f off Phase.Closed sound = refl
+    idle f off (Phase.Opening access share) sound = refl
+    idle f off (Phase.Live live) sound = clash (world.clients c).is_online sound.0 off
+    idle f off (Phase.Offline parted) sound = refl
+    idle f off (Phase.Reconnecting parted) sound = refl
+
+    not_live : (f : ℕ) → (world.clients c).is_online ≡ false → (phase : Phase)
+        → IsSoundPhase (world.clients c).is_online ((world.clients c).entries f).sent phase → (live : LiveEntry)
+        → (connect_turn (world.clients c) f ((world.clients c).entries f).sent phase).entry.phase ≡ Phase.Live live → ⊥
+    not_live f off Phase.Closed sound live e = cc
+    not_live f off (Phase.Opening access share) sound live e = cc
+    not_live f off (Phase.Live was) sound live e = clash (world.clients c).is_online sound.0 off
+    not_live f off (Phase.Offline parted) sound live e = cc
+    not_live f off (Phase.Reconnecting parted) sound live e = cc
+
+-- ---- all moves
+
+-- an entry that is live for a reply's break has nothing given behind it
+quiet_behind : (world : World) (c file : ℕ) (reply : Reply) (queue : List Reply) → world.replies c ≡ reply ∷ queue
+    → HasTrust world c → world.server.expired (machine_key world c file) ≡ false
+    → is_live ((world.clients c).entries file).phase ≡ true → is_ack_break (file_key world c file) reply ≡ true
+    → Each (OnGiven GivesNothing (file_key world c file) file) queue
+quiet_behind world c file reply queue first t fresh live asks =
+    let b = subst (BreaksAreMet (file_key world c file) file
+    (is_breaking (world.server.leases (machine_key world c file))) (acks (file_key world c file) (world.requests c))
+    (is_live ((world.clients c).entries file).phase)) first (t.files file fresh).believed.breaks in
+    ((b.0) live asks).no_grant
+
+due_of : (world : World) (c : ℕ) (reply : Reply) (queue : List Reply) → HasSeen world
+    → has_strayed c world.past ≡ false → is_up (world.links c) ≡ true → world.replies c ≡ reply ∷ queue
+    → IsDueTo c (world.clients c) world.past reply
+due_of world c reply queue v good up first = record {
+  asked = λ file. low _ _ _ _ _ (v.0.0.0.0.0.1 c good up file) (ap (λ (q : List Reply). answers file q) first);
+  sent = λ file number known own.
+      low _ _ _ _ _ ((v.0.1 c good up).counts file number known own) (ap (λ (q : List Reply). settling number q) first);
+}
+  where
+    low : (q x n b m : ℕ) → q + x ≡ b → x ≡ n + m → n ≤ b
+    low q x n b m e f = omega (arith, e, f)
+
+pub fresh_moves : IsOwnMoved HasSeen IsUpFresh
+unfolding with_opens
+fresh_moves = record {
+  unmoved = λ world new c v good u a up file fresh.
+      unmoved_fresh world new c u (ground_of world v.0.0).fine.sound (own_of world v c good) file
+      (a (ap is_up (sym u.link) ∙ up) file (sym (u.expired (machine_key world c file) refl)
+      ∙ ap (λ (m : Client). new.server.expired (key_of c (lease_key m.guid file))) (sym u.machine) ∙ fresh));
+  refused = λ world off c request status v good source may a up file fresh.
+      let was = link_of world off c request source up in
+      told_fresh off c (refusal_of request status) file (refusal_bare request status) (refusal_still request status)
+      (off_low world off c request source (low_of world (ground_of world v.0.0) c was))
+      (off_fresh_in world off c file request source (a was file (off_fresh world off c file request source fresh)));
+  full = λ world off c file access share ask v good source a up at fresh.
+      let was = link_of world off c _ source up in
+      told_fresh off c (Reply.CreateFailed file Status.InsufficientResources) at tt tt
+      (off_low world off c _ source (low_of world (ground_of world v.0.0) c was))
+      (off_fresh_in world off c at _ source (a was at (off_fresh world off c at _ source fresh)));
+  granted = λ world off c file access share ask v good source none on free a up at fresh.
+      let request = FileRequest.Create file access share (Some ask) in
+      let was = link_of world off c request source up in
+      let own = (off_named world off c request c source (names_of world v.0.0 c good)).1 refl in
+      let before : off.server.expired (machine_key off c at) ≡ false = granted_was off c file access share ask at fresh in
+      granted_fresh off c file access share ask own.lease own.asks own.key
+      (off_trust world off c request source (v.0.0.0.1 c good was)) at before
+      (off_low world off c request source (low_of world (ground_of world v.0.0) c was))
+      (off_fresh_in world off c at request source (a was at (off_fresh world off c at request source before)));
+  reconnected = λ world off c file access share ask file_id v good source again on waits a up at fresh.
+      let request = FileRequest.Create file access share (Some ask) in
+      let was = link_of world off c request source up in
+      let own = (off_named world off c request c source (names_of world v.0.0 c good)).1 refl in
+      reconnected_fresh off c file ask file_id own.lease own.asks own.key
+      (off_trust world off c request source (v.0.0.0.1 c good was)) at fresh
+      (off_low world off c request source (low_of world (ground_of world v.0.0) c was))
+      (off_fresh_in world off c at request source (a was at (off_fresh world off c at request source fresh)));
+  read = λ world off c file_id one v good source found may a up file fresh.
+      let was = link_of world off c _ source up in
+      read_fresh world off c file_id one source (ground_of world v.0.0) v.1 found file
+      (off_low world off c _ source (low_of world (ground_of world v.0.0) c was))
+      (off_fresh_in world off c file _ source (a was file (off_fresh world off c file _ source fresh)));
+  changed = λ world off c file_id number patch one v good source found may a up file fresh.
+      let was = link_of world off c _ source up in
+      changed_fresh world off c file_id number patch one source (ground_of world v.0.0) (names_of world v.0.0 c good)
+      found file (off_low world off c _ source (low_of world (ground_of world v.0.0) c was))
+      (off_fresh_in world off c file _ source (a was file (off_fresh world off c file _ source fresh)));
+  closed = λ world off c file_id one v good source found a up file fresh.
+      let was = link_of world off c _ source up in
+      closed_fresh off c file_id file
+      (standing_moves.closed world off c file_id one v.0.0.0.0.0 good source found (v.0.0.0.0.1 c good) up)
+      (λ x there by. (off_named world off c (FileRequest.Close file_id) c source (names_of world v.0.0 c good)).0.opens x
+      (left_there off (λ other. other.file_id == file_id) x there) by)
+      fresh (off_low world off c _ source (low_of world (ground_of world v.0.0) c was))
+      (off_fresh_in world off c file _ source (a was file (off_fresh world off c file _ source fresh)));
+  ack_failed = λ world c given status v good oldest a up file fresh.
+      told_fresh (popped world c) c (Reply.AckFailed status) file tt tt (low_of world (ground_of world v.0.0) c up)
+      (popped_fresh world c file (a up file fresh));
+  ack_done = λ world c given lowered v good oldest there breaks within a up file fresh.
+      acked_fresh world c given oldest file (low_of world (ground_of world v.0.0) c up) (a up file fresh);
+  hold = λ world at one v good oldest may turn a up file fresh.
+      popped_fresh world one.client file (a up file fresh);
+  dropped = λ world c test v good away a up file fresh. dropped_fresh world c test file
+      (standing_moves.dropped world c test v.0.0.0.0.0 good away (v.0.0.0.0.1 c good) up)
+      (λ x there by. own_of world v c good x (left_there world test x there) by) fresh (a up file fresh);
+  lower = λ world key lowered v good may light a up file fresh.
+      broken_fresh world key (record { state = lowered; broken_to = None }) lowered file refl
+      (low_of world (ground_of world v.0.0) key.client up) (a up file fresh);
+  begin = λ world key lowered v good may heavy a up file fresh.
+      broken_fresh world key (record { state = (world.server.leases key).state; broken_to = Some lowered }) lowered file
+      refl (low_of world (ground_of world v.0.0) key.client up) (a up file fresh);
+  cut = λ world c v good up a on. absurd (true≢false (sym on ∙ ap is_up (put_same world.links c Link.Cut)));
+  timer = λ world c at v good on breaks a up file fresh. timer_fresh world c at file
+      (standing_moves.timer world c at v.0.0.0.0.0 good on breaks (v.0.0.0.0.1 c good) up)
+      (own_of world v c good) fresh (a up file (timer_was world c at file fresh));
+  connect = λ world c v good down a up file fresh. connect_fresh world c (ground_of world v.0.0) down file;
+  command = λ world c command v good a up file fresh.
+      let was = was_up world c (commanded (world.clients c) command) up in
+      command_fresh world c command was file (a was file
+      (stepped_was world c (commanded (world.clients c) command) was (commanded-stays (world.clients c) command).guid file
+      fresh));
+  take = λ world c reply queue v good first a up file fresh.
+      let gone = reply_gone world c queue in
+      let machine = world.clients c in
+      let was : is_up (world.links c) ≡ true = was_up gone c (taken machine reply) up in
+      let before = stepped_was gone c (taken machine reply) was (taken-stays machine reply).guid file fresh in
+      take_fresh world c reply queue was first file
+      (any_reply machine (TakesFresh c machine world.past)
+      (takes_fresh c machine world.past ((ground_of world v.0.0).clients c) (known_by world v.0.0 c good)) reply)
+      (due_of world c reply queue v good was first)
+      (quiet_behind world c file reply queue first (v.0.0.0.1 c good was) before) (a was file before);
+  notice = λ world c v good cut a on. absurd (true≢false (sym on
+      ∙ ap (λ (l : ℕ → Link). is_up (l c)) (stepped_links (record world { links = put world.links c Link.Down }) c
+      (noticed (world.clients c)))
+      ∙ ap is_up (put_same world.links c Link.Down)));
+}
+
+-- all that is known so far
+abbrev pub HasFresh : World → Type 0
+HasFresh = Both HasSeen (OfGood IsUpFresh)
+
+pub fresh_carried : IsCarried HasFresh
+fresh_carried = carried_both HasSeen (OfGood IsUpFresh) seen_carried
+    (own_moves HasSeen IsUpFresh (λ world v. ground_of world v.0.0) fresh_moves)
