@@ -43,7 +43,7 @@ IsFineNote client after (Note.Believes file state) = (knows_file client file ≡
 IsFineNote client after (Note.CachedRead file bytes) = knows_file client file ≡ true
 
 -- a note that settles a write
-abbrev IsSettling : Note → Type 0
+abbrev pub IsSettling : Note → Type 0
 IsSettling (Note.Settled number outcome) = ⊤
 IsSettling note = ⊥
 
@@ -55,7 +55,7 @@ settling_fine client after (Note.Wrote file number patch buffered ∷ notes) eac
 settling_fine client after (Note.Believes file state ∷ notes) each = absurd each.0
 settling_fine client after (Note.CachedRead file bytes ∷ notes) each = absurd each.0
 
-settles : (outcome : Settlement) (writes : List Pending)
+pub settles : (outcome : Settlement) (writes : List Pending)
     → EachNote IsSettling (settled_as outcome writes)
 settles outcome [] = tt
 settles outcome (write ∷ writes) = (tt, settles outcome writes)
@@ -110,7 +110,7 @@ unfolding read_failed_turn closed_by_server
 read_failed_fine client file live status known = turned_fine client file _ known
     (if_cases (λ (t : Turn). EachNote IsSettling t.settled) (is_file_closed status) _ _ (λ gone. settles Settlement.Failed live.unsent) (λ there. tt))
 
-write_failed_settles : (file_id number : ℕ) (status : Status) (sent : List Pending) (phase : Phase)
+pub write_failed_settles : (file_id number : ℕ) (status : Status) (sent : List Pending) (phase : Phase)
     → EachNote IsSettling (write_failed_in file_id number status sent phase).settled
 unfolding closed_by_server
 write_failed_settles file_id number status sent Phase.Closed = (tt, tt)
@@ -122,13 +122,13 @@ write_failed_settles file_id number status sent (Phase.Live live) =
 write_failed_settles file_id number status sent (Phase.Offline parted) = (tt, tt)
 write_failed_settles file_id number status sent (Phase.Reconnecting parted) = (tt, tt)
 
-break_settles : (live : LiveEntry) (sent : List Pending) (notice : BreakNotice) (new : State)
+pub break_settles : (live : LiveEntry) (sent : List Pending) (notice : BreakNotice) (new : State)
     → EachNote IsSettling (break_turn live sent notice new).settled
 unfolding break_turn parked_closed belief_lowered
 break_settles live sent notice new = if_cases (λ (t : Turn). EachNote IsSettling t.settled)
     (live.handles == 0 && (live.belief.handle && not new.handle)) _ _ (λ parked. tt) (λ stays. tt)
 
-either_settles : (b : Bool) (outcome : Settlement) (writes : List Pending)
+pub either_settles : (b : Bool) (outcome : Settlement) (writes : List Pending)
     → EachNote IsSettling (if b then [] else settled_as outcome writes)
 either_settles b outcome writes = if_cases (EachNote IsSettling) b [] (settled_as outcome writes)
     (λ keeps. tt) (λ loses. settles outcome writes)
@@ -199,7 +199,7 @@ unfolding all_turned
 all_fine client online turn settled = each_fine client (all_turned client online turn).client turn (λ file. refl)
     settled (numbers_to client.files) (λ file a. numbers_known client.files file a)
 
-notice_settles : (sent : List Pending) (phase : Phase)
+pub notice_settles : (sent : List Pending) (phase : Phase)
     → EachNote IsSettling (notice_turn sent phase).settled
 unfolding live_noticed live_parted
 notice_settles sent Phase.Closed = settles Settlement.Unknown sent
@@ -212,7 +212,7 @@ notice_settles sent (Phase.Live live) = if_cases (λ (t : Turn). EachNote IsSett
 notice_settles sent (Phase.Offline parted) = settles Settlement.Unknown sent
 notice_settles sent (Phase.Reconnecting parted) = settles Settlement.Unknown sent
 
-connect_settles : (client : Client) (file : ℕ) (sent : List Pending) (phase : Phase)
+pub connect_settles : (client : Client) (file : ℕ) (sent : List Pending) (phase : Phase)
     → EachNote IsSettling (connect_turn client file sent phase).settled
 connect_settles client file sent Phase.Closed = tt
 connect_settles client file sent (Phase.Opening access share) = tt
