@@ -2,7 +2,7 @@
 use Rattle.std.specs.Prelude.{◌≡◌, ℕ, true, false, List, reverse}
 use Rattle.lease_model.specs.records.Facts.{Fact}
 use Rattle.lease_model.specs.records.Past.{has_strayed}
-use Rattle.lease_model.specs.records.Safe.{EachFact, EachBeginning, WellFormed, OneWriteCache, NoFalseDone}
+use Rattle.lease_model.specs.records.Safe.{EachFact, EachBeginning, WellFormed, OneWriteCache, FreshRead, NoFalseDone}
 use Rattle.lease_model.specs.world.Allowed.{is_allowed_setup}
 use Rattle.lease_model.specs.world.Events.{Event, after, recorded}
 use Rattle.lease_model.specs.world.World.{World, Setup, first_world}
@@ -27,6 +27,10 @@ NothingIsFalselyDone = InRuns NoFalseDone
 abbrev pub RunsHaveOneWriteCache : Type 0
 RunsHaveOneWriteCache = (setup : Setup) (events : List Event)
     → EachBeginning OneWriteCache (reverse (recorded setup events))
+
+-- Every cached read of a run is fresh.
+abbrev pub CachedReadsAreFresh : Type 0
+CachedReadsAreFresh = InRuns FreshRead
 
 -- ---- what every run has, of each client that hasn't strayed
 

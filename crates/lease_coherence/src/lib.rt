@@ -4,5 +4,8 @@
 mod parts;
 mod structure;
 
-pub use parts::{nothing_is_falsely_done, runs_are_well_formed, runs_have_one_write_cache};
+pub use parts::{
+    cached_reads_are_fresh, nothing_is_falsely_done, runs_are_well_formed,
+    runs_have_one_write_cache,
+};
 pub use structure::runs_have_structure;

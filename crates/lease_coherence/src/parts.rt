@@ -1,4 +1,4 @@
-ghost use Rattle.lease_coherence.specs.Parts.{RunsAreWellFormed, RunsHaveOneWriteCache, NothingIsFalselyDone};
+ghost use Rattle.lease_coherence.specs.Parts.{CachedReadsAreFresh, NothingIsFalselyDone, RunsAreWellFormed, RunsHaveOneWriteCache};
 
 /// Where the setup is allowed, the record of every run is well formed: a file is started once and before any other fact
 /// names it, a message that is taken was sent before, a patch ends within the limit of a file, and a client uses the
@@ -12,6 +12,13 @@ pub fn runs_are_well_formed()
 /// believes that it may cache anything of that file. Does nothing.
 pub fn runs_have_one_write_cache()
     ensures facts { RunsHaveOneWriteCache }
+{}
+
+/// Where the setup is allowed, a cached read of a run gives the file as it stood when the message that the client took last
+/// was sent, with the client's unanswered writes, if the server has the client, it never strayed and let no break timer run
+/// out since it connected. Does nothing.
+pub fn cached_reads_are_fresh()
+    ensures facts { CachedReadsAreFresh }
 {}
 
 /// Where the setup is allowed, a write of a client that hasn't strayed is settled as done in a run only if the server

@@ -403,7 +403,7 @@ happens_always world event r n a = by_client_known (has_client world (client_of 
 
 -- ---- runs
 
-after_last : (world : World) (events : List Event) (event : Event)
+pub after_last : (world : World) (events : List Event) (event : Event)
     → after world (events ++ event ∷ []) ≡ happens (after world events) event
 unfolding after
 after_last world [] event = refl
@@ -417,11 +417,11 @@ reached setup events = let v = run_beliefs setup events in record {
   agrees = beliefs_of_runs setup events;
 }
 
-append_last : {X : Type 0} (xs : List X) (x : X) (ys : List X) → (xs ++ x ∷ []) ++ ys ≡ xs ++ x ∷ ys
+pub append_last : {X : Type 0} (xs : List X) (x : X) (ys : List X) → (xs ++ x ∷ []) ++ ys ≡ xs ++ x ∷ ys
 append_last [] x ys = refl
 append_last (y ∷ xs) x ys = ap (λ l. y ∷ l) (append_last xs x ys)
 
-append_nothing : {X : Type 0} (xs : List X) → xs ++ [] ≡ xs
+pub append_nothing : {X : Type 0} (xs : List X) → xs ++ [] ≡ xs
 append_nothing [] = refl
 append_nothing (x ∷ xs) = ap (λ l. x ∷ l) (append_nothing xs)
 

@@ -1,39 +1,35 @@
 -- What a client does keeps its bytes fresh.
-use Rattle.std.proofs.Common.{◌≡◌, ◌≢◌, ◌⊎◌, inl, inr, ⊎_elim, ℕ, ◌+◌, ◌≤◌, Bool, true, false, List, [], ◌∷◌, ◌++◌, Option, Some, None, refl, sym, ap, ap₂, ◌∙◌, subst, arith, true≢false, ◌==◌}
-use Rattle.std.specs.Prelude.{⊤, ◌&&◌, not, if◌then◌else◌, bytes_eq, find}
+use Rattle.std.proofs.Common.{◌≡◌, ◌≢◌, inl, ⊎_elim, ℕ, ◌+◌, ◌≤◌, Bool, true, false, List, [], ◌∷◌, Option, Some, None, refl, sym, ap, ◌∙◌, subst, arith, true≢false, ◌==◌}
+use Rattle.std.specs.Prelude.{bytes_eq}
 use Rattle.std.specs.List.{list_any}
 use Rattle.std.proofs.lemmas.Bool.{eqb-true, eq-eqb}
 use Rattle.std.proofs.lemmas.Slice.Eq.{bytes_eq-Decides}
-use Rattle.lease_state.specs.Content.{patch as patched}
-use Rattle.lease_state.specs.State.{State, nothing_cached}
+use Rattle.lease_state.specs.State.{State}
 use Rattle.lease_state.specs.declared.patch.Patch.{Patch}
-use Rattle.lease_state.specs.declared.status.Status.{Status}
 use Rattle.lease_model.specs.client.Commanded.{create_request, next_write, cached_read, opened_anew, write_buffered, write_sent, flush_on_live, wrote_step}
 use Rattle.lease_model.specs.client.Commands.{Answer}
-use Rattle.lease_model.specs.client.State.{Client, Entry, LiveEntry, Asked, Pending, Phase, lease_key, knows_file, belief_in}
-use Rattle.lease_model.specs.client.Step.{Step, Turn, turned, quiet_step, write_requests}
-use Rattle.lease_model.specs.client.Taken.{acknowledgment, break_turn, parked_closed, belief_lowered, flushed, is_key_of, given_state, opened_turn, reconnected_turn, promoted_turn, promoted_belief, first_belief, read_turn, read_failed_turn, is_file_closed, closed_by_server, without_open, is_numbered, has_sent, sent_without, base_with, phase_with, write_done_turn, write_failed_in, file_where}
-use Rattle.lease_model.specs.messages.Replies.{Reply, BreakNotice, CreateAnswer, LeaseGiven}
+use Rattle.lease_model.specs.client.State.{Client, Entry, LiveEntry, Pending, Phase, lease_key, knows_file, belief_in}
+use Rattle.lease_model.specs.client.Step.{Step, Turn, turned}
+use Rattle.lease_model.specs.client.Taken.{is_key_of, is_numbered, has_sent}
+use Rattle.lease_model.specs.messages.Replies.{Reply, BreakNotice, CreateAnswer}
 use Rattle.lease_model.specs.messages.Requests.{FileRequest, Request}
 use Rattle.lease_model.specs.records.Facts.{Fact}
 use Rattle.lease_model.specs.records.Past.{has_written}
-use Rattle.lease_model.specs.values.LeaseStates.{meet}
 use Rattle.lease_model.specs.values.Tables.{put}
 use Rattle.lease_laws.specs.client.Laws.{IsSoundClient, IsSoundPhase, IsSoundLive}
 use Rattle.lease_laws.specs.records.Runs.{content_of}
-use Rattle.lease_laws.specs.world.FileIds.{was_opened}
 use Rattle.lease_laws.proofs.client.Thin.{put_same, put_other}
-use Rattle.lease_laws.proofs.server.Lists.{if_cases, either, clash, and_parts, not_true, not_false, or_true, find_has}
+use Rattle.lease_laws.proofs.server.Lists.{either, clash, not_true, not_false, or_true}
 use Rattle.lease_laws.proofs.world.Links.{by_client}
-use Rattle.lease_coherence.specs.Creates.{answer_of, asked_by, has_asked, one_if}
-use Rattle.lease_coherence.specs.Names.{Each, IsNamedPhase, WasWritten}
+use Rattle.lease_coherence.specs.Creates.{answer_of, asked_by, one_if}
+use Rattle.lease_coherence.specs.Names.{Each, WasWritten}
 use Rattle.lease_coherence.proofs.beliefs.Clients.{IsAboutFile, writes_about, writes_close_about, keys_apart}
 use Rattle.lease_coherence.proofs.beliefs.Words.{OnGiven, GivesNothing, is_ack_break}
-use Rattle.lease_coherence.proofs.clients.Commands.{HasCommands, sent_of}
-use Rattle.lease_coherence.proofs.clients.Files.{never_found, find_absent}
-use Rattle.lease_coherence.proofs.clients.Takes.{HasTakes, PassesOver, found_so, is_live}
-use Rattle.lease_coherence.proofs.fresh.Words.{given_reads, reads_by, reads_after, after_nothing, AckReads, IsPatched, IsElsewhere, Follows, HasBytes, TellsBytes}
-use Rattle.lease_coherence.proofs.names.Words.{each_append, each_weaker, opened_once}
+use Rattle.lease_coherence.proofs.clients.Commands.{HasCommands}
+use Rattle.lease_coherence.proofs.clients.Files.{never_found}
+use Rattle.lease_coherence.proofs.clients.Takes.{PassesOver, found_so, is_live}
+use Rattle.lease_coherence.proofs.fresh.Words.{reads_by, reads_after, AckReads, IsPatched, Follows, TellsBytes}
+use Rattle.lease_coherence.proofs.names.Words.{each_weaker}
 use Rattle.lease_coherence.proofs.writes.Counts.{settles_of, numbered_in, none_numbered}
 use Rattle.lease_coherence.proofs.writes.Steps.{IsKnownBy, IsOwnNumber}
 

@@ -1,5 +1,5 @@
 -- At every point of a run the contents of the server are those of the record.
-use Rattle.std.proofs.Common.{◌≡◌, ◌≢◌, ℕ, Bool, true, false, List, [], ◌∷◌, Option, Some, None, refl, sym, ap, ◌∙◌, subst, ◌==◌}
+use Rattle.std.proofs.Common.{◌≡◌, ℕ, List, [], ◌∷◌, refl, sym, ap, ◌∙◌, subst, ◌==◌}
 use Rattle.std.specs.Prelude.{if◌then◌else◌}
 use Rattle.std.proofs.lemmas.Bool.{eqb-true, eq-eqb}
 use Rattle.lease_state.specs.Content.{patch as patched}
@@ -9,7 +9,7 @@ use Rattle.lease_model.specs.client.Step.{Step}
 use Rattle.lease_model.specs.messages.Requests.{FileRequest}
 use Rattle.lease_model.specs.records.Facts.{Fact}
 use Rattle.lease_model.specs.server.Calls.{joined, key_expired, opens_disconnected, client_forgotten}
-use Rattle.lease_model.specs.server.Grant.{lease_put, lease_after}
+use Rattle.lease_model.specs.server.Grant.{lease_after}
 use Rattle.lease_model.specs.server.Progress.{opens_dropped, with_opens}
 use Rattle.lease_model.specs.server.State.{Server}
 use Rattle.lease_model.specs.values.Tables.{put}

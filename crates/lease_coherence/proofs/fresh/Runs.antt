@@ -1,6 +1,6 @@
 -- Every move keeps a client's bytes fresh, of each file whose timer didn't run out, while its link is up.
-use Rattle.std.proofs.Common.{◌≡◌, ◌≢◌, ◌⊎◌, inl, inr, ⊎_elim, ℕ, zero, suc, ◌+◌, ◌≤◌, Bool, true, false, not, List, [], ◌∷◌, ◌++◌, length, flat_map, Option, Some, None, refl, sym, ap, ap₂, ◌∙◌, subst, arith, true≢false, ◌==◌}
-use Rattle.std.specs.Prelude.{⊤, ◌&&◌, if◌then◌else◌, is_some, bytes_eq, drop, slice_get}
+use Rattle.std.proofs.Common.{◌≡◌, inl, inr, ℕ, zero, suc, ◌+◌, ◌≤◌, Bool, true, false, not, List, [], ◌∷◌, ◌++◌, length, Option, Some, None, refl, sym, ap, ap₂, ◌∙◌, subst, arith, true≢false, ◌==◌}
+use Rattle.std.specs.Prelude.{◌&&◌, if◌then◌else◌, is_some, bytes_eq, drop, slice_get}
 use Rattle.std.specs.List.{list_any}
 use Rattle.std.proofs.lemmas.Bool.{eqb-true, eq-eqb}
 use Rattle.std.proofs.lemmas.Slice.Eq.{bytes_eq-Decides}
@@ -13,7 +13,7 @@ use Rattle.lease_state.specs.declared.status.Status.{Status}
 use Rattle.lease_model.specs.client.Commanded.{commanded}
 use Rattle.lease_model.specs.client.Commands.{Command, Note}
 use Rattle.lease_model.specs.client.Connection.{all_turned, noticed, connection_made, connect_turn}
-use Rattle.lease_model.specs.client.State.{Client, Entry, LiveEntry, Pending, Phase, lease_key, knows_file, belief_in}
+use Rattle.lease_model.specs.client.State.{Client, LiveEntry, Pending, Phase, lease_key, belief_in}
 use Rattle.lease_model.specs.client.Step.{Step}
 use Rattle.lease_model.specs.client.Taken.{taken}
 use Rattle.lease_model.specs.messages.Replies.{Reply}
@@ -22,29 +22,27 @@ use Rattle.lease_model.specs.records.Facts.{Fact}
 use Rattle.lease_model.specs.records.Past.{has_strayed, has_written, sendings, takings, last_of, last_sending}
 use Rattle.lease_model.specs.server.Calls.{joined, key_expired}
 use Rattle.lease_model.specs.server.Findings.{connected_open}
-use Rattle.lease_model.specs.server.Grant.{connected_again, lease_granted, lease_after, lease_put, standing_lease}
-use Rattle.lease_model.specs.server.Naming.{key_of, own_key}
+use Rattle.lease_model.specs.server.Grant.{lease_granted, lease_after}
+use Rattle.lease_model.specs.server.Naming.{key_of}
 use Rattle.lease_model.specs.server.Progress.{opens_dropped, with_opens, break_notice, refusal_of}
-use Rattle.lease_model.specs.server.State.{Server, Open, Held, Lease, is_breaking, has_key}
+use Rattle.lease_model.specs.server.State.{Server, Open, Lease, is_breaking, has_key}
 use Rattle.lease_model.specs.values.Keys.{Key, key_eq}
 use Rattle.lease_model.specs.values.Lists.{numbers_to, without}
-use Rattle.lease_model.specs.values.Tables.{put, put_key}
+use Rattle.lease_model.specs.values.Tables.{put}
 use Rattle.lease_model.specs.world.Events.{stepped_in, machine_key}
-use Rattle.lease_model.specs.world.World.{World, Link, sent_over, fact_of}
+use Rattle.lease_model.specs.world.World.{World, Link, fact_of}
 use Rattle.lease_laws.specs.client.Laws.{IsSoundPhase}
 use Rattle.lease_laws.specs.records.Runs.{content_of}
-use Rattle.lease_laws.specs.server.Laws.{Among, IsSound}
-use Rattle.lease_laws.specs.server.SmallSteps.{IsFree, MayLower}
+use Rattle.lease_laws.specs.server.Laws.{Among}
 use Rattle.lease_laws.specs.world.FileIds.{was_opened}
 use Rattle.lease_laws.specs.world.Links.{is_up, is_down}
 use Rattle.lease_laws.proofs.client.Forms.{commanded-stays, taken-stays}
-use Rattle.lease_laws.proofs.client.Thin.{put_same, put_other}
+use Rattle.lease_laws.proofs.client.Thin.{put_same}
 use Rattle.lease_laws.proofs.server.Keys.{key_eq-refl, put_key-cases}
-use Rattle.lease_laws.proofs.server.Lists.{if_cases, either, clash, and_parts, and_both, not_true, find_has, among_before, among_filter}
+use Rattle.lease_laws.proofs.server.Lists.{if_cases, either, clash, and_parts, find_has, among_filter}
 use Rattle.lease_laws.proofs.world.Links.{stepped_links}
-use Rattle.lease_laws.proofs.world.Runs.{stepped_server}
-use Rattle.lease_coherence.specs.Creates.{answers, answer_of, asked_by}
-use Rattle.lease_coherence.specs.Names.{Each, IsNamedAt, IsNamedOnFile, IsOwnOpen, WasWrittenOn}
+use Rattle.lease_coherence.specs.Creates.{answers}
+use Rattle.lease_coherence.specs.Names.{Each, IsNamedAt, IsOwnOpen, WasWrittenOn}
 use Rattle.lease_coherence.specs.Standing.{IsStandingAt}
 use Rattle.lease_coherence.proofs.beliefs.Clients.{IsAboutFile, keys_apart}
 use Rattle.lease_coherence.proofs.beliefs.Closed.{lease_stays, left_there}
@@ -55,27 +53,24 @@ use Rattle.lease_coherence.proofs.beliefs.Trust.{file_key, HasTrust}
 use Rattle.lease_coherence.proofs.beliefs.Words.{acks, is_ack_break, OnGiven, GivesNothing, BreaksAreMet}
 use Rattle.lease_coherence.proofs.clients.Commands.{any_command}
 use Rattle.lease_coherence.proofs.clients.Takes.{any_reply, is_live}
-use Rattle.lease_coherence.proofs.creates.Creates.{up_link, stepped_machine}
-use Rattle.lease_coherence.proofs.fresh.Clients.{WasSoLive, KeepsLive, commands_keep, all_about, IsMetBy, IsFreshAfter, IsDueTo, TakesFresh}
-use Rattle.lease_coherence.proofs.fresh.Contents.{HasContents, AreContents, contents_moves, noted_content}
-use Rattle.lease_coherence.proofs.fresh.Sent.{IsFreshIn, IsUpFresh, IsToldTo, left_reads, HasMore, seen_more, base_more, unmoved_fresh, IsToldIn, SendsFresh, sent_fresh, bare_reads, is_still, still_sends, gone_reads}
+use Rattle.lease_coherence.proofs.fresh.Clients.{WasSoLive, KeepsLive, commands_keep, all_about, IsDueTo, TakesFresh}
+use Rattle.lease_coherence.proofs.fresh.Contents.{HasContents, contents_moves, noted_content}
+use Rattle.lease_coherence.proofs.fresh.Sent.{IsFreshIn, IsUpFresh, IsToldTo, left_reads, HasMore, seen_more, base_more, unmoved_fresh, IsToldIn, sent_fresh, bare_reads, is_still, still_sends, gone_reads}
 use Rattle.lease_coherence.proofs.fresh.Takes.{takes_fresh}
-use Rattle.lease_coherence.proofs.fresh.Words.{given_reads, reads_by, reads_after, reads_last, after_fewer, AckReads, acks_fewer, no_acks_read, Follows, TellsBytes, IsRelayed, relayed_later, relayed_fewer, relayed_now, IsLastSeen, HasBase, places_of, IsFreshFor}
-use Rattle.lease_coherence.proofs.moves.Deeds.{IsSource, told_to, granted_in, reconnected_in, changed_in, without_opens, leased_in, held_in, with_held, granted_reply, reconnected_reply, done_reply}
+use Rattle.lease_coherence.proofs.fresh.Words.{given_reads, reads_by, reads_after, reads_last, after_fewer, AckReads, acks_fewer, Follows, TellsBytes, IsRelayed, relayed_later, relayed_fewer, places_of, IsFreshFor}
+use Rattle.lease_coherence.proofs.moves.Deeds.{IsSource, told_to, granted_in, reconnected_in, changed_in, without_opens, leased_in, granted_reply, reconnected_reply, done_reply}
 use Rattle.lease_coherence.proofs.moves.Events.{Ground, IsCarried, Both, carried_both, timed_out, come_back, connected, reply_gone, reply_taken}
-use Rattle.lease_coherence.proofs.moves.Foreign.{IsUnmoved, off_sound, map_kept}
-use Rattle.lease_coherence.proofs.moves.Frames.{from_source, lease_put_rest, stepped_past, stepped_requests, stepped_replies}
+use Rattle.lease_coherence.proofs.moves.Frames.{from_source, lease_put_rest, stepped_past, stepped_replies}
 use Rattle.lease_coherence.proofs.moves.Moves.{IsOldest, rest_of, popped}
 use Rattle.lease_coherence.proofs.moves.Own.{IsOwnMoved, OfGood, own_moves}
 use Rattle.lease_coherence.proofs.moves.Spared.{ends_by, ends_as}
 use Rattle.lease_coherence.proofs.names.Names.{off_named, off_counted, open_parts}
 use Rattle.lease_coherence.proofs.names.Words.{each_append, each_weaker, each_rest, opened_once}
-use Rattle.lease_coherence.proofs.records.Later.{IsLater, later_same, later_then, later_fact, later_noted, past_noted}
+use Rattle.lease_coherence.proofs.records.Later.{later_same, later_then, later_fact, later_noted, past_noted}
 use Rattle.lease_coherence.proofs.standing.Runs.{link_of, was_up, each_flat, standing_moves}
-use Rattle.lease_coherence.proofs.standing.Servers.{again_up}
-use Rattle.lease_coherence.proofs.standing.Standing.{IsStepped, step_of}
-use Rattle.lease_coherence.proofs.writes.Counts.{settles_of, settling, numbered_in}
-use Rattle.lease_coherence.proofs.writes.Runs.{HasRecords, HasOnce, once_carried, ground_of, names_of, known_by, moved_under}
+use Rattle.lease_coherence.proofs.standing.Standing.{step_of}
+use Rattle.lease_coherence.proofs.writes.Counts.{settling}
+use Rattle.lease_coherence.proofs.writes.Runs.{HasOnce, once_carried, ground_of, names_of, known_by, moved_under}
 
 -- ---- what is known so far
 

@@ -1,13 +1,11 @@
 -- What the server does keeps a client's bytes fresh.
-use Rattle.std.proofs.Common.{◌≡◌, ◌≢◌, ◌⊎◌, inl, inr, ⊎_elim, ℕ, zero, suc, ◌+◌, ◌≤◌, Bool, true, false, List, [], ◌∷◌, ◌++◌, length, Option, Some, None, refl, sym, ap, ap₂, ◌∙◌, subst, arith, true≢false, ◌==◌}
-use Rattle.std.specs.Prelude.{⊤, ◌&&◌, not, if◌then◌else◌, bytes_eq, drop, slice_get}
+use Rattle.std.proofs.Common.{◌≡◌, ◌⊎◌, ⊎_elim, ℕ, zero, suc, ◌≤◌, Bool, true, false, List, [], ◌∷◌, ◌++◌, length, Some, refl, sym, ap, ap₂, ◌∙◌, subst, arith, true≢false, ◌==◌}
+use Rattle.std.specs.Prelude.{⊤, if◌then◌else◌, bytes_eq, drop, slice_get}
 use Rattle.std.specs.List.{list_any}
 use Rattle.std.proofs.lemmas.Bool.{eqb-true, eq-eqb}
 use Rattle.std.proofs.lemmas.Slice.Eq.{bytes_eq-Decides}
-use Rattle.lease_state.specs.State.{State, nothing_cached, granted_form_of}
 use Rattle.lease_model.specs.client.State.{Client, Phase, lease_key, belief_in}
 use Rattle.lease_model.specs.messages.Replies.{Reply}
-use Rattle.lease_model.specs.messages.Requests.{FileRequest, Request, LeaseOf}
 use Rattle.lease_model.specs.records.Facts.{Fact}
 use Rattle.lease_model.specs.records.Past.{sendings, takings, last_of, last_sending}
 use Rattle.lease_model.specs.server.Naming.{key_of}
@@ -18,20 +16,19 @@ use Rattle.lease_model.specs.world.World.{World}
 use Rattle.lease_laws.specs.records.Runs.{content_of}
 use Rattle.lease_laws.specs.server.Laws.{Among, IsSound}
 use Rattle.lease_laws.specs.world.Links.{is_up}
-use Rattle.lease_laws.proofs.client.Thin.{put_same}
 use Rattle.lease_laws.proofs.server.Keys.{is_key-refl, is_key-one}
-use Rattle.lease_laws.proofs.server.Lists.{either, clash, not_true, any_has, not_false}
-use Rattle.lease_coherence.specs.Names.{Each, IsOwnOpen}
+use Rattle.lease_laws.proofs.server.Lists.{either, clash, any_has, not_false}
+use Rattle.lease_coherence.specs.Names.{IsOwnOpen}
 use Rattle.lease_coherence.specs.Standing.{IsStandingAt}
 use Rattle.lease_coherence.proofs.beliefs.Clients.{keys_apart}
 use Rattle.lease_coherence.proofs.beliefs.Sent.{is_bare}
 use Rattle.lease_coherence.proofs.beliefs.Trust.{file_key, nothing_stands}
-use Rattle.lease_coherence.proofs.beliefs.Words.{acks, is_created}
+use Rattle.lease_coherence.proofs.beliefs.Words.{acks}
 use Rattle.lease_coherence.proofs.clients.Takes.{is_live}
 use Rattle.lease_coherence.proofs.moves.Foreign.{IsUnmoved, key_client}
 use Rattle.lease_coherence.proofs.moves.Spared.{ends_as}
-use Rattle.lease_coherence.proofs.names.Words.{each_append, each_weaker, each_rest}
-use Rattle.lease_coherence.proofs.records.Later.{IsLater, later_same, later_then, later_fact}
+use Rattle.lease_coherence.proofs.names.Words.{each_weaker}
+use Rattle.lease_coherence.proofs.records.Later.{IsLater, later_then, later_fact}
 use Rattle.lease_coherence.proofs.fresh.Words.{reads_by, reads_after, reads_last, after_none, AckReads, acks_fewer, no_acks_read, Follows, TellsBytes, IsRelayed, relayed_later, relayed_now, IsLastSeen, HasBase, places_of, IsFreshFor}
 
 -- ---- one client and one file of a world

@@ -1,34 +1,33 @@
 -- Each form of a reply that is taken keeps the bytes fresh.
-use Rattle.std.proofs.Common.{◌≡◌, ◌≢◌, ◌⊎◌, inl, inr, ⊎_elim, ℕ, Bool, true, false, List, [], ◌∷◌, ◌++◌, Option, Some, None, refl, sym, ap, ap₂, ◌∙◌, subst, true≢false, ◌==◌}
-use Rattle.std.specs.Prelude.{⊤, ◌&&◌, not, if◌then◌else◌, bytes_eq, find}
+use Rattle.std.proofs.Common.{◌≡◌, ◌≢◌, inl, ⊎_elim, ℕ, Bool, true, false, List, [], ◌∷◌, Option, Some, None, refl, sym, ap, ◌∙◌, subst, true≢false, ◌==◌}
+use Rattle.std.specs.Prelude.{◌&&◌, not, if◌then◌else◌, bytes_eq, find}
 use Rattle.std.specs.List.{list_any}
 use Rattle.std.proofs.lemmas.Bool.{eqb-true, eq-eqb}
 use Rattle.std.proofs.lemmas.Slice.Eq.{bytes_eq-Decides}
 use Rattle.lease_state.specs.Content.{patch as patched}
 use Rattle.lease_state.specs.State.{State, nothing_cached}
-use Rattle.lease_state.specs.declared.patch.Patch.{Patch}
 use Rattle.lease_state.specs.declared.status.Status.{Status}
-use Rattle.lease_model.specs.client.State.{Client, Entry, LiveEntry, Asked, Pending, Phase, lease_key, belief_in}
-use Rattle.lease_model.specs.client.Step.{Step, Turn, turned, quiet_step, write_requests}
-use Rattle.lease_model.specs.client.Taken.{acknowledgment, break_turn, parked_closed, belief_lowered, flushed, unflushed, is_key_of, given_state, opened_turn, reconnected_turn, promoted_turn, promoted_belief, first_belief, read_turn, read_failed_turn, is_file_closed, closed_by_server, without_open, is_numbered, has_sent, base_with, phase_with, write_done_turn, write_failed_in, one_read_less}
+use Rattle.lease_model.specs.client.State.{Client, LiveEntry, Asked, Pending, Phase, lease_key, belief_in}
+use Rattle.lease_model.specs.client.Step.{Turn, turned, quiet_step, write_requests}
+use Rattle.lease_model.specs.client.Taken.{acknowledgment, break_turn, parked_closed, belief_lowered, flushed, is_key_of, given_state, opened_turn, reconnected_turn, promoted_turn, promoted_belief, read_turn, read_failed_turn, is_file_closed, closed_by_server, without_open, is_numbered, has_sent, base_with, phase_with, write_done_turn, write_failed_in}
 use Rattle.lease_model.specs.client.Commands.{Answer}
 use Rattle.lease_model.specs.messages.Replies.{Reply, BreakNotice, CreateAnswer, LeaseGiven}
-use Rattle.lease_model.specs.messages.Requests.{FileRequest, Request}
+use Rattle.lease_model.specs.messages.Requests.{Request}
 use Rattle.lease_model.specs.records.Facts.{Fact}
 use Rattle.lease_model.specs.records.Past.{has_written}
 use Rattle.lease_model.specs.values.LeaseStates.{meet}
 use Rattle.lease_laws.specs.client.Laws.{IsSoundClient}
 use Rattle.lease_laws.specs.records.Runs.{content_of}
 use Rattle.lease_laws.specs.world.FileIds.{was_opened}
-use Rattle.lease_laws.proofs.server.Lists.{if_cases, either, clash, and_parts, and_both, or_true, find_has}
+use Rattle.lease_laws.proofs.server.Lists.{if_cases, clash, and_both, or_true, find_has}
 use Rattle.lease_laws.specs.server.Laws.{Among}
 use Rattle.lease_coherence.specs.Names.{Each, IsNamedPhase, WasWritten}
 use Rattle.lease_coherence.proofs.beliefs.Clients.{IsAboutFile, writes_about, writes_close_about, keys_apart}
 use Rattle.lease_coherence.proofs.clients.Commands.{sent_of}
 use Rattle.lease_coherence.proofs.clients.Files.{find_absent}
 use Rattle.lease_coherence.proofs.clients.Takes.{HasTakes, found_so, is_live}
-use Rattle.lease_coherence.proofs.fresh.Words.{given_reads, reads_by, reads_after, after_nothing, AckReads, IsPatched, IsElsewhere, Follows, HasBytes, TellsBytes}
-use Rattle.lease_coherence.proofs.fresh.Clients.{WasSoLive, KeepsLive, IsMetBy, IsFreshAfter, IsDueTo, TakesFresh, IsPlainFor, stays_so, not_live, turned_keeps, idle_keeps, plain_fresh, turn_fresh, here_fresh, base_reads, all_about, created_elsewhere, broken_elsewhere, number_elsewhere, written_elsewhere, passed_plain}
+use Rattle.lease_coherence.proofs.fresh.Words.{given_reads, reads_by, reads_after, after_nothing, AckReads, Follows, HasBytes}
+use Rattle.lease_coherence.proofs.fresh.Clients.{KeepsLive, IsMetBy, TakesFresh, stays_so, not_live, turned_keeps, idle_keeps, plain_fresh, turn_fresh, here_fresh, base_reads, all_about, created_elsewhere, broken_elsewhere, number_elsewhere, written_elsewhere, passed_plain}
 use Rattle.lease_coherence.proofs.names.Words.{each_append, opened_once}
 use Rattle.lease_coherence.proofs.writes.Steps.{IsKnownBy}
 

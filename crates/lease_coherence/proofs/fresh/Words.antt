@@ -1,9 +1,9 @@
 -- What a client has of a file's bytes, against the replies on their way to it: in words of one file, its entry, and the
 -- places where the replies were sent.
-use Rattle.std.proofs.Common.{◌≡◌, ◌≢◌, ◌⊎◌, inl, inr, ⊎_elim, ℕ, zero, suc, ◌+◌, ◌≤◌, Bool, true, false, List, [], ◌∷◌, ◌++◌, length, Option, Some, None, refl, sym, ap, ◌∙◌, subst, arith, true≢false, ◌==◌}
-use Rattle.std.specs.Prelude.{⊤, ◌&&◌, not, if◌then◌else◌, bytes_eq, drop, slice_get}
+use Rattle.std.proofs.Common.{◌≡◌, ◌≢◌, ◌⊎◌, inl, inr, ⊎_elim, ℕ, ◌+◌, Bool, true, false, List, [], ◌∷◌, ◌++◌, Option, Some, None, refl, sym, ap, ◌∙◌, arith, true≢false, ◌==◌}
+use Rattle.std.specs.Prelude.{⊤, ◌&&◌, not, if◌then◌else◌, bytes_eq, drop}
 use Rattle.std.proofs.lemmas.Bool.{eqb-true}
-use Rattle.lease_state.specs.State.{State, nothing_cached}
+use Rattle.lease_state.specs.State.{nothing_cached}
 use Rattle.lease_state.specs.Content.{patch as patched}
 use Rattle.lease_state.specs.declared.patch.Patch.{Patch}
 use Rattle.lease_model.specs.client.State.{LiveEntry, Phase, belief_in}
@@ -11,16 +11,15 @@ use Rattle.lease_model.specs.client.Taken.{given_state}
 use Rattle.lease_model.specs.messages.Replies.{Reply, LeaseGiven}
 use Rattle.lease_model.specs.messages.Requests.{Request}
 use Rattle.lease_model.specs.records.Facts.{Fact}
-use Rattle.lease_model.specs.records.Past.{has_written, sendings, takings, last_of, last_sending}
+use Rattle.lease_model.specs.records.Past.{has_written, sendings, takings, last_sending}
 use Rattle.lease_model.specs.server.State.{Lease}
 use Rattle.lease_laws.specs.records.Runs.{content_of}
 use Rattle.lease_laws.specs.world.FileIds.{was_opened}
-use Rattle.lease_laws.proofs.server.Lists.{if_cases, clash, and_parts, and_both, not_true}
+use Rattle.lease_laws.proofs.server.Lists.{if_cases, clash, and_parts, and_both}
 use Rattle.lease_coherence.specs.Creates.{one_if}
 use Rattle.lease_coherence.specs.Names.{Each}
 use Rattle.lease_coherence.proofs.beliefs.Words.{OnGiven, GivesNothing, acks, ack_of, is_created}
 use Rattle.lease_coherence.proofs.moves.Spared.{ends_as}
-use Rattle.lease_coherence.proofs.names.Words.{each_weaker}
 use Rattle.lease_coherence.proofs.records.Later.{IsLater}
 
 -- ---- reads along the queue

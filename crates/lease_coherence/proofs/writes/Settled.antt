@@ -1,16 +1,15 @@
 -- Which writes are left once some are settled, by their numbers.
-use Rattle.std.proofs.Common.{◌≡◌, ◌≢◌, inl, inr, ⊎_elim, ℕ, ◌≤◌, ◌<◌, Bool, true, false, not, List, [], ◌∷◌, ◌++◌, filter, flat_map, refl, sym, ap, ap₂, ◌∙◌, subst, arith, true≢false, ◌==◌}
-use Rattle.std.specs.Prelude.{⊤, ◌&&◌, ◌||◌, if◌then◌else◌, nat_lt, nat_le}
-use Rattle.std.specs.List.{list_any}
+use Rattle.std.proofs.Common.{◌≡◌, inl, inr, ⊎_elim, ℕ, ◌≤◌, ◌<◌, Bool, true, false, not, List, [], ◌∷◌, ◌++◌, filter, refl, sym, ap, ap₂, ◌∙◌, arith, true≢false, ◌==◌}
+use Rattle.std.specs.Prelude.{◌&&◌, ◌||◌, nat_lt, nat_le}
 use Rattle.std.proofs.lemmas.Bool.{eqb-true, eq-eqb}
 use Rattle.lease_model.specs.client.Commands.{Note, Settlement}
 use Rattle.lease_model.specs.client.State.{Pending}
 use Rattle.lease_model.specs.client.Step.{settled_as}
-use Rattle.lease_model.specs.client.Taken.{is_numbered, sent_without}
+use Rattle.lease_model.specs.client.Taken.{sent_without}
 use Rattle.lease_model.specs.values.Lists.{without}
 use Rattle.lease_laws.specs.client.Laws.{are_rising, has_number}
 use Rattle.lease_laws.specs.server.Laws.{Among}
-use Rattle.lease_laws.proofs.server.Lists.{if_cases, either, clash, and_parts, or_true, true_or, not_true}
+use Rattle.lease_laws.proofs.server.Lists.{either, clash, and_parts, or_true, true_or, not_true}
 
 -- ---- words
 

@@ -1,21 +1,18 @@
 -- The record has the unanswered writes of each client, in the order in which its entries have them.
-use Rattle.std.proofs.Common.{◌≡◌, ◌≢◌, ◌⊎◌, inl, inr, ⊎_elim, ℕ, ◌+◌, ◌≤◌, ◌<◌, Bool, true, false, not, List, [], ◌∷◌, ◌++◌, filter, flat_map, Option, Some, None, refl, sym, ap, ap₂, ◌∙◌, subst, arith, true≢false, ◌==◌}
-use Rattle.std.specs.Prelude.{⊤, ◌&&◌, ◌||◌, if◌then◌else◌, reverse}
-use Rattle.std.specs.List.{list_any, list_all}
+use Rattle.std.proofs.Common.{◌≡◌, ◌≢◌, ⊎_elim, ℕ, Bool, true, false, not, List, [], ◌∷◌, ◌++◌, flat_map, Option, Some, None, refl, sym, ap, ap₂, ◌∙◌, subst, true≢false, ◌==◌}
+use Rattle.std.specs.Prelude.{⊤, ◌&&◌, ◌||◌, if◌then◌else◌}
 use Rattle.std.proofs.lemmas.Bool.{eqb-true, eq-eqb}
 use Rattle.lease_state.specs.State.{State}
-use Rattle.lease_state.specs.declared.access.Access.{Access}
-use Rattle.lease_state.specs.declared.access.Share.{Share}
 use Rattle.lease_state.specs.declared.patch.Patch.{Patch}
 use Rattle.lease_state.specs.declared.status.Status.{Status}
 use Rattle.lease_model.specs.client.Calls.{ClientCall, client_called}
 use Rattle.lease_model.specs.client.Commanded.{next_write, cached_read, opened_anew, write_buffered, write_sent, flush_on_live, wrote_step}
 use Rattle.lease_model.specs.client.Commands.{Answer, Note, Settlement}
-use Rattle.lease_model.specs.client.Connection.{all_turned, noticed, connection_made, notice_turn, connect_turn, live_noticed, live_parted, ended_turn, offline_turn}
-use Rattle.lease_model.specs.client.State.{Client, Entry, LiveEntry, Asked, Parted, Pending, Phase, belief_of, knows_file, lease_key, view}
+use Rattle.lease_model.specs.client.Connection.{all_turned, noticed, connection_made, notice_turn, connect_turn, live_noticed, live_parted}
+use Rattle.lease_model.specs.client.State.{Client, Entry, LiveEntry, Asked, Pending, Phase, belief_of, knows_file, lease_key, view}
 use Rattle.lease_model.specs.client.Step.{Step, Turn, turned, believes_noted, settled_as}
-use Rattle.lease_model.specs.client.Taken.{is_numbered, sent_without, break_turn, parked_closed, belief_lowered, flushed, unflushed, gives_up, opened_turn, reconnected_turn, promoted_turn, promoted_belief, first_belief, failed_turn, read_turn, read_failed_turn, is_file_closed, closed_by_server, without_open, write_done_turn, phase_with, write_failed_in}
-use Rattle.lease_model.specs.messages.Replies.{Reply, Out, BreakNotice}
+use Rattle.lease_model.specs.client.Taken.{is_numbered, sent_without, break_turn, parked_closed, belief_lowered, gives_up, opened_turn, reconnected_turn, promoted_turn, promoted_belief, first_belief, read_turn, read_failed_turn, is_file_closed, closed_by_server, without_open, write_done_turn, phase_with, write_failed_in}
+use Rattle.lease_model.specs.messages.Replies.{Out, BreakNotice}
 use Rattle.lease_model.specs.records.Facts.{Fact}
 use Rattle.lease_model.specs.server.Calls.{joined}
 use Rattle.lease_model.specs.server.Progress.{begun}
@@ -30,7 +27,7 @@ use Rattle.lease_laws.specs.server.Laws.{Among}
 use Rattle.lease_laws.specs.server.SmallSteps.{step_taken}
 use Rattle.lease_laws.proofs.client.Forms.{commanded-stays, taken-stays}
 use Rattle.lease_laws.proofs.client.Thin.{put_same, put_other}
-use Rattle.lease_laws.proofs.server.Lists.{if_cases, either, clash, or_true, true_or, not_true, not_false}
+use Rattle.lease_laws.proofs.server.Lists.{if_cases, either, clash, or_true, true_or, not_true}
 use Rattle.lease_laws.proofs.world.FileIds.{told}
 use Rattle.lease_laws.proofs.world.Links.{by_client}
 use Rattle.lease_laws.proofs.world.Runs.{stepped_clients}
@@ -42,7 +39,7 @@ use Rattle.lease_coherence.proofs.moves.Frames.{stepped_past}
 use Rattle.lease_coherence.proofs.moves.Ground.{moved_clients, moved_past}
 use Rattle.lease_coherence.proofs.moves.Shift.{append_none}
 use Rattle.lease_coherence.proofs.records.Later.{past_noted}
-use Rattle.lease_coherence.proofs.wellformed.Notes.{EachNote, notes_append, IsSettling, settles, break_settles, either_settles, notice_settles, connect_settles, write_failed_settles}
+use Rattle.lease_coherence.proofs.wellformed.Notes.{EachNote, notes_append, IsSettling, settles}
 use Rattle.lease_coherence.proofs.writes.Settled.{same_bool, or_later, filter_same, filter_alike, filter_again, number_there, number_append, settles_in, settles_append, settles_these, left_of, left_all, left_front, left_one, left_one_front, left_buffered}
 
 -- ---- notes in the record
@@ -154,15 +151,15 @@ turned_leaves client at turn s t = record {
   none = notes_append IsPlainNote turn.settled _ (settling_none turn.settled t.each)
       (believed_none at (belief_of (client.entries at)) (belief_of turn.entry));
   left = λ file known. by_client
-    (λ f. left_of (turn_notes at (client.entries at) turn) (unanswered_in (client.entries f))
-    ≡ unanswered_in (put client.entries at turn.entry f)) at file
-    (filter_alike (λ w. not (settles_in (turn_notes at (client.entries at) turn) w.number))
-    (λ w. not (settles_in turn.settled w.number)) (unanswered_in (client.entries at))
-    (λ w a. ap not (turn_settles at (client.entries at) turn w.number))
-    ∙ t.left ∙ ap (λ (e : Entry). unanswered_in e) (sym (put_same client.entries at turn.entry)))
-    (λ ne apart. untouched_left client (turn_notes at (client.entries at) turn) file at s ne
-    (λ number settled. t.own number (sym (turn_settles at (client.entries at) turn number) ∙ settled))
-    ∙ ap (λ (e : Entry). unanswered_in e) (sym (put_other client.entries at turn.entry file ne)));
+      (λ f. left_of (turn_notes at (client.entries at) turn) (unanswered_in (client.entries f))
+      ≡ unanswered_in (put client.entries at turn.entry f)) at file
+      (filter_alike (λ w. not (settles_in (turn_notes at (client.entries at) turn) w.number))
+      (λ w. not (settles_in turn.settled w.number)) (unanswered_in (client.entries at))
+      (λ w a. ap not (turn_settles at (client.entries at) turn w.number))
+      ∙ t.left ∙ ap (λ (e : Entry). unanswered_in e) (sym (put_same client.entries at turn.entry)))
+      (λ ne apart. untouched_left client (turn_notes at (client.entries at) turn) file at s ne
+      (λ number settled. t.own number (sym (turn_settles at (client.entries at) turn number) ∙ settled))
+      ∙ ap (λ (e : Entry). unanswered_in e) (sym (put_other client.entries at turn.entry file ne)));
 }
 
 turned_tells : (client : Client) (at : ℕ) (turn : Turn) → IsSoundClient client → TurnLeaves (client.entries at) turn
@@ -519,20 +516,20 @@ all_tell client online turn s each =
     let notes : ℕ → List Note = λ f. turn_notes f (client.entries f) (turn f (client.entries f)) in
     record {
       none = (flat_none notes (numbers_to client.files)
-    (λ f. notes_append IsPlainNote (turn f (client.entries f)).settled _
-    (settling_none (turn f (client.entries f)).settled (each f).each)
-    (believed_none f (belief_of (client.entries f)) (belief_of (turn f (client.entries f)).entry))));
+          (λ f. notes_append IsPlainNote (turn f (client.entries f)).settled _
+          (settling_none (turn f (client.entries f)).settled (each f).each)
+          (believed_none f (belief_of (client.entries f)) (belief_of (turn f (client.entries f)).entry))));
       left = (λ file known. filter_alike (λ w. not (settles_in (flat_map notes (numbers_to client.files)) w.number))
-    (λ w. not (settles_in (turn file (client.entries file)).settled w.number)) (unanswered_in (client.entries file))
-    (λ w a. ap not (flat_settles notes file w.number (numbers_to client.files)
-    (λ other ne. not_true (settles_in (notes other) w.number) (λ settled.
-    clash (has_number w.number (unanswered_in (client.entries file)))
-    (number_there w (unanswered_in (client.entries file)) a)
-    (s.numbers.apart other file w.number ne ((each other).own w.number
-    (sym (turn_settles other (client.entries other) (turn other (client.entries other)) w.number) ∙ settled)))))
-    (among_numbers client.files file known)
-    ∙ turn_settles file (client.entries file) (turn file (client.entries file)) w.number))
-    ∙ (each file).left);
+          (λ w. not (settles_in (turn file (client.entries file)).settled w.number)) (unanswered_in (client.entries file))
+          (λ w a. ap not (flat_settles notes file w.number (numbers_to client.files)
+          (λ other ne. not_true (settles_in (notes other) w.number) (λ settled.
+          clash (has_number w.number (unanswered_in (client.entries file)))
+          (number_there w (unanswered_in (client.entries file)) a)
+          (s.numbers.apart other file w.number ne ((each other).own w.number
+          (sym (turn_settles other (client.entries other) (turn other (client.entries other)) w.number) ∙ settled)))))
+          (among_numbers client.files file known)
+          ∙ turn_settles file (client.entries file) (turn file (client.entries file)) w.number))
+          ∙ (each file).left);
     }
 
 -- ---- calls
