@@ -4,6 +4,7 @@ pub mod creates
 pub mod fresh
 pub mod moves
 pub mod names
+pub mod order
 pub mod records
 pub mod standing
 pub mod wellformed

@@ -37,7 +37,7 @@ use Rattle.lease_coherence.proofs.names.Words.{each_append, each_weaker, opened_
 use Rattle.lease_coherence.proofs.standing.Words.{asked_popped, asked_off, asked_held, asked_unmoved, IsFrame, framed_given, framed_at}
 
 -- an open that stays
-stands_by : (world new : World) (c file file_id : ℕ) → new.clients c ≡ world.clients c
+pub stands_by : (world new : World) (c file file_id : ℕ) → new.clients c ≡ world.clients c
     → new.server.expired ≡ world.server.expired
     → ((one : Open) → one.client ≡ c → one.connected ≡ true → one.file_id ≡ file_id → Among one world.server.opens
     → Among one new.server.opens)
@@ -351,48 +351,53 @@ held_standing world file one oldest s =
     (λ r w. framed_given world new one.client f r w) s.given) s
 
 -- a timer runs out
+pub timer_stands : (world : World) (c file : ℕ) → IsNamedAt world c → (at id : ℕ) → Stands world c at id
+    → Stands (timed_out world c file) c at id
+unfolding key_expired opens_dropped with_opens
+timer_stands world c file n at id x =
+    let key = machine_key world c file in ⊎_elim
+    (λ out. inl (put_key-cases (λ b. b ≡ true) world.server.expired key true (machine_key world c at)
+    (λ same. refl) (λ there. out)))
+    (λ o. either (has_key key o.one)
+    (λ has. inl (put_key-cases (λ b. b ≡ true) world.server.expired key true (machine_key world c at)
+    (λ same. refl) (λ there. absurd (none_other o has there))))
+    (λ other. inr (record {
+      one = o.one;
+      there = among_filtered (λ y. not (has_key key y)) o.one world.server.opens o.there
+          (false_not (has_key key o.one) other);
+      id = o.id;
+      by = o.by;
+      on_file = o.on_file;
+      up = o.up;
+    }))) x
+  where
+    own_key_of : (o : IsOpenFor world c at id) → has_key (machine_key world c at) o.one ≡ true
+    own_key_of o = subst (λ bytes. is_key (machine_key world c at) (o.one).client bytes ≡ true)
+        (sym (n.opens o.one o.there o.by ∙ ap (λ f. Some (lease_key (world.clients c).guid f)) o.on_file))
+        (subst (λ d. is_key (machine_key world c at) d (Some (lease_key (world.clients c).guid at)) ≡ true) (sym o.by)
+        (is_key-refl c (lease_key (world.clients c).guid at)))
+
+    none_other : (o : IsOpenFor world c at id)
+        → has_key (machine_key world c file) o.one ≡ true
+        → key_eq (machine_key world c at) (machine_key world c file) ≡ false → ⊥
+    none_other o has there = clash (key_eq (machine_key world c at) (machine_key world c file))
+        (ap (λ k. key_eq (machine_key world c at) k)
+        (sym (is_key-one (machine_key world c at) (machine_key world c file) (o.one).client (o.one).lease_key
+        (own_key_of o) has)) ∙ key_eq-refl (machine_key world c at)) there
+
 pub timer_standing : (world : World) (c file : ℕ) → IsNamedAt world c → IsStandingAt world c
     → IsStandingAt (timed_out world c file) c
 unfolding key_expired opens_dropped with_opens
 timer_standing world c file n s =
-    let key = machine_key world c file in
     let new = timed_out world c file in
     let f : IsFrame world new c = record {
       machine = refl;
-      stands = λ at id open_so x. ⊎_elim
-          (λ out. inl (put_key-cases (λ b. b ≡ true) world.server.expired key true (machine_key world c at)
-          (λ same. refl) (λ there. out)))
-          (λ o. either (has_key key o.one)
-          (λ has. inl (put_key-cases (λ b. b ≡ true) world.server.expired key true (machine_key world c at)
-          (λ same. refl) (λ there. absurd (none_other at o has there))))
-          (λ other. inr (record {
-            one = o.one;
-            there = among_filtered (λ y. not (has_key key y)) o.one world.server.opens o.there
-                (false_not (has_key key o.one) other);
-            id = o.id;
-            by = o.by;
-            on_file = o.on_file;
-            up = o.up;
-          }))) x;
+      stands = λ at id open_so x. timer_stands world c file n at id x;
       closes = λ id m. record { queued = m.queued; held = m.held };
       asks = λ a. record { queued = a.queued; held = a.held };
     } in
     framed_at world new c f
     (each_weaker (GivenWell world c) (GivenWell new c) (world.replies c) (λ r w. framed_given world new c f r w) s.given) s
-  where
-    own_key_of : {id : ℕ} (at : ℕ) → (o : IsOpenFor world c at id) → has_key (machine_key world c at) o.one ≡ true
-    own_key_of at o = subst (λ bytes. is_key (machine_key world c at) (o.one).client bytes ≡ true)
-        (sym (n.opens o.one o.there o.by ∙ ap (λ f. Some (lease_key (world.clients c).guid f)) o.on_file))
-        (subst (λ d. is_key (machine_key world c at) d (Some (lease_key (world.clients c).guid at)) ≡ true) (sym o.by)
-        (is_key-refl c (lease_key (world.clients c).guid at)))
-
-    none_other : {id : ℕ} (at : ℕ) (o : IsOpenFor world c at id)
-        → has_key (machine_key world c file) o.one ≡ true
-        → key_eq (machine_key world c at) (machine_key world c file) ≡ false → ⊥
-    none_other at o has there = clash (key_eq (machine_key world c at) (machine_key world c file))
-        (ap (λ k. key_eq (machine_key world c at) k)
-        (sym (is_key-one (machine_key world c at) (machine_key world c file) (o.one).client (o.one).lease_key
-        (own_key_of at o) has)) ∙ key_eq-refl (machine_key world c at)) there
 
 -- what others do
 pub unmoved_standing : (world new : World) (c : ℕ) → IsUnmoved world new c → IsStandingAt world c → IsStandingAt new c

@@ -48,7 +48,7 @@ step_of world client step up guid = record {
 }
 
 -- what stands, stands after it
-stands_after : (world new : World) (c : ℕ) (machine : Client) (requests : List Request)
+pub stands_after : (world new : World) (c : ℕ) (machine : Client) (requests : List Request)
     → IsStepped world new c machine requests → (file file_id : ℕ) → Stands world c file file_id
     → Stands new c file file_id
 stands_after world new c machine requests is file file_id s = ⊎_elim

@@ -205,62 +205,66 @@ first_try-steps call client file request before progress Outcome.Ready of up t g
 
 -- a request that comes
 arrived_on-steps : (call : Call) (client : ℕ) (request : FileRequest) (progress : Progress) (asked : Result ℕ Status)
-    → call ≡ Call.Receive client (Request.OnFile request) → IsFine progress.server → progress.server.present client ≡ true
+    → call ≡ Call.Receive client (Request.OnFile request) → IsFine progress.server → WaitsWell progress.server
+    → progress.server.present client ≡ true
     → file_asked progress.server client request ≡ asked
     → GoesBySteps call 1 progress (arrived_on client request progress asked)
-arrived_on-steps call client request progress (Err status) of f up e =
+arrived_on-steps call client request progress (Err status) of f w up e =
     step_one call (SmallStep.Answer client request (Outcome.Refused status)) progress
     (up, asked-refuses progress.server client request status e) (λ file asked. absurd (no_file (file_asked progress.server client request) status file e asked))
     of
-arrived_on-steps call client request progress (Ok file) of f up e =
+arrived_on-steps call client request progress (Ok file) of f w up e =
     let done = tried client request progress in
     let t = any_try client request progress f.sound in
     if_cases (GoesBySteps call 1 progress) (is_behind client (progress.server.held file))
     (request_held file (held_of client request) progress)
     (after_first_try client file request done.progress done.outcome)
     (λ behind. step_one call (SmallStep.Hold file (held_of client request)) progress
-    (up, inr behind) e of)
+    (up, inr (w, behind)) e of)
     (λ first. first_try-steps call client file request progress done.progress done.outcome of up t
     (tried-steps call client request progress f.sound)
     (λ ends. tried-guarded client request progress ends (t.goes.ups client ∙ up)) e first)
 
 -- and finds its own file
 asked-steps : (call : Call) (client : ℕ) (request : FileRequest) (progress : Progress)
-    → call ≡ Call.Receive client (Request.OnFile request) → IsFine progress.server → progress.server.present client ≡ true
+    → call ≡ Call.Receive client (Request.OnFile request) → IsFine progress.server → WaitsWell progress.server
+    → progress.server.present client ≡ true
     → GoesBySteps call 1 progress (arrived_on client request progress (file_asked progress.server client request))
-asked-steps call client request progress of f up =
-    arrived_on-steps call client request progress (file_asked progress.server client request) of f up refl
+asked-steps call client request progress of f w up =
+    arrived_on-steps call client request progress (file_asked progress.server client request) of f w up refl
 
 -- a request about a file
 file_request-steps : (call : Call) (client : ℕ) (request : FileRequest) (progress : Progress)
-    → call ≡ Call.Receive client (Request.OnFile request) → IsFine progress.server → progress.server.present client ≡ true
+    → call ≡ Call.Receive client (Request.OnFile request) → IsFine progress.server → WaitsWell progress.server
+    → progress.server.present client ≡ true
     → GoesBySteps call 1 progress (file_request_arrived client request progress)
-file_request-steps call client (FileRequest.Create file access share contexts) progress of f up =
-    asked-steps call client (FileRequest.Create file access share contexts) progress of f up
-file_request-steps call client (FileRequest.Read file_id) progress of f up =
-    asked-steps call client (FileRequest.Read file_id) progress of f up
-file_request-steps call client (FileRequest.Write file_id number patch) progress of f up =
-    asked-steps call client (FileRequest.Write file_id number patch) progress of f up
-file_request-steps call client (FileRequest.Close file_id) progress of f up =
+file_request-steps call client (FileRequest.Create file access share contexts) progress of f w up =
+    asked-steps call client (FileRequest.Create file access share contexts) progress of f w up
+file_request-steps call client (FileRequest.Read file_id) progress of f w up =
+    asked-steps call client (FileRequest.Read file_id) progress of f w up
+file_request-steps call client (FileRequest.Write file_id number patch) progress of f w up =
+    asked-steps call client (FileRequest.Write file_id number patch) progress of f w up
+file_request-steps call client (FileRequest.Close file_id) progress of f w up =
     let request = FileRequest.Close file_id in
     let after = arrived_on client request progress (file_asked progress.server client request) in
-    steps_then call 1 0 progress after (all_passes after) (asked-steps call client request progress of f up)
+    steps_then call 1 0 progress after (all_passes after) (asked-steps call client request progress of f w up)
     (all_passes-steps call after (arrived_on-fine client request progress (file_asked progress.server client request) f
     (asked_well client request progress f up)))
 
 -- any request
 arrived-steps : (call : Call) (client : ℕ) (request : Request) (progress : Progress)
-    → call ≡ Call.Receive client request → IsFine progress.server → progress.server.present client ≡ true
+    → call ≡ Call.Receive client request → IsFine progress.server → WaitsWell progress.server
+    → progress.server.present client ≡ true
     → GoesBySteps call 1 progress (arrived client request progress)
 unfolding arrived
-arrived-steps call client (Request.Acknowledge given) progress of f up =
+arrived-steps call client (Request.Acknowledge given) progress of f w up =
     let after = acknowledged client given progress in
     steps_then call 1 0 progress after (all_passes after)
     (step_one call (SmallStep.Acknowledge client given) progress up tt of)
     (all_passes-steps call after (fine_goes progress after f (acknowledged-sound client given progress f.sound)
     (acknowledged-goes client given progress) (acknowledged-held client given progress)))
-arrived-steps call client (Request.OnFile request) progress of f up =
-    file_request-steps call client request progress of f up
+arrived-steps call client (Request.OnFile request) progress of f w up =
+    file_request-steps call client request progress of f w up
 
 -- ---- calls
 
@@ -273,11 +277,11 @@ either_steps call false start after nothing go = steps_none call nothing
 
 -- a request received
 receive-steps : (call : Call) (server : Server) (client : ℕ) (request : Request)
-    → call ≡ Call.Receive client request → IsFine server
+    → call ≡ Call.Receive client request → IsFine server → WaitsWell server
     → GoesBySteps call (if server.present client then 1 else 0) (begun server) (receive server client request)
 unfolding receive
-receive-steps call server client request of f = received (server.present client)
-    (λ up. arrived-steps call client request (begun server) of f up)
+receive-steps call server client request of f w = received (server.present client)
+    (λ up. arrived-steps call client request (begun server) of f w up)
   where
     received : (b : Bool) → (b ≡ true → GoesBySteps call 1 (begun server) (arrived client request (begun server)))
         → GoesBySteps call (if b then 1 else 0) (begun server)
@@ -291,7 +295,7 @@ pub called-steps : (server : Server) (call : Call) → IsSound server → WaitsW
 unfolding cut expire scavenge
 called-steps server (Call.Join client) s w = steps_none (Call.Join client) (join server client)
 called-steps server (Call.Receive client request) s w =
-    receive-steps (Call.Receive client request) server client request refl (record { sound = s; orderly = w.is_orderly })
+    receive-steps (Call.Receive client request) server client request refl (record { sound = s; orderly = w.is_orderly }) w
 called-steps server (Call.Cut client) s w =
     let start = client_forgotten client (opens_disconnected client (opens_dropped (is_lost server client) (begun server))) in
     either_steps (Call.Cut client) (server.present client) start (all_passes start) (begun server)

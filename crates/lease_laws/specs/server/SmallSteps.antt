@@ -130,10 +130,11 @@ pub record MayLower (server : Server) (key : Key) (lowered : State) : Type 0 whe
   pub is_settled : is_breaking (server.leases key) ≡ false
   pub is_lowered : IsLowered (server.leases key).state lowered
 
--- A held request has to wait itself, or stands behind an earlier one of its client.
+-- A held request has to wait itself, or stands behind an earlier one of its client, where requests wait well.
 abbrev pub MayHold : Server → ℕ → Held → Type 0
 MayHold server file one = (server.present one.client ≡ true)
-    × (HasToWait server one.client one.request ⊎ (is_behind one.client (server.held file) ≡ true))
+    × (HasToWait server one.client one.request
+    ⊎ (WaitsWell server × (is_behind one.client (server.held file) ≡ true)))
 
 abbrev pub IsGuarded : SmallStep → Server → Type 0
 IsGuarded (SmallStep.Answer client request outcome) server = MayEnd server client request outcome
