@@ -2,6 +2,7 @@ pub mod beliefs
 pub mod clients
 pub mod creates
 pub mod fresh
+pub mod late
 pub mod moves
 pub mod names
 pub mod order

@@ -19,7 +19,7 @@ use Rattle.lease_coherence.proofs.beliefs.Words.{acks, acks_append, is_created, 
 
 -- ---- requests that are no acknowledgments
 
-no_acks_keep : (key : List ℕ) (queue : List Request) → acks key queue ≡ 0 → Each (AckKeeps key) queue
+pub no_acks_keep : (key : List ℕ) (queue : List Request) → acks key queue ≡ 0 → Each (AckKeeps key) queue
 no_acks_keep key [] e = tt
 no_acks_keep key (Request.OnFile request ∷ queue) e = (tt, no_acks_keep key queue (right (acks key queue) e))
   where

@@ -97,7 +97,7 @@ rising_above number low last (x ∷ pending) h e =
     more n l x h k = omega (arith, h, k)
 
 -- what follows the first, where numbers rise
-rising_rest : (x : Pending) (low last : ℕ) (pending : List Pending) → are_rising low last (x ∷ pending) ≡ true
+pub rising_rest : (x : Pending) (low last : ℕ) (pending : List Pending) → are_rising low last (x ∷ pending) ≡ true
     → (has_number x.number pending ≡ false) × (are_rising x.number last pending ≡ true)
 rising_rest x low last pending e =
     let p = and_parts (nat_lt low x.number && nat_le x.number last) (are_rising x.number last pending) e in

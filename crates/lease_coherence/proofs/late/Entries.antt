@@ -1,0 +1,405 @@
+-- Each step of a client leaves its entries safe.
+use Rattle.std.proofs.Common.{◌≡◌, ◌≢◌, ◌⊎◌, inl, inr, ⊎_elim, ℕ, ◌+◌, Bool, true, false, not, List, [], ◌∷◌, ◌++◌, filter, Option, Some, None, refl, sym, ap, ap₂, ◌∙◌, subst, true≢false, ◌==◌}
+use Rattle.std.specs.Prelude.{⊤, ◌&&◌, ◌||◌, if◌then◌else◌, bytes_eq}
+use Rattle.std.specs.List.{list_all}
+use Rattle.lease_state.specs.State.{State, nothing_cached}
+use Rattle.lease_state.specs.declared.status.Status.{Status}
+use Rattle.lease_model.specs.client.Commanded.{next_write, cached_read, opened_anew, write_buffered, write_sent, flush_on_live, wrote_step}
+use Rattle.lease_model.specs.client.Commands.{Answer}
+use Rattle.lease_model.specs.client.Connection.{notice_turn, connect_turn, live_noticed, live_parted}
+use Rattle.lease_model.specs.client.State.{Client, Entry, LiveEntry, Asked, Parted, Pending, Phase, live_entry, lease_key}
+use Rattle.lease_model.specs.client.Step.{Step, Turn, turned, quiet_step}
+use Rattle.lease_model.specs.client.Taken.{given_state, break_turn, parked_closed, belief_lowered, gives_up, opened_turn, reconnected_turn, promoted_turn, promoted_belief, first_belief, read_turn, read_failed_turn, is_file_closed, closed_by_server, without_open, sent_without, phase_with, write_done_turn, write_failed_in}
+use Rattle.lease_model.specs.messages.Replies.{Reply, BreakNotice, CreateAnswer, LeaseGiven}
+use Rattle.lease_model.specs.records.Past.{is_touched}
+use Rattle.lease_model.specs.server.State.{Open}
+use Rattle.lease_model.specs.values.LeaseStates.{meet}
+use Rattle.lease_model.specs.values.Tables.{put}
+use Rattle.lease_model.specs.world.Events.{machine_key}
+use Rattle.lease_model.specs.world.World.{World}
+use Rattle.lease_laws.specs.client.Laws.{IsSoundClient, IsSoundPhase, IsSoundLive}
+use Rattle.lease_laws.specs.server.Laws.{Among}
+use Rattle.lease_laws.proofs.client.Thin.{put_same, put_other}
+use Rattle.lease_laws.proofs.server.Lists.{if_cases, either, clash, and_parts, or_true}
+use Rattle.lease_laws.proofs.world.Links.{by_client}
+use Rattle.lease_coherence.specs.Names.{Each}
+use Rattle.lease_coherence.specs.Standing.{IsOpenFor, FitsPhase}
+use Rattle.lease_coherence.proofs.beliefs.Trust.{file_key}
+use Rattle.lease_coherence.proofs.beliefs.Words.{HoldsWrites, OnGiven}
+use Rattle.lease_coherence.proofs.clients.Commands.{HasCommands, sent_of}
+use Rattle.lease_coherence.proofs.clients.Takes.{HasTakes}
+use Rattle.lease_coherence.proofs.late.Words.{holds_write, IsClean, LiveSafe, KeptWrite, KeptSafe, PhaseSafe, given_writes, IsGrantSafe, GrantSafe}
+use Rattle.lease_coherence.proofs.names.Words.{each_append, each_weaker, each_without}
+
+-- ---- lists
+
+pub from_among : (P : Pending → Type 0) (writes : List Pending) → ((w : Pending) → Among w writes → P w) → Each P writes
+from_among P [] all = tt
+from_among P (w ∷ writes) all = (all w (inl refl), from_among P writes (λ x a. all x (inr a)))
+
+pub at_among : (P : Pending → Type 0) (writes : List Pending) (w : Pending) → Each P writes → Among w writes → P w
+at_among P [] w each a = absurd a
+at_among P (x ∷ writes) w each a =
+    ⊎_elim (λ same. subst P (sym same) each.0) (λ later. at_among P writes w each.1 later) a
+
+each_parts : (P : Pending → Type 0) (xs ys : List Pending) → Each P (xs ++ ys) → Each P xs × Each P ys
+each_parts P [] ys e = (tt, e)
+each_parts P (x ∷ xs) ys e = let r = each_parts P xs ys e.1 in ((e.0, r.0), r.1)
+
+-- ---- entries
+
+pub sound_live : (client : Client) (file : ℕ) (live : LiveEntry) → IsSoundClient client
+    → (client.entries file).phase ≡ Phase.Live live → IsSoundLive live
+sound_live client file live s is =
+    (subst (IsSoundPhase client.is_online (client.entries file).sent) is (s.entries file)).1
+
+-- unsent writes stand under writes that are cached
+pub unsent_writes : (live : LiveEntry) → IsSoundLive live → (w : Pending) → Among w live.unsent → live.belief.write ≡ true
+unsent_writes live s w a = either live.belief.write (λ e. e)
+    (λ none. absurd (subst (λ (l : List Pending). Among w l) (s.unsent_under_writes none) a))
+
+abbrev pub StepSafe : World → ℕ → Client → Step → Type 0
+StepSafe world c client step = (file : ℕ) → PhaseSafe world c file (client.entries file).sent (client.entries file).phase
+    → PhaseSafe world c file (step.client.entries file).sent (step.client.entries file).phase
+
+put_safe : (world : World) (c : ℕ) (client : Client) (at : ℕ) (entry : Entry)
+    → (PhaseSafe world c at (client.entries at).sent (client.entries at).phase
+    → PhaseSafe world c at entry.sent entry.phase) → (file : ℕ)
+    → PhaseSafe world c file (client.entries file).sent (client.entries file).phase
+    → PhaseSafe world c file (put client.entries at entry file).sent (put client.entries at entry file).phase
+put_safe world c client at entry here file = by_client
+    (λ f. PhaseSafe world c f (client.entries f).sent (client.entries f).phase
+    → PhaseSafe world c f (put client.entries at entry f).sent (put client.entries at entry f).phase) at file
+    (λ p. subst (λ (e : Entry). PhaseSafe world c at e.sent e.phase) (sym (put_same client.entries at entry)) (here p))
+    (λ ne apart p. subst (λ (e : Entry). PhaseSafe world c file e.sent e.phase)
+    (sym (put_other client.entries at entry file ne)) p)
+
+turned_safe : (world : World) (c : ℕ) (client : Client) (at : ℕ) (turn : Turn)
+    → (PhaseSafe world c at (client.entries at).sent (client.entries at).phase
+    → PhaseSafe world c at turn.entry.sent turn.entry.phase) → StepSafe world c client (turned client at turn)
+unfolding turned
+turned_safe world c client at turn here file p = put_safe world c client at turn.entry here file p
+
+-- an entry that was live
+was_live : (world : World) (c : ℕ) (client : Client) (at : ℕ) (live : LiveEntry)
+    → (client.entries at).phase ≡ Phase.Live live
+    → PhaseSafe world c at (client.entries at).sent (client.entries at).phase
+    → LiveSafe world c at (sent_of client at) live
+was_live world c client at live is p = subst (PhaseSafe world c at (sent_of client at)) is p
+
+-- and believes no more, with writes that were safe
+less_live : (world : World) (c file : ℕ) (sent after : List Pending) (live now : LiveEntry) → now.file_id ≡ live.file_id
+    → (now.belief.write ≡ true → live.belief.write ≡ true)
+    → (Each (IsClean c file world.past) (sent ++ live.unsent) → Each (IsClean c file world.past) (after ++ now.unsent))
+    → LiveSafe world c file sent live → LiveSafe world c file after now
+less_live world c file sent after live now id less clean p = λ x there by same write.
+    let old = p x there by (same ∙ id) (less write) in (old.0, clean old.1)
+
+-- an entry that is live as that one
+less_entry : (world : World) (c : ℕ) (client : Client) (at : ℕ) (live now : LiveEntry) (entry : Entry)
+    → (client.entries at).phase ≡ Phase.Live live → entry.phase ≡ Phase.Live now → now.file_id ≡ live.file_id
+    → (now.belief.write ≡ true → live.belief.write ≡ true)
+    → (Each (IsClean c at world.past) (sent_of client at ++ live.unsent)
+    → Each (IsClean c at world.past) (entry.sent ++ now.unsent))
+    → PhaseSafe world c at (client.entries at).sent (client.entries at).phase
+    → PhaseSafe world c at entry.sent entry.phase
+less_entry world c client at live now entry is so id less clean p = subst (PhaseSafe world c at entry.sent) (sym so)
+    (less_live world c at (sent_of client at) entry.sent live now id less clean (was_live world c client at live is p))
+
+less_turn : (world : World) (c : ℕ) (client : Client) (at : ℕ) (live now : LiveEntry) (turn : Turn)
+    → (client.entries at).phase ≡ Phase.Live live → turn.entry.phase ≡ Phase.Live now → now.file_id ≡ live.file_id
+    → (now.belief.write ≡ true → live.belief.write ≡ true)
+    → (Each (IsClean c at world.past) (sent_of client at ++ live.unsent)
+    → Each (IsClean c at world.past) (turn.entry.sent ++ now.unsent)) → StepSafe world c client (turned client at turn)
+less_turn world c client at live now turn is so id less clean =
+    turned_safe world c client at turn (less_entry world c client at live now turn.entry is so id less clean)
+
+same_turn : (world : World) (c : ℕ) (client : Client) (at : ℕ) (live now : LiveEntry) (turn : Turn)
+    → (client.entries at).phase ≡ Phase.Live live → turn.entry.phase ≡ Phase.Live now
+    → turn.entry.sent ≡ sent_of client at → now.file_id ≡ live.file_id → now.belief ≡ live.belief
+    → now.unsent ≡ live.unsent → StepSafe world c client (turned client at turn)
+same_turn world c client at live now turn is so sent id belief unsent = less_turn world c client at live now turn is so id
+    (λ w. ap (λ (s : State). s.write) (sym belief) ∙ w)
+    (λ each. subst (λ l. Each (IsClean c at world.past) (l ++ now.unsent)) (sym sent)
+    (subst (λ l. Each (IsClean c at world.past) (sent_of client at ++ l)) (sym unsent) each))
+
+-- ---- commands
+
+pub commands_safe : (world : World) (c : ℕ) (client : Client)
+    → ((file : ℕ) → is_touched c file (client.last_number + 1) world.past ≡ false)
+    → HasCommands client (StepSafe world c client)
+unfolding cached_read opened_anew write_buffered write_sent flush_on_live
+commands_safe world c client fresh = record {
+  refused = λ refusal file p. p;
+  opening = λ file terms is on. turned_safe world c client file _ (λ p. tt);
+  added = λ file live is. same_turn world c client file live _ _ is.is_so refl refl refl refl refl;
+  asked = λ file live terms is idle some. same_turn world c client file live _ _ is.is_so refl refl refl refl refl;
+  anew = λ file live terms is idle none. turned_safe world c client file _ (λ p. tt);
+  fewer = λ file live is more. same_turn world c client file live _ _ is.is_so refl refl refl refl refl;
+  parked = λ file live is idle done stays. same_turn world c client file live _ _ is.is_so refl refl refl refl refl;
+  closed = λ file live is idle done goes. turned_safe world c client file _ (λ p. tt);
+  cached = λ file live base is reads has f p. p;
+  read = λ file live is idle. same_turn world c client file live _ _ is.is_so refl refl refl refl refl;
+  buffered = λ file live patch is fits caches f p.
+      let write = next_write client patch true in
+      let now : LiveEntry = record live { unsent = live.unsent ++ write ∷ [] } in
+      let entry = live_entry now (sent_of client file) in
+      put_safe world c client file entry
+      (less_entry world c client file live now entry is.is_so refl refl (λ w. w)
+      (λ each. let parts = each_parts (IsClean c file world.past) (sent_of client file) live.unsent each in
+      each_append (IsClean c file world.past) (sent_of client file) (live.unsent ++ write ∷ [])
+      parts.0 (each_append (IsClean c file world.past) live.unsent (write ∷ []) parts.1
+      ((λ b. fresh file), tt)))) f p;
+  written = λ file live patch is fits sends f p. put_safe world c client file _
+      (λ q. λ x there by id write. clash live.belief.write write sends) f p;
+  flushed = λ file live is. less_turn world c client file live _ _ is.is_so refl refl (λ w. w)
+      (λ each. each_append (IsClean c file world.past) (sent_of client file ++ live.unsent) [] each tt);
+}
+
+-- ---- replies
+
+-- what is known of a reply and of the entries where it is taken
+pub record IsTakenSafe (world : World) (c : ℕ) (client : Client) (reply : Reply) : Type 0 where
+  pub grant : (file : ℕ) → GrantSafe world c file (client.entries file).sent [] reply
+  pub given : (file : ℕ) → world.server.expired (machine_key world c file) ≡ false
+      → OnGiven (HoldsWrites (world.server.leases (machine_key world c file)).state) (file_key world c file) file reply
+  pub own : (file : ℕ) (live : LiveEntry) → (client.entries file).phase ≡ Phase.Live live
+      → world.server.expired (machine_key world c file) ≡ false
+      → HoldsWrites (world.server.leases (machine_key world c file)).state live.belief
+  pub stands : (file : ℕ) (live : LiveEntry) → (client.entries file).phase ≡ Phase.Live live
+      → world.server.expired (machine_key world c file) ≡ false → IsOpenFor world c file live.file_id
+  pub fits : (file file_id : ℕ) (answer : Option CreateAnswer) → reply ≡ Reply.Created file file_id answer
+      → FitsPhase (client.entries file).phase file_id
+
+abbrev pub TakesSafe : World → ℕ → Client → Reply → Step → Type 0
+TakesSafe world c client reply step = IsTakenSafe world c client reply → StepSafe world c client step
+
+pub given_so : (key : List ℕ) (given : Option LeaseGiven) → (given_state key given).write ≡ true
+    → given_writes key given ≡ true
+given_so key None e = absurd (true≢false (sym e))
+given_so key (Some given) e = by_cases given.in_progress (bytes_eq given.key key) e
+  where
+    by_cases : (busy own : Bool) → (if own && not busy then given.state else nothing_cached).write ≡ true
+        → (busy || (own && given.state.write)) ≡ true
+    by_cases true own h = refl
+    by_cases false true h = h
+    by_cases false false h = absurd (true≢false (sym h))
+
+-- a promoted entry believes what it did, or what it is given
+promoted_so : (key : List ℕ) (belief : State) (given : Option LeaseGiven)
+    → (promoted_belief key belief given).write ≡ true → (given_writes key given ≡ true)
+    × ((belief.write ≡ true) ⊎ ((given_state key given).write ≡ true))
+promoted_so key belief None e = absurd (true≢false (sym e))
+promoted_so key belief (Some given) e = by_cases given.in_progress (bytes_eq given.key key) e
+  where
+    by_cases : (busy own : Bool)
+        → (if busy then belief else (if own then given.state else nothing_cached)).write ≡ true
+        → ((busy || (own && given.state.write)) ≡ true) × ((belief.write ≡ true)
+        ⊎ ((if own && not busy then given.state else nothing_cached).write ≡ true))
+    by_cases true own h = (refl, inl h)
+    by_cases false true h = (h, inr h)
+    by_cases false false h = absurd (true≢false (sym h))
+
+-- a grant that is taken: the lease holds writes, and what was sent is safe
+record IsGrantTaken (world : World) (c file : ℕ) (sent : List Pending) : Type 0 where
+  holds : holds_write world c file ≡ true
+  clean : Each (IsClean c file world.past) sent
+
+grant_taken : (world : World) (c : ℕ) (client : Client) (file file_id : ℕ) (answer : CreateAnswer)
+    → client.guid ≡ (world.clients c).guid → IsTakenSafe world c client (Reply.Created file file_id (Some answer))
+    → (given_state (lease_key client.guid file) answer.lease).write ≡ true → (x : Open) → Among x world.server.opens
+    → x.client ≡ c → x.file_id ≡ file_id → IsGrantTaken world c file (client.entries file).sent
+grant_taken world c client file file_id answer guid t write x there by id =
+    let w = subst (λ g. (given_state (lease_key g file) answer.lease).write ≡ true) guid write in
+    let safe = t.grant file refl x there by id in
+    let fresh = safe.timely (given_so (file_key world c file) answer.lease w) in record {
+      holds = ((t.given file fresh) refl w).1;
+      clean = from_among (IsClean c file world.past) (client.entries file).sent (λ p a b. safe.clean w p a b refl);
+    }
+
+break_safe : (world : World) (c : ℕ) (client : Client) (at : ℕ) (notice : BreakNotice) (live : LiveEntry)
+    → (client.entries at).phase ≡ Phase.Live live
+    → StepSafe world c client
+    (turned client at (break_turn live (sent_of client at) notice (meet live.belief notice.lowered)))
+unfolding break_turn parked_closed belief_lowered
+break_safe world c client at notice live is =
+    let new = meet live.belief notice.lowered in
+    if_cases (λ (t : Turn). StepSafe world c client (turned client at t))
+    (live.handles == 0 && (live.belief.handle && not new.handle)) _ _
+    (λ parked. turned_safe world c client at _ (λ p. tt))
+    (λ stays. less_turn world c client at live _ _ is refl refl
+    (λ w. (and_parts live.belief.write notice.lowered.write w).0)
+    (λ each. split (gives_up live.belief new) (each_parts (IsClean c at world.past) (sent_of client at) live.unsent each)))
+  where
+    split : (b : Bool) → Each (IsClean c at world.past) (sent_of client at) × Each (IsClean c at world.past) live.unsent
+        → Each (IsClean c at world.past)
+        ((sent_of client at ++ (if b then live.unsent else [])) ++ (if b then [] else live.unsent))
+    split true e = each_append (IsClean c at world.past) (sent_of client at ++ live.unsent) []
+        (each_append (IsClean c at world.past) (sent_of client at) live.unsent e.0 e.1) tt
+    split false e = each_append (IsClean c at world.past) (sent_of client at ++ []) live.unsent
+        (each_append (IsClean c at world.past) (sent_of client at) [] e.0 tt) e.1
+
+gone_safe : (world : World) (c file : ℕ) (asking : Option Asked) (sent : List Pending)
+    → PhaseSafe world c file (without_open asking sent).sent (without_open asking sent).phase
+gone_safe world c file None sent = tt
+gone_safe world c file (Some asked) sent = tt
+
+read_failed_safe : (world : World) (c : ℕ) (client : Client) (at : ℕ) (live : LiveEntry) (status : Status)
+    → (client.entries at).phase ≡ Phase.Live live
+    → StepSafe world c client (turned client at (read_failed_turn live (sent_of client at) status))
+unfolding read_failed_turn closed_by_server
+read_failed_safe world c client at live status is = if_cases (λ (t : Turn). StepSafe world c client (turned client at t))
+    (is_file_closed status) _ _
+    (λ gone. turned_safe world c client at _ (λ p. gone_safe world c at live.asking (sent_of client at)))
+    (λ there. same_turn world c client at live _ _ is refl refl refl refl refl)
+
+-- fewer writes that were sent
+fewer_entry : (world : World) (c : ℕ) (client : Client) (at number : ℕ) (live now : LiveEntry) (entry : Entry)
+    → (client.entries at).phase ≡ Phase.Live live → entry.phase ≡ Phase.Live now
+    → entry.sent ≡ sent_without number (sent_of client at) → now.file_id ≡ live.file_id → now.belief ≡ live.belief
+    → now.unsent ≡ live.unsent → PhaseSafe world c at (client.entries at).sent (client.entries at).phase
+    → PhaseSafe world c at entry.sent entry.phase
+fewer_entry world c client at number live now entry is so sent id belief unsent =
+    less_entry world c client at live now entry is so id (λ w. ap (λ (s : State). s.write) (sym belief) ∙ w)
+    (λ each. let parts = each_parts (IsClean c at world.past) (sent_of client at) live.unsent each in
+    each_append (IsClean c at world.past) entry.sent now.unsent
+    (subst (Each (IsClean c at world.past)) (sym sent)
+    (each_without (IsClean c at world.past) number (sent_of client at) parts.0))
+    (subst (Each (IsClean c at world.past)) (sym unsent) parts.1))
+
+written_safe : (world : World) (c : ℕ) (client : Client) (at number : ℕ) (write : Option Pending) (phase : Phase)
+    → (client.entries at).phase ≡ phase → PhaseSafe world c at (client.entries at).sent (client.entries at).phase
+    → PhaseSafe world c at (sent_without number (sent_of client at)) (phase_with write phase)
+written_safe world c client at number write Phase.Closed is p = tt
+written_safe world c client at number write (Phase.Opening access share) is p = tt
+written_safe world c client at number write (Phase.Live live) is p =
+    fewer_entry world c client at number live _ (record {
+      phase = phase_with write (Phase.Live live);
+      sent = sent_without number (sent_of client at);
+    }) is refl refl refl refl refl p
+written_safe world c client at number write (Phase.Offline parted) is p =
+    subst (PhaseSafe world c at (sent_of client at)) is p
+written_safe world c client at number write (Phase.Reconnecting parted) is p =
+    subst (PhaseSafe world c at (sent_of client at)) is p
+
+write_failed_safe : (world : World) (c : ℕ) (client : Client) (at file_id number : ℕ) (status : Status) (phase : Phase)
+    → (client.entries at).phase ≡ phase → StepSafe world c client
+    (turned client at (write_failed_in file_id number status (sent_without number (sent_of client at)) phase))
+unfolding closed_by_server
+write_failed_safe world c client at file_id number status Phase.Closed is = turned_safe world c client at _ (λ p. tt)
+write_failed_safe world c client at file_id number status (Phase.Opening access share) is =
+    turned_safe world c client at _ (λ p. tt)
+write_failed_safe world c client at file_id number status (Phase.Live live) is =
+    if_cases (λ (t : Turn). StepSafe world c client (turned client at t)) (is_file_closed status && live.file_id == file_id)
+    _ _
+    (λ gone. turned_safe world c client at _
+    (λ p. gone_safe world c at live.asking (sent_without number (sent_of client at))))
+    (λ there. turned_safe world c client at _ (fewer_entry world c client at number live live _ is refl refl refl refl refl))
+write_failed_safe world c client at file_id number status (Phase.Offline parted) is =
+    turned_safe world c client at _ (λ p. subst (PhaseSafe world c at (sent_of client at)) is p)
+write_failed_safe world c client at file_id number status (Phase.Reconnecting parted) is =
+    turned_safe world c client at _ (λ p. subst (PhaseSafe world c at (sent_of client at)) is p)
+
+-- an entry that asked for more
+promoted_safe : (world : World) (c : ℕ) (client : Client) (at file_id : ℕ) (answer : CreateAnswer) (live next : LiveEntry)
+    (turn : Turn) → turn.entry.phase ≡ Phase.Live next → turn.entry.sent ≡ sent_of client at
+    → IsSoundClient client → client.guid ≡ (world.clients c).guid → (client.entries at).phase ≡ Phase.Live live
+    → IsTakenSafe world c client (Reply.Created at file_id (Some answer)) → next.file_id ≡ file_id
+    → next.belief ≡ promoted_belief (lease_key client.guid at) live.belief answer.lease
+    → ((w : Pending) → Among w next.unsent → Among w live.unsent)
+    → StepSafe world c client (turned client at turn)
+promoted_safe world c client at file_id answer live next turn so_next so_sent s guid is t new belief fewer =
+    turned_safe world c client at turn (λ p. subst (λ l. PhaseSafe world c at l turn.entry.phase) (sym so_sent)
+    (subst (PhaseSafe world c at (sent_of client at)) (sym so_next) (λ x there by id write.
+    let so = promoted_so (lease_key client.guid at) live.belief answer.lease
+    (ap (λ (b : State). b.write) (sym belief) ∙ write) in
+    let safe = t.grant at refl x there by (id ∙ new) in
+    let fresh = safe.timely (subst (λ g. given_writes (lease_key g at) answer.lease ≡ true) guid so.0) in
+    let o = t.stands at live is fresh in
+    let old = was_live world c client at live is p o.one o.there o.by o.id in
+    let unsent : Each (IsClean c at world.past) next.unsent = from_among (IsClean c at world.past) next.unsent
+    (λ w a. let mine = fewer w a in
+    at_among (IsClean c at world.past) live.unsent w
+    (each_parts (IsClean c at world.past) (sent_of client at) live.unsent
+    (old (unsent_writes live (sound_live client at live s is) w mine)).1).1 mine) in ⊎_elim
+    (λ had. let was = old had in
+    (was.0, each_append (IsClean c at world.past) (sent_of client at) next.unsent
+    (each_parts (IsClean c at world.past) (sent_of client at) live.unsent was.1).0 unsent))
+    (λ gives. let g = grant_taken world c client at file_id answer guid t gives x there by (id ∙ new) in
+    (g.holds, each_append (IsClean c at world.past) (sent_of client at) next.unsent g.clean unsent))
+    so.1)))
+
+pub takes_safe : (world : World) (c : ℕ) (client : Client) → IsSoundClient client → client.guid ≡ (world.clients c).guid
+    → HasTakes client (TakesSafe world c client)
+unfolding opened_turn reconnected_turn promoted_turn read_turn write_done_turn
+takes_safe world c client s guid = record {
+  passed = λ reply why t file p. p;
+  broken = λ at notice live found is t. break_safe world c client at notice live is;
+  opened = λ at file_id answer access share is t. turned_safe world c client at _ (λ p. λ x there by id write.
+      let g = grant_taken world c client at file_id answer guid t write x there by id in
+      (g.holds, each_append (IsClean c at world.past) (sent_of client at) [] g.clean tt));
+  reconnected = λ at file_id answer parted is t. turned_safe world c client at _ (λ p. λ x there by id write.
+      let same : file_id ≡ parted.file_id = subst (λ q. FitsPhase q file_id) is (t.fits at file_id (Some answer) refl) in
+      let g = grant_taken world c client at file_id answer guid t write x there by (id ∙ sym same) in
+      let kept : KeptSafe world c at parted = subst (PhaseSafe world c at (sent_of client at)) is p in
+      (g.holds, each_append (IsClean c at world.past) (sent_of client at) _ g.clean
+      (some_kept (first_belief client at answer).write at parted (kept x there by id))));
+  promoted = λ at file_id answer live asked is asks t. promoted_safe world c client at file_id answer live _ _ refl refl s
+      guid is t refl refl
+      (λ w a. some_unsent (promoted_belief (lease_key client.guid at) live.belief answer.lease).write live w a);
+  not_opened = λ at status access share is t. turned_safe world c client at _ (λ p. tt);
+  not_reconnected = λ at status parted is t. turned_safe world c client at _ (λ p. tt);
+  not_promoted = λ at status live asked is asks t. same_turn world c client at live _ _ is refl refl refl refl refl;
+  read = λ at file_id bytes live is id some t. same_turn world c client at live _ _ is refl refl refl refl refl;
+  not_read = λ at file_id status live is id some t. read_failed_safe world c client at live status is;
+  written = λ at file_id number has known t. turned_safe world c client at _
+      (written_safe world c client at number _ (client.entries at).phase refl);
+  not_written = λ at file_id number status has known t.
+      write_failed_safe world c client at file_id number status (client.entries at).phase refl;
+}
+  where
+    some_kept : (b : Bool) (at : ℕ) (parted : Parted) → Each (KeptWrite world c at) parted.writes
+        → Each (IsClean c at world.past) (if b then parted.writes else [])
+    some_kept true at parted each =
+        each_weaker (KeptWrite world c at) (IsClean c at world.past) parted.writes (λ w k b. k.1) each
+    some_kept false at parted each = tt
+
+    some_unsent : (b : Bool) (live : LiveEntry) (w : Pending) → Among w (if b then live.unsent else [])
+        → Among w live.unsent
+    some_unsent true live w a = a
+    some_unsent false live w a = absurd a
+
+-- ---- notices and connects
+
+kept_filter : (world : World) (c file : ℕ) (writes : List Pending) → holds_write world c file ≡ true
+    → Each (IsClean c file world.past) writes
+    → Each (KeptWrite world c file) (filter (λ w. w.buffered) writes)
+kept_filter world c file [] holds each = tt
+kept_filter world c file (w ∷ writes) holds each = if_cases (Each (KeptWrite world c file)) w.buffered
+    (w ∷ filter (λ y. y.buffered) writes) (filter (λ y. y.buffered) writes)
+    (λ b. ((holds, (each.0) b), kept_filter world c file writes holds each.1))
+    (λ b. kept_filter world c file writes holds each.1)
+
+pub notice_safe : (world : World) (c file : ℕ) (sent : List Pending) (phase : Phase) → PhaseSafe world c file sent phase
+    → PhaseSafe world c file (notice_turn sent phase).entry.sent (notice_turn sent phase).entry.phase
+unfolding live_noticed live_parted
+notice_safe world c file sent Phase.Closed p = tt
+notice_safe world c file sent (Phase.Opening access share) p = tt
+notice_safe world c file sent (Phase.Live live) p = if_cases
+    (λ (t : Turn). PhaseSafe world c file t.entry.sent t.entry.phase) live.durable _ _
+    (λ lasts. if_cases (λ (t : Turn). PhaseSafe world c file t.entry.sent t.entry.phase) live.belief.write _ _
+    (λ caches. λ x there by id. let old = p x there by id caches in
+    kept_filter world c file (sent ++ live.unsent) old.0 old.1)
+    (λ plain. λ x there by id. tt))
+    (λ ends. tt)
+notice_safe world c file sent (Phase.Offline parted) p = p
+notice_safe world c file sent (Phase.Reconnecting parted) p = p
+
+pub connect_safe : (world : World) (c file : ℕ) (client : Client) (sent : List Pending) (phase : Phase)
+    → PhaseSafe world c file sent phase
+    → PhaseSafe world c file (connect_turn client file sent phase).entry.sent (connect_turn client file sent phase).entry.phase
+connect_safe world c file client sent Phase.Closed p = tt
+connect_safe world c file client sent (Phase.Opening access share) p = tt
+connect_safe world c file client sent (Phase.Live live) p = p
+connect_safe world c file client sent (Phase.Offline parted) p = p
+connect_safe world c file client sent (Phase.Reconnecting parted) p = p
