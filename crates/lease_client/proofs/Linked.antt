@@ -2,7 +2,7 @@
 use Rattle.std.proofs.Common.{◌≡◌, ℕ, ◌-◌, ◌+◌, ◌<◌, ◌≤◌, zero, suc, Bool, true, List, [], ◌++◌, length, map, refl, ap, sym, ◌∙◌, arith, add-one, inl, inr}
 use Rattle.std.proofs.lemmas.Bool.{cases_lt}
 use Rattle.std.proofs.lemmas.Bool.Decides.{nat_tests}
-use Rattle.std.proofs.lemmas.List.{length-set, set-set, map-append, flat_map_more}
+use Rattle.std.proofs.lemmas.List.{length-set, map-append, flat_map_more}
 use Rattle.std.proofs.lemmas.Option.{slice_get_cases}
 use Rattle.std.proofs.Math.Path.{fun_ext}
 use Rattle.lease_model.specs.client.Commands.{Note, Answer}
@@ -16,11 +16,11 @@ use Rattle.lease_model.specs.values.Tables.{numbered}
 use Rattle.lease_client.specs.Connected.{connected_in}
 use Rattle.lease_client.specs.Known.{Known, client_of}
 use Rattle.lease_client.specs.Links.{link_turn, is_made, linked, entries_to, requests_to, notes_to}
-use Rattle.lease_client.specs.Turns.{Turned, Given, IsAfter, turn_written, given_by}
+use Rattle.lease_client.specs.Turns.{Given, IsAfter, turn_written, given_by}
 use Rattle.lease_client.specs.declared.links.Link.{Link}
 use Rattle.lease_client.specs.declared.links.Link.TheVariants.{Lost, Made}
 use Rattle.lease_client.proofs.Entries.{number_set}
-use Rattle.lease_client.proofs.Turned.{without_entry, with_entry}
+use Rattle.lease_client.proofs.Turned.{with_entry}
 
 -- ---- the entries
 
@@ -177,12 +177,6 @@ pub given_more : (known current : Known) (given : Given) (link : Link) (k : ℕ)
 given_more known current given link k is below out =
     let same = same_entry known current (link_turn link known.guid) k is below in
     out ∙ rw (same, is) refl
-
-pub entry_linked : (known : Known) (n : ℕ) (turn : Turn) (taken : Known) (written : Turned) (final : Known)
-    → taken ≡ without_entry known n → written ≡ turn_written turn → final ≡ with_entry taken n written.entry
-    → final ≡ with_entry known n turn.entry
-entry_linked known n turn taken written final rest by stands =
-    stands ∙ rw (rest, by, set-set known.entries (n - 1) (closed_entry []) turn.entry) refl
 
 pub linked_after : (known current final : Known) (link : Link) (given : Given) (k : ℕ)
     → current ≡ known_to known (link_turn link known.guid) k → k ≡ length known.entries

@@ -10,54 +10,56 @@ use Rattle.lease_model.specs.values.LeaseStates.{same_state}
 use Rattle.lease_client.specs.Calls.{turn_by, last_by}
 use Rattle.lease_client.specs.Commanded.{commanded_turn, last_after, is_refused}
 use Rattle.lease_client.specs.Known.{Known, client_of}
-use Rattle.lease_client.specs.Turns.{Turned, Given, turn_written, given_by, IsAfter}
+use Rattle.lease_client.specs.Turns.{Given, turn_written, given_in, IsAfter}
 use Rattle.lease_client.proofs.ByTurns.{commanded_by}
-use Rattle.lease_client.proofs.Turned.{without_entry, with_entry, is_after, refusal_same, same_numbered}
+use Rattle.lease_client.proofs.Turned.{with_entry, entry_there, with_note, is_after, refusal_same, same_numbered}
 
-pub told_after : (known : Known) (n : ℕ) (turn : Turn) (entry : Entry) (old : State) (taken : Known) (written : Turned)
-    (final : Known) (given : Given)
+pub told_after : (known : Known) (n : ℕ) (turn : Turn) (old new : State) (final : Known) (first given : Given)
     → knows_file (client_of known) n ≡ true
-    → entry ≡ (client_of known).entries n
-    → old ≡ belief_of entry
-    → taken ≡ without_entry known n
-    → written ≡ turn_written turn
-    → final ≡ with_entry taken n written.entry
-    → given ≡ given_by n old written
+    → old ≡ belief_of ((client_of known).entries n)
+    → final ≡ with_entry known n turn.entry
+    → first ≡ given_in (turn_written turn)
+    → new ≡ belief_of ((client_of final).entries n)
+    → given ≡ with_note first n old new
     → IsAfter final given (turned (client_of known) n turn)
-told_after known n turn entry old taken written final given is at was rest by stands out =
+told_after known n turn old new final first given is was stands by now out =
     rw (← same_numbered (client_of known) n turn)
-    (is_after known n known.last_number turn old written final given is
-    (was ∙ ap belief_of at) by (rw rest at stands) out)
+    (is_after known n known.last_number turn old new final first given is was stands by now out)
 
-pub command_after : (known : Known) (command : Command) (n : ℕ) (key : List ℕ) (entry : Entry) (old : State)
-    (taken middle : Known) (written : Turned) (final : Known) (given : Given)
+-- the turn of a command on the entry of a file, under its key
+abbrev turn_at : Known → ℕ → List ℕ → Command → Turn
+turn_at known n key command =
+    commanded_turn known.is_online key known.last_number command ((client_of known).entries n)
+
+abbrev last_at : Known → ℕ → List ℕ → Command → ℕ
+last_at known n key command =
+    last_after known.is_online key known.last_number command ((client_of known).entries n)
+
+pub command_after : (known : Known) (command : Command) (n : ℕ) (key : List ℕ) (old new : State) (final : Known)
+    (first given : Given)
     → knows_file (client_of known) n ≡ true → n ≡ file_of command
     → key ≡ lease_key known.guid n
-    → entry ≡ (client_of known).entries n
-    → old ≡ belief_of entry
-    → taken ≡ without_entry known n
-    → written ≡ turn_written (commanded_turn taken.is_online key taken.last_number command entry)
-    → middle ≡ record taken { last_number = last_after taken.is_online key taken.last_number command entry }
-    → final ≡ with_entry middle n written.entry
-    → given ≡ given_by n old written
+    → old ≡ belief_of ((client_of known).entries n)
+    → final ≡ record (with_entry known n (turn_at known n key command).entry) { last_number = last_at known n key command }
+    → first ≡ given_in (turn_written (turn_at known n key command))
+    → new ≡ belief_of ((client_of final).entries n)
+    → given ≡ with_note first n old new
     → IsAfter final given (commanded (client_of known) command)
-command_after known command n key entry old taken middle written final given is of k at was rest by mid stands out =
+command_after known command n key old new final first given is of k was stands by now out =
     let there : knows_file (client_of known) (file_of command) ≡ true = rw (← of) is in
-    rw (commanded_by (client_of known) command there, ← of)
-    (is_after known n _ _ old written final given is (was ∙ ap belief_of at)
-    (rw (rest, k, at) at by) (rw (mid, rest, k, at) at stands) out)
+    rw (commanded_by (client_of known) command there, ← of, ← k)
+    (is_after known n (last_at known n key command) (turn_at known n key command) old new final first given
+    is was stands by now out)
 
-pub turn_refused : (known : Known) (command : Command) (n : ℕ) (key : List ℕ) (entry : Entry) (taken : Known)
+pub turn_refused : (known : Known) (command : Command) (n : ℕ) (key : List ℕ)
     → knows_file (client_of known) n ≡ true → n ≡ file_of command
     → key ≡ lease_key known.guid n
-    → entry ≡ (client_of known).entries n
-    → taken ≡ without_entry known n
     → is_refused (commanded (client_of known) command).answer ≡ true
-    → is_refused (commanded_turn taken.is_online key taken.last_number command entry).answer ≡ true
+    → is_refused (turn_at known n key command).answer ≡ true
 unfolding turned
-turn_refused known command n key entry taken is of k at rest refused =
+turn_refused known command n key is of k refused =
     let there : knows_file (client_of known) (file_of command) ≡ true = rw (← of) is in
-    rw (rest, k, at, of) (rw (commanded_by (client_of known) command there) at refused)
+    rw (k, of) (rw (commanded_by (client_of known) command there) at refused)
 
 refused_is : (answer : Answer) → is_refused answer ≡ true → (refusal : Refusal) × (answer ≡ Answer.Refused refusal)
 refused_is Answer.Done is = absurd (cc is)
@@ -74,20 +76,21 @@ unnoted_refusal law client command refused =
     let r = refused_is (commanded client command).answer refused in
     ap (λ (s : Step). s.notes) (law client command r.0 r.1)
 
-pub belief_stays : RefusedCommandsDoNothing → (known : Known) (command : Command) (n : ℕ) (key : List ℕ) (entry : Entry)
-    (old : State) (taken : Known) (written : Turned)
+pub belief_stays : RefusedCommandsDoNothing → (known : Known) (command : Command) (n : ℕ) (key : List ℕ)
+    (old new : State) (final : Known)
     → knows_file (client_of known) n ≡ true → n ≡ file_of command
     → key ≡ lease_key known.guid n
-    → entry ≡ (client_of known).entries n
-    → old ≡ belief_of entry
-    → taken ≡ without_entry known n
-    → written ≡ turn_written (commanded_turn taken.is_online key taken.last_number command entry)
+    → old ≡ belief_of ((client_of known).entries n)
+    → final ≡ record (with_entry known n (turn_at known n key command).entry) { last_number = last_at known n key command }
+    → new ≡ belief_of ((client_of final).entries n)
     → is_refused (commanded (client_of known) command).answer ≡ true
-    → same_state old (belief_of written.entry) ≡ true
-belief_stays law known command n key entry old taken written is of k at was rest by refused =
+    → same_state old new ≡ true
+belief_stays law known command n key old new final is of k was stands now refused =
     let there : knows_file (client_of known) (file_of command) ≡ true = rw (← of) is in
     let turned_by = commanded_by (client_of known) command there in
-    rw (by, was, rest, k, at, of)
+    let put : (client_of final).entries n ≡ (turn_at known n key command).entry =
+    ap (λ (k : Known). (client_of k).entries n) stands ∙ entry_there known n (turn_at known n key command).entry is in
+    rw (now, was, put, k, of)
     (refusal_same (client_of known) (file_of command) (last_by (client_of known) command)
     (turn_by (client_of known) command) (commanded (client_of known) command) turned_by
     (unnoted_refusal law (client_of known) command refused))

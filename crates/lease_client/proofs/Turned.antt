@@ -1,7 +1,6 @@
 -- A turn of one entry, and what it makes of the client.
 use Rattle.std.proofs.Common.{◌≡◌, ℕ, ◌-◌, ◌<◌, zero, suc, Bool, true, false, List, [], ◌∷◌, ◌++◌, length, if◌then◌else◌, refl, ap, sym, ◌∙◌, arith}
 use mathlib.Core.Bool.{beq}
-use Rattle.std.proofs.lemmas.List.{set-set}
 use Rattle.std.proofs.Math.ListN.{set}
 use Rattle.std.proofs.Math.Path.{fun_ext}
 use Rattle.std.proofs.lemmas.Bool.Decides.{nat_tests}
@@ -14,8 +13,8 @@ use Rattle.lease_model.specs.values.LeaseStates.{same_state}
 use Rattle.lease_model.specs.values.Tables.{put}
 use Rattle.lease_client.specs.Calls.{with_number}
 use Rattle.lease_client.specs.Known.{Known, client_of}
-use Rattle.lease_client.specs.Turns.{Turned, Given, turn_written, given_by, IsAfter}
-use Rattle.lease_client.proofs.Entries.{client_set, file_there}
+use Rattle.lease_client.specs.Turns.{Given, turn_written, given_in, given_by, IsAfter}
+use Rattle.lease_client.proofs.Entries.{client_set, file_there, number_set}
 
 -- ---- a turn that leaves the entry as it is
 
@@ -48,7 +47,20 @@ turned_still client file answer =
     }) (unnoted file (belief_of (client.entries file)))
     ∙ ap (λ (t : ℕ → Entry). answered (record client { entries = t }) answer) (put_same client.entries file)
 
--- ---- the entry is put back
+-- ---- the entry has turned in its place
+
+-- the tables with another entry of a file
+abbrev pub with_entry : Known → ℕ → Entry → Known
+with_entry known n entry = record known { entries = set known.entries (n - 1) entry }
+
+pub entry_there : (known : Known) (n : ℕ) (entry : Entry) → knows_file (client_of known) n ≡ true
+    → (client_of (with_entry known n entry)).entries n ≡ entry
+entry_there known zero entry is = absurd (omega (arith, file_there known zero is))
+entry_there known (suc i) entry is =
+    let e : suc i - 1 ≡ i = omega arith in
+    let there = file_there known (suc i) is in
+    let at = number_set known.entries i (suc i) entry (omega (arith, there)) in
+    rw e (grind (arith, nat_tests, at))
 
 after_set : (known : Known) (i last : ℕ) (turn : Turn) → i < length known.entries
     → IsAfter (record known { entries = set known.entries i turn.entry; last_number = last })
@@ -62,38 +74,48 @@ after_set known i last turn inside = record {
   notes = refl;
 }
 
--- the tables while the entry of a file is out of its place, and then with another last number
-abbrev pub without_entry : Known → ℕ → Known
-without_entry known n = record known { entries = set known.entries (n - 1) (closed_entry []) }
-
-abbrev pub with_entry : Known → ℕ → Entry → Known
-with_entry known n entry = record known { entries = set known.entries (n - 1) entry }
-
-back_in_place : (known : Known) (n last : ℕ) (turn : Turn) → knows_file (client_of known) n ≡ true
-    → IsAfter (with_entry (record (without_entry known n) { last_number = last }) n turn.entry)
+in_its_place : (known : Known) (n last : ℕ) (turn : Turn) → knows_file (client_of known) n ≡ true
+    → IsAfter (record (with_entry known n turn.entry) { last_number = last })
     (given_by n (belief_of ((client_of known).entries n)) (turn_written turn))
     (with_number last (turned (client_of known) n turn))
-back_in_place known zero last turn is = absurd (omega (arith, file_there known zero is))
-back_in_place known (suc i) last turn is =
+in_its_place known zero last turn is = absurd (omega (arith, file_there known zero is))
+in_its_place known (suc i) last turn is =
     let e : suc i - 1 ≡ i = omega arith in
     let there = file_there known (suc i) is in
-    let once = set-set known.entries i (closed_entry []) turn.entry in
-    rw (e, once) (after_set known i last turn (omega (arith, there)))
+    rw e (after_set known i last turn (omega (arith, there)))
 
-pub is_after : (known : Known) (n last : ℕ) (turn : Turn) (old : State) (written : Turned) (final : Known) (given : Given)
+-- what is given out with the note of a belief
+abbrev pub with_note : Given → ℕ → State → State → Given
+with_note given file old new = record given { notes = given.notes ++ believes_noted file old new }
+
+pub noted_by : (known : Known) (n last : ℕ) (turn : Turn) (old new : State) (final : Known) (first given : Given)
     → knows_file (client_of known) n ≡ true
     → old ≡ belief_of ((client_of known).entries n)
-    → written ≡ turn_written turn
-    → final ≡ with_entry (record (without_entry known n) { last_number = last }) n written.entry
-    → given ≡ given_by n old written
+    → final ≡ record (with_entry known n turn.entry) { last_number = last }
+    → first ≡ given_in (turn_written turn)
+    → new ≡ belief_of ((client_of final).entries n)
+    → given ≡ with_note first n old new
+    → given ≡ given_by n (belief_of ((client_of known).entries n)) (turn_written turn)
+noted_by known n last turn old new final first given is was stands by now out =
+    let there : (client_of final).entries n ≡ turn.entry =
+    ap (λ (k : Known). (client_of k).entries n) stands ∙ entry_there known n turn.entry is in
+    let believed : new ≡ belief_of turn.entry = now ∙ ap belief_of there in
+    out
+    ∙ ap (λ (g : Given). with_note g n old new) by
+    ∙ ap (λ (s : State). with_note (given_in (turn_written turn)) n s new) was
+    ∙ ap (λ (s : State). with_note (given_in (turn_written turn)) n (belief_of ((client_of known).entries n)) s) believed
+
+pub is_after : (known : Known) (n last : ℕ) (turn : Turn) (old new : State) (final : Known) (first given : Given)
+    → knows_file (client_of known) n ≡ true
+    → old ≡ belief_of ((client_of known).entries n)
+    → final ≡ record (with_entry known n turn.entry) { last_number = last }
+    → first ≡ given_in (turn_written turn)
+    → new ≡ belief_of ((client_of final).entries n)
+    → given ≡ with_note first n old new
     → IsAfter final given (with_number last (turned (client_of known) n turn))
-is_after known n last turn old written final given is was by stands out =
-    let there : final ≡ with_entry (record (without_entry known n) { last_number = last }) n turn.entry =
-    stands ∙ ap (λ (w : Turned). with_entry (record (without_entry known n) { last_number = last }) n w.entry) by in
-    let told : given ≡ given_by n (belief_of ((client_of known).entries n)) (turn_written turn) =
-    out ∙ ap (λ (s : State). given_by n s written) was
-    ∙ ap (λ (w : Turned). given_by n (belief_of ((client_of known).entries n)) w) by in
-    rw (there, told) (back_in_place known n last turn is)
+is_after known n last turn old new final first given is was stands by now out =
+    let told = noted_by known n last turn old new final first given is was stands by now out in
+    rw (stands, told) (in_its_place known n last turn is)
 
 pub same_numbered : (client : Client) (file : ℕ) (turn : Turn)
     → with_number client.last_number (turned client file turn) ≡ turned client file turn

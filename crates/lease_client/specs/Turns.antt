@@ -29,6 +29,19 @@ pub record Given : Type 0 where
   pub requests : List real.Request
   pub notes : List Note
 
+-- an entry, and what was given out as it came to be so
+abbrev pub turned_to : Entry → Given → Turned
+turned_to entry given = record {
+  entry = entry;
+  answer = given.answer;
+  requests = given.requests;
+  notes = given.notes;
+}
+
+-- what is given out where an entry turned, but for the note of a belief
+abbrev pub given_in : Turned → Given
+given_in turned = record { answer = turned.answer; requests = turned.requests; notes = turned.notes }
+
 -- what a turn of the entry of a file gives out, where this was believed before
 abbrev pub given_by : ℕ → State → Turned → Given
 given_by file old turn = record {

@@ -3,12 +3,12 @@ ghost use Rattle.std.specs.List.{list_any, position};
 ghost use Rattle.lease_model.specs.client.Taken as rules;
 ghost use Rattle.lease_client.specs.Answered.{read_done_turn, not_read_turn, not_written_turn};
 ghost use Rattle.lease_client.specs.Answers.{note_of};
-ghost use Rattle.lease_client.specs.Turns.{turn_written};
+ghost use Rattle.lease_client.specs.Turns.{turned_to, turn_written};
 
 use crate::command::Answer;
 use crate::entry::{Entry, Live, Pending, Phase};
 use crate::note::{Note, Settlement};
-use crate::turn::Turn;
+use crate::turn::{Given, Turn};
 use crate::writes::{apply, push_settled, view};
 use lease_state::{Bytes, FileId, Memory, Patch, Status};
 
@@ -35,14 +35,13 @@ impl Entry {
     /// # Errors
     ///
     /// `Memory` where there is none left for the bytes that the application sees.
-    pub fn read_done(self, bytes: Bytes) -> Result<Turn, Memory>
-        ensures { IfOk result (λ turn. turn ≡ turn_written (read_done_turn bytes self)) }
+    pub fn read_done(&mut self, bytes: Bytes) -> Result<Given, Memory>
+        ensures { IfOk result (λ given. turned_to self.new given ≡ turn_written (read_done_turn bytes self.old)) }
     {
-        let Entry { phase, sent } = self;
-        match phase {
-            Phase::Live(live) => live.read_done(sent, bytes),
-            phase => Ok(Turn::still(Entry { phase, sent }, Answer::Quiet)),
-        }
+        let Phase::Live(live) = &mut self.phase else {
+            return Ok(self.quiet());
+        };
+        live.read_done(&self.sent, bytes)
     }
 
     /// A Read is refused.
@@ -50,13 +49,16 @@ impl Entry {
     /// # Errors
     ///
     /// `Memory` where there is none left for what is noted.
-    pub fn not_read(self, status: Status) -> Result<Turn, Memory>
-        ensures { IfOk result (λ turn. turn ≡ turn_written (not_read_turn status self)) }
+    pub fn not_read(&mut self, status: Status) -> Result<Given, Memory>
+        ensures { IfOk result (λ given. turned_to self.new given ≡ turn_written (not_read_turn status self.old)) }
     {
-        let Entry { phase, sent } = self;
+        let Entry { phase, sent } = self.take();
         match phase {
-            Phase::Live(live) => live.not_read(sent, status),
-            phase => Ok(Turn::still(Entry { phase, sent }, Answer::Quiet)),
+            Phase::Live(live) => Ok(live.not_read(sent, status)?.put_into(self)),
+            phase => {
+                *self = Entry { phase, sent };
+                Ok(self.quiet())
+            }
         }
     }
 
@@ -66,17 +68,16 @@ impl Entry {
     ///
     /// `Memory` where there is none left for the base or the note.
     #[tactic(auto, unfolding(lease_model::specs::client::Taken::write_done_turn))]
-    pub fn written(self, number: u64) -> Result<Turn, Memory>
-        ensures { IfOk result (λ turn. turn ≡ turn_written (rules.write_done_turn number self)) }
+    pub fn written(&mut self, number: u64) -> Result<Given, Memory>
+        ensures { IfOk result (λ given. turned_to self.new given
+            ≡ turn_written (rules.write_done_turn number self.old)) }
     {
-        let Entry { phase, mut sent } = self;
-        let alloc = *sent.allocator();
-        let write = take_numbered(&mut sent, number);
-        let phase = with_write(phase, write)?;
+        let alloc = self.alloc();
+        let write = take_numbered(&mut self.sent, number);
+        put_write(&mut self.phase, &write)?;
         let mut notes = Vec::new(alloc);
         notes.push(Note::Settled(number, Settlement::Done))?;
-        Ok(Turn {
-            entry: Entry { phase, sent },
+        Ok(Given {
             answer: Answer::Quiet,
             requests: Vec::new(alloc),
             notes,
@@ -88,23 +89,33 @@ impl Entry {
     /// # Errors
     ///
     /// `Memory` where there is none left for the notes.
-    pub fn not_written(self, file_id: FileId, number: u64, status: Status) -> Result<Turn, Memory>
-        ensures { IfOk result (λ turn.
-            turn ≡ turn_written (not_written_turn file_id.0 number status self)) }
+    pub fn not_written(
+        &mut self,
+        file_id: FileId,
+        number: u64,
+        status: Status,
+    ) -> Result<Given, Memory>
+        ensures { IfOk result (λ given. turned_to self.new given
+            ≡ turn_written (not_written_turn file_id.0 number status self.old)) }
     {
-        let Entry { phase, mut sent } = self;
+        let Entry { phase, mut sent } = self.take();
         let alloc = *sent.allocator();
         let _write = take_numbered(&mut sent, number);
         let mut notes = Vec::new(alloc);
         notes.push(Note::Settled(number, Settlement::Failed))?;
         match phase {
-            Phase::Live(live) => live.not_written(sent, notes, file_id, status),
-            phase => Ok(Turn {
-                entry: Entry { phase, sent },
-                answer: Answer::Failed(status),
-                requests: Vec::new(alloc),
-                notes,
-            }),
+            Phase::Live(live) => Ok(
+                live.not_written(sent, notes, file_id, status)?
+                    .put_into(self),
+            ),
+            phase => {
+                *self = Entry { phase, sent };
+                Ok(Given {
+                    answer: Answer::Failed(status),
+                    requests: Vec::new(alloc),
+                    notes,
+                })
+            }
         }
     }
 }
@@ -127,17 +138,17 @@ fn place_of(sent: &[Pending], number: u64) -> Option<usize>
     sent.iter().position(|write| write.number == number)
 }
 
-// A base, if there is one, with the write.
-fn with_write(phase: Phase, write: Option<Pending>) -> Result<Phase, Memory>
-    ensures { IfOk result (λ after. phase_of after ≡ rules.phase_with write (phase_of phase)) }
+// A base, if there is one, has the write from now on.
+fn put_write(phase: &mut Phase, write: &Option<Pending>) -> Result<(), Memory>
+    ensures { OnOk result (phase_of phase.new ≡ rules.phase_with write.now (phase_of phase.old)) }
 {
     match (phase, write) {
-        (Phase::Live(live), Some(write)) => Ok(Phase::Live(live.with_write(&write)?)),
-        (phase, _) => Ok(phase),
+        (Phase::Live(live), Some(write)) => live.put_write(write),
+        _ => Ok(()),
     }
 }
 
-ghost use Rattle.std.specs.Prelude.{Some, ◌∷◌, []};
+ghost use Rattle.std.specs.Prelude.{Some, ◌∷◌, [], OnOk};
 ghost use Rattle.lease_client.specs.Entries.{phase_of};
 ghost use Rattle.std.specs.Prelude.{if◌then◌else◌, ◌&&◌, ◌==◌};
 ghost use Rattle.lease_state.specs.Content.{patch};
@@ -154,29 +165,26 @@ fn patched(base: Bytes, change: &Patch) -> Result<Bytes, Memory>
 }
 
 impl Live {
-    // A base, if there is one, with the write.
-    fn with_write(self, write: &Pending) -> Result<Live, Memory>
-        ensures { IfOk result (λ live.
-            live ≡ record self { base = rules.base_with (Some write.now) self.base }) }
+    // A base, if there is one, has the write from now on.
+    fn put_write(&mut self, write: &Pending) -> Result<(), Memory>
+        ensures { OnOk result (self.new ≡ record self.old { base = rules.base_with (Some write.now) self.old.base }) }
     {
-        let mut live = self;
-        live.base = match live.base.take() {
-            Some(base) => Some(patched(base, &write.patch)?),
-            None => None,
-        };
-        Ok(live)
+        if let Some(base) = self.base.take() {
+            self.base = Some(patched(base, &write.patch)?);
+        }
+        Ok(())
     }
 
     // The bytes become the base under R; the application sees its own unanswered writes in them.
     #[tactic(auto, unfolding(lease_model::specs::client::Taken::read_turn))]
-    fn read_done(self, sent: Vec<Pending>, bytes: Bytes) -> Result<Turn, Memory>
-        ensures { IfOk result (λ turn. turn ≡ turn_written (rules.read_turn self sent.items bytes)) }
+    fn read_done(&mut self, sent: &Vec<Pending>, bytes: Bytes) -> Result<Given, Memory>
+        ensures { IfOk result (λ given. turned_to (live_entry self.new sent.now.items) given
+            ≡ turn_written (rules.read_turn self.old sent.now.items bytes)) }
     {
-        let seen = view(&bytes, &sent, &self.unsent)?;
-        let mut live = self;
-        live.reads = live.reads.saturating_sub(1);
-        live.learn(bytes);
-        Ok(Turn::still(Entry::live(live, sent), Answer::Bytes(seen, false)))
+        let seen = view(&bytes, sent, &self.unsent)?;
+        self.reads = self.reads.saturating_sub(1);
+        self.learn(bytes);
+        Ok(Given::answer(*sent.allocator(), Answer::Bytes(seen, false)))
     }
 
     // Under R the bytes become the base.

@@ -4,13 +4,13 @@ ghost use Rattle.lease_model.specs.client.Taken as rules;
 ghost use Rattle.lease_model.specs.values.LeaseStates as states;
 ghost use Rattle.lease_client.specs.Answers.{answer_of};
 ghost use Rattle.lease_client.specs.Broken.{notice_read, closing_turn, broken_turn};
-ghost use Rattle.lease_client.specs.Turns.{turn_written};
+ghost use Rattle.lease_client.specs.Turns.{turned_to, turn_written};
 
 use crate::command::Answer;
 use crate::entry::{Entry, Live, Pending, Phase};
 use crate::requests;
 use crate::state::{gives_up, meet};
-use crate::turn::Turn;
+use crate::turn::{Given, Turn};
 use lease_state::{LeaseState, Memory, Request};
 use lease_wire::Notification;
 
@@ -20,13 +20,17 @@ impl Entry {
     /// # Errors
     ///
     /// `Memory` where there is none left for what is sent.
-    pub fn broken(self, notice: &Notification) -> Result<Turn, Memory>
-        ensures { IfOk result (λ turn. turn ≡ turn_written (broken_turn (notice_read notice.now) self)) }
+    pub fn broken(&mut self, notice: &Notification) -> Result<Given, Memory>
+        ensures { IfOk result (λ given. turned_to self.new given
+            ≡ turn_written (broken_turn (notice_read notice.now) self.old)) }
     {
-        let Entry { phase, sent } = self;
+        let Entry { phase, sent } = self.take();
         match phase {
-            Phase::Live(live) => live.broken(sent, notice),
-            phase => Ok(Turn::still(Entry { phase, sent }, Answer::Quiet)),
+            Phase::Live(live) => Ok(live.broken(sent, notice)?.put_into(self)),
+            phase => {
+                *self = Entry { phase, sent };
+                Ok(self.quiet())
+            }
         }
     }
 }

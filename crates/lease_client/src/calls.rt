@@ -41,10 +41,9 @@ impl Machine {
     {
         clients_are_sound();
         let key = self.key(file);
-        let entry = self.take_entry(file);
-        let old = entry.belief();
-        let turn = self.command_entry(entry, key, command)?;
-        let given = self.put_turn(file, old, turn)?;
+        let old = self.belief(file);
+        let mut given = self.command_entry(file, key, command)?;
+        given.note_belief(file, old, self.belief(file))?;
         Ok(given)
     }
 
@@ -59,10 +58,9 @@ impl Machine {
             (told_step (client_of self.old) file.0 message)) }
     {
         let key = self.key(file);
-        let entry = self.take_entry(file);
-        let old = entry.belief();
-        let turn = entry.told(key, message)?;
-        let given = self.put_turn(file, old, turn)?;
+        let old = self.belief(file);
+        let mut given = self.tell_entry(file, key, message)?;
+        given.note_belief(file, old, self.belief(file))?;
         Ok(given)
     }
 }

@@ -3,16 +3,17 @@ ghost use Rattle.lease_model.specs.client.Commanded.{has_unanswered};
 ghost use Rattle.lease_model.specs.values.Patches.{is_within_limit};
 ghost use Rattle.lease_client.specs.Answers.{command_of};
 ghost use Rattle.lease_client.specs.Commanded as rules;
-ghost use Rattle.lease_client.specs.Turns.{turn_written};
+ghost use Rattle.lease_client.specs.Turns.{turned_to, turn_written};
 
 use crate::command::{Answer, Command, Refusal};
 use crate::entry::{Entry, Live, Pending, Phase};
 use crate::handles::Handles;
 use crate::note::Note;
 use crate::requests::Terms;
-use crate::turn::Turn;
+use crate::turn::{Given, Turn};
 use crate::writes::view;
 use lease_state::{Bytes, FILE_LIMIT, FileNo, LeaseKey, Memory, Patch, Request};
+use std::alloc::Global;
 
 impl Entry {
     /// A command on the entry's file, whose key this is. A Write takes the next number of the client.
@@ -21,18 +22,18 @@ impl Entry {
     ///
     /// `Memory` where there is none left, and never where the command is refused.
     pub fn commanded(
-        self,
+        &mut self,
         is_online: bool,
         key: LeaseKey,
         last_number: &mut u64,
         command: Command,
-    ) -> Result<Turn, Memory>
-        ensures turn { IfOk result (λ turn. turn
-            ≡ turn_written (rules.commanded_turn is_online key.0 last_number.old (command_of command) self)) }
-        ensures number { IfOk result (λ turn. last_number.new
-            ≡ rules.last_after is_online key.0 last_number.old (command_of command) self) }
+    ) -> Result<Given, Memory>
+        ensures turn { IfOk result (λ given. turned_to self.new given ≡ turn_written
+            (rules.commanded_turn is_online key.0 last_number.old (command_of command) self.old)) }
+        ensures number { IfOk result (λ given. last_number.new
+            ≡ rules.last_after is_online key.0 last_number.old (command_of command) self.old) }
         ensures refused { rules.is_refused
-            (rules.commanded_turn is_online key.0 last_number.old (command_of command) self).answer ≡ true
+            (rules.commanded_turn is_online key.0 last_number.old (command_of command) self.old).answer ≡ true
             → IsOk result }
     {
         match command {
@@ -63,19 +64,23 @@ impl Entry {
     /// # Errors
     ///
     /// `Memory` where there is none left for what is sent, and never where the Close is refused.
-    pub fn close(self) -> Result<Turn, Memory>
-        ensures turn { IfOk result (λ turn. turn ≡ turn_written (rules.heard_turn rules.close_turn self)) }
-        ensures refused { rules.is_refused (rules.heard_turn rules.close_turn self).answer ≡ true → IsOk result }
+    pub fn close(&mut self) -> Result<Given, Memory>
+        ensures turn { IfOk result (λ given. turned_to self.new given
+            ≡ turn_written (rules.heard_turn rules.close_turn self.old)) }
+        ensures refused { rules.is_refused (rules.heard_turn rules.close_turn self.old).answer ≡ true → IsOk result }
     {
-        let Entry { phase, sent } = self;
+        let Entry { phase, sent } = self.take();
         match phase {
             Phase::Live(live) => {
                 if live.is_parked() {
-                    return Ok(live.refused(sent, Refusal::NotOpen));
+                    return Ok(live.refused(sent, Refusal::NotOpen).put_into(self));
                 }
-                live.close(sent)
+                Ok(live.close(sent)?.put_into(self))
             }
-            phase => Ok(Entry { phase, sent }.unheard()),
+            phase => {
+                *self = Entry { phase, sent };
+                Ok(self.unheard())
+            }
         }
     }
 
@@ -85,21 +90,19 @@ impl Entry {
     ///
     /// `Memory` where there is none left for the bytes or the request, and never where the Read is
     /// refused.
-    pub fn read(self, file: FileNo) -> Result<Turn, Memory>
-        ensures turn { IfOk result (λ turn. turn ≡ turn_written (rules.heard_turn (rules.read_turn file.0) self)) }
-        ensures refused { rules.is_refused (rules.heard_turn (rules.read_turn file.0) self).answer ≡ true
+    pub fn read(&mut self, file: FileNo) -> Result<Given, Memory>
+        ensures turn { IfOk result (λ given. turned_to self.new given
+            ≡ turn_written (rules.heard_turn (rules.read_turn file.0) self.old)) }
+        ensures refused { rules.is_refused (rules.heard_turn (rules.read_turn file.0) self.old).answer ≡ true
             → IsOk result }
     {
-        let Entry { phase, sent } = self;
-        match phase {
-            Phase::Live(live) => {
-                if live.is_parked() {
-                    return Ok(live.refused(sent, Refusal::NotOpen));
-                }
-                live.read(sent, file)
-            }
-            phase => Ok(Entry { phase, sent }.unheard()),
+        let Phase::Live(live) = &mut self.phase else {
+            return Ok(self.unheard());
+        };
+        if live.is_parked() {
+            return Ok(self.refused(Refusal::NotOpen));
         }
+        live.read(&self.sent, file)
     }
 
     /// A Write, which takes the next number of the client (own).
@@ -108,23 +111,26 @@ impl Entry {
     ///
     /// `Memory` where there is none left for what is kept, sent or noted, and never where the Write is
     /// refused.
-    pub fn write(self, file: FileNo, last_number: &mut u64, patch: Patch) -> Result<Turn, Memory>
-        ensures turn { IfOk result (λ turn. turn ≡ turn_written (written_turn file.0 last_number.old patch self)) }
-        ensures number { IfOk result (λ turn. last_number.new
-            ≡ rules.number_after (written_turn file.0 last_number.old patch self) last_number.old) }
-        ensures refused { rules.is_refused (written_turn file.0 last_number.old patch self).answer ≡ true
+    pub fn write(
+        &mut self,
+        file: FileNo,
+        last_number: &mut u64,
+        patch: Patch,
+    ) -> Result<Given, Memory>
+        ensures turn { IfOk result (λ given. turned_to self.new given
+            ≡ turn_written (written_turn file.0 last_number.old patch self.old)) }
+        ensures number { IfOk result (λ given. last_number.new
+            ≡ rules.number_after (written_turn file.0 last_number.old patch self.old) last_number.old) }
+        ensures refused { rules.is_refused (written_turn file.0 last_number.old patch self.old).answer ≡ true
             → IsOk result }
     {
-        let Entry { phase, sent } = self;
-        match phase {
-            Phase::Live(live) => {
-                if live.is_parked() {
-                    return Ok(live.refused(sent, Refusal::NotOpen));
-                }
-                live.write(sent, file, last_number, patch)
-            }
-            phase => Ok(Entry { phase, sent }.unheard()),
+        let Phase::Live(live) = &mut self.phase else {
+            return Ok(self.unheard());
+        };
+        if live.is_parked() {
+            return Ok(self.refused(Refusal::NotOpen));
         }
+        live.write(&mut self.sent, file, last_number, patch)
     }
 
     /// A Flush: unsent writes are sent (own).
@@ -132,20 +138,18 @@ impl Entry {
     /// # Errors
     ///
     /// `Memory` where there is none left for what is sent, and never where the Flush is refused.
-    pub fn flush(self) -> Result<Turn, Memory>
-        ensures turn { IfOk result (λ turn. turn ≡ turn_written (rules.heard_turn rules.flush_turn self)) }
-        ensures refused { rules.is_refused (rules.heard_turn rules.flush_turn self).answer ≡ true → IsOk result }
+    pub fn flush(&mut self) -> Result<Given, Memory>
+        ensures turn { IfOk result (λ given. turned_to self.new given
+            ≡ turn_written (rules.heard_turn rules.flush_turn self.old)) }
+        ensures refused { rules.is_refused (rules.heard_turn rules.flush_turn self.old).answer ≡ true → IsOk result }
     {
-        let Entry { phase, sent } = self;
-        match phase {
-            Phase::Live(live) => {
-                if live.is_parked() {
-                    return Ok(live.refused(sent, Refusal::NotOpen));
-                }
-                live.flush(sent)
-            }
-            phase => Ok(Entry { phase, sent }.unheard()),
+        let Phase::Live(live) = &mut self.phase else {
+            return Ok(self.unheard());
+        };
+        if live.is_parked() {
+            return Ok(self.refused(Refusal::NotOpen));
         }
+        live.flush(&mut self.sent)
     }
 }
 
@@ -214,43 +218,42 @@ impl Live {
 
     // A Read is answered from the cache, or sent.
     #[tactic(auto, unfolding(crate::specs::Commanded::read_turn))]
-    fn read(self, sent: Vec<Pending>, file: FileNo) -> Result<Turn, Memory>
-        ensures turn { IfOk result (λ turn. turn ≡ turn_written (rules.read_turn file.0 self sent.items)) }
-        ensures refused { rules.is_refused (rules.read_turn file.0 self sent.items).answer ≡ true → IsOk result }
+    fn read(&mut self, sent: &Vec<Pending>, file: FileNo) -> Result<Given, Memory>
+        ensures turn { IfOk result (λ given. turned_to (live_entry self.new sent.now.items) given
+            ≡ turn_written (rules.read_turn file.0 self.old sent.now.items)) }
+        ensures refused { rules.is_refused (rules.read_turn file.0 self.old sent.now.items).answer ≡ true
+            → IsOk result }
     {
         if !self.access.reads() {
-            return Ok(self.refused(sent, Refusal::Denied));
+            return Ok(refused(sent, Refusal::Denied));
         }
         if !self.belief.caches_reads() {
             return self.send_read(sent);
         }
         match &self.base {
-            Some(base) => {
-                let seen = view(base, &sent, &self.unsent)?;
-                cached(Entry::live(self, sent), file, seen)
-            }
+            Some(base) => cached(*sent.allocator(), file, view(base, sent, &self.unsent)?),
             None => self.send_read(sent),
         }
     }
 
     #[tactic(auto, unfolding(crate::specs::Commanded::read_sent_turn, lease_model::specs::values::Limits::count_limit))]
-    fn send_read(self, sent: Vec<Pending>) -> Result<Turn, Memory>
-        ensures turn { IfOk result (λ turn. turn ≡ turn_written (rules.read_sent_turn self sent.items)) }
-        ensures refused { rules.is_refused (rules.read_sent_turn self sent.items).answer ≡ true → IsOk result }
+    fn send_read(&mut self, sent: &Vec<Pending>) -> Result<Given, Memory>
+        ensures turn { IfOk result (λ given. turned_to (live_entry self.new sent.now.items) given
+            ≡ turn_written (rules.read_sent_turn self.old sent.now.items)) }
+        ensures refused { rules.is_refused (rules.read_sent_turn self.old sent.now.items).answer ≡ true
+            → IsOk result }
     {
         if self.handles.asking().is_some() {
-            return Ok(self.refused(sent, Refusal::Busy));
+            return Ok(refused(sent, Refusal::Busy));
         }
         if self.reads == u32::MAX {
-            return Ok(self.refused(sent, Refusal::UsedUp));
+            return Ok(refused(sent, Refusal::UsedUp));
         }
         let alloc = *sent.allocator();
-        let mut live = self;
         let mut requests = Vec::new(alloc);
-        requests.push(Request::Read { fid: live.file_id })?;
-        live.reads += 1;
-        Ok(Turn {
-            entry: Entry::live(live, sent),
+        requests.push(Request::Read { fid: self.file_id })?;
+        self.reads += 1;
+        Ok(Given {
             answer: Answer::Waiting,
             requests,
             notes: Vec::new(alloc),
@@ -260,27 +263,27 @@ impl Live {
     // First the access, then the write's end, then the numbers that are left.
     #[tactic(auto, unfolding(crate::specs::Commanded::write_turn, lease_model::specs::values::Limits::last_write_number))]
     fn write(
-        self,
-        sent: Vec<Pending>,
+        &mut self,
+        sent: &mut Vec<Pending>,
         file: FileNo,
         last_number: &mut u64,
         patch: Patch,
-    ) -> Result<Turn, Memory>
-        ensures turn { IfOk result (λ turn.
-            turn ≡ turn_written (rules.write_turn file.0 self sent.items last_number.old patch)) }
-        ensures number { IfOk result (λ turn. last_number.new
-            ≡ rules.number_after (rules.write_turn file.0 self sent.items last_number.old patch) last_number.old) }
-        ensures refused { rules.is_refused (rules.write_turn file.0 self sent.items last_number.old patch).answer ≡ true
-            → IsOk result }
+    ) -> Result<Given, Memory>
+        ensures turn { IfOk result (λ given. turned_to (live_entry self.new sent.new.items) given
+            ≡ turn_written (rules.write_turn file.0 self.old sent.old.items last_number.old patch)) }
+        ensures number { IfOk result (λ given. last_number.new
+            ≡ rules.number_after (rules.write_turn file.0 self.old sent.old.items last_number.old patch) last_number.old) }
+        ensures refused { rules.is_refused (rules.write_turn file.0 self.old sent.old.items last_number.old patch).answer
+            ≡ true → IsOk result }
     {
         if !self.access.writes() {
-            return Ok(self.refused(sent, Refusal::Denied));
+            return Ok(refused(sent, Refusal::Denied));
         }
         if !is_within_limit(&patch) {
-            return Ok(self.refused(sent, Refusal::TooLong));
+            return Ok(refused(sent, Refusal::TooLong));
         }
         if *last_number == u64::MAX {
-            return Ok(self.refused(sent, Refusal::UsedUp));
+            return Ok(refused(sent, Refusal::UsedUp));
         }
         *last_number += 1;
         self.take_write(sent, file, *last_number, patch)
@@ -289,15 +292,15 @@ impl Live {
     // Under W a write is buffered, and else it is sent.
     #[tactic(auto, unfolding(crate::specs::Commanded::taken_turn))]
     fn take_write(
-        self,
-        sent: Vec<Pending>,
+        &mut self,
+        sent: &mut Vec<Pending>,
         file: FileNo,
         number: u64,
         patch: Patch,
-    ) -> Result<Turn, Memory>
-        ensures turn { IfOk result (λ turn.
-            turn ≡ turn_written (rules.taken_turn file.0 self sent.items number patch)) }
-        ensures taken { rules.is_refused (rules.taken_turn file.0 self sent.items number patch).answer ≡ false }
+    ) -> Result<Given, Memory>
+        ensures turn { IfOk result (λ given. turned_to (live_entry self.new sent.new.items) given
+            ≡ turn_written (rules.taken_turn file.0 self.old sent.old.items number patch)) }
+        ensures taken { rules.is_refused (rules.taken_turn file.0 self.old sent.old.items number patch).answer ≡ false }
     {
         if self.belief.caches_writes() {
             self.buffer_write(sent, file, number, patch)
@@ -308,27 +311,26 @@ impl Live {
 
     #[tactic(auto, unfolding(crate::specs::Commanded::buffered_turn))]
     fn buffer_write(
-        self,
-        sent: Vec<Pending>,
+        &mut self,
+        sent: &mut Vec<Pending>,
         file: FileNo,
         number: u64,
         patch: Patch,
-    ) -> Result<Turn, Memory>
-        ensures turn { IfOk result (λ turn.
-            turn ≡ turn_written (rules.buffered_turn file.0 self sent.items number patch)) }
-        ensures taken { rules.is_refused (rules.buffered_turn file.0 self sent.items number patch).answer ≡ false }
+    ) -> Result<Given, Memory>
+        ensures turn { IfOk result (λ given. turned_to (live_entry self.new sent.new.items) given
+            ≡ turn_written (rules.buffered_turn file.0 self.old sent.old.items number patch)) }
+        ensures taken { rules.is_refused (rules.buffered_turn file.0 self.old sent.old.items number patch).answer
+            ≡ false }
     {
         let alloc = *sent.allocator();
-        let mut live = self;
         let mut notes = Vec::new(alloc);
         notes.push(Note::Wrote(file, number, patch.try_copy()?, true))?;
-        live.unsent.push(Pending {
+        self.unsent.push(Pending {
             number,
             patch,
             buffered: true,
         })?;
-        Ok(Turn {
-            entry: Entry::live(live, sent),
+        Ok(Given {
             answer: Answer::Done,
             requests: Vec::new(alloc),
             notes,
@@ -337,15 +339,16 @@ impl Live {
 
     #[tactic(auto, unfolding(crate::specs::Commanded::through_turn))]
     fn send_write(
-        self,
-        mut sent: Vec<Pending>,
+        &self,
+        sent: &mut Vec<Pending>,
         file: FileNo,
         number: u64,
         patch: Patch,
-    ) -> Result<Turn, Memory>
-        ensures turn { IfOk result (λ turn.
-            turn ≡ turn_written (rules.through_turn file.0 self sent.items number patch)) }
-        ensures taken { rules.is_refused (rules.through_turn file.0 self sent.items number patch).answer ≡ false }
+    ) -> Result<Given, Memory>
+        ensures turn { IfOk result (λ given. turned_to (live_entry self.now sent.new.items) given
+            ≡ turn_written (rules.through_turn file.0 self.now sent.old.items number patch)) }
+        ensures taken { rules.is_refused (rules.through_turn file.0 self.now sent.old.items number patch).answer
+            ≡ false }
     {
         let alloc = *sent.allocator();
         let mut notes = Vec::new(alloc);
@@ -361,8 +364,7 @@ impl Live {
             patch,
             buffered: false,
         })?;
-        Ok(Turn {
-            entry: Entry::live(self, sent),
+        Ok(Given {
             answer: Answer::Waiting,
             requests,
             notes,
@@ -370,21 +372,20 @@ impl Live {
     }
 
     #[tactic(auto, unfolding(crate::specs::Commanded::flush_turn))]
-    fn flush(self, mut sent: Vec<Pending>) -> Result<Turn, Memory>
-        ensures turn { IfOk result (λ turn. turn ≡ turn_written (rules.flush_turn self sent.items)) }
-        ensures refused { rules.is_refused (rules.flush_turn self sent.items).answer ≡ true → IsOk result }
+    fn flush(&mut self, sent: &mut Vec<Pending>) -> Result<Given, Memory>
+        ensures turn { IfOk result (λ given. turned_to (live_entry self.new sent.new.items) given
+            ≡ turn_written (rules.flush_turn self.old sent.old.items)) }
+        ensures refused { rules.is_refused (rules.flush_turn self.old sent.old.items).answer ≡ true → IsOk result }
     {
         let alloc = *sent.allocator();
-        let mut live = self;
-        let answer = if live.unsent.is_empty() {
+        let answer = if self.unsent.is_empty() {
             Answer::Done
         } else {
             Answer::Waiting
         };
         let mut requests = Vec::new(alloc);
-        live.send_unsent(&mut sent, &mut requests)?;
-        Ok(Turn {
-            entry: Entry::live(live, sent),
+        self.send_unsent(sent, &mut requests)?;
+        Ok(Given {
             answer,
             requests,
             notes: Vec::new(alloc),
@@ -396,16 +397,26 @@ ghost use Rattle.std.specs.Prelude.{None, [], ◌∷◌, false};
 ghost use Rattle.lease_model.specs.client.Commanded.{turn_of, one_handle_less};
 ghost use Rattle.lease_model.specs.client.State.{live_entry};
 ghost use Rattle.lease_model.specs.client.Commands as model;
+ghost use Rattle.lease_client.specs.Answers.{refusal_of};
+
+// A refused command sends and notes nothing.
+fn refused(sent: &Vec<Pending>, refusal: Refusal) -> Given
+    ensures { result ≡ record { answer = model.Answer.Refused (refusal_of refusal); requests = []; notes = [] } }
+{
+    Given::answer(*sent.allocator(), Answer::Refused(refusal))
+}
 
 // The file as the application sees it, from the cache: it is answered and noted.
-fn cached(entry: Entry, file: FileNo, seen: Bytes) -> Result<Turn, Memory>
-    ensures { IfOk result (λ turn. turn ≡ turn_written (rules.cached_turn file.0 entry seen)) }
+fn cached(alloc: Global, file: FileNo, seen: Bytes) -> Result<Given, Memory>
+    ensures { IfOk result (λ given. given ≡ record {
+      answer = model.Answer.Bytes seen true;
+      requests = [];
+      notes = model.Note.CachedRead file.0 seen ∷ [];
+    }) }
 {
-    let alloc = entry.alloc();
     let mut notes = Vec::new(alloc);
     notes.push(Note::CachedRead(file, seen.try_copy()?))?;
-    Ok(Turn {
-        entry,
+    Ok(Given {
         answer: Answer::Bytes(seen, true),
         requests: Vec::new(alloc),
         notes,

@@ -2,13 +2,13 @@ ghost use Rattle.std.specs.Prelude.{◌≡◌, ◌++◌, IfOk, filter};
 ghost use Rattle.lease_model.specs.client.Connection as rules;
 ghost use Rattle.lease_model.specs.values.Lists.{without};
 ghost use Rattle.lease_client.specs.Connected.{connected_turn};
-ghost use Rattle.lease_client.specs.Turns.{turn_written};
+ghost use Rattle.lease_client.specs.Turns.{turned_to, turn_written};
 
 use crate::command::Answer;
 use crate::entry::{Entry, Live, Parted, Pending, Phase};
 use crate::note::Settlement;
 use crate::requests;
-use crate::turn::Turn;
+use crate::turn::{Given, Turn};
 use crate::writes::push_settled;
 use lease_state::{FileNo, LeaseKey, Memory};
 
@@ -18,14 +18,17 @@ impl Entry {
     /// # Errors
     ///
     /// `Memory` where there is none left for the notes.
-    pub fn noticed(self) -> Result<Turn, Memory>
-        ensures { IfOk result (λ turn. turn ≡ turn_written (rules.notice_turn self.sent self.phase)) }
+    pub fn noticed(&mut self) -> Result<Given, Memory>
+        ensures { IfOk result (λ given. turned_to self.new given
+            ≡ turn_written (rules.notice_turn self.old.sent self.old.phase)) }
     {
-        let Entry { phase, sent } = self;
+        let Entry { phase, sent } = self.take();
         match phase {
-            Phase::Closed | Phase::Opening { .. } => ended(sent),
-            Phase::Live(live) => live.noticed(sent),
-            Phase::Offline(parted) | Phase::Reconnecting(parted) => parted.offline(sent),
+            Phase::Closed | Phase::Opening { .. } => Ok(ended(sent)?.put_into(self)),
+            Phase::Live(live) => Ok(live.noticed(sent)?.put_into(self)),
+            Phase::Offline(parted) | Phase::Reconnecting(parted) => {
+                Ok(parted.offline(sent)?.put_into(self))
+            }
         }
     }
 
@@ -34,13 +37,17 @@ impl Entry {
     /// # Errors
     ///
     /// `Memory` where there is none left for the request, and never where the entry isn't offline.
-    pub fn connected(self, file: FileNo, key: LeaseKey) -> Result<Turn, Memory>
-        ensures { IfOk result (λ turn. turn ≡ turn_written (connected_turn key.0 file.0 self)) }
+    pub fn connected(&mut self, file: FileNo, key: LeaseKey) -> Result<Given, Memory>
+        ensures { IfOk result (λ given. turned_to self.new given
+            ≡ turn_written (connected_turn key.0 file.0 self.old)) }
     {
-        let Entry { phase, sent } = self;
+        let Entry { phase, sent } = self.take();
         match phase {
-            Phase::Offline(parted) => parted.reconnecting(sent, file, key),
-            phase => Ok(Turn::still(Entry { phase, sent }, Answer::Quiet)),
+            Phase::Offline(parted) => Ok(parted.reconnecting(sent, file, key)?.put_into(self)),
+            phase => {
+                *self = Entry { phase, sent };
+                Ok(self.quiet())
+            }
         }
     }
 }

@@ -5,14 +5,14 @@ ghost use Rattle.lease_wire.specs.Create.{granted_view};
 ghost use Rattle.lease_model.specs.client.Taken as rules;
 ghost use Rattle.lease_model.specs.messages.FromBytes.{lease_read};
 ghost use Rattle.lease_client.specs.Created.{answer_read, created_turn, not_created_turn};
-ghost use Rattle.lease_client.specs.Turns.{turn_written};
+ghost use Rattle.lease_client.specs.Turns.{turned_to, turn_written};
 
 use crate::command::Answer;
 use crate::entry::{Asked, Entry, Live, Parted, Pending, Phase};
 use crate::handles::Handles;
 use crate::note::Settlement;
 use crate::requests;
-use crate::turn::Turn;
+use crate::turn::{Given, Turn};
 use crate::writes::push_settled;
 use lease_state::{FileId, LeaseKey, LeaseState, Memory, Status};
 use lease_wire::CreateAnswer;
@@ -27,25 +27,30 @@ impl Entry {
     ///
     /// `Memory` where there is none left for what is sent or noted.
     pub fn created(
-        self,
+        &mut self,
         key: LeaseKey,
         file_id: FileId,
         answer: &CreateAnswer,
-    ) -> Result<Turn, Memory>
-        ensures { IfOk result (λ turn.
-            turn ≡ turn_written (created_turn key.0 file_id.0 (answer_read answer.now) self)) }
+    ) -> Result<Given, Memory>
+        ensures { IfOk result (λ given. turned_to self.new given
+            ≡ turn_written (created_turn key.0 file_id.0 (answer_read answer.now) self.old)) }
     {
-        let Entry { phase, sent } = self;
+        let Entry { phase, sent } = self.take();
         match phase {
             Phase::Opening { access, share } => {
                 let belief = first_belief(key, answer.lease);
-                Ok(opened(file_id, Asked { access, share }, sent, answer, belief))
+                let asked = Asked { access, share };
+                Ok(opened(file_id, asked, sent, answer, belief).put_into(self))
             }
             Phase::Reconnecting(parted) => {
-                parted.connected(sent, first_belief(key, answer.lease))
+                let belief = first_belief(key, answer.lease);
+                Ok(parted.connected(sent, belief)?.put_into(self))
             }
-            Phase::Live(live) => live.created(sent, key, file_id, answer),
-            phase => Ok(Turn::still(Entry { phase, sent }, Answer::Quiet)),
+            Phase::Live(live) => Ok(live.created(sent, key, file_id, answer)?.put_into(self)),
+            phase => {
+                *self = Entry { phase, sent };
+                Ok(self.quiet())
+            }
         }
     }
 
@@ -54,15 +59,21 @@ impl Entry {
     /// # Errors
     ///
     /// `Memory` where there is none left for what is noted.
-    pub fn not_created(self, status: Status) -> Result<Turn, Memory>
-        ensures { IfOk result (λ turn. turn ≡ turn_written (not_created_turn status self)) }
+    pub fn not_created(&mut self, status: Status) -> Result<Given, Memory>
+        ensures { IfOk result (λ given. turned_to self.new given ≡ turn_written (not_created_turn status self.old)) }
     {
-        let Entry { phase, sent } = self;
+        let Entry { phase, sent } = self.take();
         match phase {
-            Phase::Opening { .. } => Ok(Turn::still(Entry::shut(sent), Answer::Failed(status))),
-            Phase::Reconnecting(parted) => parted.given_up(sent, status),
-            Phase::Live(live) => Ok(live.not_created(sent, status)),
-            phase => Ok(Turn::still(Entry { phase, sent }, Answer::Quiet)),
+            Phase::Opening { .. } => {
+                let turn = Turn::still(Entry::shut(sent), Answer::Failed(status));
+                Ok(turn.put_into(self))
+            }
+            Phase::Reconnecting(parted) => Ok(parted.given_up(sent, status)?.put_into(self)),
+            Phase::Live(live) => Ok(live.not_created(sent, status).put_into(self)),
+            phase => {
+                *self = Entry { phase, sent };
+                Ok(self.quiet())
+            }
         }
     }
 }

@@ -6,6 +6,7 @@ use crate::handles::Handles;
 use lease_state::{Access, Bytes, FileId, LeaseState, Patch, Share};
 use std::alloc::Global;
 use std::marker::Model;
+use std::mem;
 
 /// A write that isn't answered. A buffered one was answered before it was sent.
 #[derive(Debug, Drop)]
@@ -162,6 +163,15 @@ impl Entry {
             phase: Phase::Live(live),
             sent,
         }
+    }
+
+    /// Takes the entry out of its place, where a closed one stays. No memory is taken.
+    pub fn take(&mut self) -> Entry
+        ensures entry { result ≡ self.old }
+        ensures rest { self.new ≡ closed_entry [] }
+    {
+        let alloc = self.alloc();
+        mem::replace(self, Entry::closed(alloc))
     }
 
     /// What the client believes of the lease: nothing is cached where the entry isn't live.

@@ -3,12 +3,12 @@ ghost use Rattle.std.proofs.Math.ListN.{set};
 ghost use Rattle.lease_model.specs.client.State.{knows_file, belief_of};
 ghost use Rattle.lease_client.specs.Known.{client_of};
 ghost use Rattle.lease_client.specs.Links.{is_made, keyed_turn, link_turn, linked};
-ghost use Rattle.lease_client.specs.Turns.{turn_written, given_by, IsAfter};
+ghost use Rattle.lease_client.specs.Turns.{turn_written, turned_to, given_by, IsAfter};
 
 use crate::command::Answer;
 use crate::entry::Entry;
 use crate::machine::Machine;
-use crate::turn::{Given, Turn};
+use crate::turn::Given;
 use lease_state::{FileNo, LeaseKey, Memory};
 
 /// What happens to a connection.
@@ -30,9 +30,14 @@ impl Link {
 }
 
 impl Entry {
-    // The connection is lost or made for the entry of a file, whose key this is.
-    fn linked(self, link: Link, file: FileNo, key: LeaseKey) -> Result<Turn, Memory>
-        ensures { IfOk result (λ turn. turn ≡ turn_written (keyed_turn link key.0 file.0 self)) }
+    /// The connection is lost or made for the entry of a file, whose key this is.
+    ///
+    /// # Errors
+    ///
+    /// `Memory` where there is none left.
+    pub fn linked(&mut self, link: Link, file: FileNo, key: LeaseKey) -> Result<Given, Memory>
+        ensures { IfOk result (λ given.
+            turned_to self.new given ≡ turn_written (keyed_turn link key.0 file.0 self.old)) }
     {
         match link {
             Link::Lost => self.noticed(),
@@ -54,7 +59,7 @@ impl Machine {
         let mut requests = Vec::new(alloc);
         let mut notes = Vec::new(alloc);
         for index in 0..self.files() {
-            let given = self.link_entry(FileNo(index + 1), link)?;
+            let given = self.link_file(FileNo(index + 1), link)?;
             given.join(&mut requests, &mut notes)?;
         }
         self.set_online(link.is_made());
@@ -65,7 +70,7 @@ impl Machine {
         })
     }
 
-    fn link_entry(&mut self, file: FileNo, link: Link) -> Result<Given, Memory>
+    fn link_file(&mut self, file: FileNo, link: Link) -> Result<Given, Memory>
         requires { knows_file (client_of self.old) file.0 ≡ true }
         ensures machine { OnOk result (self.new ≡ record self.old {
           entries = set self.old.entries (file.0 - 1)
@@ -75,10 +80,9 @@ impl Machine {
             (turn_written (link_turn link self.old.guid file.0 ((client_of self.old).entries file.0)))) }
     {
         let key = self.key(file);
-        let entry = self.take_entry(file);
-        let old = entry.belief();
-        let turn = entry.linked(link, file, key)?;
-        let given = self.put_turn(file, old, turn)?;
+        let old = self.belief(file);
+        let mut given = self.link_entry(file, key, link)?;
+        given.note_belief(file, old, self.belief(file))?;
         Ok(given)
     }
 }

@@ -2,23 +2,25 @@ ghost use Rattle.std.specs.Prelude.{◌≡◌, ◌-◌, [], IfOk, IsOk, OnOk, le
 ghost use Rattle.std.specs.Option.{option_map};
 ghost use Rattle.lease_state.specs.State.{state_of};
 ghost use Rattle.lease_model.specs.client.State as model;
-ghost use Rattle.lease_model.specs.values.LeaseStates.{same_state};
 ghost use Rattle.lease_client.specs.Known.{client_of, entry_at};
 ghost use Rattle.lease_model.specs.client.Taken.{has_sent};
 ghost use Rattle.lease_client.specs.Answers.{command_of};
 ghost use Rattle.lease_client.specs.Searches.{is_read_under};
 ghost use Rattle.lease_client.specs.Commanded.{commanded_turn, is_refused, last_after};
-ghost use Rattle.lease_client.specs.Turns.{given_by, turn_written};
+ghost use Rattle.lease_client.specs.Links.{keyed_turn};
+ghost use Rattle.lease_client.specs.Messages.{message_turn};
+ghost use Rattle.lease_client.specs.Turns.{given_in, turn_written};
 ghost use Rattle.std.proofs.Math.ListN.{set};
 
 use crate::command::Command;
 use crate::entry::Entry;
 use crate::key::lease_key;
-use crate::turn::{Given, Turn};
+use crate::links::Link;
+use crate::message::Message;
+use crate::turn::Given;
 use lease_state::{FileId, FileNo, LeaseKey, LeaseState, Memory};
 use std::alloc::Global;
 use std::marker::Model;
-use std::mem;
 
 /// What a client machine knows.
 #[derive(Debug, Drop)]
@@ -140,61 +142,79 @@ impl Machine {
         lease_key(self.guid, file)
     }
 
-    /// Does a command to the entry of its file, which is out of its place.
+    /// The entry of a file hears a command.
     ///
     /// # Errors
     ///
     /// `Memory` where there is none left, and never where the command is refused.
     pub fn command_entry(
         &mut self,
-        entry: Entry,
+        file: FileNo,
         key: LeaseKey,
         command: Command,
-    ) -> Result<Turn, Memory>
-        ensures turn { IfOk result (λ turn. turn ≡ turn_written (commanded_turn self.old.is_online key.0
-            self.old.last_number (command_of command) entry)) }
-        ensures number { OnOk result (self.new ≡ record self.old {
-          last_number = last_after self.old.is_online key.0
-              self.old.last_number (command_of command) entry;
+    ) -> Result<Given, Memory>
+        requires { model.knows_file (client_of self.old) file.0 ≡ true }
+        ensures machine { OnOk result (self.new ≡ record self.old {
+          last_number = last_after self.old.is_online key.0 self.old.last_number
+              (command_of command) ((client_of self.old).entries file.0);
+          entries = set self.old.entries (file.0 - 1)
+              (commanded_turn self.old.is_online key.0 self.old.last_number
+              (command_of command) ((client_of self.old).entries file.0)).entry;
         }) }
-        ensures refused { is_refused (commanded_turn self.old.is_online key.0
-            self.old.last_number (command_of command) entry).answer ≡ true → IsOk result }
+        ensures given { IfOk result (λ given. given ≡ given_in (turn_written
+            (commanded_turn self.old.is_online key.0 self.old.last_number
+            (command_of command) ((client_of self.old).entries file.0)))) }
+        ensures refused { is_refused (commanded_turn self.old.is_online key.0 self.old.last_number
+            (command_of command) ((client_of self.old).entries file.0)).answer ≡ true → IsOk result }
     {
         let is_online = self.is_online;
-        let turn = entry.commanded(is_online, key, &mut self.last_number, command)?;
-        Ok(turn)
-    }
-
-    /// Takes the entry of a file out of its place, where a closed one stays.
-    pub fn take_entry(&mut self, file: FileNo) -> Entry
-        requires { model.knows_file (client_of self.old) file.0 ≡ true }
-        ensures entry { result ≡ (client_of self.old).entries file.0 }
-        ensures rest { self.new ≡ record self.old {
-          entries = set self.old.entries (file.0 - 1) (model.closed_entry []);
-        } }
-    {
-        let alloc = self.alloc();
+        let mut number = self.last_number;
         let index = usize::from(file.0) - 1;
-        mem::replace(&mut self.entries[index], Entry::closed(alloc))
+        let given = self.entries[index].commanded(is_online, key, &mut number, command)?;
+        self.last_number = number;
+        Ok(given)
     }
 
-    /// Puts the entry of a file into its place, and tells what is given out: a belief that isn't the
-    /// old one is noted.
+    /// A reply reaches the entry of a file.
     ///
     /// # Errors
     ///
-    /// `Memory` where there is none left for that note, and never where the belief is the old one.
-    pub fn put_turn(&mut self, file: FileNo, old: LeaseState, turn: Turn) -> Result<Given, Memory>
+    /// `Memory` where there is none left.
+    pub fn tell_entry(
+        &mut self,
+        file: FileNo,
+        key: LeaseKey,
+        message: Message,
+    ) -> Result<Given, Memory>
         requires { model.knows_file (client_of self.old) file.0 ≡ true }
         ensures machine { OnOk result (self.new ≡ record self.old {
-          entries = set self.old.entries (file.0 - 1) turn.entry;
+          entries = set self.old.entries (file.0 - 1)
+              (message_turn key.0 message ((client_of self.old).entries file.0)).entry;
         }) }
-        ensures given { IfOk result (λ given. given ≡ given_by file.0 (state_of old) turn) }
-        ensures same { same_state (state_of old) (model.belief_of turn.entry) ≡ true → IsOk result }
+        ensures given { IfOk result (λ given. given ≡ given_in (turn_written
+            (message_turn key.0 message ((client_of self.old).entries file.0)))) }
     {
-        let (entry, given) = turn.parts(file, old)?;
         let index = usize::from(file.0) - 1;
-        self.entries[index] = entry;
+        let given = self.entries[index].told(key, message)?;
+        Ok(given)
+    }
+
+    /// The connection is lost or made for the entry of a file.
+    ///
+    /// # Errors
+    ///
+    /// `Memory` where there is none left.
+    pub fn link_entry(&mut self, file: FileNo, key: LeaseKey, link: Link) -> Result<Given, Memory>
+        requires { model.knows_file (client_of self.old) file.0 ≡ true }
+        ensures machine { OnOk result (self.new ≡ record self.old {
+          entries = set self.old.entries (file.0 - 1)
+              (keyed_turn link key.0 file.0 ((client_of self.old).entries file.0)).entry;
+        }) }
+        ensures given { IfOk result (λ given. given ≡ given_in (turn_written
+            (keyed_turn link key.0 file.0 ((client_of self.old).entries file.0)))) }
+    {
+        let index = usize::from(file.0) - 1;
+        let given = self.entries[index].linked(link, file, key)?;
         Ok(given)
     }
 }

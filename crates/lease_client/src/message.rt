@@ -1,9 +1,9 @@
 ghost use Rattle.std.specs.Prelude.{◌≡◌, IfOk};
 ghost use Rattle.lease_client.specs.Messages.{message_turn};
-ghost use Rattle.lease_client.specs.Turns.{turn_written};
+ghost use Rattle.lease_client.specs.Turns.{turned_to, turn_written};
 
 use crate::entry::Entry;
-use crate::turn::Turn;
+use crate::turn::Given;
 use lease_state::{Bytes, FileId, LeaseKey, Memory, Status};
 use lease_wire::{CreateAnswer, Notification};
 
@@ -25,8 +25,8 @@ impl Entry {
     /// # Errors
     ///
     /// `Memory` where there is none left.
-    pub fn told(self, key: LeaseKey, message: Message) -> Result<Turn, Memory>
-        ensures { IfOk result (λ turn. turn ≡ turn_written (message_turn key.0 message self)) }
+    pub fn told(&mut self, key: LeaseKey, message: Message) -> Result<Given, Memory>
+        ensures { IfOk result (λ given. turned_to self.new given ≡ turn_written (message_turn key.0 message self.old)) }
     {
         match message {
             Message::Created(file_id, answer) => self.created(key, file_id, &answer),

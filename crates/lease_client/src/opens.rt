@@ -4,12 +4,12 @@ ghost use Rattle.lease_model.specs.values.Sharing as sharing;
 ghost use Rattle.lease_client.specs.Answers.{refusal_of};
 ghost use Rattle.lease_client.specs.Commanded as rules;
 ghost use Rattle.lease_client.specs.Terms.{terms_of};
-ghost use Rattle.lease_client.specs.Turns.{turn_written};
+ghost use Rattle.lease_client.specs.Turns.{turned_to, turn_written};
 
 use crate::command::{Answer, Refusal};
 use crate::entry::{Asked, Entry, Live, Pending, Phase};
 use crate::requests::{self, Terms};
-use crate::turn::Turn;
+use crate::turn::{Given, Turn};
 use lease_state::{Access, FileNo, LeaseKey, Memory, Share};
 
 impl Entry {
@@ -20,35 +20,44 @@ impl Entry {
     ///
     /// `Memory` where there is none left for the request, and never where the Open is refused.
     pub fn open(
-        self,
+        &mut self,
         is_online: bool,
         file: FileNo,
         key: LeaseKey,
         terms: Terms,
-    ) -> Result<Turn, Memory>
-        ensures turn { IfOk result (λ turn.
-            turn ≡ turn_written (rules.open_turn is_online key.0 file.0 (terms_of terms) self)) }
-        ensures refused { rules.is_refused (rules.open_turn is_online key.0 file.0 (terms_of terms) self).answer ≡ true
-            → IsOk result }
+    ) -> Result<Given, Memory>
+        ensures turn { IfOk result (λ given. turned_to self.new given
+            ≡ turn_written (rules.open_turn is_online key.0 file.0 (terms_of terms) self.old)) }
+        ensures refused { rules.is_refused
+            (rules.open_turn is_online key.0 file.0 (terms_of terms) self.old).answer ≡ true → IsOk result }
     {
-        let Entry { phase, sent } = self;
+        let Entry { phase, sent } = self.take();
         match phase {
-            Phase::Closed => first_open(sent, is_online, file, key, terms),
-            Phase::Live(live) => live.open(sent, file, key, terms),
-            phase => Ok(Entry { phase, sent }.unheard()),
+            Phase::Closed => Ok(first_open(sent, is_online, file, key, terms)?.put_into(self)),
+            Phase::Live(live) => Ok(live.open(sent, file, key, terms)?.put_into(self)),
+            phase => {
+                *self = Entry { phase, sent };
+                Ok(self.unheard())
+            }
         }
     }
 
-    /// The entry hears no command but an Open.
-    pub fn unheard(self) -> Turn
-        ensures { result ≡ turn_written (rules.unheard_turn self) }
+    /// A refused command leaves the entry as it is.
+    pub fn refused(&self, refusal: Refusal) -> Given
+        ensures { turned_to self.now result ≡ turn_written (rules.refused_turn self.now (refusal_of refusal)) }
     {
-        let refusal = match &self.phase {
-            Phase::Closed | Phase::Live(_) => Refusal::NotOpen,
-            Phase::Opening { .. } | Phase::Reconnecting(_) => Refusal::Busy,
-            Phase::Offline(_) => Refusal::Offline,
-        };
-        Turn::still(self, Answer::Refused(refusal))
+        Given::answer(self.alloc(), Answer::Refused(refusal))
+    }
+
+    /// The entry hears no command but an Open.
+    pub fn unheard(&self) -> Given
+        ensures { turned_to self.now result ≡ turn_written (rules.unheard_turn self.now) }
+    {
+        match &self.phase {
+            Phase::Closed | Phase::Live(_) => self.refused(Refusal::NotOpen),
+            Phase::Opening { .. } | Phase::Reconnecting(_) => self.refused(Refusal::Busy),
+            Phase::Offline(_) => self.refused(Refusal::Offline),
+        }
     }
 }
 

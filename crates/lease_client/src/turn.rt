@@ -1,9 +1,10 @@
-ghost use Rattle.std.specs.Prelude.{◌≡◌, ◌++◌, [], IfOk, IsOk, OnOk, true, map};
+ghost use Rattle.std.specs.Prelude.{◌≡◌, ◌++◌, [], IsOk, OnOk, true, map};
 ghost use Rattle.lease_state.specs.State.{state_of};
-ghost use Rattle.lease_model.specs.client.State.{belief_of};
+ghost use Rattle.lease_model.specs.client.Step.{believes_noted};
 ghost use Rattle.lease_model.specs.values.LeaseStates.{same_state};
 ghost use Rattle.lease_client.specs.Answers.{answer_of, note_of};
-ghost use Rattle.lease_client.specs.Turns.{given_by};
+ghost use Rattle.lease_client.specs.Created.{quiet_turn};
+ghost use Rattle.lease_client.specs.Turns.{turned_to, turn_written};
 
 use crate::command::Answer;
 use crate::entry::Entry;
@@ -92,6 +93,38 @@ impl Given {
         notes.append(&mut noted)?;
         Ok(())
     }
+
+    /// Notes what is believed of the file's lease behind the other notes, if it isn't what was believed
+    /// before.
+    ///
+    /// # Errors
+    ///
+    /// `Memory` where there is none left for that note, and never where the belief is the old one.
+    pub fn note_belief(
+        &mut self,
+        file: FileNo,
+        old: LeaseState,
+        new: LeaseState,
+    ) -> Result<(), Memory>
+        ensures note { OnOk result (self.new ≡ record self.old {
+          notes = self.old.notes ++ believes_noted file.0 (state_of old) (state_of new);
+        }) }
+        ensures same { same_state (state_of old) (state_of new) ≡ true → IsOk result }
+    {
+        if !is_same(old, new) {
+            self.notes.push(Note::Believes(file, new))?;
+        }
+        Ok(())
+    }
+}
+
+impl Entry {
+    /// The entry passes a reply over: nothing is answered, sent or noted.
+    pub fn quiet(&self) -> Given
+        ensures { turned_to self.now result ≡ turn_written (quiet_turn self.now) }
+    {
+        Given::answer(self.alloc(), Answer::Quiet)
+    }
 }
 
 impl Turn {
@@ -108,31 +141,21 @@ impl Turn {
         }
     }
 
-    /// The entry of the file after the turn, and what is given out: a belief that isn't the old one
-    /// is noted last.
-    ///
-    /// # Errors
-    ///
-    /// `Memory` where there is none left for that note, and never where the belief is the old one.
-    pub fn parts(self, file: FileNo, old: LeaseState) -> Result<(Entry, Given), Memory>
-        ensures parts { IfOk result (λ r. r ≡ (self.entry, given_by file.0 (state_of old) self)) }
-        ensures same { same_state (state_of old) (belief_of self.entry) ≡ true → IsOk result }
+    /// The entry is put into its place; the rest is given out.
+    pub fn put_into(self, place: &mut Entry) -> Given
+        ensures { turned_to place.new result ≡ self }
     {
         let Turn {
             entry,
             answer,
             requests,
-            mut notes,
+            notes,
         } = self;
-        let new = entry.belief();
-        if !is_same(old, new) {
-            notes.push(Note::Believes(file, new))?;
-        }
-        let given = Given {
+        *place = entry;
+        Given {
             answer,
             requests,
             notes,
-        };
-        Ok((entry, given))
+        }
     }
 }

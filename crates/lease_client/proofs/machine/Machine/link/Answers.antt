@@ -4,8 +4,8 @@ use Rattle.lease_client.specs.Links.{link_turn}
 use Rattle.lease_client.proofs.Linked.{knows_next, machine_more, given_more, requests_more, notes_more, linked_after}
 use Rattle.lease_client.proofs.machine.Machine.link.Goals as goal
 
-pub link_entry-requires : goal.link_entry-requires
-link_entry-requires c =
+pub link_file-requires : goal.link_file-requires
+link_file-requires c =
     let known = c.args.self.now in
     let below : c.loop-index.index < length known.entries = omega arith in
     knows_next known _ (link_turn c.args.link known.guid) _ c.loop-index.invariant.machine below

@@ -1,13 +1,21 @@
-use Rattle.lease_client.specs.Known.{client_of}
-use Rattle.lease_client.specs.Links.{link_turn}
-use Rattle.lease_client.proofs.Linked.{entry_linked}
+use Rattle.std.proofs.Common.{◌≡◌, true, sym, subst, ap, refl}
+use Rattle.lease_model.specs.client.State.{knows_file}
+use Rattle.lease_client.specs.Known.{Known, client_of}
+use Rattle.lease_client.specs.Turns.{Turned, given_in}
+use Rattle.lease_client.specs.contracts.machine.Machine.{the_view}
+use Rattle.lease_client.proofs.Entries.{entry_of_file}
 use Rattle.lease_client.proofs.machine.Machine.link_entry.Goals as goal
 
 pub returns-clause-machine : goal.returns-clause-machine
 returns-clause-machine c =
-    let known = c.args.self.now in
-    let n = c.args.file.0 in
-    entry_linked known n (link_turn c.args.link known.guid n ((client_of known).entries n)) _ _ _
-    c.take_entry-entry.ensures.rest
-    (rw (c.key-key.ensures, c.take_entry-entry.ensures.entry) at c.in_ok-turn.ensures)
-    c.in_ok-given.ensures.machine
+    let known = the_view c.self.inside in
+    let has = subst (λ (k : Known). knows_file (client_of k) c.args.file.0 ≡ true) (sym c.self.view_is) c.requires in
+    let e = entry_of_file known c.args.file.0 c.index_mut.result.now has (rw c.from-index.ensures at c.index_mut.ensures.value) in
+    rw (← c.self.view_is, e, c.from-index.ensures, ap (λ (t : Turned). t.entry) c.in_ok-given.ensures) refl
+
+pub returns-clause-given : goal.returns-clause-given
+returns-clause-given c =
+    let known = the_view c.self.inside in
+    let has = subst (λ (k : Known). knows_file (client_of k) c.args.file.0 ≡ true) (sym c.self.view_is) c.requires in
+    let e = entry_of_file known c.args.file.0 c.index_mut.result.now has (rw c.from-index.ensures at c.index_mut.ensures.value) in
+    rw (← c.self.view_is, e) (ap given_in c.in_ok-given.ensures)

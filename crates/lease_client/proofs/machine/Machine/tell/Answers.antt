@@ -1,4 +1,3 @@
-use Rattle.lease_model.specs.client.State.{lease_key}
 use Rattle.lease_client.specs.Known.{client_of}
 use Rattle.lease_client.specs.Messages.{message_turn}
 use Rattle.lease_client.proofs.Steps.{told_after}
@@ -8,7 +7,7 @@ pub returns : goal.returns
 returns c =
     let known = c.args.self.now in
     let n = c.args.file.0 in
-    told_after known n (message_turn (lease_key known.guid n) c.args.message ((client_of known).entries n))
-    _ _ _ _ _ _ c.requires c.take_entry-entry.ensures.entry c.belief-old.ensures c.take_entry-entry.ensures.rest
-    (rw (c.key-key.ensures, c.take_entry-entry.ensures.entry) at c.in_ok-turn.ensures)
-    c.in_ok-given.ensures.machine c.in_ok-given.ensures.given
+    rw (← c.key-key.ensures)
+    (told_after known n (message_turn c.key-key.result.0 c.args.message ((client_of known).entries n))
+    _ _ _ _ _ c.requires c.belief-old.ensures c.in_ok-given.ensures.machine c.in_ok-given.ensures.given
+    c.belief.ensures c.in_ok-note_belief.ensures.note)
