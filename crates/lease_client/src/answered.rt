@@ -35,13 +35,14 @@ impl Entry {
     /// # Errors
     ///
     /// `Memory` where there is none left for the bytes that the application sees.
-    pub fn read_done(&mut self, bytes: Bytes) -> Result<Given, Memory>
-        ensures { IfOk result (λ given. turned_to self.new given ≡ turn_written (read_done_turn bytes self.old)) }
+    pub fn read_done(&mut self, bytes: Bytes, given: &mut Given) -> Result<(), Memory>
+        ensures { OnOk result (turned_to self.new given.new ≡ turn_written (read_done_turn bytes self.old)) }
     {
         let Phase::Live(live) = &mut self.phase else {
-            return Ok(self.quiet());
+            *given = self.quiet();
+            return Ok(());
         };
-        live.read_done(&self.sent, bytes)
+        live.read_done(&self.sent, bytes, given)
     }
 
     /// A Read is refused.
@@ -49,15 +50,19 @@ impl Entry {
     /// # Errors
     ///
     /// `Memory` where there is none left for what is noted.
-    pub fn not_read(&mut self, status: Status) -> Result<Given, Memory>
-        ensures { IfOk result (λ given. turned_to self.new given ≡ turn_written (not_read_turn status self.old)) }
+    pub fn not_read(&mut self, status: Status, given: &mut Given) -> Result<(), Memory>
+        ensures { OnOk result (turned_to self.new given.new ≡ turn_written (not_read_turn status self.old)) }
     {
         let Entry { phase, sent } = self.take();
         match phase {
-            Phase::Live(live) => Ok(live.not_read(sent, status)?.put_into(self)),
+            Phase::Live(live) => {
+                live.not_read(sent, status)?.put_into(self, given);
+                Ok(())
+            }
             phase => {
                 *self = Entry { phase, sent };
-                Ok(self.quiet())
+                *given = self.quiet();
+                Ok(())
             }
         }
     }
@@ -68,8 +73,8 @@ impl Entry {
     ///
     /// `Memory` where there is none left for the base or the note.
     #[tactic(auto, unfolding(lease_model::specs::client::Taken::write_done_turn))]
-    pub fn written(&mut self, number: u64) -> Result<Given, Memory>
-        ensures { IfOk result (λ given. turned_to self.new given
+    pub fn written(&mut self, number: u64, given: &mut Given) -> Result<(), Memory>
+        ensures { OnOk result (turned_to self.new given.new
             ≡ turn_written (rules.write_done_turn number self.old)) }
     {
         let alloc = self.alloc();
@@ -77,11 +82,12 @@ impl Entry {
         put_write(&mut self.phase, &write)?;
         let mut notes = Vec::new(alloc);
         notes.push(Note::Settled(number, Settlement::Done))?;
-        Ok(Given {
+        *given = Given {
             answer: Answer::Quiet,
             requests: Vec::new(alloc),
             notes,
-        })
+        };
+        Ok(())
     }
 
     /// The write of this number is refused.
@@ -94,8 +100,9 @@ impl Entry {
         file_id: FileId,
         number: u64,
         status: Status,
-    ) -> Result<Given, Memory>
-        ensures { IfOk result (λ given. turned_to self.new given
+        given: &mut Given,
+    ) -> Result<(), Memory>
+        ensures { OnOk result (turned_to self.new given.new
             ≡ turn_written (not_written_turn file_id.0 number status self.old)) }
     {
         let Entry { phase, mut sent } = self.take();
@@ -104,17 +111,19 @@ impl Entry {
         let mut notes = Vec::new(alloc);
         notes.push(Note::Settled(number, Settlement::Failed))?;
         match phase {
-            Phase::Live(live) => Ok(
-                live.not_written(sent, notes, file_id, status)?
-                    .put_into(self),
-            ),
+            Phase::Live(live) => {
+                let turn = live.not_written(sent, notes, file_id, status)?;
+                turn.put_into(self, given);
+                Ok(())
+            }
             phase => {
                 *self = Entry { phase, sent };
-                Ok(Given {
+                *given = Given {
                     answer: Answer::Failed(status),
                     requests: Vec::new(alloc),
                     notes,
-                })
+                };
+                Ok(())
             }
         }
     }
@@ -177,14 +186,20 @@ impl Live {
 
     // The bytes become the base under R; the application sees its own unanswered writes in them.
     #[tactic(auto, unfolding(lease_model::specs::client::Taken::read_turn))]
-    fn read_done(&mut self, sent: &Vec<Pending>, bytes: Bytes) -> Result<Given, Memory>
-        ensures { IfOk result (λ given. turned_to (live_entry self.new sent.now.items) given
+    fn read_done(
+        &mut self,
+        sent: &Vec<Pending>,
+        bytes: Bytes,
+        given: &mut Given,
+    ) -> Result<(), Memory>
+        ensures { OnOk result (turned_to (live_entry self.new sent.now.items) given.new
             ≡ turn_written (rules.read_turn self.old sent.now.items bytes)) }
     {
         let seen = view(&bytes, sent, &self.unsent)?;
         self.reads = self.reads.saturating_sub(1);
         self.learn(bytes);
-        Ok(Given::answer(*sent.allocator(), Answer::Bytes(seen, false)))
+        *given = Given::answer(*sent.allocator(), Answer::Bytes(seen, false));
+        Ok(())
     }
 
     // Under R the bytes become the base.

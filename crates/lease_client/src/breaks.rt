@@ -20,16 +20,20 @@ impl Entry {
     /// # Errors
     ///
     /// `Memory` where there is none left for what is sent.
-    pub fn broken(&mut self, notice: &Notification) -> Result<Given, Memory>
-        ensures { IfOk result (λ given. turned_to self.new given
+    pub fn broken(&mut self, notice: &Notification, given: &mut Given) -> Result<(), Memory>
+        ensures { OnOk result (turned_to self.new given.new
             ≡ turn_written (broken_turn (notice_read notice.now) self.old)) }
     {
         let Entry { phase, sent } = self.take();
         match phase {
-            Phase::Live(live) => Ok(live.broken(sent, notice)?.put_into(self)),
+            Phase::Live(live) => {
+                live.broken(sent, notice)?.put_into(self, given);
+                Ok(())
+            }
             phase => {
                 *self = Entry { phase, sent };
-                Ok(self.quiet())
+                *given = self.quiet();
+                Ok(())
             }
         }
     }

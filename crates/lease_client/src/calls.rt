@@ -1,4 +1,4 @@
-ghost use Rattle.std.specs.Prelude.{◌≡◌, IfOk, IsOk, true};
+ghost use Rattle.std.specs.Prelude.{◌≡◌, OnOk, IsOk, true};
 ghost use Rattle.lease_model.specs.client.Commanded.{commanded};
 ghost use Rattle.lease_model.specs.client.State.{knows_file};
 ghost use Rattle.lease_client.specs.Answers.{command_of};
@@ -19,32 +19,33 @@ impl Machine {
     /// # Errors
     ///
     /// `Memory` where there is none left, and never where the command is refused.
-    pub fn app(&mut self, command: Command) -> Result<Given, Memory>
-        ensures after { IfOk result (λ given. IsAfter self.new given
+    pub fn app(&mut self, command: Command, given: &mut Given) -> Result<(), Memory>
+        ensures after { OnOk result (IsAfter self.new given.new
             (commanded (client_of self.old) (command_of command))) }
         ensures refused { is_refused (commanded (client_of self.old) (command_of command)).answer ≡ true → IsOk result }
     {
         let file = command.file();
         if !self.knows(file) {
-            return Ok(Given::answer(self.alloc(), Answer::Refused(Refusal::NotOpen)));
+            *given = Given::answer(self.alloc(), Answer::Refused(Refusal::NotOpen));
+            return Ok(());
         }
-        self.command(file, command)
+        self.command(file, command, given)
     }
 
     // A command about a file that the client has.
-    fn command(&mut self, file: FileNo, command: Command) -> Result<Given, Memory>
+    fn command(&mut self, file: FileNo, command: Command, given: &mut Given) -> Result<(), Memory>
         requires known { knows_file (client_of self.old) file.0 ≡ true }
         requires of_file { file.0 ≡ file_of (command_of command) }
-        ensures after { IfOk result (λ given. IsAfter self.new given
+        ensures after { OnOk result (IsAfter self.new given.new
             (commanded (client_of self.old) (command_of command))) }
         ensures refused { is_refused (commanded (client_of self.old) (command_of command)).answer ≡ true → IsOk result }
     {
         clients_are_sound();
         let key = self.key(file);
         let old = self.belief(file);
-        let mut given = self.command_entry(file, key, command)?;
+        self.command_entry(file, key, command, given)?;
         given.note_belief(file, old, self.belief(file))?;
-        Ok(given)
+        Ok(())
     }
 
     /// A reply reaches the entry of a file.
@@ -52,16 +53,16 @@ impl Machine {
     /// # Errors
     ///
     /// `Memory` where there is none left.
-    pub fn tell(&mut self, file: FileNo, message: Message) -> Result<Given, Memory>
+    pub fn tell(&mut self, file: FileNo, message: Message, given: &mut Given) -> Result<(), Memory>
         requires { knows_file (client_of self.old) file.0 ≡ true }
-        ensures { IfOk result (λ given. IsAfter self.new given
+        ensures { OnOk result (IsAfter self.new given.new
             (told_step (client_of self.old) file.0 message)) }
     {
         let key = self.key(file);
         let old = self.belief(file);
-        let mut given = self.tell_entry(file, key, message)?;
+        self.tell_entry(file, key, message, given)?;
         given.note_belief(file, old, self.belief(file))?;
-        Ok(given)
+        Ok(())
     }
 }
 

@@ -14,7 +14,7 @@ ghost use Rattle.lease_client.specs.Known.{client_of};
 ghost use Rattle.lease_client.specs.Links.{linked};
 ghost use Rattle.lease_client.specs.Steps.{IsStep, RefusesQuietly};
 
-use crate::command::Command;
+use crate::command::{Answer, Command};
 use crate::links::Link;
 use crate::machine::Machine;
 use crate::step::Step;
@@ -92,11 +92,13 @@ impl Client {
     {
         clients_are_sound();
         let Client { mut machine } = self;
+        let mut given = Given::answer(machine.alloc(), Answer::Quiet);
+        machine.app(command, &mut given)?;
         let Given {
             answer,
             requests,
             notes,
-        } = machine.app(command)?;
+        } = given;
         Ok(Step {
             client: Client { machine },
             answer,
@@ -119,11 +121,13 @@ impl Client {
     {
         clients_are_sound();
         let Client { mut machine } = self;
+        let mut given = Given::answer(machine.alloc(), Answer::Quiet);
+        machine.take(reply, &mut given)?;
         let Given {
             answer,
             requests,
             notes,
-        } = machine.take(reply)?;
+        } = given;
         Ok(Step {
             client: Client { machine },
             answer,
@@ -163,11 +167,13 @@ impl Client {
     {
         clients_are_sound();
         let Client { mut machine } = self;
+        let mut given = Given::answer(machine.alloc(), Answer::Quiet);
+        machine.link(link, &mut given)?;
         let Given {
             answer,
             requests,
             notes,
-        } = machine.link(link)?;
+        } = given;
         Ok(Step {
             client: Client { machine },
             answer,

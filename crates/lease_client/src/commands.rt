@@ -1,4 +1,4 @@
-ghost use Rattle.std.specs.Prelude.{◌≡◌, ◌==◌, ◌+◌, true, Some, IfOk, IsOk};
+ghost use Rattle.std.specs.Prelude.{◌≡◌, ◌==◌, ◌+◌, true, Some, IfOk, OnOk, IsOk};
 ghost use Rattle.lease_model.specs.client.Commanded.{has_unanswered};
 ghost use Rattle.lease_model.specs.values.Patches.{is_within_limit};
 ghost use Rattle.lease_client.specs.Answers.{command_of};
@@ -27,10 +27,11 @@ impl Entry {
         key: LeaseKey,
         last_number: &mut u64,
         command: Command,
-    ) -> Result<Given, Memory>
-        ensures turn { IfOk result (λ given. turned_to self.new given ≡ turn_written
+        given: &mut Given,
+    ) -> Result<(), Memory>
+        ensures turn { OnOk result (turned_to self.new given.new ≡ turn_written
             (rules.commanded_turn is_online key.0 last_number.old (command_of command) self.old)) }
-        ensures number { IfOk result (λ given. last_number.new
+        ensures number { OnOk result (last_number.new
             ≡ rules.last_after is_online key.0 last_number.old (command_of command) self.old) }
         ensures refused { rules.is_refused
             (rules.commanded_turn is_online key.0 last_number.old (command_of command) self.old).answer ≡ true
@@ -50,12 +51,12 @@ impl Entry {
                     want,
                     durable,
                 };
-                self.open(is_online, file, key, terms)
+                self.open(is_online, file, key, terms, given)
             }
-            Command::Close { .. } => self.close(),
-            Command::Read { file } => self.read(file),
-            Command::Write { file, patch } => self.write(file, last_number, patch),
-            Command::Flush { .. } => self.flush(),
+            Command::Close { .. } => self.close(given),
+            Command::Read { file } => self.read(file, given),
+            Command::Write { file, patch } => self.write(file, last_number, patch, given),
+            Command::Flush { .. } => self.flush(given),
         }
     }
 
@@ -64,8 +65,8 @@ impl Entry {
     /// # Errors
     ///
     /// `Memory` where there is none left for what is sent, and never where the Close is refused.
-    pub fn close(&mut self) -> Result<Given, Memory>
-        ensures turn { IfOk result (λ given. turned_to self.new given
+    pub fn close(&mut self, given: &mut Given) -> Result<(), Memory>
+        ensures turn { OnOk result (turned_to self.new given.new
             ≡ turn_written (rules.heard_turn rules.close_turn self.old)) }
         ensures refused { rules.is_refused (rules.heard_turn rules.close_turn self.old).answer ≡ true → IsOk result }
     {
@@ -73,13 +74,16 @@ impl Entry {
         match phase {
             Phase::Live(live) => {
                 if live.is_parked() {
-                    return Ok(live.refused(sent, Refusal::NotOpen).put_into(self));
+                    live.refused(sent, Refusal::NotOpen).put_into(self, given);
+                    return Ok(());
                 }
-                Ok(live.close(sent)?.put_into(self))
+                live.close(sent)?.put_into(self, given);
+                Ok(())
             }
             phase => {
                 *self = Entry { phase, sent };
-                Ok(self.unheard())
+                *given = self.unheard();
+                Ok(())
             }
         }
     }
@@ -90,19 +94,21 @@ impl Entry {
     ///
     /// `Memory` where there is none left for the bytes or the request, and never where the Read is
     /// refused.
-    pub fn read(&mut self, file: FileNo) -> Result<Given, Memory>
-        ensures turn { IfOk result (λ given. turned_to self.new given
+    pub fn read(&mut self, file: FileNo, given: &mut Given) -> Result<(), Memory>
+        ensures turn { OnOk result (turned_to self.new given.new
             ≡ turn_written (rules.heard_turn (rules.read_turn file.0) self.old)) }
         ensures refused { rules.is_refused (rules.heard_turn (rules.read_turn file.0) self.old).answer ≡ true
             → IsOk result }
     {
         let Phase::Live(live) = &mut self.phase else {
-            return Ok(self.unheard());
+            *given = self.unheard();
+            return Ok(());
         };
         if live.is_parked() {
-            return Ok(self.refused(Refusal::NotOpen));
+            *given = self.refused(Refusal::NotOpen);
+            return Ok(());
         }
-        live.read(&self.sent, file)
+        live.read(&self.sent, file, given)
     }
 
     /// A Write, which takes the next number of the client (own).
@@ -116,21 +122,24 @@ impl Entry {
         file: FileNo,
         last_number: &mut u64,
         patch: Patch,
-    ) -> Result<Given, Memory>
-        ensures turn { IfOk result (λ given. turned_to self.new given
+        given: &mut Given,
+    ) -> Result<(), Memory>
+        ensures turn { OnOk result (turned_to self.new given.new
             ≡ turn_written (written_turn file.0 last_number.old patch self.old)) }
-        ensures number { IfOk result (λ given. last_number.new
+        ensures number { OnOk result (last_number.new
             ≡ rules.number_after (written_turn file.0 last_number.old patch self.old) last_number.old) }
         ensures refused { rules.is_refused (written_turn file.0 last_number.old patch self.old).answer ≡ true
             → IsOk result }
     {
         let Phase::Live(live) = &mut self.phase else {
-            return Ok(self.unheard());
+            *given = self.unheard();
+            return Ok(());
         };
         if live.is_parked() {
-            return Ok(self.refused(Refusal::NotOpen));
+            *given = self.refused(Refusal::NotOpen);
+            return Ok(());
         }
-        live.write(&mut self.sent, file, last_number, patch)
+        live.write(&mut self.sent, file, last_number, patch, given)
     }
 
     /// A Flush: unsent writes are sent (own).
@@ -138,18 +147,20 @@ impl Entry {
     /// # Errors
     ///
     /// `Memory` where there is none left for what is sent, and never where the Flush is refused.
-    pub fn flush(&mut self) -> Result<Given, Memory>
-        ensures turn { IfOk result (λ given. turned_to self.new given
+    pub fn flush(&mut self, given: &mut Given) -> Result<(), Memory>
+        ensures turn { OnOk result (turned_to self.new given.new
             ≡ turn_written (rules.heard_turn rules.flush_turn self.old)) }
         ensures refused { rules.is_refused (rules.heard_turn rules.flush_turn self.old).answer ≡ true → IsOk result }
     {
         let Phase::Live(live) = &mut self.phase else {
-            return Ok(self.unheard());
+            *given = self.unheard();
+            return Ok(());
         };
         if live.is_parked() {
-            return Ok(self.refused(Refusal::NotOpen));
+            *given = self.refused(Refusal::NotOpen);
+            return Ok(());
         }
-        live.flush(&mut self.sent)
+        live.flush(&mut self.sent, given)
     }
 }
 
@@ -218,46 +229,55 @@ impl Live {
 
     // A Read is answered from the cache, or sent.
     #[tactic(auto, unfolding(crate::specs::Commanded::read_turn))]
-    fn read(&mut self, sent: &Vec<Pending>, file: FileNo) -> Result<Given, Memory>
-        ensures turn { IfOk result (λ given. turned_to (live_entry self.new sent.now.items) given
+    fn read(&mut self, sent: &Vec<Pending>, file: FileNo, given: &mut Given) -> Result<(), Memory>
+        ensures turn { OnOk result (turned_to (live_entry self.new sent.now.items) given.new
             ≡ turn_written (rules.read_turn file.0 self.old sent.now.items)) }
         ensures refused { rules.is_refused (rules.read_turn file.0 self.old sent.now.items).answer ≡ true
             → IsOk result }
     {
         if !self.access.reads() {
-            return Ok(refused(sent, Refusal::Denied));
+            *given = refused(sent, Refusal::Denied);
+            return Ok(());
         }
         if !self.belief.caches_reads() {
-            return self.send_read(sent);
+            return self.send_read(sent, given);
         }
         match &self.base {
-            Some(base) => cached(*sent.allocator(), file, view(base, sent, &self.unsent)?),
-            None => self.send_read(sent),
+            Some(base) => cached(
+                *sent.allocator(),
+                file,
+                view(base, sent, &self.unsent)?,
+                given,
+            ),
+            None => self.send_read(sent, given),
         }
     }
 
     #[tactic(auto, unfolding(crate::specs::Commanded::read_sent_turn, lease_model::specs::values::Limits::count_limit))]
-    fn send_read(&mut self, sent: &Vec<Pending>) -> Result<Given, Memory>
-        ensures turn { IfOk result (λ given. turned_to (live_entry self.new sent.now.items) given
+    fn send_read(&mut self, sent: &Vec<Pending>, given: &mut Given) -> Result<(), Memory>
+        ensures turn { OnOk result (turned_to (live_entry self.new sent.now.items) given.new
             ≡ turn_written (rules.read_sent_turn self.old sent.now.items)) }
         ensures refused { rules.is_refused (rules.read_sent_turn self.old sent.now.items).answer ≡ true
             → IsOk result }
     {
         if self.handles.asking().is_some() {
-            return Ok(refused(sent, Refusal::Busy));
+            *given = refused(sent, Refusal::Busy);
+            return Ok(());
         }
         if self.reads == u32::MAX {
-            return Ok(refused(sent, Refusal::UsedUp));
+            *given = refused(sent, Refusal::UsedUp);
+            return Ok(());
         }
         let alloc = *sent.allocator();
         let mut requests = Vec::new(alloc);
         requests.push(Request::Read { fid: self.file_id })?;
         self.reads += 1;
-        Ok(Given {
+        *given = Given {
             answer: Answer::Waiting,
             requests,
             notes: Vec::new(alloc),
-        })
+        };
+        Ok(())
     }
 
     // First the access, then the write's end, then the numbers that are left.
@@ -268,25 +288,29 @@ impl Live {
         file: FileNo,
         last_number: &mut u64,
         patch: Patch,
-    ) -> Result<Given, Memory>
-        ensures turn { IfOk result (λ given. turned_to (live_entry self.new sent.new.items) given
+        given: &mut Given,
+    ) -> Result<(), Memory>
+        ensures turn { OnOk result (turned_to (live_entry self.new sent.new.items) given.new
             ≡ turn_written (rules.write_turn file.0 self.old sent.old.items last_number.old patch)) }
-        ensures number { IfOk result (λ given. last_number.new
+        ensures number { OnOk result (last_number.new
             ≡ rules.number_after (rules.write_turn file.0 self.old sent.old.items last_number.old patch) last_number.old) }
         ensures refused { rules.is_refused (rules.write_turn file.0 self.old sent.old.items last_number.old patch).answer
             ≡ true → IsOk result }
     {
         if !self.access.writes() {
-            return Ok(refused(sent, Refusal::Denied));
+            *given = refused(sent, Refusal::Denied);
+            return Ok(());
         }
         if !is_within_limit(&patch) {
-            return Ok(refused(sent, Refusal::TooLong));
+            *given = refused(sent, Refusal::TooLong);
+            return Ok(());
         }
         if *last_number == u64::MAX {
-            return Ok(refused(sent, Refusal::UsedUp));
+            *given = refused(sent, Refusal::UsedUp);
+            return Ok(());
         }
         *last_number += 1;
-        self.take_write(sent, file, *last_number, patch)
+        self.take_write(sent, file, *last_number, patch, given)
     }
 
     // Under W a write is buffered, and else it is sent.
@@ -297,15 +321,16 @@ impl Live {
         file: FileNo,
         number: u64,
         patch: Patch,
-    ) -> Result<Given, Memory>
-        ensures turn { IfOk result (λ given. turned_to (live_entry self.new sent.new.items) given
+        given: &mut Given,
+    ) -> Result<(), Memory>
+        ensures turn { OnOk result (turned_to (live_entry self.new sent.new.items) given.new
             ≡ turn_written (rules.taken_turn file.0 self.old sent.old.items number patch)) }
         ensures taken { rules.is_refused (rules.taken_turn file.0 self.old sent.old.items number patch).answer ≡ false }
     {
         if self.belief.caches_writes() {
-            self.buffer_write(sent, file, number, patch)
+            self.buffer_write(sent, file, number, patch, given)
         } else {
-            self.send_write(sent, file, number, patch)
+            self.send_write(sent, file, number, patch, given)
         }
     }
 
@@ -316,8 +341,9 @@ impl Live {
         file: FileNo,
         number: u64,
         patch: Patch,
-    ) -> Result<Given, Memory>
-        ensures turn { IfOk result (λ given. turned_to (live_entry self.new sent.new.items) given
+        given: &mut Given,
+    ) -> Result<(), Memory>
+        ensures turn { OnOk result (turned_to (live_entry self.new sent.new.items) given.new
             ≡ turn_written (rules.buffered_turn file.0 self.old sent.old.items number patch)) }
         ensures taken { rules.is_refused (rules.buffered_turn file.0 self.old sent.old.items number patch).answer
             ≡ false }
@@ -330,11 +356,12 @@ impl Live {
             patch,
             buffered: true,
         })?;
-        Ok(Given {
+        *given = Given {
             answer: Answer::Done,
             requests: Vec::new(alloc),
             notes,
-        })
+        };
+        Ok(())
     }
 
     #[tactic(auto, unfolding(crate::specs::Commanded::through_turn))]
@@ -344,8 +371,9 @@ impl Live {
         file: FileNo,
         number: u64,
         patch: Patch,
-    ) -> Result<Given, Memory>
-        ensures turn { IfOk result (λ given. turned_to (live_entry self.now sent.new.items) given
+        given: &mut Given,
+    ) -> Result<(), Memory>
+        ensures turn { OnOk result (turned_to (live_entry self.now sent.new.items) given.new
             ≡ turn_written (rules.through_turn file.0 self.now sent.old.items number patch)) }
         ensures taken { rules.is_refused (rules.through_turn file.0 self.now sent.old.items number patch).answer
             ≡ false }
@@ -364,16 +392,17 @@ impl Live {
             patch,
             buffered: false,
         })?;
-        Ok(Given {
+        *given = Given {
             answer: Answer::Waiting,
             requests,
             notes,
-        })
+        };
+        Ok(())
     }
 
     #[tactic(auto, unfolding(crate::specs::Commanded::flush_turn))]
-    fn flush(&mut self, sent: &mut Vec<Pending>) -> Result<Given, Memory>
-        ensures turn { IfOk result (λ given. turned_to (live_entry self.new sent.new.items) given
+    fn flush(&mut self, sent: &mut Vec<Pending>, given: &mut Given) -> Result<(), Memory>
+        ensures turn { OnOk result (turned_to (live_entry self.new sent.new.items) given.new
             ≡ turn_written (rules.flush_turn self.old sent.old.items)) }
         ensures refused { rules.is_refused (rules.flush_turn self.old sent.old.items).answer ≡ true → IsOk result }
     {
@@ -385,11 +414,12 @@ impl Live {
         };
         let mut requests = Vec::new(alloc);
         self.send_unsent(sent, &mut requests)?;
-        Ok(Given {
+        *given = Given {
             answer,
             requests,
             notes: Vec::new(alloc),
-        })
+        };
+        Ok(())
     }
 }
 
@@ -407,8 +437,8 @@ fn refused(sent: &Vec<Pending>, refusal: Refusal) -> Given
 }
 
 // The file as the application sees it, from the cache: it is answered and noted.
-fn cached(alloc: Global, file: FileNo, seen: Bytes) -> Result<Given, Memory>
-    ensures { IfOk result (λ given. given ≡ record {
+fn cached(alloc: Global, file: FileNo, seen: Bytes, given: &mut Given) -> Result<(), Memory>
+    ensures { OnOk result (given.new ≡ record {
       answer = model.Answer.Bytes seen true;
       requests = [];
       notes = model.Note.CachedRead file.0 seen ∷ [];
@@ -416,9 +446,10 @@ fn cached(alloc: Global, file: FileNo, seen: Bytes) -> Result<Given, Memory>
 {
     let mut notes = Vec::new(alloc);
     notes.push(Note::CachedRead(file, seen.try_copy()?))?;
-    Ok(Given {
+    *given = Given {
         answer: Answer::Bytes(seen, true),
         requests: Vec::new(alloc),
         notes,
-    })
+    };
+    Ok(())
 }

@@ -1,4 +1,4 @@
-ghost use Rattle.std.specs.Prelude.{◌≡◌, ◌++◌, IfOk, filter};
+ghost use Rattle.std.specs.Prelude.{◌≡◌, ◌++◌, IfOk, OnOk, filter};
 ghost use Rattle.lease_model.specs.client.Connection as rules;
 ghost use Rattle.lease_model.specs.values.Lists.{without};
 ghost use Rattle.lease_client.specs.Connected.{connected_turn};
@@ -18,16 +18,23 @@ impl Entry {
     /// # Errors
     ///
     /// `Memory` where there is none left for the notes.
-    pub fn noticed(&mut self) -> Result<Given, Memory>
-        ensures { IfOk result (λ given. turned_to self.new given
+    pub fn noticed(&mut self, given: &mut Given) -> Result<(), Memory>
+        ensures { OnOk result (turned_to self.new given.new
             ≡ turn_written (rules.notice_turn self.old.sent self.old.phase)) }
     {
         let Entry { phase, sent } = self.take();
         match phase {
-            Phase::Closed | Phase::Opening { .. } => Ok(ended(sent)?.put_into(self)),
-            Phase::Live(live) => Ok(live.noticed(sent)?.put_into(self)),
+            Phase::Closed | Phase::Opening { .. } => {
+                ended(sent)?.put_into(self, given);
+                Ok(())
+            }
+            Phase::Live(live) => {
+                live.noticed(sent)?.put_into(self, given);
+                Ok(())
+            }
             Phase::Offline(parted) | Phase::Reconnecting(parted) => {
-                Ok(parted.offline(sent)?.put_into(self))
+                parted.offline(sent)?.put_into(self, given);
+                Ok(())
             }
         }
     }
@@ -37,16 +44,25 @@ impl Entry {
     /// # Errors
     ///
     /// `Memory` where there is none left for the request, and never where the entry isn't offline.
-    pub fn connected(&mut self, file: FileNo, key: LeaseKey) -> Result<Given, Memory>
-        ensures { IfOk result (λ given. turned_to self.new given
+    pub fn connected(
+        &mut self,
+        file: FileNo,
+        key: LeaseKey,
+        given: &mut Given,
+    ) -> Result<(), Memory>
+        ensures { OnOk result (turned_to self.new given.new
             ≡ turn_written (connected_turn key.0 file.0 self.old)) }
     {
         let Entry { phase, sent } = self.take();
         match phase {
-            Phase::Offline(parted) => Ok(parted.reconnecting(sent, file, key)?.put_into(self)),
+            Phase::Offline(parted) => {
+                parted.reconnecting(sent, file, key)?.put_into(self, given);
+                Ok(())
+            }
             phase => {
                 *self = Entry { phase, sent };
-                Ok(self.quiet())
+                *given = self.quiet();
+                Ok(())
             }
         }
     }

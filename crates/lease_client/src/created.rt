@@ -1,4 +1,4 @@
-ghost use Rattle.std.specs.Prelude.{◌≡◌, Some, IfOk, if◌then◌else◌};
+ghost use Rattle.std.specs.Prelude.{◌≡◌, Some, IfOk, OnOk, if◌then◌else◌};
 ghost use Rattle.std.specs.Option.{option_map};
 ghost use Rattle.lease_state.specs.State.{state_of};
 ghost use Rattle.lease_wire.specs.Create.{granted_view};
@@ -31,8 +31,9 @@ impl Entry {
         key: LeaseKey,
         file_id: FileId,
         answer: &CreateAnswer,
-    ) -> Result<Given, Memory>
-        ensures { IfOk result (λ given. turned_to self.new given
+        given: &mut Given,
+    ) -> Result<(), Memory>
+        ensures { OnOk result (turned_to self.new given.new
             ≡ turn_written (created_turn key.0 file_id.0 (answer_read answer.now) self.old)) }
     {
         let Entry { phase, sent } = self.take();
@@ -40,16 +41,23 @@ impl Entry {
             Phase::Opening { access, share } => {
                 let belief = first_belief(key, answer.lease);
                 let asked = Asked { access, share };
-                Ok(opened(file_id, asked, sent, answer, belief).put_into(self))
+                opened(file_id, asked, sent, answer, belief).put_into(self, given);
+                Ok(())
             }
             Phase::Reconnecting(parted) => {
                 let belief = first_belief(key, answer.lease);
-                Ok(parted.connected(sent, belief)?.put_into(self))
+                parted.connected(sent, belief)?.put_into(self, given);
+                Ok(())
             }
-            Phase::Live(live) => Ok(live.created(sent, key, file_id, answer)?.put_into(self)),
+            Phase::Live(live) => {
+                live.created(sent, key, file_id, answer)?
+                    .put_into(self, given);
+                Ok(())
+            }
             phase => {
                 *self = Entry { phase, sent };
-                Ok(self.quiet())
+                *given = self.quiet();
+                Ok(())
             }
         }
     }
@@ -59,20 +67,28 @@ impl Entry {
     /// # Errors
     ///
     /// `Memory` where there is none left for what is noted.
-    pub fn not_created(&mut self, status: Status) -> Result<Given, Memory>
-        ensures { IfOk result (λ given. turned_to self.new given ≡ turn_written (not_created_turn status self.old)) }
+    pub fn not_created(&mut self, status: Status, given: &mut Given) -> Result<(), Memory>
+        ensures { OnOk result (turned_to self.new given.new ≡ turn_written (not_created_turn status self.old)) }
     {
         let Entry { phase, sent } = self.take();
         match phase {
             Phase::Opening { .. } => {
                 let turn = Turn::still(Entry::shut(sent), Answer::Failed(status));
-                Ok(turn.put_into(self))
+                turn.put_into(self, given);
+                Ok(())
             }
-            Phase::Reconnecting(parted) => Ok(parted.given_up(sent, status)?.put_into(self)),
-            Phase::Live(live) => Ok(live.not_created(sent, status).put_into(self)),
+            Phase::Reconnecting(parted) => {
+                parted.given_up(sent, status)?.put_into(self, given);
+                Ok(())
+            }
+            Phase::Live(live) => {
+                live.not_created(sent, status).put_into(self, given);
+                Ok(())
+            }
             phase => {
                 *self = Entry { phase, sent };
-                Ok(self.quiet())
+                *given = self.quiet();
+                Ok(())
             }
         }
     }

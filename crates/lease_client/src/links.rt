@@ -1,4 +1,4 @@
-ghost use Rattle.std.specs.Prelude.{◌≡◌, ◌-◌, true, IfOk, OnOk};
+ghost use Rattle.std.specs.Prelude.{◌≡◌, ◌-◌, true, OnOk};
 ghost use Rattle.std.proofs.Math.ListN.{set};
 ghost use Rattle.lease_model.specs.client.State.{knows_file, belief_of};
 ghost use Rattle.lease_client.specs.Known.{client_of};
@@ -35,13 +35,19 @@ impl Entry {
     /// # Errors
     ///
     /// `Memory` where there is none left.
-    pub fn linked(&mut self, link: Link, file: FileNo, key: LeaseKey) -> Result<Given, Memory>
-        ensures { IfOk result (λ given.
-            turned_to self.new given ≡ turn_written (keyed_turn link key.0 file.0 self.old)) }
+    pub fn linked(
+        &mut self,
+        link: Link,
+        file: FileNo,
+        key: LeaseKey,
+        given: &mut Given,
+    ) -> Result<(), Memory>
+        ensures { OnOk result (
+            turned_to self.new given.new ≡ turn_written (keyed_turn link key.0 file.0 self.old)) }
     {
         match link {
-            Link::Lost => self.noticed(),
-            Link::Made => self.connected(file, key),
+            Link::Lost => self.noticed(given),
+            Link::Made => self.connected(file, key, given),
         }
     }
 }
@@ -52,37 +58,39 @@ impl Machine {
     /// # Errors
     ///
     /// `Memory` where there is none left.
-    pub fn link(&mut self, link: Link) -> Result<Given, Memory>
-        ensures { IfOk result (λ given. IsAfter self.new given (linked (client_of self.old) link)) }
+    pub fn link(&mut self, link: Link, given: &mut Given) -> Result<(), Memory>
+        ensures { OnOk result (IsAfter self.new given.new (linked (client_of self.old) link)) }
     {
         let alloc = self.alloc();
         let mut requests = Vec::new(alloc);
         let mut notes = Vec::new(alloc);
         for index in 0..self.files() {
-            let given = self.link_file(FileNo(index + 1), link)?;
-            given.join(&mut requests, &mut notes)?;
+            let mut own = Given::answer(alloc, Answer::Quiet);
+            self.link_file(FileNo(index + 1), link, &mut own)?;
+            own.join(&mut requests, &mut notes)?;
         }
         self.set_online(link.is_made());
-        Ok(Given {
+        *given = Given {
             answer: Answer::Quiet,
             requests,
             notes,
-        })
+        };
+        Ok(())
     }
 
-    fn link_file(&mut self, file: FileNo, link: Link) -> Result<Given, Memory>
+    fn link_file(&mut self, file: FileNo, link: Link, given: &mut Given) -> Result<(), Memory>
         requires { knows_file (client_of self.old) file.0 ≡ true }
         ensures machine { OnOk result (self.new ≡ record self.old {
           entries = set self.old.entries (file.0 - 1)
               (link_turn link self.old.guid file.0 ((client_of self.old).entries file.0)).entry;
         }) }
-        ensures given { IfOk result (λ given. given ≡ given_by file.0 (belief_of ((client_of self.old).entries file.0))
+        ensures given { OnOk result (given.new ≡ given_by file.0 (belief_of ((client_of self.old).entries file.0))
             (turn_written (link_turn link self.old.guid file.0 ((client_of self.old).entries file.0)))) }
     {
         let key = self.key(file);
         let old = self.belief(file);
-        let mut given = self.link_entry(file, key, link)?;
+        self.link_entry(file, key, link, given)?;
         given.note_belief(file, old, self.belief(file))?;
-        Ok(given)
+        Ok(())
     }
 }

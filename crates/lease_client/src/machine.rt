@@ -152,7 +152,8 @@ impl Machine {
         file: FileNo,
         key: LeaseKey,
         command: Command,
-    ) -> Result<Given, Memory>
+        given: &mut Given,
+    ) -> Result<(), Memory>
         requires { model.knows_file (client_of self.old) file.0 ≡ true }
         ensures machine { OnOk result (self.new ≡ record self.old {
           last_number = last_after self.old.is_online key.0 self.old.last_number
@@ -161,7 +162,7 @@ impl Machine {
               (commanded_turn self.old.is_online key.0 self.old.last_number
               (command_of command) ((client_of self.old).entries file.0)).entry;
         }) }
-        ensures given { IfOk result (λ given. given ≡ given_in (turn_written
+        ensures given { OnOk result (given.new ≡ given_in (turn_written
             (commanded_turn self.old.is_online key.0 self.old.last_number
             (command_of command) ((client_of self.old).entries file.0)))) }
         ensures refused { is_refused (commanded_turn self.old.is_online key.0 self.old.last_number
@@ -170,9 +171,9 @@ impl Machine {
         let is_online = self.is_online;
         let mut number = self.last_number;
         let index = usize::from(file.0) - 1;
-        let given = self.entries[index].commanded(is_online, key, &mut number, command)?;
+        self.entries[index].commanded(is_online, key, &mut number, command, given)?;
         self.last_number = number;
-        Ok(given)
+        Ok(())
     }
 
     /// A reply reaches the entry of a file.
@@ -185,18 +186,19 @@ impl Machine {
         file: FileNo,
         key: LeaseKey,
         message: Message,
-    ) -> Result<Given, Memory>
+        given: &mut Given,
+    ) -> Result<(), Memory>
         requires { model.knows_file (client_of self.old) file.0 ≡ true }
         ensures machine { OnOk result (self.new ≡ record self.old {
           entries = set self.old.entries (file.0 - 1)
               (message_turn key.0 message ((client_of self.old).entries file.0)).entry;
         }) }
-        ensures given { IfOk result (λ given. given ≡ given_in (turn_written
+        ensures given { OnOk result (given.new ≡ given_in (turn_written
             (message_turn key.0 message ((client_of self.old).entries file.0)))) }
     {
         let index = usize::from(file.0) - 1;
-        let given = self.entries[index].told(key, message)?;
-        Ok(given)
+        self.entries[index].told(key, message, given)?;
+        Ok(())
     }
 
     /// The connection is lost or made for the entry of a file.
@@ -204,18 +206,24 @@ impl Machine {
     /// # Errors
     ///
     /// `Memory` where there is none left.
-    pub fn link_entry(&mut self, file: FileNo, key: LeaseKey, link: Link) -> Result<Given, Memory>
+    pub fn link_entry(
+        &mut self,
+        file: FileNo,
+        key: LeaseKey,
+        link: Link,
+        given: &mut Given,
+    ) -> Result<(), Memory>
         requires { model.knows_file (client_of self.old) file.0 ≡ true }
         ensures machine { OnOk result (self.new ≡ record self.old {
           entries = set self.old.entries (file.0 - 1)
               (keyed_turn link key.0 file.0 ((client_of self.old).entries file.0)).entry;
         }) }
-        ensures given { IfOk result (λ given. given ≡ given_in (turn_written
+        ensures given { OnOk result (given.new ≡ given_in (turn_written
             (keyed_turn link key.0 file.0 ((client_of self.old).entries file.0)))) }
     {
         let index = usize::from(file.0) - 1;
-        let given = self.entries[index].linked(link, file, key)?;
-        Ok(given)
+        self.entries[index].linked(link, file, key, given)?;
+        Ok(())
     }
 }
 

@@ -1,4 +1,4 @@
-ghost use Rattle.std.specs.Prelude.{◌≡◌, IfOk};
+ghost use Rattle.std.specs.Prelude.{◌≡◌, OnOk};
 ghost use Rattle.lease_client.specs.Messages.{message_turn};
 ghost use Rattle.lease_client.specs.Turns.{turned_to, turn_written};
 
@@ -25,19 +25,19 @@ impl Entry {
     /// # Errors
     ///
     /// `Memory` where there is none left.
-    pub fn told(&mut self, key: LeaseKey, message: Message) -> Result<Given, Memory>
-        ensures { IfOk result (λ given. turned_to self.new given ≡ turn_written (message_turn key.0 message self.old)) }
+    pub fn told(&mut self, key: LeaseKey, message: Message, given: &mut Given) -> Result<(), Memory>
+        ensures { OnOk result (turned_to self.new given.new ≡ turn_written (message_turn key.0 message self.old)) }
     {
         match message {
-            Message::Created(file_id, answer) => self.created(key, file_id, &answer),
-            Message::NotCreated(status) => self.not_created(status),
-            Message::Read(bytes) => self.read_done(bytes),
-            Message::NotRead(status) => self.not_read(status),
-            Message::Written(number) => self.written(number),
+            Message::Created(file_id, answer) => self.created(key, file_id, &answer, given),
+            Message::NotCreated(status) => self.not_created(status, given),
+            Message::Read(bytes) => self.read_done(bytes, given),
+            Message::NotRead(status) => self.not_read(status, given),
+            Message::Written(number) => self.written(number, given),
             Message::NotWritten(file_id, number, status) => {
-                self.not_written(file_id, number, status)
+                self.not_written(file_id, number, status, given)
             }
-            Message::Broken(notice) => self.broken(&notice),
+            Message::Broken(notice) => self.broken(&notice, given),
         }
     }
 }

@@ -1,4 +1,4 @@
-ghost use Rattle.std.specs.Prelude.{◌≡◌, ◌+◌, ◌<◌, ◌^◌, true, IfOk, IsOk};
+ghost use Rattle.std.specs.Prelude.{◌≡◌, ◌+◌, ◌<◌, ◌^◌, true, IfOk, OnOk, IsOk};
 ghost use Rattle.lease_model.specs.client.Commanded.{joint_terms};
 ghost use Rattle.lease_model.specs.values.Sharing as sharing;
 ghost use Rattle.lease_client.specs.Answers.{refusal_of};
@@ -25,19 +25,27 @@ impl Entry {
         file: FileNo,
         key: LeaseKey,
         terms: Terms,
-    ) -> Result<Given, Memory>
-        ensures turn { IfOk result (λ given. turned_to self.new given
+        given: &mut Given,
+    ) -> Result<(), Memory>
+        ensures turn { OnOk result (turned_to self.new given.new
             ≡ turn_written (rules.open_turn is_online key.0 file.0 (terms_of terms) self.old)) }
         ensures refused { rules.is_refused
             (rules.open_turn is_online key.0 file.0 (terms_of terms) self.old).answer ≡ true → IsOk result }
     {
         let Entry { phase, sent } = self.take();
         match phase {
-            Phase::Closed => Ok(first_open(sent, is_online, file, key, terms)?.put_into(self)),
-            Phase::Live(live) => Ok(live.open(sent, file, key, terms)?.put_into(self)),
+            Phase::Closed => {
+                first_open(sent, is_online, file, key, terms)?.put_into(self, given);
+                Ok(())
+            }
+            Phase::Live(live) => {
+                live.open(sent, file, key, terms)?.put_into(self, given);
+                Ok(())
+            }
             phase => {
                 *self = Entry { phase, sent };
-                Ok(self.unheard())
+                *given = self.unheard();
+                Ok(())
             }
         }
     }

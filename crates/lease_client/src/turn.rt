@@ -141,9 +141,9 @@ impl Turn {
         }
     }
 
-    /// The entry is put into its place; the rest is given out.
-    pub fn put_into(self, place: &mut Entry) -> Given
-        ensures { turned_to place.new result ≡ self }
+    /// The entry is put into its place, and the rest is given out.
+    pub fn put_into(self, place: &mut Entry, given: &mut Given)
+        ensures { turned_to place.new given.new ≡ self }
     {
         let Turn {
             entry,
@@ -152,10 +152,10 @@ impl Turn {
             notes,
         } = self;
         *place = entry;
-        Given {
+        *given = Given {
             answer,
             requests,
             notes,
-        }
+        };
     }
 }

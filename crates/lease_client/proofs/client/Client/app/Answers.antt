@@ -9,10 +9,10 @@ use Rattle.lease_client.proofs.client.Client.app.Goals as goal
 pub invariant_of-result : goal.invariant_of-result
 invariant_of-result c =
     sound_after c.clients_are_sound.ensures.kept (client_of c.self.inside.machine)
-    (ClientCall.Commanded (command_of c.args.command)) _ c.self.invariant c.in_ok-answer.ensures.after.client
+    (ClientCall.Commanded (command_of c.args.command)) _ c.self.invariant c.in_ok-app.ensures.after.client
 
 pub returns-clause-beliefs : goal.returns-clause-beliefs
 returns-clause-beliefs c =
     rw (← c.self.view_is)
-    (none_rose (client_of c.self.inside.machine) _ _ c.in_ok-answer.ensures.after.client
+    (none_rose (client_of c.self.inside.machine) _ _ c.in_ok-app.ensures.after.client
     (commands_raise_none (client_of c.self.inside.machine) (command_of c.args.command)))

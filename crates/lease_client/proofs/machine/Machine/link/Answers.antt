@@ -16,9 +16,9 @@ loop-index-preserved c =
     let turn = link_turn c.args.link known.guid in
     let k = c.loop-index.index in
     let below : c.loop-index.index < length known.entries = omega arith in
-    let given = given_more known _ _ c.args.link k c.loop-index.invariant.machine below c.in_ok-given.ensures.given in
+    let given = given_more known _ _ c.args.link k c.loop-index.invariant.machine below c.in_ok-link_file.ensures.given in
     record {
-      machine = machine_more known _ _ c.args.link k c.loop-index.invariant.machine below c.in_ok-given.ensures.machine;
+      machine = machine_more known _ _ c.args.link k c.loop-index.invariant.machine below c.in_ok-link_file.ensures.machine;
       requests =
           rw (c.in_ok-join.ensures.requests, c.loop-index.invariant.requests, given)
           (requests_more turn (client_of known).entries k);

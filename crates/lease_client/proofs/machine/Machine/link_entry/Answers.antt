@@ -11,11 +11,11 @@ returns-clause-machine c =
     let known = the_view c.self.inside in
     let has = subst (λ (k : Known). knows_file (client_of k) c.args.file.0 ≡ true) (sym c.self.view_is) c.requires in
     let e = entry_of_file known c.args.file.0 c.index_mut.result.now has (rw c.from-index.ensures at c.index_mut.ensures.value) in
-    rw (← c.self.view_is, e, c.from-index.ensures, ap (λ (t : Turned). t.entry) c.in_ok-given.ensures) refl
+    rw (← c.self.view_is, e, c.from-index.ensures, ap (λ (t : Turned). t.entry) c.in_ok-linked.ensures) refl
 
 pub returns-clause-given : goal.returns-clause-given
 returns-clause-given c =
     let known = the_view c.self.inside in
     let has = subst (λ (k : Known). knows_file (client_of k) c.args.file.0 ≡ true) (sym c.self.view_is) c.requires in
     let e = entry_of_file known c.args.file.0 c.index_mut.result.now has (rw c.from-index.ensures at c.index_mut.ensures.value) in
-    rw (← c.self.view_is, e) (ap given_in c.in_ok-given.ensures)
+    rw (← c.self.view_is, e) (ap given_in c.in_ok-linked.ensures)

@@ -9,5 +9,5 @@ returns-clause-given c =
     let n = c.args.file.0 in
     rw (← c.key-key.ensures)
     (noted_by known n known.last_number (keyed_turn c.args.link c.key-key.result.0 n ((client_of known).entries n))
-    _ _ _ _ _ c.requires c.belief-old.ensures c.in_ok-given.ensures.machine c.in_ok-given.ensures.given
+    _ _ _ _ _ c.requires c.belief-old.ensures c.in_ok-link_entry.ensures.machine c.in_ok-link_entry.ensures.given
     c.belief.ensures c.in_ok-note_belief.ensures.note)
