@@ -22,19 +22,62 @@ struct Pending {
 }
 
 #[allow(dead_code)]
+enum Command {
+    Open { file: u8, access: u8, share: u8, want: u8, durable: bool },
+    Close { file: u8 },
+    Read { file: u8 },
+    Write { file: u8, patch: Patch },
+    Flush { file: u8 },
+}
+
+#[allow(dead_code)]
+enum Reply {
+    Created { file: u8, file_id: u64, contexts: Vec<u8> },
+    CreateFailed { file: u8, status: u8 },
+    ReadDone { file_id: u64, bytes: Vec<u8> },
+    ReadFailed { file_id: u64, status: u8 },
+    WriteDone { file_id: u64, number: u64 },
+    WriteFailed { file_id: u64, number: u64, status: u8 },
+    Closed { file_id: u64 },
+    CloseFailed { file_id: u64, status: u8 },
+    Break([u8; 44]),
+    AckDone([u8; 36]),
+    AckFailed { status: u8 },
+}
+
+#[allow(dead_code)]
 enum Request {
-    Write { file_id: u64, number: u64, patch: Patch },
+    Create { file: u8, access: u8, share: u8, contexts: Vec<u8> },
     Read { file_id: u64 },
+    Write { file_id: u64, number: u64, patch: Patch },
+    Close { file_id: u64 },
+    Ack([u8; 36]),
 }
 
 #[allow(dead_code)]
 enum Note {
+    Settled(u64, u8),
     Wrote(u8, u64, Patch, bool),
-    Settled(u64),
+    Believes(u8, u8),
+    CachedRead(u8, Vec<u8>),
+}
+
+#[allow(dead_code)]
+#[derive(Default)]
+enum Answer {
+    Done,
+    Waiting,
+    Bytes(Vec<u8>, bool),
+    Refused(u8),
+    Failed(u8),
+    #[default]
+    Quiet,
 }
 
 #[derive(Default)]
 struct Step {
+    #[allow(dead_code)]
+    answer: Answer,
     requests: Vec<Request>,
     notes: Vec<Note>,
 }
@@ -73,6 +116,20 @@ fn apply(base: &mut Vec<u8>, patch: &Patch) {
 }
 
 impl Client {
+    fn app(&mut self, command: Command) -> Option<Step> {
+        match command {
+            Command::Write { file, patch } => self.write(file, patch),
+            _ => None,
+        }
+    }
+
+    fn take(&mut self, reply: Reply) -> Option<Step> {
+        match reply {
+            Reply::WriteDone { number, .. } => Some(self.written(number)),
+            _ => None,
+        }
+    }
+
     fn write(&mut self, file: u8, patch: Patch) -> Option<Step> {
         let entry = self.entries.get_mut(usize::from(file).checked_sub(1)?)?;
         let Phase::Live(live) = &mut entry.phase else { return None };
@@ -85,8 +142,10 @@ impl Client {
         let buffered = live.state & 4 != 0;
         step.notes.push(Note::Wrote(file, number, patch.clone(), buffered));
         if buffered {
+            step.answer = Answer::Done;
             live.unsent.push(Pending { number, patch, buffered });
         } else {
+            step.answer = Answer::Waiting;
             step.requests.push(Request::Write { file_id: live.file_id, number, patch: patch.clone() });
             entry.sent.push(Pending { number, patch, buffered });
         }
@@ -103,7 +162,7 @@ impl Client {
                 apply(base, &write.patch);
             }
         }
-        step.notes.push(Note::Settled(number));
+        step.notes.push(Note::Settled(number, 0));
         step
     }
 }
@@ -115,10 +174,11 @@ fn write_many(count: u32) -> u64 {
     let mut sum = 0u64;
     for turn in 0..count {
         let patch = Patch { offset: turn % 1000, bytes: vec![turn as u8; 64] };
-        let Some(step) = client.write(1, patch) else { exit(1) };
+        let Some(step) = client.app(Command::Write { file: 1, patch }) else { exit(1) };
         sum = sum.wrapping_add(step.requests.len() as u64);
         drop(black_box(step));
-        let step = client.written(u64::from(turn) + 1);
+        let done = Reply::WriteDone { file_id: 1, number: u64::from(turn) + 1 };
+        let Some(step) = client.take(done) else { exit(1) };
         sum = sum.wrapping_add(step.notes.len() as u64);
         drop(black_box(step));
     }
