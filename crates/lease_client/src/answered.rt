@@ -82,11 +82,9 @@ impl Entry {
         put_write(&mut self.phase, &write)?;
         let mut notes = Vec::new(alloc);
         notes.push(Note::Settled(number, Settlement::Done))?;
-        *given = Given {
-            answer: Answer::Quiet,
-            requests: Vec::new(alloc),
-            notes,
-        };
+        given.answer = Answer::Quiet;
+        given.requests = Vec::new(alloc);
+        given.notes = notes;
         Ok(())
     }
 

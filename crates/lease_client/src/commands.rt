@@ -272,11 +272,9 @@ impl Live {
         let mut requests = Vec::new(alloc);
         requests.push(Request::Read { fid: self.file_id })?;
         self.reads += 1;
-        *given = Given {
-            answer: Answer::Waiting,
-            requests,
-            notes: Vec::new(alloc),
-        };
+        given.answer = Answer::Waiting;
+        given.requests = requests;
+        given.notes = Vec::new(alloc);
         Ok(())
     }
 
@@ -356,11 +354,9 @@ impl Live {
             patch,
             buffered: true,
         })?;
-        *given = Given {
-            answer: Answer::Done,
-            requests: Vec::new(alloc),
-            notes,
-        };
+        given.answer = Answer::Done;
+        given.requests = Vec::new(alloc);
+        given.notes = notes;
         Ok(())
     }
 
@@ -392,11 +388,9 @@ impl Live {
             patch,
             buffered: false,
         })?;
-        *given = Given {
-            answer: Answer::Waiting,
-            requests,
-            notes,
-        };
+        given.answer = Answer::Waiting;
+        given.requests = requests;
+        given.notes = notes;
         Ok(())
     }
 
@@ -414,11 +408,9 @@ impl Live {
         };
         let mut requests = Vec::new(alloc);
         self.send_unsent(sent, &mut requests)?;
-        *given = Given {
-            answer,
-            requests,
-            notes: Vec::new(alloc),
-        };
+        given.answer = answer;
+        given.requests = requests;
+        given.notes = Vec::new(alloc);
         Ok(())
     }
 }
@@ -446,10 +438,8 @@ fn cached(alloc: Global, file: FileNo, seen: Bytes, given: &mut Given) -> Result
 {
     let mut notes = Vec::new(alloc);
     notes.push(Note::CachedRead(file, seen.try_copy()?))?;
-    *given = Given {
-        answer: Answer::Bytes(seen, true),
-        requests: Vec::new(alloc),
-        notes,
-    };
+    given.answer = Answer::Bytes(seen, true);
+    given.requests = Vec::new(alloc);
+    given.notes = notes;
     Ok(())
 }
