@@ -19,6 +19,7 @@ impl Machine {
     /// # Errors
     ///
     /// `Memory` where there is none left, and never where the command is refused.
+    #[inline]
     pub fn app(&mut self, command: Command, given: &mut Given) -> Result<(), Memory>
         ensures after { OnOk result (IsAfter self.new given.new
             (commanded (client_of self.old) (command_of command))) }
@@ -53,6 +54,7 @@ impl Machine {
     /// # Errors
     ///
     /// `Memory` where there is none left.
+    #[inline]
     pub fn tell(&mut self, file: FileNo, message: Message, given: &mut Given) -> Result<(), Memory>
         requires { knows_file (client_of self.old) file.0 ≡ true }
         ensures { OnOk result (IsAfter self.new given.new

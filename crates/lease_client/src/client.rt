@@ -84,6 +84,7 @@ impl Client {
     /// # Errors
     ///
     /// `Memory` where there is none left, and never where the command is refused.
+    #[inline(always)]
     pub fn app(self, command: Command) -> Result<Step, Memory>
         ensures step { IfOk result (λ step. IsStep step (commanded (client_of self) (command_of command))) }
         ensures refused { is_refused (commanded (client_of self) (command_of command)).answer ≡ true → IsOk result }
@@ -114,6 +115,7 @@ impl Client {
     /// # Errors
     ///
     /// `Memory` where there is none left, and never where a Close or an acknowledgment is answered.
+    #[inline(always)]
     pub fn take(self, reply: Reply) -> Result<Step, Memory>
         ensures step { IfOk result (λ step. IsStep step (taken (client_of self) (reply_of reply))) }
         ensures idle { is_idle reply ≡ true → IsOk result }

@@ -22,6 +22,7 @@ impl Machine {
     ///
     /// `Memory` where there is none left, and never where the reply answers a Close or an acknowledgment.
     #[tactic(auto, unfolding(lease_model::specs::client::Taken::taken))]
+    #[inline]
     pub fn take(&mut self, reply: Reply, given: &mut Given) -> Result<(), Memory>
         ensures after { OnOk result (IsAfter self.new given.new
             (rules.taken (client_of self.old) (reply_of reply))) }
