@@ -77,14 +77,10 @@ impl Entry {
         ensures { OnOk result (turned_to self.new given.new
             ≡ turn_written (rules.write_done_turn number self.old)) }
     {
-        let alloc = self.alloc();
         let write = take_numbered(&mut self.sent, number);
         put_write(&mut self.phase, &write)?;
-        let mut notes = Vec::new(alloc);
-        notes.push(Note::Settled(number, Settlement::Done))?;
-        given.answer = Answer::Quiet;
-        given.requests = Vec::new(alloc);
-        given.notes = notes;
+        given.begin(Answer::Quiet);
+        given.notes.push(Note::Settled(number, Settlement::Done))?;
         Ok(())
     }
 
@@ -128,6 +124,7 @@ impl Entry {
 }
 
 // Takes the first write of this number out of the list.
+#[inline(always)]
 fn take_numbered(sent: &mut Vec<Pending>, number: u64) -> Option<Pending>
     ensures found { result ≡ find (rules.is_numbered number) sent.old.items }
     ensures rest { sent.new.items ≡ rules.sent_without number sent.old.items }

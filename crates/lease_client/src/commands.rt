@@ -13,7 +13,6 @@ use crate::requests::Terms;
 use crate::turn::{Given, Turn};
 use crate::writes::view;
 use lease_state::{Bytes, FILE_LIMIT, FileNo, LeaseKey, Memory, Patch, Request};
-use std::alloc::Global;
 
 impl Entry {
     /// A command on the entry's file, whose key this is. A Write takes the next number of the client.
@@ -243,12 +242,7 @@ impl Live {
             return self.send_read(sent, given);
         }
         match &self.base {
-            Some(base) => cached(
-                *sent.allocator(),
-                file,
-                view(base, sent, &self.unsent)?,
-                given,
-            ),
+            Some(base) => cached(file, view(base, sent, &self.unsent)?, given),
             None => self.send_read(sent, given),
         }
     }
@@ -268,13 +262,9 @@ impl Live {
             *given = refused(sent, Refusal::UsedUp);
             return Ok(());
         }
-        let alloc = *sent.allocator();
-        let mut requests = Vec::new(alloc);
-        requests.push(Request::Read { fid: self.file_id })?;
+        given.begin(Answer::Waiting);
+        given.requests.push(Request::Read { fid: self.file_id })?;
         self.reads += 1;
-        given.answer = Answer::Waiting;
-        given.requests = requests;
-        given.notes = Vec::new(alloc);
         Ok(())
     }
 
@@ -346,17 +336,14 @@ impl Live {
         ensures taken { rules.is_refused (rules.buffered_turn file.0 self.old sent.old.items number patch).answer
             ≡ false }
     {
-        let alloc = *sent.allocator();
-        let mut notes = Vec::new(alloc);
-        notes.push(Note::Wrote(file, number, patch.try_copy()?, true))?;
+        given.begin(Answer::Done);
+        let copy = patch.try_copy()?;
+        given.notes.push(Note::Wrote(file, number, copy, true))?;
         self.unsent.push(Pending {
             number,
             patch,
             buffered: true,
         })?;
-        given.answer = Answer::Done;
-        given.requests = Vec::new(alloc);
-        given.notes = notes;
         Ok(())
     }
 
@@ -374,23 +361,20 @@ impl Live {
         ensures taken { rules.is_refused (rules.through_turn file.0 self.now sent.old.items number patch).answer
             ≡ false }
     {
-        let alloc = *sent.allocator();
-        let mut notes = Vec::new(alloc);
-        notes.push(Note::Wrote(file, number, patch.try_copy()?, false))?;
-        let mut requests = Vec::new(alloc);
-        requests.push(Request::Write {
+        given.begin(Answer::Waiting);
+        let copy = patch.try_copy()?;
+        given.notes.push(Note::Wrote(file, number, copy, false))?;
+        let copy = patch.try_copy()?;
+        given.requests.push(Request::Write {
             fid: self.file_id,
             number,
-            patch: patch.try_copy()?,
+            patch: copy,
         })?;
         sent.push(Pending {
             number,
             patch,
             buffered: false,
         })?;
-        given.answer = Answer::Waiting;
-        given.requests = requests;
-        given.notes = notes;
         Ok(())
     }
 
@@ -400,17 +384,13 @@ impl Live {
             ≡ turn_written (rules.flush_turn self.old sent.old.items)) }
         ensures refused { rules.is_refused (rules.flush_turn self.old sent.old.items).answer ≡ true → IsOk result }
     {
-        let alloc = *sent.allocator();
         let answer = if self.unsent.is_empty() {
             Answer::Done
         } else {
             Answer::Waiting
         };
-        let mut requests = Vec::new(alloc);
-        self.send_unsent(sent, &mut requests)?;
-        given.answer = answer;
-        given.requests = requests;
-        given.notes = Vec::new(alloc);
+        given.begin(answer);
+        self.send_unsent(sent, &mut given.requests)?;
         Ok(())
     }
 }
@@ -429,17 +409,15 @@ fn refused(sent: &Vec<Pending>, refusal: Refusal) -> Given
 }
 
 // The file as the application sees it, from the cache: it is answered and noted.
-fn cached(alloc: Global, file: FileNo, seen: Bytes, given: &mut Given) -> Result<(), Memory>
+fn cached(file: FileNo, seen: Bytes, given: &mut Given) -> Result<(), Memory>
     ensures { OnOk result (given.new ≡ record {
       answer = model.Answer.Bytes seen true;
       requests = [];
       notes = model.Note.CachedRead file.0 seen ∷ [];
     }) }
 {
-    let mut notes = Vec::new(alloc);
-    notes.push(Note::CachedRead(file, seen.try_copy()?))?;
-    given.answer = Answer::Bytes(seen, true);
-    given.requests = Vec::new(alloc);
-    given.notes = notes;
+    let copy = seen.try_copy()?;
+    given.begin(Answer::Bytes(seen, true));
+    given.notes.push(Note::CachedRead(file, copy))?;
     Ok(())
 }

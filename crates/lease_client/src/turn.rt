@@ -75,6 +75,18 @@ impl Given {
 }
 
 impl Given {
+    /// What was there is dropped for an answer, with nothing sent or noted yet. No memory is taken.
+    #[inline(always)]
+    pub fn begin(&mut self, answer: Answer)
+        ensures { self.new ≡ record { answer = answer_of answer; requests = []; notes = [] } }
+    {
+        self.answer = answer;
+        self.requests.clear();
+        self.notes.clear();
+    }
+}
+
+impl Given {
     /// Its requests and notes go behind those that there are.
     ///
     /// # Errors
