@@ -39,7 +39,7 @@ impl Entry {
         ensures { OnOk result (turned_to self.new given.new ≡ turn_written (read_done_turn bytes self.old)) }
     {
         let Phase::Live(live) = &mut self.phase else {
-            *given = self.quiet();
+            given.begin(Answer::Quiet);
             return Ok(());
         };
         live.read_done(&self.sent, bytes, given)
@@ -61,7 +61,7 @@ impl Entry {
             }
             phase => {
                 *self = Entry { phase, sent };
-                *given = self.quiet();
+                given.begin(Answer::Quiet);
                 Ok(())
             }
         }
@@ -112,11 +112,8 @@ impl Entry {
             }
             phase => {
                 *self = Entry { phase, sent };
-                *given = Given {
-                    answer: Answer::Failed(status),
-                    requests: Vec::new(alloc),
-                    notes,
-                };
+                given.begin(Answer::Failed(status));
+                given.notes = notes;
                 Ok(())
             }
         }
@@ -193,7 +190,7 @@ impl Live {
         let seen = view(&bytes, sent, &self.unsent)?;
         self.reads = self.reads.saturating_sub(1);
         self.learn(bytes);
-        *given = Given::answer(*sent.allocator(), Answer::Bytes(seen, false));
+        given.begin(Answer::Bytes(seen, false));
         Ok(())
     }
 

@@ -32,7 +32,7 @@ impl Entry {
             }
             phase => {
                 *self = Entry { phase, sent };
-                *given = self.quiet();
+                given.begin(Answer::Quiet);
                 Ok(())
             }
         }

@@ -27,7 +27,7 @@ impl Machine {
     {
         let file = command.file();
         if !self.knows(file) {
-            *given = Given::answer(self.alloc(), Answer::Refused(Refusal::NotOpen));
+            given.begin(Answer::Refused(Refusal::NotOpen));
             return Ok(());
         }
         self.command(file, command, given)

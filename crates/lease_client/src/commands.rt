@@ -81,7 +81,7 @@ impl Entry {
             }
             phase => {
                 *self = Entry { phase, sent };
-                *given = self.unheard();
+                given.begin(Answer::Refused(self.refusal()));
                 Ok(())
             }
         }
@@ -100,11 +100,11 @@ impl Entry {
             → IsOk result }
     {
         let Phase::Live(live) = &mut self.phase else {
-            *given = self.unheard();
+            given.begin(Answer::Refused(self.refusal()));
             return Ok(());
         };
         if live.is_parked() {
-            *given = self.refused(Refusal::NotOpen);
+            given.begin(Answer::Refused(Refusal::NotOpen));
             return Ok(());
         }
         live.read(&self.sent, file, given)
@@ -131,11 +131,11 @@ impl Entry {
             → IsOk result }
     {
         let Phase::Live(live) = &mut self.phase else {
-            *given = self.unheard();
+            given.begin(Answer::Refused(self.refusal()));
             return Ok(());
         };
         if live.is_parked() {
-            *given = self.refused(Refusal::NotOpen);
+            given.begin(Answer::Refused(Refusal::NotOpen));
             return Ok(());
         }
         live.write(&mut self.sent, file, last_number, patch, given)
@@ -152,11 +152,11 @@ impl Entry {
         ensures refused { rules.is_refused (rules.heard_turn rules.flush_turn self.old).answer ≡ true → IsOk result }
     {
         let Phase::Live(live) = &mut self.phase else {
-            *given = self.unheard();
+            given.begin(Answer::Refused(self.refusal()));
             return Ok(());
         };
         if live.is_parked() {
-            *given = self.refused(Refusal::NotOpen);
+            given.begin(Answer::Refused(Refusal::NotOpen));
             return Ok(());
         }
         live.flush(&mut self.sent, given)
@@ -235,7 +235,7 @@ impl Live {
             → IsOk result }
     {
         if !self.access.reads() {
-            *given = refused(sent, Refusal::Denied);
+            given.begin(Answer::Refused(Refusal::Denied));
             return Ok(());
         }
         if !self.belief.caches_reads() {
@@ -255,11 +255,11 @@ impl Live {
             → IsOk result }
     {
         if self.handles.asking().is_some() {
-            *given = refused(sent, Refusal::Busy);
+            given.begin(Answer::Refused(Refusal::Busy));
             return Ok(());
         }
         if self.reads == u32::MAX {
-            *given = refused(sent, Refusal::UsedUp);
+            given.begin(Answer::Refused(Refusal::UsedUp));
             return Ok(());
         }
         given.begin(Answer::Waiting);
@@ -286,15 +286,15 @@ impl Live {
             ≡ true → IsOk result }
     {
         if !self.access.writes() {
-            *given = refused(sent, Refusal::Denied);
+            given.begin(Answer::Refused(Refusal::Denied));
             return Ok(());
         }
         if !is_within_limit(&patch) {
-            *given = refused(sent, Refusal::TooLong);
+            given.begin(Answer::Refused(Refusal::TooLong));
             return Ok(());
         }
         if *last_number == u64::MAX {
-            *given = refused(sent, Refusal::UsedUp);
+            given.begin(Answer::Refused(Refusal::UsedUp));
             return Ok(());
         }
         *last_number += 1;
@@ -399,14 +399,6 @@ ghost use Rattle.std.specs.Prelude.{None, [], ◌∷◌, false};
 ghost use Rattle.lease_model.specs.client.Commanded.{turn_of, one_handle_less};
 ghost use Rattle.lease_model.specs.client.State.{live_entry};
 ghost use Rattle.lease_model.specs.client.Commands as model;
-ghost use Rattle.lease_client.specs.Answers.{refusal_of};
-
-// A refused command sends and notes nothing.
-fn refused(sent: &Vec<Pending>, refusal: Refusal) -> Given
-    ensures { result ≡ record { answer = model.Answer.Refused (refusal_of refusal); requests = []; notes = [] } }
-{
-    Given::answer(*sent.allocator(), Answer::Refused(refusal))
-}
 
 // The file as the application sees it, from the cache: it is answered and noted.
 fn cached(file: FileNo, seen: Bytes, given: &mut Given) -> Result<(), Memory>

@@ -56,7 +56,7 @@ impl Entry {
             }
             phase => {
                 *self = Entry { phase, sent };
-                *given = self.quiet();
+                given.begin(Answer::Quiet);
                 Ok(())
             }
         }
@@ -87,7 +87,7 @@ impl Entry {
             }
             phase => {
                 *self = Entry { phase, sent };
-                *given = self.quiet();
+                given.begin(Answer::Quiet);
                 Ok(())
             }
         }

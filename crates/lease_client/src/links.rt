@@ -70,11 +70,9 @@ impl Machine {
             own.join(&mut requests, &mut notes)?;
         }
         self.set_online(link.is_made());
-        *given = Given {
-            answer: Answer::Quiet,
-            requests,
-            notes,
-        };
+        given.answer = Answer::Quiet;
+        given.requests = requests;
+        given.notes = notes;
         Ok(())
     }
 

@@ -44,27 +44,20 @@ impl Entry {
             }
             phase => {
                 *self = Entry { phase, sent };
-                *given = self.unheard();
+                given.begin(Answer::Refused(self.refusal()));
                 Ok(())
             }
         }
     }
 
-    /// A refused command leaves the entry as it is.
-    pub fn refused(&self, refusal: Refusal) -> Given
-        ensures { turned_to self.now result ≡ turn_written (rules.refused_turn self.now (refusal_of refusal)) }
-    {
-        Given::answer(self.alloc(), Answer::Refused(refusal))
-    }
-
-    /// The entry hears no command but an Open.
-    pub fn unheard(&self) -> Given
-        ensures { turned_to self.now result ≡ turn_written (rules.unheard_turn self.now) }
+    /// Why the entry hears no command but an Open, where it isn't live or is parked.
+    pub fn refusal(&self) -> Refusal
+        ensures { refusal_of result ≡ rules.refusal_in self.now.phase }
     {
         match &self.phase {
-            Phase::Closed | Phase::Live(_) => self.refused(Refusal::NotOpen),
-            Phase::Opening { .. } | Phase::Reconnecting(_) => self.refused(Refusal::Busy),
-            Phase::Offline(_) => self.refused(Refusal::Offline),
+            Phase::Closed | Phase::Live(_) => Refusal::NotOpen,
+            Phase::Opening { .. } | Phase::Reconnecting(_) => Refusal::Busy,
+            Phase::Offline(_) => Refusal::Offline,
         }
     }
 }

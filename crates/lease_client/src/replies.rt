@@ -48,17 +48,17 @@ impl Machine {
             | Reply::CloseFailed { .. }
             | Reply::AckDone(_)
             | Reply::AckFailed { .. } => {
-                *given = self.quiet();
+                self.quiet(given);
                 Ok(())
             }
         }
     }
 
     // Nothing is answered, sent or noted.
-    fn quiet(&self) -> Given
-        ensures { IsAfter self.now result (quiet_step (client_of self.now)) }
+    fn quiet(&self, given: &mut Given)
+        ensures { IsAfter self.now given.new (quiet_step (client_of self.now)) }
     {
-        Given::answer(self.alloc(), Answer::Quiet)
+        given.begin(Answer::Quiet);
     }
 
     fn created(
@@ -72,13 +72,13 @@ impl Machine {
             file_id.0 (answer_found (value_of Direction.Reply contexts.now)))) }
     {
         if !self.knows(file) {
-            *given = self.quiet();
+            self.quiet(given);
             return Ok(());
         }
         match read_create_reply(contexts.as_slice()) {
             Ok(answer) => self.tell(file, Message::Created(file_id, answer), given),
             Err(_) => {
-                *given = self.quiet();
+                self.quiet(given);
                 Ok(())
             }
         }
@@ -89,7 +89,7 @@ impl Machine {
             (rules.create_failed (client_of self.old) file.0 status)) }
     {
         if !self.knows(file) {
-            *given = self.quiet();
+            self.quiet(given);
             return Ok(());
         }
         self.tell(file, Message::NotCreated(status), given)
@@ -102,13 +102,13 @@ impl Machine {
             (rules.read_answered (client_of self.old) file_id.0 bytes)) }
     {
         if bytes.len() > FILE_LIMIT {
-            *given = self.quiet();
+            self.quiet(given);
             return Ok(());
         }
         match self.file_read_under(file_id) {
             Some(file) => self.tell(file, Message::Read(bytes), given),
             None => {
-                *given = self.quiet();
+                self.quiet(given);
                 Ok(())
             }
         }
@@ -122,7 +122,7 @@ impl Machine {
         match self.file_read_under(file_id) {
             Some(file) => self.tell(file, Message::NotRead(status), given),
             None => {
-                *given = self.quiet();
+                self.quiet(given);
                 Ok(())
             }
         }
@@ -136,7 +136,7 @@ impl Machine {
         match self.file_with_sent(number) {
             Some(file) => self.tell(file, Message::Written(number), given),
             None => {
-                *given = self.quiet();
+                self.quiet(given);
                 Ok(())
             }
         }
@@ -156,7 +156,7 @@ impl Machine {
         match self.file_with_sent(number) {
             Some(file) => self.tell(file, Message::NotWritten(file_id, number, status), given),
             None => {
-                *given = self.quiet();
+                self.quiet(given);
                 Ok(())
             }
         }
@@ -172,12 +172,12 @@ impl Machine {
             Ok((notice, _)) => match self.file_of_key(notice.key) {
                 Some(file) => self.tell(file, Message::Broken(notice), given),
                 None => {
-                    *given = self.quiet();
+                    self.quiet(given);
                     Ok(())
                 }
             },
             Err(_) => {
-                *given = self.quiet();
+                self.quiet(given);
                 Ok(())
             }
         }

@@ -3,8 +3,7 @@ ghost use Rattle.lease_state.specs.State.{state_of};
 ghost use Rattle.lease_model.specs.client.Step.{believes_noted};
 ghost use Rattle.lease_model.specs.values.LeaseStates.{same_state};
 ghost use Rattle.lease_client.specs.Answers.{answer_of, note_of};
-ghost use Rattle.lease_client.specs.Created.{quiet_turn};
-ghost use Rattle.lease_client.specs.Turns.{turned_to, turn_written};
+ghost use Rattle.lease_client.specs.Turns.{turned_to};
 
 use crate::command::Answer;
 use crate::entry::Entry;
@@ -130,15 +129,6 @@ impl Given {
     }
 }
 
-impl Entry {
-    /// The entry passes a reply over: nothing is answered, sent or noted.
-    pub fn quiet(&self) -> Given
-        ensures { turned_to self.now result ≡ turn_written (quiet_turn self.now) }
-    {
-        Given::answer(self.alloc(), Answer::Quiet)
-    }
-}
-
 impl Turn {
     /// The entry as it is, with an answer and nothing sent or noted. No memory is taken.
     pub fn still(entry: Entry, answer: Answer) -> Turn
@@ -164,10 +154,8 @@ impl Turn {
             notes,
         } = self;
         *place = entry;
-        *given = Given {
-            answer,
-            requests,
-            notes,
-        };
+        given.answer = answer;
+        given.requests = requests;
+        given.notes = notes;
     }
 }

@@ -15,4 +15,4 @@ returns-then-not-knows-clause-after c =
     let nowhere : knows_file (client_of known) (file_of command) ≡ false =
     rw (← c.file-file.ensures) (sym c.knows.ensures ∙ c.if-not-knows.true) in
     rw (commanded_nowhere (client_of known) command nowhere)
-    (nothing_after known (Answer.Refused Refusal.NotOpen) c.answer.result c.answer.ensures)
+    (nothing_after known (Answer.Refused Refusal.NotOpen) _ c.begin.ensures)
