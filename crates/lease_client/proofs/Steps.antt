@@ -4,7 +4,7 @@ use Rattle.lease_state.specs.State.{State}
 use Rattle.lease_laws.specs.client.Laws.{RefusedCommandsDoNothing}
 use Rattle.lease_model.specs.client.Commanded.{commanded, file_of}
 use Rattle.lease_model.specs.client.Commands.{Command, Answer, Refusal}
-use Rattle.lease_model.specs.client.State.{Client, Entry, lease_key, knows_file, belief_of}
+use Rattle.lease_model.specs.client.State.{Client, lease_key, knows_file, belief_of}
 use Rattle.lease_model.specs.client.Step.{Step, Turn, turned}
 use Rattle.lease_model.specs.values.LeaseStates.{same_state}
 use Rattle.lease_client.specs.Calls.{turn_by, last_by}

@@ -7,7 +7,7 @@ use Rattle.std.proofs.lemmas.Bool.Decides.{nat_tests}
 use Rattle.lease_state.specs.State.{State}
 use Rattle.lease_model.specs.client.Commanded.{turn_of}
 use Rattle.lease_model.specs.client.Commands.{Answer, Note}
-use Rattle.lease_model.specs.client.State.{Client, Entry, closed_entry, knows_file, belief_of}
+use Rattle.lease_model.specs.client.State.{Client, Entry, knows_file, belief_of}
 use Rattle.lease_model.specs.client.Step.{Step, Turn, turned, believes_noted}
 use Rattle.lease_model.specs.values.LeaseStates.{same_state}
 use Rattle.lease_model.specs.values.Tables.{put}

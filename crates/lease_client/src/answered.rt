@@ -178,14 +178,9 @@ impl Live {
 
     // The bytes become the base under R; the application sees its own unanswered writes in them.
     #[tactic(auto, unfolding(lease_model::specs::client::Taken::read_turn))]
-    fn read_done(
-        &mut self,
-        sent: &Vec<Pending>,
-        bytes: Bytes,
-        given: &mut Given,
-    ) -> Result<(), Memory>
-        ensures { OnOk result (turned_to (live_entry self.new sent.now.items) given.new
-            ≡ turn_written (rules.read_turn self.old sent.now.items bytes)) }
+    fn read_done(&mut self, sent: &[Pending], bytes: Bytes, given: &mut Given) -> Result<(), Memory>
+        ensures { OnOk result (turned_to (live_entry self.new sent.now) given.new
+            ≡ turn_written (rules.read_turn self.old sent.now bytes)) }
     {
         let seen = view(&bytes, sent, &self.unsent)?;
         self.reads = self.reads.saturating_sub(1);

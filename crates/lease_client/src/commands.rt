@@ -228,10 +228,10 @@ impl Live {
 
     // A Read is answered from the cache, or sent.
     #[tactic(auto, unfolding(crate::specs::Commanded::read_turn))]
-    fn read(&mut self, sent: &Vec<Pending>, file: FileNo, given: &mut Given) -> Result<(), Memory>
-        ensures turn { OnOk result (turned_to (live_entry self.new sent.now.items) given.new
-            ≡ turn_written (rules.read_turn file.0 self.old sent.now.items)) }
-        ensures refused { rules.is_refused (rules.read_turn file.0 self.old sent.now.items).answer ≡ true
+    fn read(&mut self, sent: &[Pending], file: FileNo, given: &mut Given) -> Result<(), Memory>
+        ensures turn { OnOk result (turned_to (live_entry self.new sent.now) given.new
+            ≡ turn_written (rules.read_turn file.0 self.old sent.now)) }
+        ensures refused { rules.is_refused (rules.read_turn file.0 self.old sent.now).answer ≡ true
             → IsOk result }
     {
         if !self.access.reads() {
@@ -239,20 +239,20 @@ impl Live {
             return Ok(());
         }
         if !self.belief.caches_reads() {
-            return self.send_read(sent, given);
+            return self.send_read(given);
         }
         match &self.base {
             Some(base) => cached(file, view(base, sent, &self.unsent)?, given),
-            None => self.send_read(sent, given),
+            None => self.send_read(given),
         }
     }
 
     #[tactic(auto, unfolding(crate::specs::Commanded::read_sent_turn, lease_model::specs::values::Limits::count_limit))]
-    fn send_read(&mut self, sent: &Vec<Pending>, given: &mut Given) -> Result<(), Memory>
-        ensures turn { OnOk result (turned_to (live_entry self.new sent.now.items) given.new
-            ≡ turn_written (rules.read_sent_turn self.old sent.now.items)) }
-        ensures refused { rules.is_refused (rules.read_sent_turn self.old sent.now.items).answer ≡ true
-            → IsOk result }
+    fn send_read(&mut self, given: &mut Given) -> Result<(), Memory>
+        ensures turn { (sent : List Pending) → OnOk result (turned_to (live_entry self.new sent) given.new
+            ≡ turn_written (rules.read_sent_turn self.old sent)) }
+        ensures refused { (sent : List Pending) → rules.is_refused (rules.read_sent_turn self.old sent).answer
+            ≡ true → IsOk result }
     {
         if self.handles.asking().is_some() {
             given.begin(Answer::Refused(Refusal::Busy));
@@ -395,9 +395,9 @@ impl Live {
     }
 }
 
-ghost use Rattle.std.specs.Prelude.{None, [], ◌∷◌, false};
+ghost use Rattle.std.specs.Prelude.{None, [], ◌∷◌, false, List};
 ghost use Rattle.lease_model.specs.client.Commanded.{turn_of, one_handle_less};
-ghost use Rattle.lease_model.specs.client.State.{live_entry};
+ghost use Rattle.lease_model.specs.client.State.{live_entry, Pending};
 ghost use Rattle.lease_model.specs.client.Commands as model;
 
 // The file as the application sees it, from the cache: it is answered and noted.
