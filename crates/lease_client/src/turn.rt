@@ -71,10 +71,8 @@ impl Given {
             notes: Vec::new(alloc),
         }
     }
-}
 
-impl Given {
-    /// What was there is dropped for an answer, with nothing sent or noted yet. No memory is taken.
+    /// An answer in place of what was there, with nothing sent or noted yet. No memory is taken.
     #[inline(always)]
     pub fn begin(&mut self, answer: Answer)
         ensures { self.new ≡ record { answer = answer_of answer; requests = []; notes = [] } }
@@ -83,9 +81,7 @@ impl Given {
         self.requests.clear();
         self.notes.clear();
     }
-}
 
-impl Given {
     /// Its requests and notes go behind those that there are.
     ///
     /// # Errors
