@@ -38,7 +38,7 @@ impl Model for Turn {
     } };
 }
 
-/// What a call gives out.
+/// What a call gives out. The functions that are passed it put there what they give out, whatever was there.
 #[derive(Debug, Drop)]
 pub struct Given {
     pub answer: Answer,
