@@ -76,14 +76,14 @@ rival_seen past file client other ne good writes good_too holds =
     other_one : (a b : ℕ) → a ≢ b → not (a == b) ≡ true
     other_one a b n = grind arith
 
-one_cache-test : (past : List Fact) → has_two_caches past ≡ false → OneWriteCache past
+pub one_cache-test : (past : List Fact) → has_two_caches past ≡ false → OneWriteCache past
 one_cache-test past none_found file client other ne good writes good_too =
     elim (cases_Bool (holds_any (believed other file past))) [
       | inl holds ↦ absurd (both_ways _ none_found (rival_seen past file client other ne good writes good_too holds))
       | inr nothing ↦ holds_any-none (believed other file past) nothing
     ]
 
-two_caches-test : (past : List Fact) → OneWriteCache past → has_two_caches past ≡ false
+pub two_caches-test : (past : List Fact) → OneWriteCache past → has_two_caches past ≡ false
 unfolding has_two_caches
 two_caches-test past one = elim (cases_Bool (has_two_caches past)) [ inl two ↦ absurd (clash two) | inr none ↦ none ]
   where

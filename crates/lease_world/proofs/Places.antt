@@ -1,0 +1,36 @@
+-- Lists by numbers, where a number past the end has a value of its own.
+use Rattle.std.proofs.Common.{◌≡◌, ℕ, ◌<◌, zero, suc, List, [], ◌∷◌, ◌++◌, length, get_or, cond, nat_eq, refl, arith}
+use Rattle.std.specs.List.{slice_get, slice_set}
+use Rattle.std.specs.Prelude.{unwrap_or, if◌then◌else◌, ◌==◌}
+
+-- what was read from its place is what is in it
+pub value_there : {X : Type 0} (other : X) (xs : List X) (n : ℕ) (x : X) → n < length xs → x ≡ get_or xs n x
+    → x ≡ unwrap_or (slice_get xs n) other
+value_there other [] n x inside is = absurd (omega arith)
+value_there other (one ∷ xs) zero x inside is = is
+value_there other (one ∷ xs) (suc n) x inside is = value_there other xs n x (omega arith) is
+
+-- one more such value changes nothing
+pub one_more : {X : Type 0} (other : X) (xs : List X) (n : ℕ)
+    → unwrap_or (slice_get (xs ++ other ∷ []) n) other ≡ unwrap_or (slice_get xs n) other
+one_more other [] zero = refl
+one_more other [] (suc n) = refl
+one_more other (one ∷ xs) zero = refl
+one_more other (one ∷ xs) (suc n) = one_more other xs n
+
+suc_same : {X : Type 0} (n k : ℕ) (x y z : X) → z ≡ (if n == k then x else y) → z ≡ (if suc n == suc k then x else y)
+suc_same n k x y z e = grind arith
+
+-- a value that is put into a place stands there, and the others stay
+pub value_put : {X : Type 0} (other : X) (xs : List X) (k : ℕ) (x : X) (n : ℕ) → k < length xs
+    → unwrap_or (slice_get (slice_set xs k x) n) other ≡ (if n == k then x else unwrap_or (slice_get xs n) other)
+value_put other [] k x n inside = absurd (omega arith)
+value_put other (one ∷ xs) zero x zero inside = refl
+value_put other (one ∷ xs) zero x (suc n) inside = grind arith
+value_put other (one ∷ xs) (suc k) x zero inside = grind arith
+value_put other (one ∷ xs) (suc k) x (suc n) inside =
+    suc_same n k x (unwrap_or (slice_get xs n) other) _ (value_put other xs k x n (omega arith))
+
+-- what a map or a set has after one value was put at a key
+pub value_at : {X : Type 0} (n k : ℕ) (x y : X) → cond (nat_eq k n) x y ≡ (if n == k then x else y)
+value_at n k x y = grind arith

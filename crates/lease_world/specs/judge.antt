@@ -1,0 +1,4 @@
+pub mod Before
+pub mod Caches
+pub mod Clients
+pub mod Seen

@@ -1,0 +1,91 @@
+-- How facts change what is kept of a client.
+use Rattle.std.specs.Prelude.{◌≡◌, ℕ, Bool, true, false, Option, Some, None, List, [], ◌∷◌, ◌++◌, if◌then◌else◌, ◌==◌, ◌&&◌, nat_lt, nat_eq}
+use Rattle.std.specs.Option.{option_map}
+use Rattle.lease_state.specs.declared.patch.Patch.{Patch}
+use Rattle.lease_state.specs.State.{State}
+use Rattle.lease_world.specs.judge.Caches.{brought_up, is_seen}
+use Rattle.lease_world.specs.judge.Seen.{SeenFile, SeenWrite, SeenCache, SeenClient, cache_in, write_at, write_in, has_settled, accepted_as}
+
+-- it takes the oldest message, or has none that was sent since it joined
+abbrev pub TakesFrom : SeenClient → SeenClient → Bool → List ℕ → Type 0
+TakesFrom old new has [] = has ≡ false
+TakesFrom old new has (place ∷ sent) =
+    (has ≡ true) × (new ≡ record old { sent = sent; taken = place; has_taken = true })
+
+abbrev pub TakesWhere : Bool → SeenClient → SeenClient → Bool → Type 0
+TakesWhere true old new has = TakesFrom old new has old.sent
+TakesWhere false old new has = has ≡ false
+
+abbrev pub TakesOne : SeenClient → SeenClient → Bool → Type 0
+TakesOne old new has = TakesWhere old.joined old new has
+
+abbrev pub is_buffered_before : ℕ → ℕ → Option SeenWrite → Bool
+is_buffered_before file place (Some write) = write.buffered && write.file == file && nat_lt write.place place
+is_buffered_before file place None = false
+
+abbrev pub is_accepted_write : Option SeenWrite → Bool
+is_accepted_write (Some write) = write.accepted
+is_accepted_write None = false
+
+-- writes by their numbers, one of which has a new value
+abbrev pub HasWrites : List (ℕ × SeenWrite) → List (ℕ × SeenWrite) → ℕ → Option SeenWrite → Type 0
+HasWrites old new number write = (n : ℕ) → write_at n new ≡ (if n == number then write else write_at n old)
+
+-- all but the writes stay
+abbrev pub KeepsAllButWrites : SeenClient → SeenClient → Type 0
+KeepsAllButWrites old new = new ≡ record old { writes = new.writes }
+
+abbrev pub AcceptsIn : ℕ → ℕ → Patch → List (ℕ × SeenWrite) → List (ℕ × SeenWrite) → Type 0
+AcceptsIn file number patch old new =
+    HasWrites old new number (option_map (accepted_as file patch) (write_at number old))
+
+abbrev pub Accepts : ℕ → ℕ → Patch → SeenClient → SeenClient → Type 0
+Accepts file number patch old new = KeepsAllButWrites old new × AcceptsIn file number patch old.writes new.writes
+
+-- ---- what is kept of a file of a client
+
+abbrev pub HasCache : List SeenCache → List SeenCache → ℕ → SeenCache → Type 0
+HasCache old new file cache = (n : ℕ) → cache_in new n ≡ (if n == file then cache else cache_in old n)
+
+abbrev pub HasSameCaches : List SeenCache → List SeenCache → Type 0
+HasSameCaches old new = (n : ℕ) → cache_in new n ≡ cache_in old n
+
+abbrev pub with_write : ℕ → Patch → SeenCache → SeenCache
+with_write number patch cache =
+    record cache { waiting = cache.waiting ++ record { number = number; patch = patch } ∷ [] }
+
+abbrev pub with_settled : SeenCache → SeenCache
+with_settled cache = record cache { stale = true }
+
+abbrev pub with_belief : State → SeenCache → SeenCache
+with_belief state cache = record cache { belief = state }
+
+-- a write that is settled already isn't kept with its file
+abbrev pub WritesCache : Bool → ℕ → SeenWrite → List SeenCache → List SeenCache → Type 0
+WritesCache true number write old new = HasSameCaches old new
+WritesCache false number write old new =
+    HasCache old new write.file (with_write number write.patch (cache_in old write.file))
+
+abbrev pub Writes : ℕ → SeenWrite → SeenClient → SeenClient → Type 0
+Writes number write old new = (new ≡ record old { writes = new.writes; caches = new.caches })
+    × HasWrites old.writes new.writes number (Some write)
+    × WritesCache (has_settled old number) number write old.caches new.caches
+
+abbrev pub SettlesCache : Option SeenWrite → List SeenCache → List SeenCache → Type 0
+SettlesCache None old new = HasSameCaches old new
+SettlesCache (Some write) old new = HasCache old new write.file (with_settled (cache_in old write.file))
+
+abbrev pub Settles : ℕ → SeenClient → SeenClient → Type 0
+Settles number old new = (new ≡ record old { settled = new.settled; caches = new.caches })
+    × ((n : ℕ) → has_settled new n ≡ (if n == number then true else has_settled old n))
+    × SettlesCache (write_in old number) old.caches new.caches
+
+abbrev pub Believes : ℕ → State → SeenClient → SeenClient → Type 0
+Believes file state old new = (new ≡ record old { caches = new.caches })
+    × HasCache old.caches new.caches file (with_belief state (cache_in old.caches file))
+
+-- the cache is brought up to the place, and shows these bytes or doesn't
+abbrev pub Sees : ℕ → SeenFile → ℕ → List ℕ → SeenClient → SeenClient → Bool → Type 0
+Sees number file place bytes old new same = (new ≡ record old { caches = new.caches })
+    × HasCache old.caches new.caches number (brought_up file place old.settled (cache_in old.caches number))
+    × (same ≡ is_seen bytes (brought_up file place old.settled (cache_in old.caches number)).view)

@@ -1,0 +1,142 @@
+-- What a judge keeps, as plain data. Places in a record count facts from 1; 0 is no place.
+use Rattle.std.specs.Prelude.{ℕ, Bool, true, false, not, Option, Some, None, List, [], ◌∷◌, ◌++◌, if◌then◌else◌, ◌==◌, ◌&&◌, unwrap_or, slice_get, is_some}
+use Rattle.std.specs.List.{list_any}
+use Rattle.std.specs.Map.{lookup}
+use Rattle.lease_state.specs.State.{State, nothing_cached}
+use Rattle.lease_state.specs.declared.patch.Patch.{Patch}
+use Rattle.lease_model.specs.values.LeaseStates.{holds_any}
+use Rattle.lease_model.specs.values.Patches.{same_patch}
+
+-- a change of a file
+pub record Change : Type 0 where
+  pub place : ℕ
+  pub patch : Patch
+
+-- who opened or changed a file last, and where; and where another client than that one did so last
+pub record Touches : Type 0 where
+  pub client : ℕ
+  pub place : ℕ
+  pub by_others : ℕ
+
+-- the bytes with which a file was started, its changes in order, and its touches
+pub record SeenFile : Type 0 where
+  pub start : Option (List ℕ)
+  pub changes : List Change
+  pub touches : Touches
+
+-- a write that was given to a client, and whether it was accepted since
+pub record SeenWrite : Type 0 where
+  pub file : ℕ
+  pub place : ℕ
+  pub buffered : Bool
+  pub patch : Patch
+  pub accepted : Bool
+
+-- a write that may be unanswered
+pub record Waiting : Type 0 where
+  pub number : ℕ
+  pub patch : Patch
+
+-- bytes, with how many patches were put onto them
+pub record Snapshot : Type 0 where
+  pub bytes : List ℕ
+  pub applied : ℕ
+
+-- What is kept of a client and a file: the belief; the writes that may be unanswered, and whether one of them was settled
+-- since they were looked through; the file at the sending place of a message that the client took; and that with the
+-- unanswered writes.
+pub record SeenCache : Type 0 where
+  pub belief : State
+  pub waiting : List Waiting
+  pub stale : Bool
+  pub base : Option Snapshot
+  pub view : Option Snapshot
+
+-- What is kept of a client. `sent` are the places of the messages that were sent since it joined and not taken, `taken` is
+-- that of the last one taken, and `has_taken` tells whether it took one since it joined.
+pub record SeenClient : Type 0 where
+  pub joined : Bool
+  pub served : Bool
+  pub strayed : Bool
+  pub sent : List ℕ
+  pub taken : ℕ
+  pub has_taken : Bool
+  pub writes : List (ℕ × SeenWrite)
+  pub settled : List ℕ
+  pub caches : List SeenCache
+
+pub record Seen : Type 0 where
+  pub files : List SeenFile
+  pub clients : List SeenClient
+
+-- ---- what nothing is known of
+
+abbrev pub untouched : Touches
+untouched = record { client = 0; place = 0; by_others = 0 }
+
+abbrev pub unseen_file : SeenFile
+unseen_file = record { start = None; changes = []; touches = untouched }
+
+abbrev pub unseen_cache : SeenCache
+unseen_cache = record { belief = nothing_cached; waiting = []; stale = false; base = None; view = None }
+
+abbrev pub unseen_client : SeenClient
+unseen_client = record {
+  joined = false;
+  served = false;
+  strayed = false;
+  sent = [];
+  taken = 0;
+  has_taken = false;
+  writes = [];
+  settled = [];
+  caches = [];
+}
+
+-- ---- what is in the place of a number
+
+abbrev pub file_in : List SeenFile → ℕ → SeenFile
+file_in files n = unwrap_or (slice_get files n) unseen_file
+
+abbrev pub client_in : List SeenClient → ℕ → SeenClient
+client_in clients n = unwrap_or (slice_get clients n) unseen_client
+
+abbrev pub cache_in : List SeenCache → ℕ → SeenCache
+cache_in caches n = unwrap_or (slice_get caches n) unseen_cache
+
+-- ---- what is asked of it
+
+-- where another client than this one opened or changed the file last
+abbrev pub touched_by_others : ℕ → Touches → ℕ
+touched_by_others client touches = if client == touches.client then touches.by_others else touches.place
+
+abbrev pub is_good_client : SeenClient → Bool
+is_good_client client = not client.strayed && client.served
+
+-- the two may not be believed of one file by two clients
+abbrev pub is_conflict : State → State → Bool
+is_conflict one other = (if one.write then holds_any other else other.write && holds_any one)
+
+abbrev pub write_at : ℕ → List (ℕ × SeenWrite) → Option SeenWrite
+write_at number writes = lookup (λ n. number == n) writes
+
+abbrev pub write_in : SeenClient → ℕ → Option SeenWrite
+write_in client number = write_at number client.writes
+
+abbrev pub has_settled : SeenClient → ℕ → Bool
+has_settled client number = list_any (λ n. number == n) client.settled
+
+-- ---- how facts change it
+
+abbrev pub touched : Touches → ℕ → ℕ → Touches
+touched touches client place =
+    if client == touches.client then record touches { place = place }
+    else record { client = client; place = place; by_others = touches.place }
+
+abbrev pub joined : SeenClient → SeenClient
+joined client = record client { joined = true; served = true; sent = []; has_taken = false }
+
+-- a write is accepted where its file and its patch are changed
+abbrev pub accepted_as : ℕ → Patch → SeenWrite → SeenWrite
+accepted_as file patch write =
+    if write.file == file && same_patch write.patch patch then record write { accepted = true } else write

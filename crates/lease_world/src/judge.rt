@@ -1,0 +1,4 @@
+mod cache;
+mod client;
+mod file;
+mod snapshot;
