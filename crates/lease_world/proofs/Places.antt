@@ -1,5 +1,5 @@
 -- Lists by numbers, where a number past the end has a value of its own.
-use Rattle.std.proofs.Common.{◌≡◌, ℕ, ◌<◌, zero, suc, List, [], ◌∷◌, ◌++◌, length, get_or, cond, nat_eq, refl, arith}
+use Rattle.std.proofs.Common.{◌≡◌, ℕ, ◌<◌, ◌≤◌, zero, suc, List, [], ◌∷◌, ◌++◌, length, get_or, cond, nat_eq, refl, arith}
 use Rattle.std.specs.List.{slice_get, slice_set}
 use Rattle.std.specs.Prelude.{unwrap_or, if◌then◌else◌, ◌==◌}
 
@@ -34,3 +34,11 @@ value_put other (one ∷ xs) (suc k) x (suc n) inside =
 -- what a map or a set has after one value was put at a key
 pub value_at : {X : Type 0} (n k : ℕ) (x y : X) → cond (nat_eq k n) x y ≡ (if n == k then x else y)
 value_at n k x y = grind arith
+
+-- past the end is what other numbers have
+pub past_the_end : {X : Type 0} (other : X) (xs : List X) (n : ℕ) → length xs ≤ n
+    → unwrap_or (slice_get xs n) other ≡ other
+past_the_end other [] zero past = refl
+past_the_end other [] (suc n) past = refl
+past_the_end other (one ∷ xs) zero past = absurd (omega arith)
+past_the_end other (one ∷ xs) (suc n) past = past_the_end other xs n (omega arith)

@@ -2,3 +2,4 @@ pub mod Before
 pub mod Caches
 pub mod Clients
 pub mod Seen
+pub mod Tables

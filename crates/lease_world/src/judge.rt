@@ -1,4 +1,6 @@
 mod cache;
 mod client;
+mod clients;
 mod file;
+mod files;
 mod snapshot;

@@ -1,23 +1,26 @@
 -- How facts change what is kept of a client.
-use Rattle.std.specs.Prelude.{◌≡◌, ℕ, Bool, true, false, Option, Some, None, List, [], ◌∷◌, ◌++◌, if◌then◌else◌, ◌==◌, ◌&&◌, nat_lt, nat_eq}
+use Rattle.std.specs.Prelude.{◌≡◌, ℕ, Bool, true, false, not, Option, Some, None, List, [], ◌∷◌, ◌++◌, if◌then◌else◌, ◌==◌, ◌&&◌, nat_lt, nat_eq}
 use Rattle.std.specs.Option.{option_map}
 use Rattle.lease_state.specs.declared.patch.Patch.{Patch}
+use Rattle.lease_model.specs.values.Lists.{is_empty}
 use Rattle.lease_state.specs.State.{State}
 use Rattle.lease_world.specs.judge.Caches.{brought_up, is_seen}
 use Rattle.lease_world.specs.judge.Seen.{SeenFile, SeenWrite, SeenCache, SeenClient, cache_in, write_at, write_in, has_settled, accepted_as}
 
--- it takes the oldest message, or has none that was sent since it joined
-abbrev pub TakesFrom : SeenClient → SeenClient → Bool → List ℕ → Type 0
-TakesFrom old new has [] = has ≡ false
-TakesFrom old new has (place ∷ sent) =
-    (has ≡ true) × (new ≡ record old { sent = sent; taken = place; has_taken = true })
+-- there is a message that was sent since it joined and not taken
+abbrev pub can_take : SeenClient → Bool
+can_take client = client.joined && not (is_empty client.sent)
 
-abbrev pub TakesWhere : Bool → SeenClient → SeenClient → Bool → Type 0
-TakesWhere true old new has = TakesFrom old new has old.sent
-TakesWhere false old new has = has ≡ false
+abbrev pub took_from : SeenClient → List ℕ → SeenClient
+took_from client [] = client
+took_from client (place ∷ sent) = record client { sent = sent; taken = place; has_taken = true }
+
+-- it takes the oldest message
+abbrev pub after_taking : SeenClient → SeenClient
+after_taking client = took_from client client.sent
 
 abbrev pub TakesOne : SeenClient → SeenClient → Bool → Type 0
-TakesOne old new has = TakesWhere old.joined old new has
+TakesOne old new has = (has ≡ can_take old) × (new ≡ (if has then after_taking old else old))
 
 abbrev pub is_buffered_before : ℕ → ℕ → Option SeenWrite → Bool
 is_buffered_before file place (Some write) = write.buffered && write.file == file && nat_lt write.place place
@@ -89,3 +92,7 @@ abbrev pub Sees : ℕ → SeenFile → ℕ → List ℕ → SeenClient → SeenC
 Sees number file place bytes old new same = (new ≡ record old { caches = new.caches })
     × HasCache old.caches new.caches number (brought_up file place old.settled (cache_in old.caches number))
     × (same ≡ is_seen bytes (brought_up file place old.settled (cache_in old.caches number)).view)
+
+-- the sending place of the message that it took last since it joined
+abbrev pub taken_of : SeenClient → Option ℕ
+taken_of client = if client.has_taken then Some client.taken else None

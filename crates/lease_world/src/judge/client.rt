@@ -120,7 +120,7 @@ impl ClientSeen {
 
     /// The place of the sending of the message that the client took last; `None` where it took none since it joined.
     pub fn taken(&self) -> Option<u64>
-        ensures { result ≡ (if self.now.has_taken then Some self.now.taken else None) }
+        ensures { result ≡ taken_of self.now }
     {
         self.has_taken.then_some(self.taken)
     }
@@ -236,11 +236,18 @@ impl ClientSeen {
         put_settled(&mut self.settled, number)
     }
 
-    /// What the client believes of a file's lease.
-    pub fn belief(&self, file: FileNo) -> LeaseState
-        ensures { state_of result ≡ (cache_in self.now.caches file.0).belief }
+    /// How many numbers of files there are below which all are of which something is kept.
+    pub fn files(&self) -> usize
+        ensures { result ≡ length self.now.caches }
     {
-        match self.caches.get(usize::from(file.0)) {
+        self.caches.len()
+    }
+
+    /// What the client believes of a file's lease.
+    pub fn belief(&self, file: usize) -> LeaseState
+        ensures { state_of result ≡ (cache_in self.now.caches file).belief }
+    {
+        match self.caches.get(file) {
             Some(cache) => cache.belief(),
             None => LeaseState::NONE,
         }
@@ -371,4 +378,4 @@ fn accept_in(writes: &mut HashMap<u64, WriteSeen>, file: FileNo, number: u64, pa
 
 ghost use Rattle.std.specs.Prelude.{if◌then◌else◌};
 ghost use Rattle.lease_world.specs.judge.Seen.{accepted_as};
-ghost use Rattle.lease_world.specs.judge.Clients.{TakesOne, is_buffered_before, is_accepted_write, Accepts, AcceptsIn, Writes, Settles, Believes, Sees, HasCache, HasWrites, WritesCache, SettlesCache, with_belief};
+ghost use Rattle.lease_world.specs.judge.Clients.{taken_of, TakesOne, is_buffered_before, is_accepted_write, Accepts, AcceptsIn, Writes, Settles, Believes, Sees, HasCache, HasWrites, WritesCache, SettlesCache, with_belief};
