@@ -1,3 +1,4 @@
+pub mod Added
 pub mod Before
 pub mod Caches
 pub mod Clients

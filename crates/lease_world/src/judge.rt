@@ -3,4 +3,5 @@ mod client;
 mod clients;
 mod file;
 mod files;
+mod known;
 mod snapshot;

@@ -38,6 +38,14 @@ HasRival clients client file = (other : ℕ) × (other ≢ client) × (is_rival 
 abbrev pub HasNoRival : List SeenClient → ℕ → ℕ → Type 0
 HasNoRival clients client file = (other : ℕ) → other ≢ client → is_rival clients client file other ≡ false
 
+-- the client is good, and has a rival on the file
+abbrev pub HasRivalAt : List SeenClient → ℕ → ℕ → Type 0
+HasRivalAt clients client file = (is_good_client (client_in clients client) ≡ true) × HasRival clients client file
+
+abbrev pub HasNoRivalAt : List SeenClient → ℕ → ℕ → Type 0
+HasNoRivalAt clients client file =
+    is_good_client (client_in clients client) ≡ true → HasNoRival clients client file
+
 -- the client is good, and has a rival on a file
 abbrev pub HasRivalSomewhere : List SeenClient → ℕ → Type 0
 HasRivalSomewhere clients client =

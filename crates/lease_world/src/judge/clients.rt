@@ -2,7 +2,7 @@ ghost use Rattle.std.specs.Prelude.{◌≡◌, ◌++◌, ◌<◌, ℕ, [], ◌�
 ghost use Rattle.lease_state.specs.State.{state_of};
 ghost use Rattle.lease_world.specs.judge.Clients.{can_take, after_taking, is_buffered_before, is_accepted_write, Accepts, Writes, Settles, Believes, Sees};
 ghost use Rattle.lease_world.specs.judge.Seen.{joined, is_good_client, write_in, client_in, is_conflict};
-ghost use Rattle.lease_world.specs.judge.Tables.{belief_in, is_rival, HasClient, ChangesClient, HasSameClients, HasRival, HasNoRival, HasRivalSomewhere, HasRivalNowhere};
+ghost use Rattle.lease_world.specs.judge.Tables.{belief_in, is_rival, HasClient, ChangesClient, HasSameClients, HasRival, HasNoRival, HasRivalAt, HasNoRivalAt, HasRivalSomewhere, HasRivalNowhere};
 
 use crate::judge::client::{ClientSeen, WriteSeen};
 use crate::judge::file::FileSeen;
@@ -233,8 +233,8 @@ impl Clients {
         }
     }
 
-    /// Whether another client that is good believes of the file what goes ill with what this one believes.
-    pub fn has_rival(&self, client: ClientNo, file: usize) -> bool
+    // Whether another client that is good believes of the file what goes ill with what this one believes.
+    fn has_rival(&self, client: ClientNo, file: usize) -> bool
         ensures { MatchBool result (HasRival self.now client.0 file) (HasNoRival self.now client.0 file) }
     {
         let client = usize::from(client.0);
@@ -244,6 +244,13 @@ impl Clients {
             }
         }
         false
+    }
+
+    /// Whether the client is good and has a rival on the file.
+    pub fn has_rival_at(&self, client: ClientNo, file: FileNo) -> bool
+        ensures { MatchBool result (HasRivalAt self.now client.0 file.0) (HasNoRivalAt self.now client.0 file.0) }
+    {
+        self.is_good(client) && self.has_rival(client, usize::from(file.0))
     }
 
     /// Whether the client is good and has a rival on some file.
