@@ -2,5 +2,8 @@ pub mod Added
 pub mod Before
 pub mod Caches
 pub mod Clients
+pub mod Judged
+pub mod Knows
 pub mod Seen
 pub mod Tables
+pub mod Told

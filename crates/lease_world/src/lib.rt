@@ -7,4 +7,5 @@ mod judge;
 mod verdict;
 
 pub use fact::Fact;
+pub use judge::Judge;
 pub use verdict::{Rule, Verdict};

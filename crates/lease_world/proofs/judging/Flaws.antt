@@ -1,0 +1,77 @@
+-- What the definitions say of one fact, from what is known of each of the tests.
+use Rattle.std.proofs.Common.{◌≡◌, ℕ, suc, ◌+◌, Bool, true, false, List, [], ◌∷◌, ◌++◌, length, refl, sym, ap, ◌∙◌, arith}
+use Rattle.std.specs.Prelude.{reverse}
+use mathlib.Core.List.{reverse_aux}
+use Rattle.lease_laws.proofs.records.VerdictLemmas.{two_caches-test}
+use Rattle.lease_model.specs.records.Facts.{Fact}
+use Rattle.lease_model.specs.records.Safe.{is_well_formed, OneWriteCache}
+use Rattle.lease_model.specs.records.Verdict.{Verdict, has_two_caches, is_stale_read, is_late_write, is_false_done, flaw_at, or_else, verdict_from, verdict}
+
+pub malformed-here : (place : ℕ) (fact : Fact) (past : List Fact) → is_well_formed fact past ≡ false
+    → flaw_at place fact past ≡ Verdict.Malformed place
+unfolding flaw_at
+malformed-here place fact past w = rw w refl
+
+pub two-here : (place : ℕ) (fact : Fact) (past : List Fact) → is_well_formed fact past ≡ true
+    → has_two_caches (fact ∷ past) ≡ true → flaw_at place fact past ≡ Verdict.Unsafe place 1
+unfolding flaw_at
+two-here place fact past w two = rw (w, two) refl
+
+pub stale-here : (place : ℕ) (fact : Fact) (past : List Fact) → is_well_formed fact past ≡ true → OneWriteCache (fact ∷ past)
+    → is_stale_read fact past ≡ true → flaw_at place fact past ≡ Verdict.Unsafe place 2
+unfolding flaw_at
+stale-here place fact past w one stale = rw (w, two_caches-test (fact ∷ past) one, stale) refl
+
+pub late-here : (place : ℕ) (fact : Fact) (past : List Fact) → is_well_formed fact past ≡ true → OneWriteCache (fact ∷ past)
+    → is_stale_read fact past ≡ false → is_late_write fact past ≡ true → flaw_at place fact past ≡ Verdict.Unsafe place 3
+unfolding flaw_at
+late-here place fact past w one stale late = rw (w, two_caches-test (fact ∷ past) one, stale, late) refl
+
+pub false-here : (place : ℕ) (fact : Fact) (past : List Fact) → is_well_formed fact past ≡ true → OneWriteCache (fact ∷ past)
+    → is_stale_read fact past ≡ false → is_late_write fact past ≡ false → is_false_done fact past ≡ true
+    → flaw_at place fact past ≡ Verdict.Unsafe place 4
+unfolding flaw_at
+false-here place fact past w one stale late done = rw (w, two_caches-test (fact ∷ past) one, stale, late, done) refl
+
+pub safe-here : (place : ℕ) (fact : Fact) (past : List Fact) → is_well_formed fact past ≡ true → OneWriteCache (fact ∷ past)
+    → is_stale_read fact past ≡ false → is_late_write fact past ≡ false → is_false_done fact past ≡ false
+    → flaw_at place fact past ≡ Verdict.Safe
+unfolding flaw_at
+safe-here place fact past w one stale late done = rw (w, two_caches-test (fact ∷ past) one, stale, late, done) refl
+
+-- ---- one fact more
+
+else_else : (one two three : Verdict) → or_else (or_else one two) three ≡ or_else one (or_else two three)
+else_else Verdict.Safe two three = refl
+else_else (Verdict.Unsafe place rule) two three = refl
+else_else (Verdict.Malformed place) two three = refl
+
+safe_else : (one : Verdict) → or_else one Verdict.Safe ≡ one
+safe_else Verdict.Safe = refl
+safe_else (Verdict.Unsafe place rule) = refl
+safe_else (Verdict.Malformed place) = refl
+
+counted : (n m : ℕ) → (n + 1) + m ≡ n + suc m
+counted n m = omega arith
+
+verdict-push : (place : ℕ) (past facts : List Fact) (fact : Fact)
+    → verdict_from place past (facts ++ fact ∷ [])
+    ≡ or_else (verdict_from place past facts) (flaw_at (place + length facts) fact (reverse_aux facts past))
+unfolding verdict_from
+verdict-push place past [] fact =
+    let e : place + 0 ≡ place = omega arith in rw e (safe_else (flaw_at place fact past))
+verdict-push place past (x ∷ facts) fact =
+    ap (λ (v : Verdict). or_else (flaw_at place x past) v) (verdict-push (place + 1) (x ∷ past) facts fact)
+    ∙ (sym (else_else (flaw_at place x past) (verdict_from (place + 1) (x ∷ past) facts) _)
+    ∙ ap (λ (n : ℕ). or_else (or_else (flaw_at place x past) (verdict_from (place + 1) (x ∷ past) facts))
+    (flaw_at n fact (reverse_aux facts (x ∷ past)))) (counted place (length facts)))
+
+one_and : (n : ℕ) → 1 + n ≡ n + 1
+one_and n = omega arith
+
+-- the verdict on a record with one fact more
+pub verdict-more : (facts : List Fact) (fact : Fact)
+    → verdict (facts ++ fact ∷ []) ≡ or_else (verdict facts) (flaw_at (length facts + 1) fact (reverse facts))
+verdict-more facts fact =
+    verdict-push 1 [] facts fact
+    ∙ ap (λ (n : ℕ). or_else (verdict facts) (flaw_at n fact (reverse facts))) (one_and (length facts))

@@ -1,0 +1,69 @@
+-- When what a judge keeps is what a record says.
+use Rattle.std.specs.Prelude.{◌≡◌, ⊤, ℕ, ◌+◌, ◌≤◌, Bool, true, false, Option, Some, None, List, [], ◌∷◌, ◌++◌, length, reverse, take, drop, filter, is_some, unwrap_or}
+use Rattle.std.specs.Option.{option_map}
+use Rattle.lease_state.specs.Content.{patches}
+use Rattle.lease_model.specs.records.Facts.{Fact}
+use Rattle.lease_model.specs.records.Past.{is_started, start_of, has_joined, is_served, has_strayed, sendings, takings, last_sending, is_settled, believed}
+use Rattle.lease_model.specs.records.Safe.{EachFact, WellFormed, OneWriteCache}
+use Rattle.lease_model.specs.records.Verdict as model
+use Rattle.lease_world.specs.Verdicts.{verdict_of}
+use Rattle.lease_world.specs.declared.verdict.Verdict.{Verdict}
+use Rattle.lease_world.specs.judge.Before.{before, patches_of, patches_waiting}
+use Rattle.lease_world.specs.judge.Clients.{taken_of}
+use Rattle.lease_world.specs.judge.Seen.{Seen, SeenFile, SeenCache, SeenClient, Snapshot, file_in, client_in, cache_in, touched_by_others, write_in, has_settled}
+use Rattle.lease_world.specs.judge.Told.{placed_changes, last_touch, write_of, pending, place_of, sent_places, is_unsettled}
+
+pub record KnowsFile (file : ℕ) (seen : SeenFile) (past : List Fact) : Type 0 where
+  pub started : is_some seen.start ≡ is_started file past
+  pub start : unwrap_or seen.start [] ≡ start_of file past
+  pub changes : seen.changes ≡ placed_changes file past
+  pub touches : (client : ℕ) → touched_by_others client seen.touches ≡ last_touch client file past
+
+-- Some writes that are settled may be kept, but only where the list is marked.
+pub record KnowsCache (client : ℕ) (file : ℕ) (cache : SeenCache) (past : List Fact) : Type 0 where
+  pub belief : cache.belief ≡ believed client file past
+  pub waiting : filter (is_unsettled client past) cache.waiting ≡ pending client file past past
+  pub fresh : cache.stale ≡ false → filter (is_unsettled client past) cache.waiting ≡ cache.waiting
+
+-- numbers from the first one on that don't fall, up to the last one
+abbrev pub RisesTo : ℕ → List ℕ → ℕ → Type 0
+RisesTo low [] high = low ≤ high
+RisesTo low (x ∷ xs) high = (low ≤ x) × RisesTo x xs high
+
+pub record KnowsClient (client : ℕ) (seen : SeenClient) (past : List Fact) : Type 0 where
+  pub joined : seen.joined ≡ has_joined client past
+  pub served : seen.served ≡ is_served client past
+  pub strayed : seen.strayed ≡ has_strayed client past
+  pub in_order : takings client past ≤ length (sendings client past)
+  pub sent : seen.sent ≡ drop (takings client past) (sent_places client past)
+  pub taken : taken_of seen ≡ option_map place_of (last_sending client past)
+  pub rising : RisesTo seen.taken seen.sent (length past)
+  pub settled : (number : ℕ) → has_settled seen number ≡ is_settled client number past
+  pub writes : (number : ℕ) → write_in seen number ≡ write_of client number past
+  pub caches : (file : ℕ) → KnowsCache client file (cache_in seen.caches file) past
+
+-- the file at a place that isn't behind this one
+abbrev pub IsBase : SeenFile → ℕ → Option Snapshot → Type 0
+IsBase file taken None = ⊤
+IsBase file taken (Some base) = (is_some file.start ≡ true)
+    × (base.bytes ≡ patches (unwrap_or file.start []) (patches_of (take base.applied file.changes)))
+    × (base.applied ≤ length (before taken file.changes))
+
+-- the base with the first of the writes
+abbrev pub IsView : SeenCache → Option Snapshot → Option Snapshot → Type 0
+IsView cache base None = ⊤
+IsView cache None (Some view) = ⊥
+IsView cache (Some base) (Some view) =
+    (view.bytes ≡ patches base.bytes (patches_waiting (take view.applied cache.waiting)))
+    × (view.applied ≤ length cache.waiting)
+
+abbrev pub HasContents : SeenFile → ℕ → SeenCache → Type 0
+HasContents file taken cache = IsBase file taken cache.base × IsView cache cache.base cache.view
+
+pub record Knows (seen : Seen) (past : List Fact) : Type 0 where
+  pub files : (file : ℕ) → KnowsFile file (file_in seen.files file) past
+  pub clients : (client : ℕ) → KnowsClient client (client_in seen.clients client) past
+  pub contents : (client file : ℕ) → HasContents (file_in seen.files file) (client_in seen.clients client).taken
+      (cache_in (client_in seen.clients client).caches file)
+  pub well_formed : EachFact WellFormed past
+  pub one_write_cache : OneWriteCache past
