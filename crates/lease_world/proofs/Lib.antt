@@ -1,2 +1,2 @@
 pub mod Places
-pub mod judging
+pub mod records

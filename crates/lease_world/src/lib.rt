@@ -3,9 +3,11 @@
 #![tactic(auto)]
 
 mod fact;
-mod judge;
+mod judging;
 mod verdict;
+mod whole;
 
 pub use fact::Fact;
-pub use judge::Judge;
+pub use judging::Judge;
 pub use verdict::{Rule, Verdict};
+pub use whole::{judge, judge_each};

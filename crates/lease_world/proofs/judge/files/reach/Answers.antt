@@ -1,8 +1,0 @@
-use Rattle.std.proofs.Common.{◌∙◌}
-use Rattle.lease_world.specs.judge.Seen.{unseen_file}
-use Rattle.lease_world.proofs.Places.{one_more}
-use Rattle.lease_world.proofs.judge.files.reach.Goals as goal
-
-pub loop-file-preserved : goal.loop-file-preserved
-loop-file-preserved c = λ n.
-    rw (c.in_ok-push.ensures.items, c.new.ensures) (one_more unseen_file _ n ∙ c.loop-file.invariant n)

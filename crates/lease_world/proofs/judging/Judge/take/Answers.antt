@@ -1,0 +1,9 @@
+use Rattle.std.proofs.Common.{rules}
+use Rattle.lease_world.proofs.records.Judges.{stepped}
+use Rattle.lease_world.proofs.judging.Judge.take.Goals as goal
+
+pub returns-then-ne : goal.returns-then-ne
+returns-then-ne c = stepped _ _ _ (search rules)
+
+pub returns : goal.returns
+returns c = stepped _ _ _ (search rules)

@@ -1,0 +1,615 @@
+-- What a judge makes of one fact is what the definitions say of it.
+use Rattle.std.proofs.Common.{◌≡◌, ◌≢◌, ℕ, suc, ◌+◌, ◌≤◌, Bool, true, false, List, [], ◌∷◌, ◌++◌, Option, Some, None, length, refl, sym, ap, subst, ◌∙◌, arith, inl, inr}
+use Rattle.std.specs.Prelude.{◌==◌, ◌&&◌, not, if◌then◌else◌, is_some, MatchBool}
+use Rattle.std.proofs.lemmas.Bool.{cases_Bool}
+use Rattle.lease_state.specs.State.{State}
+use Rattle.lease_state.specs.declared.patch.Patch.{Patch}
+use Rattle.lease_model.specs.client.Commands.{Settlement}
+use Rattle.lease_model.specs.values.Patches.{is_within_limit}
+use Rattle.lease_model.specs.records.Facts.{Fact}
+use Rattle.lease_model.specs.records.Past.{is_started, is_good, is_served, has_strayed, believed, has_number, is_touched, is_accepted}
+use Rattle.lease_model.specs.records.Safe.{is_well_formed, EachFact, WellFormed, OneWriteCache}
+use Rattle.lease_model.specs.records.Verdict as model
+use Rattle.lease_model.specs.records.Verdict.{flaw_at, is_stale_read, is_late_write, is_false_done, has_two_caches}
+use Rattle.lease_world.specs.Verdicts.{verdict_of}
+use Rattle.lease_world.specs.declared.verdict.Rule.{Rule}
+use Rattle.lease_world.specs.declared.verdict.Verdict.{Verdict}
+use Rattle.lease_world.specs.judge.Added.{IsSafe, PutsClient, StartAdds, JoinedAdds, LeavingAdds, ExpiredAdds, StrayedAdds, SentAdds, TookAdds, OpenedAdds, ChangedAdds, WroteAdds, SettledAdds, BelievesAdds, CachedReadAdds, ShowsAt, Adds, is_late, is_false, is_done}
+use Rattle.lease_world.specs.judge.Caches.{brought_up}
+use Rattle.lease_world.specs.judge.Clients.{can_take, took_from, after_taking, is_buffered_before, is_accepted_write, taken_of, Accepts, Writes, WritesCache, Settles, SettlesCache, Believes, Sees, with_write, with_settled, with_belief}
+use Rattle.lease_world.specs.judge.Judged.{is_safe}
+use Rattle.lease_world.specs.judge.Knows.{KnowsFile, KnowsClient, HasContents, RisesTo, Knows}
+use Rattle.lease_world.specs.judge.Seen.{Seen, SeenFile, SeenClient, SeenWrite, joined, touched, touched_by_others, has_settled, file_in, client_in, cache_in, write_in, is_good_client, is_conflict}
+use Rattle.lease_world.specs.judge.Tables.{HasClient, HasFile, HasSameClients, HasSameFiles, ChangesClient, is_started_in, HasRival, HasNoRival, HasRivalAt, HasNoRivalAt, HasRivalSomewhere, HasRivalNowhere}
+use Rattle.lease_world.specs.judge.Told.{write_of, last_touch}
+use Rattle.lease_world.proofs.records.Clients.{client_joins, client_drops, client_expires, client_strays, client_sent, client_took, took-formed, took-malformed}
+use Rattle.lease_world.proofs.records.Files.{file_starts, file_opens, file_changes}
+use Rattle.lease_world.proofs.records.Flaws.{malformed-here, two-here, stale-here, late-here, false-here, safe-here}
+use Rattle.lease_world.proofs.records.Keeping.{contents-later, contents-write, contents-each, contents-change, contents-start}
+use Rattle.lease_world.proofs.records.Knowing.{each_place, is_apart, client-here, client-others, file-here, file-others, same_files, one_file, same_clients, one_client, Holds, holds_client, holds_file, started_told, two_by_rival, free_of_rivals, good_now, match_bool}
+use Rattle.lease_world.proofs.records.OneCache.{one-stays, one-after, none-conflicts}
+use Rattle.lease_world.proofs.records.Others.{rises-low}
+use Rattle.lease_world.proofs.records.Reads.{read-of-none, read-of-strayed, read-of-good, client_reads, contents-read}
+use Rattle.lease_world.proofs.records.Skips.{touches, concerns}
+use Rattle.lease_world.proofs.records.Writes.{number-told, accepted-told, touched-told}
+use Rattle.lease_world.proofs.records.Written.{client_believes, client_accepts, client_settles, client_writes}
+
+-- The verdict is that of the definitions, and where it is Safe, what is kept is what the record with the fact says.
+pub record Judges (place : ℕ) (fact : Fact) (past : List Fact) (new : Seen) (verdict : Verdict) : Type 0 where
+  pub told : verdict_of verdict ≡ flaw_at place fact past
+  pub known : is_safe verdict ≡ true → Knows new (fact ∷ past)
+
+-- ---- verdicts
+
+malformed_judged : (place : ℕ) (fact : Fact) (past : List Fact) (new : Seen) (v : Verdict) → v ≡ Verdict.Malformed place
+    → is_well_formed fact past ≡ false → Judges place fact past new v
+malformed_judged place fact past new v e w = rw e (record {
+  told = sym (malformed-here place fact past w);
+  known = λ s. let c : ⊥ = cc in absurd c;
+})
+
+two_judged : (place : ℕ) (fact : Fact) (past : List Fact) (new : Seen) (v : Verdict) → v ≡ Verdict.Unsafe place Rule.OneWriteCache
+    → is_well_formed fact past ≡ true → has_two_caches (fact ∷ past) ≡ true → Judges place fact past new v
+two_judged place fact past new v e w two = rw e (record {
+  told = sym (two-here place fact past w two);
+  known = λ s. let c : ⊥ = cc in absurd c;
+})
+
+stale_judged : (place : ℕ) (fact : Fact) (past : List Fact) (new : Seen) (v : Verdict) → v ≡ Verdict.Unsafe place Rule.FreshCachedReads
+    → is_well_formed fact past ≡ true → OneWriteCache (fact ∷ past) → is_stale_read fact past ≡ true → Judges place fact past new v
+stale_judged place fact past new v e w one stale = rw e (record {
+  told = sym (stale-here place fact past w one stale);
+  known = λ s. let c : ⊥ = cc in absurd c;
+})
+
+late_judged : (place : ℕ) (fact : Fact) (past : List Fact) (new : Seen) (v : Verdict) → v ≡ Verdict.Unsafe place Rule.NoLateWrite
+    → is_well_formed fact past ≡ true → OneWriteCache (fact ∷ past) → is_stale_read fact past ≡ false
+    → is_late_write fact past ≡ true → Judges place fact past new v
+late_judged place fact past new v e w one stale late = rw e (record {
+  told = sym (late-here place fact past w one stale late);
+  known = λ s. let c : ⊥ = cc in absurd c;
+})
+
+false_judged : (place : ℕ) (fact : Fact) (past : List Fact) (new : Seen) (v : Verdict) → v ≡ Verdict.Unsafe place Rule.NoFalseDone
+    → is_well_formed fact past ≡ true → OneWriteCache (fact ∷ past) → is_stale_read fact past ≡ false
+    → is_late_write fact past ≡ false → is_false_done fact past ≡ true → Judges place fact past new v
+false_judged place fact past new v e w one stale late done = rw e (record {
+  told = sym (false-here place fact past w one stale late done);
+  known = λ s. let c : ⊥ = cc in absurd c;
+})
+
+-- no rule is broken
+record AllWell (fact : Fact) (past : List Fact) : Type 0 where
+  formed : is_well_formed fact past ≡ true
+  one : OneWriteCache (fact ∷ past)
+  stale : is_stale_read fact past ≡ false
+  late : is_late_write fact past ≡ false
+  done : is_false_done fact past ≡ false
+
+safe_judged : (place : ℕ) (fact : Fact) (past : List Fact) (old new : Seen) (v : Verdict) → v ≡ Verdict.Safe → AllWell fact past
+    → ((f : ℕ) → KnowsFile f (file_in new.files f) (fact ∷ past)) → ((c : ℕ) → KnowsClient c (client_in new.clients c) (fact ∷ past))
+    → ((c f : ℕ) → Holds new.files new.clients c f) → Knows old past → Judges place fact past new v
+safe_judged place fact past old new v e well files clients contents k = rw e (record {
+  told = sym (safe-here place fact past well.formed well.one well.stale well.late well.done);
+  known = λ s. record {
+    files = files;
+    clients = clients;
+    contents = contents;
+    well_formed = (well.formed, k.well_formed);
+    one_write_cache = well.one;
+  };
+})
+
+-- ---- a file is started
+
+start_judged : (place file : ℕ) (bytes : List ℕ) (old new : Seen) (v : Verdict) (past : List Fact) → Knows old past
+    → StartAdds place file bytes old new v → Judges place (Fact.Start file bytes) past new v
+unfolding is_well_formed is_stale_read is_late_write is_false_done
+start_judged place file bytes old new v past k adds = match_bool (is_started_in old.files file) adds
+    (λ on e. malformed_judged place (Fact.Start file bytes) past new v e
+    (ap not (sym (started_told old file past k) ∙ on)))
+    (λ off is.
+    let fact : Fact = Fact.Start file bytes in
+    let seen : SeenFile = record (file_in old.files file) { start = Some bytes } in
+    let now : file_in new.files file ≡ seen = file-here old.files new.files file seen is.1.0 in
+    let others : (n : ℕ) → n ≢ file → file_in new.files n ≡ file_in old.files n =
+    file-others old.files new.files file seen is.1.0 in
+    safe_judged place fact past old new v is.0
+    (record {
+      formed = ap not (sym (started_told old file past k) ∙ off);
+      one = one-stays fact past refl k.one_write_cache;
+      stale = refl;
+      late = refl;
+      done = refl;
+    })
+    (one_file old new file fact past others (λ f ne. is_apart f file ne)
+    (rw now (file_starts file bytes (file_in old.files file) past (k.files file))) k)
+    (same_clients old new fact past is.1.1 (λ c. refl) k)
+    (holds_file old new file past is.1.1 others
+    (λ c. rw now (contents-start (file_in old.files file) bytes (client_in old.clients c).taken
+    (cache_in (client_in old.clients c).caches file) off (k.contents c file))) k)
+    k)
+
+-- ---- facts about one client alone
+
+-- where caches and the last sending place are as before, so are contents
+pub record Quiet (client : ℕ) (fact : Fact) : Type 0 where
+  files : (f : ℕ) → touches f fact ≡ false
+  others : (c : ℕ) → c ≢ client → concerns c fact ≡ false
+
+put_judged : (place client : ℕ) (fact : Fact) (seen : SeenClient) (old new : Seen) (v : Verdict) (past : List Fact) → Knows old past
+    → v ≡ Verdict.Safe → PutsClient client seen old new → Quiet client fact → AllWell fact past
+    → KnowsClient client seen (fact ∷ past)
+    → ((f : ℕ) → HasContents (file_in old.files f) seen.taken (cache_in seen.caches f))
+    → Judges place fact past new v
+put_judged place client fact seen old new v past k e puts quiet well known held =
+    let now : client_in new.clients client ≡ seen = client-here old.clients new.clients client seen puts.0 in
+    let others : (n : ℕ) → n ≢ client → client_in new.clients n ≡ client_in old.clients n =
+    client-others old.clients new.clients client seen puts.0 in
+    safe_judged place fact past old new v e well
+    (same_files old new fact past puts.1 quiet.files k)
+    (one_client old new client fact past others quiet.others (rw now known) k)
+    (holds_client old new client past puts.1 others (λ f. rw now (held f)) k)
+    k
+
+dropped_judged : (place client : ℕ) (old new : Seen) (v : Verdict) (past : List Fact) → Knows old past
+    → LeavingAdds client old new v → Judges place (Fact.Dropped client) past new v
+unfolding is_well_formed is_stale_read is_late_write is_false_done
+dropped_judged place client old new v past k adds =
+    put_judged place client (Fact.Dropped client) (record (client_in old.clients client) { served = false }) old new v past k
+    adds.0 adds.1 (record { files = λ f. refl; others = λ c ne. is_apart c client ne })
+    (record { formed = refl; one = one-stays (Fact.Dropped client) past refl k.one_write_cache; stale = refl; late = refl; done = refl })
+    (client_drops client (client_in old.clients client) past (k.clients client))
+    (λ f. k.contents client f)
+
+strayed_judged : (place client : ℕ) (old new : Seen) (v : Verdict) (past : List Fact) → Knows old past
+    → StrayedAdds client old new v → Judges place (Fact.Strayed client) past new v
+unfolding is_well_formed is_stale_read is_late_write is_false_done
+strayed_judged place client old new v past k adds =
+    put_judged place client (Fact.Strayed client) (record (client_in old.clients client) { strayed = true }) old new v past k
+    adds.0 adds.1 (record { files = λ f. refl; others = λ c ne. is_apart c client ne })
+    (record { formed = refl; one = one-stays (Fact.Strayed client) past refl k.one_write_cache; stale = refl; late = refl; done = refl })
+    (client_strays client (client_in old.clients client) past (k.clients client))
+    (λ f. k.contents client f)
+
+expired_judged : (place client file : ℕ) (old new : Seen) (v : Verdict) (past : List Fact) → Knows old past
+    → ExpiredAdds place client file old new v → Judges place (Fact.Expired client file) past new v
+unfolding is_well_formed is_stale_read is_late_write is_false_done
+expired_judged place client file old new v past k adds = match_bool (is_started_in old.files file) adds
+    (λ on is. put_judged place client (Fact.Expired client file) (record (client_in old.clients client) { served = false })
+    old new v past k is.0 is.1 (record { files = λ f. refl; others = λ c ne. is_apart c client ne })
+    (record {
+      formed = sym (started_told old file past k) ∙ on;
+      one = one-stays (Fact.Expired client file) past refl k.one_write_cache;
+      stale = refl;
+      late = refl;
+      done = refl;
+    })
+    (client_expires client file (client_in old.clients client) past (k.clients client))
+    (λ f. k.contents client f))
+    (λ off e. malformed_judged place (Fact.Expired client file) past new v e (sym (started_told old file past k) ∙ off))
+
+sent_judged : (place client : ℕ) (old new : Seen) (v : Verdict) (past : List Fact) → Knows old past → place ≡ length past + 1
+    → SentAdds place client old new v → Judges place (Fact.Sent client) past new v
+unfolding is_well_formed is_stale_read is_late_write is_false_done
+sent_judged place client old new v past k at adds =
+    put_judged place client (Fact.Sent client)
+    (record (client_in old.clients client) { sent = (client_in old.clients client).sent ++ place ∷ [] }) old new v past k
+    adds.0 adds.1 (record { files = λ f. refl; others = λ c ne. is_apart c client ne })
+    (record { formed = refl; one = one-stays (Fact.Sent client) past refl k.one_write_cache; stale = refl; late = refl; done = refl })
+    (client_sent client place (client_in old.clients client) past at (k.clients client))
+    (λ f. k.contents client f)
+
+-- ---- a message is taken
+
+took_held : (file : SeenFile) (seen : SeenClient) (sent : List ℕ) (high f : ℕ) → RisesTo seen.taken sent high
+    → HasContents file seen.taken (cache_in seen.caches f)
+    → HasContents file (took_from seen sent).taken (cache_in (took_from seen sent).caches f)
+took_held file seen [] high f r h = h
+took_held file seen (place ∷ sent) high f r h = contents-later file seen.taken place (cache_in seen.caches f) r.0 h
+
+took_judged : (place client : ℕ) (old new : Seen) (v : Verdict) (past : List Fact) → Knows old past
+    → TookAdds place client old new v → Judges place (Fact.Took client) past new v
+unfolding is_stale_read is_late_write is_false_done
+took_judged place client old new v past k adds =
+    let seen : SeenClient = client_in old.clients client in
+    match_bool (can_take seen) adds
+    (λ on is. put_judged place client (Fact.Took client) (after_taking seen) old new v past k is.0 is.1
+    (record { files = λ f. refl; others = λ c ne. is_apart c client ne })
+    (record {
+      formed = took-formed client seen past on (k.clients client);
+      one = one-stays (Fact.Took client) past refl k.one_write_cache;
+      stale = refl;
+      late = refl;
+      done = refl;
+    })
+    (client_took client seen past on (k.clients client))
+    (λ f. took_held (file_in old.files f) seen seen.sent (length past) f (k.clients client).rising (k.contents client f)))
+    (λ off e. malformed_judged place (Fact.Took client) past new v e (took-malformed client seen past off (k.clients client)))
+
+-- ---- a client joins
+
+joined_good : (client other : ℕ) (past : List Fact) → other ≢ client
+    → is_good other (Fact.Joined client ∷ past) ≡ is_good other past
+unfolding is_good is_served has_strayed
+joined_good client other past ne = rw (is_apart other client ne) refl
+
+joined_judged : (place client : ℕ) (old new : Seen) (v : Verdict) (past : List Fact) → Knows old past
+    → JoinedAdds place client old new v → Judges place (Fact.Joined client) past new v
+unfolding is_well_formed is_stale_read is_late_write is_false_done believed
+joined_judged place client old new v past k adds =
+    let fact : Fact = Fact.Joined client in
+    let seen : SeenClient = joined (client_in old.clients client) in
+    let now : client_in new.clients client ≡ seen = client-here old.clients new.clients client seen adds.0.0 in
+    let others : (n : ℕ) → n ≢ client → client_in new.clients n ≡ client_in old.clients n =
+    client-others old.clients new.clients client seen adds.0.0 in
+    let clients : (c : ℕ) → KnowsClient c (client_in new.clients c) (fact ∷ past) =
+    one_client old new client fact past others (λ c ne. is_apart c client ne)
+    (rw now (client_joins client (client_in old.clients client) past (k.clients client))) k in
+    match_bool adds.1.0 adds.1.1
+    (λ on is. two_judged place fact past new v is.0 refl
+    (two_by_rival new.clients client is.1.1.0 (fact ∷ past) clients is.1.0 is.1.1.1))
+    (λ off is. safe_judged place fact past old new v is.0
+    (record {
+      formed = refl;
+      one = one-after past (fact ∷ past) client k.one_write_cache (λ o ne. joined_good client o past ne) (λ o f ne. refl)
+          (λ good f o ne good_too. free_of_rivals new.clients client f (fact ∷ past) clients
+          (is.1 (good_now new.clients client (fact ∷ past) clients good) f) o ne good_too);
+      stale = refl;
+      late = refl;
+      done = refl;
+    })
+    (same_files old new fact past adds.0.1 (λ f. refl) k)
+    clients
+    (holds_client old new client past adds.0.1 others (λ f. rw now (k.contents client f)) k)
+    k)
+
+-- ---- a file is opened
+
+opened_judged : (place file client : ℕ) (old new : Seen) (v : Verdict) (past : List Fact) → Knows old past → place ≡ length past + 1
+    → OpenedAdds place file client old new v → Judges place (Fact.Opened file client) past new v
+unfolding is_well_formed is_stale_read is_late_write is_false_done
+opened_judged place file client old new v past k at adds = match_bool (is_started_in old.files file) adds
+    (λ on is.
+    let fact : Fact = Fact.Opened file client in
+    let seen : SeenFile = record (file_in old.files file) { touches = touched (file_in old.files file).touches client place } in
+    let now : file_in new.files file ≡ seen = file-here old.files new.files file seen is.1.0 in
+    let others : (n : ℕ) → n ≢ file → file_in new.files n ≡ file_in old.files n =
+    file-others old.files new.files file seen is.1.0 in
+    safe_judged place fact past old new v is.0
+    (record {
+      formed = sym (started_told old file past k) ∙ on;
+      one = one-stays fact past refl k.one_write_cache;
+      stale = refl;
+      late = refl;
+      done = refl;
+    })
+    (one_file old new file fact past others (λ f ne. is_apart f file ne)
+    (rw now (file_opens file client place (file_in old.files file) past at (k.files file))) k)
+    (same_clients old new fact past is.1.1 (λ c. refl) k)
+    (holds_file old new file past is.1.1 others (λ c. rw now (k.contents c file)) k)
+    k)
+    (λ off e. malformed_judged place (Fact.Opened file client) past new v e (sym (started_told old file past k) ∙ off))
+
+-- ---- a file is changed
+
+late_told : (file client number : ℕ) (patch : Patch) (old : Seen) (past : List Fact) → Knows old past
+    → is_late file client number old ≡ is_late_write (Fact.Changed file client number patch) past
+unfolding is_late_write
+late_told file client number patch old past k =
+    rw ((k.clients client).strayed, (k.files file).touches client, (k.clients client).writes number,
+    touched-told client file number past k.well_formed) refl
+
+changed_formed : (file client number : ℕ) (patch : Patch) (old : Seen) (past : List Fact) → Knows old past
+    → (is_started_in old.files file && is_within_limit patch) ≡ is_well_formed (Fact.Changed file client number patch) past
+unfolding is_well_formed
+changed_formed file client number patch old past k = rw (started_told old file past k) refl
+
+accepted_held : (file : SeenFile) (seen now : SeenClient) (f number of_file : ℕ) (patch : Patch) → Accepts of_file number patch seen now
+    → HasContents file seen.taken (cache_in seen.caches f) → HasContents file now.taken (cache_in now.caches f)
+accepted_held file seen now f number of_file patch is h = rw is.0 h
+
+changed_judged : (place file client number : ℕ) (patch : Patch) (old new : Seen) (v : Verdict) (past : List Fact)
+    → Knows old past → place ≡ length past + 1
+    → ChangedAdds place file client number patch old new v → Judges place (Fact.Changed file client number patch) past new v
+unfolding is_stale_read is_false_done
+changed_judged place file client number patch old new v past k at adds =
+    let fact : Fact = Fact.Changed file client number patch in
+    let one : OneWriteCache (fact ∷ past) = one-stays fact past refl k.one_write_cache in
+    let well = changed_formed file client number patch old past k in
+    let late = late_told file client number patch old past k in
+    match_bool (is_started_in old.files file && is_within_limit patch) adds
+    (λ on more. match_bool (is_late file client number old) more
+    (λ is_so e. late_judged place fact past new v e (sym well ∙ on) one refl (sym late ∙ is_so))
+    (λ not_so is.
+    let seen : SeenFile = record (file_in old.files file) {
+      changes = (file_in old.files file).changes ++ record { place = place; patch = patch } ∷ [];
+      touches = touched (file_in old.files file).touches client place;
+    } in
+    let now : file_in new.files file ≡ seen = file-here old.files new.files file seen is.1.1 in
+    let others : (n : ℕ) → n ≢ file → file_in new.files n ≡ file_in old.files n =
+    file-others old.files new.files file seen is.1.1 in
+    let held : (c f : ℕ) → HasContents (file_in new.files f) (client_in old.clients c).taken (cache_in (client_in old.clients c).caches f) =
+    λ c f. each_place
+    (λ n. HasContents (file_in new.files n) (client_in old.clients c).taken (cache_in (client_in old.clients c).caches n)) file
+    (let low = rises-low (client_in old.clients c).taken (client_in old.clients c).sent (length past) (k.clients c).rising in
+    rw now (contents-change (file_in old.files file) (touched (file_in old.files file).touches client place)
+    (record { place = place; patch = patch }) (client_in old.clients c).taken (cache_in (client_in old.clients c).caches file)
+    (omega (arith, low, at)) (k.contents c file)))
+    (λ n ne. rw (others n ne) (k.contents c n)) f in
+    safe_judged place fact past old new v is.0
+    (record {
+      formed = sym well ∙ on;
+      one = one;
+      stale = refl;
+      late = sym late ∙ not_so;
+      done = refl;
+    })
+    (one_file old new file fact past others (λ f ne. is_apart f file ne)
+    (rw now (file_changes file client number place patch (file_in old.files file) past at (k.files file))) k)
+    (one_client old new client fact past is.1.0.1 (λ c ne. is_apart c client ne)
+    (client_accepts client file number patch (client_in old.clients client) (client_in new.clients client) past is.1.0.0 (k.clients client)) k)
+    (λ c f. each_place (λ n. Holds new.files new.clients n f) client
+    (accepted_held (file_in new.files f) (client_in old.clients client) (client_in new.clients client) f number file patch is.1.0.0
+    (held client f))
+    (λ n ne. rw (is.1.0.1 n ne) (held n f)) c)
+    k))
+    (λ off e. malformed_judged place fact past new v e (sym well ∙ off))
+
+-- ---- a write is given
+
+written_held : (files : ℕ → SeenFile) (seen now : SeenClient) (number : ℕ) (write : SeenWrite) (settled : Bool)
+    → WritesCache settled number write seen.caches now.caches
+    → ((f : ℕ) → HasContents (files f) seen.taken (cache_in seen.caches f))
+    → (f : ℕ) → HasContents (files f) seen.taken (cache_in now.caches f)
+written_held files seen now number write true is held = λ f. rw (is f) (held f)
+written_held files seen now number write false is held =
+    contents-each files seen.taken write.file seen.caches now.caches
+    (with_write number write.patch (cache_in seen.caches write.file)) is
+    (contents-write (files write.file) seen.taken number write.patch (cache_in seen.caches write.file) (held write.file)) held
+
+wrote_held : (files : ℕ → SeenFile) (seen now : SeenClient) (number : ℕ) (write : SeenWrite) → Writes number write seen now
+    → ((f : ℕ) → HasContents (files f) seen.taken (cache_in seen.caches f))
+    → (f : ℕ) → HasContents (files f) now.taken (cache_in now.caches f)
+wrote_held files seen now number write is held f =
+    rw is.0 (written_held files seen now number write (has_settled seen number) is.2 held f)
+
+wrote_formed : (client file number : ℕ) (patch : Patch) (buffered : Bool) (old : Seen) (past : List Fact) → Knows old past
+    → (is_started_in old.files file && is_within_limit patch && not (is_some (write_in (client_in old.clients client) number)))
+    ≡ is_well_formed (Fact.Wrote client file number patch buffered) past
+unfolding is_well_formed
+wrote_formed client file number patch buffered old past k =
+    rw (started_told old file past k, (k.clients client).writes number, number-told client number past) refl
+
+wrote_judged : (place client file number : ℕ) (patch : Patch) (buffered : Bool) (old new : Seen) (v : Verdict) (past : List Fact)
+    → Knows old past → place ≡ length past + 1
+    → WroteAdds place client file number patch buffered old new v
+    → Judges place (Fact.Wrote client file number patch buffered) past new v
+unfolding is_stale_read is_late_write is_false_done
+wrote_judged place client file number patch buffered old new v past k at adds =
+    let fact : Fact = Fact.Wrote client file number patch buffered in
+    let well = wrote_formed client file number patch buffered old past k in
+    match_bool (is_started_in old.files file && is_within_limit patch
+    && not (is_some (write_in (client_in old.clients client) number))) adds
+    (λ on is. safe_judged place fact past old new v is.0
+    (record {
+      formed = sym well ∙ on;
+      one = one-stays fact past refl k.one_write_cache;
+      stale = refl;
+      late = refl;
+      done = refl;
+    })
+    (same_files old new fact past is.1.1 (λ f. refl) k)
+    (one_client old new client fact past is.1.0.1 (λ c ne. is_apart c client ne)
+    (client_writes client number place file patch buffered (client_in old.clients client) (client_in new.clients client) past at
+    is.1.0.0 (k.clients client)) k)
+    (holds_client old new client past is.1.1 is.1.0.1
+    (wrote_held (file_in old.files) (client_in old.clients client) (client_in new.clients client) number _ is.1.0.0
+    (k.contents client)) k)
+    k)
+    (λ off e. malformed_judged place fact past new v e (sym well ∙ off))
+
+-- ---- a write is settled
+
+false_told : (client number : ℕ) (outcome : Settlement) (old : Seen) (past : List Fact) → Knows old past
+    → is_false client number outcome old ≡ is_false_done (Fact.Settled client number outcome) past
+unfolding is_false_done
+false_told client number Settlement.Done old past k =
+    rw ((k.clients client).strayed, (k.clients client).writes number, accepted-told client number past k.well_formed) refl
+false_told client number Settlement.Failed old past k = refl
+false_told client number Settlement.Unknown old past k = refl
+false_told client number Settlement.Lost old past k = refl
+
+marked_held : (files : ℕ → SeenFile) (seen now : SeenClient) (write : Option SeenWrite)
+    → SettlesCache write seen.caches now.caches
+    → ((f : ℕ) → HasContents (files f) seen.taken (cache_in seen.caches f))
+    → (f : ℕ) → HasContents (files f) seen.taken (cache_in now.caches f)
+marked_held files seen now None is held = λ f. rw (is f) (held f)
+marked_held files seen now (Some write) is held =
+    contents-each files seen.taken write.file seen.caches now.caches (with_settled (cache_in seen.caches write.file)) is
+    (held write.file) held
+
+settled_held : (files : ℕ → SeenFile) (seen now : SeenClient) (number : ℕ) → Settles number seen now
+    → ((f : ℕ) → HasContents (files f) seen.taken (cache_in seen.caches f))
+    → (f : ℕ) → HasContents (files f) now.taken (cache_in now.caches f)
+settled_held files seen now number is held f = rw is.0 (marked_held files seen now (write_in seen number) is.2 held f)
+
+settled_judged : (place client number : ℕ) (outcome : Settlement) (old new : Seen) (v : Verdict) (past : List Fact) → Knows old past
+    → SettledAdds place client number outcome old new v → Judges place (Fact.Settled client number outcome) past new v
+unfolding is_well_formed is_stale_read is_late_write
+settled_judged place client number outcome old new v past k adds =
+    let fact : Fact = Fact.Settled client number outcome in
+    let one : OneWriteCache (fact ∷ past) = one-stays fact past refl k.one_write_cache in
+    let told = false_told client number outcome old past k in
+    match_bool (is_false client number outcome old) adds
+    (λ on e. false_judged place fact past new v e refl one refl refl (sym told ∙ on))
+    (λ off is. safe_judged place fact past old new v is.0
+    (record { formed = refl; one = one; stale = refl; late = refl; done = sym told ∙ off })
+    (same_files old new fact past is.1.1 (λ f. refl) k)
+    (one_client old new client fact past is.1.0.1 (λ c ne. is_apart c client ne)
+    (client_settles client number outcome (client_in old.clients client) (client_in new.clients client) past k.well_formed
+    is.1.0.0 (k.clients client)) k)
+    (holds_client old new client past is.1.1 is.1.0.1
+    (settled_held (file_in old.files) (client_in old.clients client) (client_in new.clients client) number is.1.0.0
+    (k.contents client)) k)
+    k)
+
+-- ---- a belief
+
+believed_held : (files : ℕ → SeenFile) (seen now : SeenClient) (file : ℕ) (state : State) → Believes file state seen now
+    → ((f : ℕ) → HasContents (files f) seen.taken (cache_in seen.caches f))
+    → (f : ℕ) → HasContents (files f) now.taken (cache_in now.caches f)
+believed_held files seen now file state is held f =
+    rw is.0 (contents-each files seen.taken file seen.caches now.caches (with_belief state (cache_in seen.caches file)) is.1
+    (held file) held f)
+
+others_believe : (client file other of_file : ℕ) (state : State) (past : List Fact) → other ≢ client
+    → believed other of_file (Fact.Believes client file state ∷ past) ≡ believed other of_file past
+unfolding believed
+others_believe client file other of_file state past ne = rw (is_apart other client ne) refl
+
+other_file_belief : (client file of_file : ℕ) (state : State) (past : List Fact) → of_file ≢ file
+    → believed client of_file (Fact.Believes client file state ∷ past) ≡ believed client of_file past
+unfolding believed
+other_file_belief client file of_file state past ne = skip (client == client) (file == of_file) (is_apart of_file file ne)
+  where
+    skip : (a b : Bool) → b ≡ false → (if a && b then state else believed client of_file past) ≡ believed client of_file past
+    skip true b e = rw e refl
+    skip false b e = refl
+
+same_good : (client file other : ℕ) (state : State) (past : List Fact)
+    → is_good other (Fact.Believes client file state ∷ past) ≡ is_good other past
+unfolding is_good is_served has_strayed
+same_good client file other state past = refl
+
+no_conflict : (client file : ℕ) (state : State) (clients : List SeenClient) (past : List Fact) → OneWriteCache past
+    → ((c : ℕ) → KnowsClient c (client_in clients c) (Fact.Believes client file state ∷ past))
+    → HasNoRivalAt clients client file → is_good client (Fact.Believes client file state ∷ past) ≡ true
+    → (f other : ℕ) → other ≢ client → is_good other (Fact.Believes client file state ∷ past) ≡ true
+    → is_conflict (believed client f (Fact.Believes client file state ∷ past)) (believed other f (Fact.Believes client file state ∷ past)) ≡ false
+no_conflict client file state clients past one k none good f other ne good_too =
+    let next : List Fact = Fact.Believes client file state ∷ past in
+    each_place (λ n. is_conflict (believed client n next) (believed other n next) ≡ false) file
+    (free_of_rivals clients client file next k (none (good_now clients client next k good)) other ne good_too)
+    (λ n apart. rw (other_file_belief client file n state past apart, others_believe client file other n state past ne)
+    (none-conflicts past client other n one ne (sym (same_good client file client state past) ∙ good)
+    (sym (same_good client file other state past) ∙ good_too)))
+    f
+
+believes_judged : (place client file : ℕ) (state : State) (old new : Seen) (v : Verdict) (past : List Fact) → Knows old past
+    → BelievesAdds place client file state old new v → Judges place (Fact.Believes client file state) past new v
+unfolding is_well_formed is_stale_read is_late_write is_false_done
+believes_judged place client file state old new v past k adds =
+    let fact : Fact = Fact.Believes client file state in
+    match_bool (is_started_in old.files file) adds
+    (λ on more.
+    let formed : is_started file past ≡ true = sym (started_told old file past k) ∙ on in
+    let clients : (c : ℕ) → KnowsClient c (client_in new.clients c) (fact ∷ past) =
+    one_client old new client fact past more.0.0.1 (λ c ne. is_apart c client ne)
+    (client_believes client file state (client_in old.clients client) (client_in new.clients client) past more.0.0.0 (k.clients client)) k in
+    match_bool more.1.0 more.1.1
+    (λ two is. two_judged place fact past new v is.0 formed
+    (two_by_rival new.clients client file (fact ∷ past) clients is.1.0 is.1.1))
+    (λ none is. safe_judged place fact past old new v is.0
+    (record {
+      formed = formed;
+      one = one-after past (fact ∷ past) client k.one_write_cache (λ o ne. same_good client file o state past)
+          (λ o f ne. others_believe client file o f state past ne)
+          (λ good f o ne good_too. no_conflict client file state new.clients past k.one_write_cache clients is.1 good f o ne good_too);
+      stale = refl;
+      late = refl;
+      done = refl;
+    })
+    (same_files old new fact past more.0.1 (λ f. refl) k)
+    clients
+    (holds_client old new client past more.0.1 more.0.0.1
+    (believed_held (file_in old.files) (client_in old.clients client) (client_in new.clients client) file state more.0.0.0
+    (k.contents client)) k)
+    k))
+    (λ off e. malformed_judged place fact past new v e (sym (started_told old file past k) ∙ off))
+
+-- ---- a cached read
+
+read_held : (files : ℕ → SeenFile) (taken file : ℕ) (bytes : List ℕ) (seen now : SeenClient) (same : Bool)
+    → Sees file (files file) taken bytes seen now same → is_some (files file).start ≡ true → taken_of seen ≡ Some taken
+    → ((f : ℕ) → HasContents (files f) seen.taken (cache_in seen.caches f))
+    → (f : ℕ) → HasContents (files f) now.taken (cache_in now.caches f)
+read_held files taken file bytes seen now same is started some held f =
+    rw is.0 (contents-each files seen.taken file seen.caches now.caches
+    (brought_up (files file) taken seen.settled (cache_in seen.caches file)) is.1
+    (contents-read taken bytes file seen now (files file) same (held file) started some is) held f)
+
+shown_judged : (place client file : ℕ) (bytes : List ℕ) (old new : Seen) (v : Verdict) (past : List Fact) (taken : Option ℕ) → Knows old past
+    → is_started_in old.files file ≡ true → is_good_client (client_in old.clients client) ≡ true
+    → taken_of (client_in old.clients client) ≡ taken
+    → ShowsAt place client file bytes old new v taken → Judges place (Fact.CachedRead client file bytes) past new v
+unfolding is_well_formed is_late_write is_false_done
+shown_judged place client file bytes old new v past None k started good none e =
+    let fact : Fact = Fact.CachedRead client file bytes in
+    stale_judged place fact past new v e (sym (started_told old file past k) ∙ started)
+    (one-stays fact past refl k.one_write_cache)
+    (read-of-none client file bytes (client_in old.clients client) past (k.clients client) good none)
+shown_judged place client file bytes old new v past (Some taken) k started good some shows =
+    let fact : Fact = Fact.CachedRead client file bytes in
+    let formed : is_started file past ≡ true = sym (started_told old file past k) ∙ started in
+    let one : OneWriteCache (fact ∷ past) = one-stays fact past refl k.one_write_cache in
+    let stale : is_stale_read fact past ≡ not shows.0 =
+    read-of-good client file taken bytes (client_in old.clients client) (client_in new.clients client) (file_in old.files file) shows.0
+    past (k.clients client) (k.files file) (k.contents client file) started good some shows.1.0.0 in
+    match_bool shows.0 shows.2
+    (λ same e. safe_judged place fact past old new v e
+    (record { formed = formed; one = one; stale = stale ∙ ap not same; late = refl; done = refl })
+    (same_files old new fact past shows.1.1 (λ f. refl) k)
+    (one_client old new client fact past shows.1.0.1 (λ c ne. refl)
+    (client_reads client file taken bytes (client_in old.clients client) (client_in new.clients client) (file_in old.files file) shows.0
+    past (k.clients client) (k.contents client file) started some shows.1.0.0) k)
+    (holds_client old new client past shows.1.1 shows.1.0.1
+    (read_held (file_in old.files) taken file bytes (client_in old.clients client) (client_in new.clients client) shows.0 shows.1.0.0
+    started some (k.contents client)) k)
+    k)
+    (λ differs e. stale_judged place fact past new v e formed one (stale ∙ ap not differs))
+
+read_judged : (place client file : ℕ) (bytes : List ℕ) (old new : Seen) (v : Verdict) (past : List Fact) → Knows old past
+    → CachedReadAdds place client file bytes old new v → Judges place (Fact.CachedRead client file bytes) past new v
+unfolding is_well_formed is_late_write is_false_done
+read_judged place client file bytes old new v past k adds =
+    let fact : Fact = Fact.CachedRead client file bytes in
+    match_bool (is_started_in old.files file) adds
+    (λ on more. match_bool (is_good_client (client_in old.clients client)) more
+    (λ good shows. shown_judged place client file bytes old new v past (taken_of (client_in old.clients client)) k on good refl shows)
+    (λ bad is. safe_judged place fact past old new v is.0
+    (record {
+      formed = sym (started_told old file past k) ∙ on;
+      one = one-stays fact past refl k.one_write_cache;
+      stale = read-of-strayed client file bytes (client_in old.clients client) past (k.clients client) bad;
+      late = refl;
+      done = refl;
+    })
+    (same_files old new fact past (λ f. ap (λ (s : Seen). file_in s.files f) is.1) (λ f. refl) k)
+    (same_clients old new fact past (λ c. ap (λ (s : Seen). client_in s.clients c) is.1) (λ c. refl) k)
+    (λ c f. rw is.1 (k.contents c f))
+    k))
+    (λ off e. malformed_judged place fact past new v e (sym (started_told old file past k) ∙ off))
+
+-- ---- any fact
+
+pub judged : (place : ℕ) (fact : Fact) (old new : Seen) (v : Verdict) (past : List Fact) → Knows old past → place ≡ length past + 1
+    → Adds place fact old new v → Judges place fact past new v
+judged place (Fact.Start file bytes) old new v past k at adds = start_judged place file bytes old new v past k adds
+judged place (Fact.Joined client) old new v past k at adds = joined_judged place client old new v past k adds
+judged place (Fact.Dropped client) old new v past k at adds = dropped_judged place client old new v past k adds
+judged place (Fact.Expired client file) old new v past k at adds = expired_judged place client file old new v past k adds
+judged place (Fact.Sent client) old new v past k at adds = sent_judged place client old new v past k at adds
+judged place (Fact.Took client) old new v past k at adds = took_judged place client old new v past k adds
+judged place (Fact.Opened file client) old new v past k at adds = opened_judged place file client old new v past k at adds
+judged place (Fact.Changed file client number patch) old new v past k at adds =
+    changed_judged place file client number patch old new v past k at adds
+judged place (Fact.Wrote client file number patch buffered) old new v past k at adds =
+    wrote_judged place client file number patch buffered old new v past k at adds
+judged place (Fact.Settled client number outcome) old new v past k at adds =
+    settled_judged place client number outcome old new v past k adds
+judged place (Fact.Believes client file state) old new v past k at adds =
+    believes_judged place client file state old new v past k adds
+judged place (Fact.CachedRead client file bytes) old new v past k at adds =
+    read_judged place client file bytes old new v past k adds
+judged place (Fact.Strayed client) old new v past k at adds = strayed_judged place client old new v past k adds

@@ -1,0 +1,112 @@
+-- A judge that was given facts, and is given one more.
+use Rattle.std.proofs.Common.{◌≡◌, ◌≢◌, ℕ, suc, ◌+◌, ◌≤◌, Bool, true, false, List, [], ◌∷◌, ◌++◌, Option, Some, None, length, refl, sym, ap, subst, ◌∙◌, arith}
+use Rattle.std.specs.Prelude.{◌==◌, if◌then◌else◌, reverse, MatchBool}
+use Rattle.std.proofs.lemmas.List.{length-append, length-reverse, reverse-append}
+use Rattle.lease_state.specs.State.{nothing_cached}
+use Rattle.lease_model.specs.records.Facts.{Fact}
+use Rattle.lease_model.specs.records.Past.{is_started, start_of, has_joined, is_served, has_strayed, sendings, takings, last_sending, is_settled, believed}
+use Rattle.lease_model.specs.records.Safe.{OneWriteCache}
+use Rattle.lease_model.specs.records.Verdict as model
+use Rattle.lease_model.specs.records.Verdict.{or_else, flaw_at, verdict_from}
+use Rattle.lease_world.specs.Verdicts.{verdict_of}
+use Rattle.lease_world.specs.declared.verdict.Verdict.{Verdict}
+use Rattle.lease_world.specs.judge.Judged.{Judging, is_safe, Steps, HasJudged, JudgesOneMore}
+use Rattle.lease_world.specs.judge.Knows.{KnowsFile, KnowsCache, KnowsClient, HasContents, Knows}
+use Rattle.lease_world.specs.judge.Seen.{SeenFile, SeenCache, SeenClient, unseen_file, unseen_cache, unseen_client, file_in, client_in, cache_in, touched_by_others, untouched}
+use Rattle.lease_world.specs.judge.Told.{placed_changes, last_touch, write_of, pending}
+use Rattle.lease_world.proofs.Places.{past_the_end}
+use Rattle.lease_world.proofs.records.Adding.{Judges, judged}
+use Rattle.lease_world.proofs.records.Flaws.{verdict-more}
+use Rattle.lease_world.proofs.records.Knowing.{match_bool}
+
+-- ---- before any fact
+
+file_unseen : (file : ℕ) → KnowsFile file unseen_file []
+unfolding is_started start_of placed_changes last_touch
+file_unseen file = record { started = refl; start = refl; changes = refl; touches = λ c. nowhere (c == 0) }
+  where
+    nowhere : (b : Bool) → let none : ℕ = 0 in (if b then none else none) ≡ none
+    nowhere true = refl
+    nowhere false = refl
+
+cache_unseen : (client file : ℕ) → KnowsCache client file unseen_cache []
+unfolding believed pending
+cache_unseen client file = record { belief = refl; waiting = refl; fresh = λ e. refl }
+
+client_unseen : (client : ℕ) → KnowsClient client unseen_client []
+unfolding has_joined is_served has_strayed sendings takings last_sending is_settled write_of
+client_unseen client = record {
+  joined = refl;
+  served = refl;
+  strayed = refl;
+  in_order = omega arith;
+  sent = refl;
+  taken = refl;
+  rising = omega arith;
+  settled = λ n. refl;
+  writes = λ n. refl;
+  caches = λ f. rw (past_the_end unseen_cache [] f (omega arith)) (cache_unseen client f);
+}
+
+nobody_yet : OneWriteCache []
+unfolding believed
+nobody_yet file client other ne good writes good_too = refl
+
+contents_unseen : (c f : ℕ) → HasContents (file_in [] f) (client_in [] c).taken (cache_in (client_in [] c).caches f)
+contents_unseen c f = (tt, tt)
+
+pub nothing_judged : HasJudged (record { verdict = Verdict.Safe; count = 0; known = record { files = []; clients = [] } }) []
+unfolding verdict_from
+nothing_judged = record {
+  verdict = refl;
+  known = λ e. (refl, record {
+    files = λ f. rw (past_the_end unseen_file [] f (omega arith)) (file_unseen f);
+    clients = λ c. rw (past_the_end unseen_client [] c (omega arith)) (client_unseen c);
+    contents = contents_unseen;
+    well_formed = tt;
+    one_write_cache = nobody_yet;
+  });
+}
+
+-- ---- one fact more
+
+one_more_safe : (v : Verdict) (flaw : model.Verdict) → is_safe v ≡ true → or_else (verdict_of v) flaw ≡ flaw
+one_more_safe Verdict.Safe flaw e = refl
+one_more_safe (Verdict.Unsafe place rule) flaw e = let c : ⊥ = cc in absurd c
+one_more_safe (Verdict.Malformed place) flaw e = let c : ⊥ = cc in absurd c
+
+one_more_flawed : (v : Verdict) (flaw : model.Verdict) → is_safe v ≡ false → or_else (verdict_of v) flaw ≡ verdict_of v
+one_more_flawed Verdict.Safe flaw e = let c : ⊥ = cc in absurd c
+one_more_flawed (Verdict.Unsafe place rule) flaw e = refl
+one_more_flawed (Verdict.Malformed place) flaw e = refl
+
+counted : (facts : List Fact) (fact : Fact) (n m : ℕ) → n ≡ length facts → m ≡ n + 1 → m ≡ length (facts ++ fact ∷ [])
+counted facts fact n m e f = let l = length-append facts (fact ∷ []) in omega (arith, e, f, l)
+
+last_first : (facts : List Fact) (fact : Fact) → reverse (facts ++ fact ∷ []) ≡ fact ∷ reverse facts
+last_first facts fact = reverse-append facts (fact ∷ [])
+
+pub stepped : (old : Judging) (fact : Fact) (new : Judging) → Steps old fact new → JudgesOneMore old fact new
+stepped old fact new steps facts h = match_bool (is_safe old.verdict) steps
+    (λ safe adds.
+    let known : (old.count ≡ length facts) × Knows old.known (reverse facts) = h.known safe in
+    let place : old.count + 1 ≡ length (reverse facts) + 1 = let l = length-reverse facts in omega (arith, known.0, l) in
+    let judges : Judges (old.count + 1) fact (reverse facts) new.known new.verdict =
+    judged (old.count + 1) fact old.known new.known new.verdict (reverse facts) known.1 place adds.0 in
+    record {
+      verdict = judges.told
+          ∙ (ap (λ (n : ℕ). flaw_at (n + 1) fact (reverse facts)) known.0
+          ∙ sym (verdict-more facts fact
+          ∙ (ap (λ (v : model.Verdict). or_else v (flaw_at (length facts + 1) fact (reverse facts))) (sym h.verdict)
+          ∙ one_more_safe old.verdict (flaw_at (length facts + 1) fact (reverse facts)) safe)));
+      known = λ e. (
+        counted facts fact old.count new.count known.0 adds.1,
+        subst (λ (past : List Fact). Knows new.known past) (sym (last_first facts fact)) (judges.known e),
+      );
+    })
+    (λ flawed same. rw same (record {
+      verdict = sym (verdict-more facts fact
+          ∙ (ap (λ (v : model.Verdict). or_else v (flaw_at (length facts + 1) fact (reverse facts))) (sym h.verdict)
+          ∙ one_more_flawed old.verdict (flaw_at (length facts + 1) fact (reverse facts)) flawed));
+      known = λ e. let f : false ≡ true = sym flawed ∙ e in let c : ⊥ = cc in absurd c;
+    }))

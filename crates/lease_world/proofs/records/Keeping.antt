@@ -1,0 +1,111 @@
+-- What is kept of a file for a client, over facts that change the file or the client.
+use Rattle.std.proofs.Common.{◌≡◌, ◌≢◌, ℕ, zero, suc, ◌+◌, ◌<◌, ◌≤◌, Bool, true, false, List, [], ◌∷◌, ◌++◌, Option, Some, None, length, take, refl, sym, ap, subst, ◌∙◌, arith, inl, inr}
+use Rattle.std.specs.Prelude.{◌==◌, if◌then◌else◌, is_some, unwrap_or, nat_lt}
+use Rattle.std.proofs.lemmas.Bool.{cases_Bool}
+use Rattle.std.proofs.lemmas.List.{take-append-le, length-append}
+use Rattle.lease_state.specs.Content.{patches}
+use Rattle.lease_state.specs.declared.patch.Patch.{Patch}
+use Rattle.lease_world.specs.judge.Before.{before, patches_of, patches_waiting}
+use Rattle.lease_world.specs.judge.Clients.{HasCache, with_write}
+use Rattle.lease_world.specs.judge.Knows.{IsBase, IsView, HasContents}
+use Rattle.lease_world.specs.judge.Seen.{Change, Waiting, Snapshot, SeenFile, SeenCache, Touches, cache_in}
+use Rattle.lease_world.proofs.records.Contents.{before-push}
+
+-- ---- a later place
+
+before-longer : (place later : ℕ) (changes : List Change) → place ≤ later
+    → length (before place changes) ≤ length (before later changes)
+before-longer place later [] le = omega arith
+before-longer place later (change ∷ changes) le =
+    one_longer (nat_lt change.place place) (nat_lt change.place later) (before place changes) (before later changes)
+    (before-longer place later changes le) (λ h. still change.place place later h le)
+  where
+    still : (n place later : ℕ) → nat_lt n place ≡ true → place ≤ later → nat_lt n later ≡ true
+    still n place later h le = grind arith
+
+    one_longer : (a b : Bool) (xs ys : List Change) → length xs ≤ length ys → (a ≡ true → b ≡ true)
+        → length (if a then change ∷ xs else []) ≤ length (if b then change ∷ ys else [])
+    one_longer true true xs ys le h = omega (arith, le)
+    one_longer true false xs ys le h = let e : false ≡ true = h refl in let c : ⊥ = cc in absurd c
+    one_longer false b xs ys le h = omega arith
+
+base-later : (file : SeenFile) (taken later : ℕ) (base : Option Snapshot) → taken ≤ later → IsBase file taken base → IsBase file later base
+base-later file taken later None le is = tt
+base-later file taken later (Some base) le is =
+    let longer = before-longer taken later file.changes le in (is.0, is.1, omega (arith, is.2, longer))
+
+pub contents-later : (file : SeenFile) (taken later : ℕ) (cache : SeenCache) → taken ≤ later → HasContents file taken cache
+    → HasContents file later cache
+contents-later file taken later cache le h = (base-later file taken later cache.base le h.0, h.1)
+
+-- ---- a write more
+
+view-push : (cache : SeenCache) (write : Waiting) (base view : Option Snapshot) → IsView cache base view
+    → IsView (record cache { waiting = cache.waiting ++ write ∷ [] }) base view
+view-push cache write base None is = tt
+view-push cache write None (Some view) is = is
+view-push cache write (Some base) (Some view) is =
+    (
+      is.0 ∙ ap (λ (ws : List Waiting). patches base.bytes (patches_waiting ws))
+      (sym (take-append-le view.applied cache.waiting (write ∷ []) is.1)),
+      let e = length-append cache.waiting (write ∷ []) in omega (arith, is.1, e),
+    )
+
+pub contents-write : (file : SeenFile) (taken number : ℕ) (patch : Patch) (cache : SeenCache) → HasContents file taken cache
+    → HasContents file taken (with_write number patch cache)
+contents-write file taken number patch cache h =
+    (h.0, view-push cache (record { number = number; patch = patch }) cache.base cache.view h.1)
+
+-- ---- one cache of a client
+
+pub contents-each : (files : ℕ → SeenFile) (taken file : ℕ) (old new : List SeenCache) (cache : SeenCache) → HasCache old new file cache
+    → HasContents (files file) taken cache → ((f : ℕ) → HasContents (files f) taken (cache_in old f))
+    → (f : ℕ) → HasContents (files f) taken (cache_in new f)
+contents-each files taken file old new cache has here all f = by_case (f == file) refl
+  where
+    at_file : (f == file) ≡ true → HasContents (files f) taken cache
+    at_file e = let is : f ≡ file = grind arith in rw is here
+
+    by_case : (b : Bool) → (f == file) ≡ b → HasContents (files f) taken (cache_in new f)
+    by_case true e = rw (has f, e) (at_file e)
+    by_case false e = rw (has f, e) (all f)
+
+-- ---- a change more of the file
+
+base-change : (file : SeenFile) (touches : Touches) (change : Change) (taken : ℕ) (base : Option Snapshot) → taken ≤ change.place
+    → IsBase file taken base
+    → IsBase (record file { changes = file.changes ++ change ∷ []; touches = touches }) taken base
+base-change file touches change taken None le is = tt
+base-change file touches change taken (Some base) le is =
+    let within : base.applied ≤ length file.changes = let e = before-within taken file.changes in omega (arith, is.2, e) in
+    (
+      is.0,
+      is.1 ∙ ap (λ (cs : List Change). patches (unwrap_or file.start []) (patches_of cs))
+      (sym (take-append-le base.applied file.changes (change ∷ []) within)),
+      rw (before-push taken file.changes change le) is.2,
+    )
+  where
+    shorter : (b : Bool) (x : Change) (xs : List Change) (n : ℕ) → length xs ≤ n → length (if b then x ∷ xs else []) ≤ suc n
+    shorter true x xs n le = omega (arith, le)
+    shorter false x xs n le = omega arith
+
+    before-within : (place : ℕ) (changes : List Change) → length (before place changes) ≤ length changes
+    before-within place [] = omega arith
+    before-within place (x ∷ changes) =
+        let e = before-within place changes in shorter (nat_lt x.place place) x (before place changes) (length changes) e
+
+pub contents-change : (file : SeenFile) (touches : Touches) (change : Change) (taken : ℕ) (cache : SeenCache) → taken ≤ change.place
+    → HasContents file taken cache
+    → HasContents (record file { changes = file.changes ++ change ∷ []; touches = touches }) taken cache
+contents-change file touches change taken cache le h = (base-change file touches change taken cache.base le h.0, h.1)
+
+-- ---- a file is started
+
+base-none : (file : SeenFile) (bytes : List ℕ) (taken : ℕ) (base : Option Snapshot) → is_some file.start ≡ false
+    → IsBase file taken base → IsBase (record file { start = Some bytes }) taken base
+base-none file bytes taken None off is = tt
+base-none file bytes taken (Some base) off is = let e : false ≡ true = sym off ∙ is.0 in let c : ⊥ = cc in absurd c
+
+pub contents-start : (file : SeenFile) (bytes : List ℕ) (taken : ℕ) (cache : SeenCache) → is_some file.start ≡ false
+    → HasContents file taken cache → HasContents (record file { start = Some bytes }) taken cache
+contents-start file bytes taken cache off h = (base-none file bytes taken cache.base off h.0, h.1)

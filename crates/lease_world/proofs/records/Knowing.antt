@@ -1,0 +1,152 @@
+-- What is known after one fact more, from what is known of the file and the client that it is about.
+use Rattle.std.proofs.Common.{◌≡◌, ◌≢◌, ℕ, ◌+◌, Bool, true, false, List, [], ◌∷◌, refl, sym, ap, subst, ◌∙◌, arith, inl, inr}
+use Rattle.std.specs.Prelude.{◌==◌, ◌&&◌, not, if◌then◌else◌, is_some, MatchBool}
+use Rattle.std.proofs.lemmas.Bool.{cases_Bool}
+use Rattle.lease_model.specs.records.Facts.{Fact}
+use Rattle.lease_model.specs.records.Past.{is_started, is_good, believed}
+use Rattle.lease_model.specs.records.Safe.{WellFormed, OneWriteCache}
+use Rattle.lease_world.specs.judge.Knows.{KnowsFile, KnowsClient, HasContents, Knows}
+use Rattle.lease_world.specs.judge.Seen.{Seen, SeenFile, SeenClient, file_in, client_in, cache_in, is_good_client, is_conflict}
+use Rattle.lease_world.specs.judge.Tables.{HasClient, HasFile, HasSameClients, HasSameFiles, is_started_in, belief_in, is_rival, HasRival, HasNoRival}
+use Rattle.lease_world.proofs.records.OneCache.{two-where}
+use Rattle.lease_world.proofs.records.Others.{file_stays, client_stays}
+use Rattle.lease_world.proofs.records.Skips.{touches, concerns}
+use Rattle.lease_model.specs.records.Verdict.{has_two_caches}
+
+-- ---- one place and the others
+
+pub each_place : (P : ℕ → Type 0) (k : ℕ) → P k → ((n : ℕ) → n ≢ k → P n) → (n : ℕ) → P n
+each_place P k here others n = go (n == k) refl
+  where
+    go : (b : Bool) → (n == k) ≡ b → P n
+    go true e = let is : n ≡ k = grind arith in rw is here
+    go false e = let ne : n ≢ k = grind arith in others n ne
+
+pub is_apart : (n k : ℕ) → n ≢ k → (k == n) ≡ false
+is_apart n k ne = grind arith
+
+at_place : {X : Type 0} (k : ℕ) (x y : X) → (if k == k then x else y) ≡ x
+at_place k x y = let e : (k == k) ≡ true = grind arith in rw e refl
+
+off_place : {X : Type 0} (n k : ℕ) (x y : X) → n ≢ k → (if n == k then x else y) ≡ y
+off_place n k x y ne = let e : (n == k) ≡ false = grind arith in rw e refl
+
+pub client-here : (old new : List SeenClient) (client : ℕ) (seen : SeenClient) → HasClient old new client seen
+    → client_in new client ≡ seen
+client-here old new client seen has = has client ∙ at_place client seen (client_in old client)
+
+pub client-others : (old new : List SeenClient) (client : ℕ) (seen : SeenClient) → HasClient old new client seen
+    → (n : ℕ) → n ≢ client → client_in new n ≡ client_in old n
+client-others old new client seen has n ne = has n ∙ off_place n client seen (client_in old n) ne
+
+pub file-here : (old new : List SeenFile) (file : ℕ) (seen : SeenFile) → HasFile old new file seen → file_in new file ≡ seen
+file-here old new file seen has = has file ∙ at_place file seen (file_in old file)
+
+pub file-others : (old new : List SeenFile) (file : ℕ) (seen : SeenFile) → HasFile old new file seen
+    → (n : ℕ) → n ≢ file → file_in new n ≡ file_in old n
+file-others old new file seen has n ne = has n ∙ off_place n file seen (file_in old n) ne
+
+-- ---- all files, all clients
+
+pub same_files : (old new : Seen) (fact : Fact) (past : List Fact) → HasSameFiles old.files new.files
+    → ((f : ℕ) → touches f fact ≡ false) → Knows old past → (f : ℕ) → KnowsFile f (file_in new.files f) (fact ∷ past)
+same_files old new fact past same quiet k f = rw (same f) (file_stays f (file_in old.files f) fact past (quiet f) (k.files f))
+
+pub one_file : (old new : Seen) (file : ℕ) (fact : Fact) (past : List Fact)
+    → ((n : ℕ) → n ≢ file → file_in new.files n ≡ file_in old.files n)
+    → ((f : ℕ) → f ≢ file → touches f fact ≡ false)
+    → KnowsFile file (file_in new.files file) (fact ∷ past)
+    → Knows old past → (f : ℕ) → KnowsFile f (file_in new.files f) (fact ∷ past)
+one_file old new file fact past others quiet here k =
+    each_place (λ n. KnowsFile n (file_in new.files n) (fact ∷ past)) file here
+    (λ n ne. rw (others n ne) (file_stays n (file_in old.files n) fact past (quiet n ne) (k.files n)))
+
+pub same_clients : (old new : Seen) (fact : Fact) (past : List Fact) → HasSameClients old.clients new.clients
+    → ((c : ℕ) → concerns c fact ≡ false) → Knows old past → (c : ℕ) → KnowsClient c (client_in new.clients c) (fact ∷ past)
+same_clients old new fact past same quiet k c =
+    rw (same c) (client_stays c (client_in old.clients c) fact past (quiet c) (k.clients c))
+
+pub one_client : (old new : Seen) (client : ℕ) (fact : Fact) (past : List Fact)
+    → ((n : ℕ) → n ≢ client → client_in new.clients n ≡ client_in old.clients n)
+    → ((c : ℕ) → c ≢ client → concerns c fact ≡ false)
+    → KnowsClient client (client_in new.clients client) (fact ∷ past)
+    → Knows old past → (c : ℕ) → KnowsClient c (client_in new.clients c) (fact ∷ past)
+one_client old new client fact past others quiet here k =
+    each_place (λ n. KnowsClient n (client_in new.clients n) (fact ∷ past)) client here
+    (λ n ne. rw (others n ne) (client_stays n (client_in old.clients n) fact past (quiet n ne) (k.clients n)))
+
+-- ---- all contents
+
+abbrev pub Holds : List SeenFile → List SeenClient → ℕ → ℕ → Type 0
+Holds files clients client file =
+    HasContents (file_in files file) (client_in clients client).taken (cache_in (client_in clients client).caches file)
+
+-- files as before, and one client
+pub holds_client : (old new : Seen) (client : ℕ) (past : List Fact) → HasSameFiles old.files new.files
+    → ((n : ℕ) → n ≢ client → client_in new.clients n ≡ client_in old.clients n)
+    → ((f : ℕ) → HasContents (file_in old.files f) (client_in new.clients client).taken (cache_in (client_in new.clients client).caches f))
+    → Knows old past → (c f : ℕ) → Holds new.files new.clients c f
+holds_client old new client past same others here k c f =
+    each_place (λ n. Holds new.files new.clients n f) client (rw (same f) (here f))
+    (λ n ne. rw (same f, others n ne) (k.contents n f)) c
+
+-- clients as before, and one file
+pub holds_file : (old new : Seen) (file : ℕ) (past : List Fact) → HasSameClients old.clients new.clients
+    → ((n : ℕ) → n ≢ file → file_in new.files n ≡ file_in old.files n)
+    → ((c : ℕ) → HasContents (file_in new.files file) (client_in old.clients c).taken (cache_in (client_in old.clients c).caches file))
+    → Knows old past → (c f : ℕ) → Holds new.files new.clients c f
+holds_file old new file past same others here k c f =
+    each_place (λ n. Holds new.files new.clients c n) file (rw (same c) (here c))
+    (λ n ne. rw (same c, others n ne) (k.contents c n)) f
+
+-- ---- what is asked of the tables, and what the record says
+
+pub started_told : (seen : Seen) (file : ℕ) (past : List Fact) → Knows seen past
+    → is_started_in seen.files file ≡ is_started file past
+started_told seen file past k = (k.files file).started
+
+good_told : (client : ℕ) (seen : SeenClient) (past : List Fact) → KnowsClient client seen past
+    → is_good_client seen ≡ is_good client past
+unfolding is_good
+good_told client seen past k = rw (k.strayed, k.served) refl
+
+both_true : (a b : Bool) → (a && b) ≡ true → (a ≡ true) × (b ≡ true)
+both_true true b e = (refl, e)
+both_true false b e = let c : ⊥ = cc in absurd c
+
+second_false : (a b : Bool) → (a && b) ≡ false → a ≡ true → b ≡ false
+second_false true b e a_is = e
+second_false false b e a_is = let c : ⊥ = cc in absurd c
+
+-- a rival makes two caches
+pub two_by_rival : (clients : List SeenClient) (client file : ℕ) (past : List Fact)
+    → ((c : ℕ) → KnowsClient c (client_in clients c) past) → is_good_client (client_in clients client) ≡ true
+    → HasRival clients client file → has_two_caches past ≡ true
+two_by_rival clients client file past k good rival =
+    let other : ℕ = rival.0 in
+    let parts : (is_good_client (client_in clients other) ≡ true)
+    × (is_conflict (belief_in clients client file) (belief_in clients other file) ≡ true) = both_true _ _ rival.2 in
+    two-where past client other file rival.1
+    (sym (good_told client (client_in clients client) past (k client)) ∙ good)
+    (sym (good_told other (client_in clients other) past (k other)) ∙ parts.0)
+    (rw (← ((k client).caches file).belief, ← ((k other).caches file).belief) parts.1)
+
+-- without a rival no good client conflicts
+pub free_of_rivals : (clients : List SeenClient) (client file : ℕ) (past : List Fact)
+    → ((c : ℕ) → KnowsClient c (client_in clients c) past) → HasNoRival clients client file
+    → (other : ℕ) → other ≢ client → is_good other past ≡ true
+    → is_conflict (believed client file past) (believed other file past) ≡ false
+free_of_rivals clients client file past k none other ne good =
+    rw (← ((k client).caches file).belief, ← ((k other).caches file).belief)
+    (second_false _ _ (none other ne) (good_told other (client_in clients other) past (k other) ∙ good))
+
+pub good_now : (clients : List SeenClient) (client : ℕ) (past : List Fact)
+    → ((c : ℕ) → KnowsClient c (client_in clients c) past) → is_good client past ≡ true
+    → is_good_client (client_in clients client) ≡ true
+good_now clients client past k good = good_told client (client_in clients client) past (k client) ∙ good
+
+-- ---- what is told by a test
+
+pub match_bool : {P Q R : Type 0} (b : Bool) → MatchBool b P Q → (b ≡ true → P → R) → (b ≡ false → Q → R) → R
+match_bool true m yes_so no_so = yes_so refl m
+match_bool false m yes_so no_so = no_so refl m

@@ -1,0 +1,153 @@
+-- Writes that wait for an answer, where one is settled.
+use Rattle.std.proofs.Common.{◌≡◌, ◌≢◌, ℕ, Bool, true, false, cond, List, [], ◌∷◌, ◌++◌, Option, Some, None, refl, sym, ap, ◌∙◌, arith, inl, inr}
+use Rattle.std.specs.Prelude.{◌==◌, ◌&&◌, ◌||◌, not, if◌then◌else◌, filter}
+use Rattle.std.specs.Option.{option_map}
+use Rattle.std.proofs.lemmas.Bool.{cases_Bool}
+use Rattle.std.proofs.lemmas.List.{append-nil}
+use Rattle.std.proofs.lemmas.List.Elements.{filter-append}
+use Rattle.lease_state.specs.declared.patch.Patch.{Patch}
+use Rattle.lease_model.specs.client.Commands.{Settlement}
+use Rattle.lease_model.specs.records.Facts.{Fact}
+use Rattle.lease_model.specs.records.Past.{is_settled}
+use Rattle.lease_model.specs.records.Safe.{EachFact, WellFormed}
+use Rattle.lease_world.specs.judge.Seen.{SeenWrite, Waiting, accepted_as}
+use Rattle.lease_world.specs.judge.Told.{pending, write_of, is_unsettled}
+use Rattle.lease_world.proofs.records.Caches.{filter-agree}
+use Rattle.lease_world.proofs.records.Writes.{new_where_same, keeps_test, accepted_file}
+
+pub self : (n : ℕ) → (n == n) ≡ true
+self n = grind arith
+
+-- ---- filters
+
+and_true : (a : Bool) → (a && true) ≡ a
+and_true true = refl
+and_true false = refl
+
+and_false : (a : Bool) → (a && false) ≡ false
+and_false true = refl
+and_false false = refl
+
+filter_step : {X : Type 0} (p : X → Bool) (x : X) (kept rest : List X) (b c : Bool) → c ≡ (p x && b) → rest ≡ filter p kept
+    → cond c (x ∷ rest) rest ≡ filter p (cond b (x ∷ kept) kept)
+filter_step p x kept rest true c e r = rw (e, and_true (p x), r) refl
+filter_step p x kept rest false c e r = rw (e, and_false (p x)) r
+
+pub filter-and : {X : Type 0} (p q r : X → Bool) (xs : List X) → ((x : X) → r x ≡ (p x && q x))
+    → filter r xs ≡ filter p (filter q xs)
+filter-and p q r [] e = refl
+filter-and p q r (x ∷ xs) e = filter_step p x (filter q xs) (filter r xs) (q x) (r x) (e x) (filter-and p q r xs e)
+
+-- ---- a write is settled
+
+-- another number than this
+abbrev pub is_other : ℕ → Waiting → Bool
+is_other number write = not (number == write.number)
+
+not_or : (a b : Bool) → not (a || b) ≡ (not a && not b)
+not_or true b = refl
+not_or false b = refl
+
+same_client : (client : ℕ) (b : Bool) → (client == client && b) ≡ b
+same_client client b = rw (self client) refl
+
+-- what is unsettled once this number is settled too
+pub unsettled-more : (client number : ℕ) (outcome : Settlement) (past : List Fact) (write : Waiting)
+    → is_unsettled client (Fact.Settled client number outcome ∷ past) write
+    ≡ (is_other number write && is_unsettled client past write)
+unfolding is_settled
+unsettled-more client number outcome past write =
+    rw (same_client client (number == write.number))
+    (not_or (number == write.number) (is_settled client write.number past))
+
+with_or_without : (number : ℕ) (keep same : Bool) (xs ys : List Waiting) (write : Waiting) → (number == write.number) ≡ same
+    → xs ≡ filter (is_other number) ys
+    → (if keep && not (same || false) then xs ++ write ∷ [] else xs)
+    ≡ filter (is_other number) (if keep then ys ++ write ∷ [] else ys)
+with_or_without number false same xs ys write s e = e
+with_or_without number true true xs ys write s e =
+    e ∙ sym (filter-append (is_other number) ys (write ∷ []) ∙ (rw s (append_none (filter (is_other number) ys))))
+  where
+    append_none : (zs : List Waiting) → zs ++ [] ≡ zs
+    append_none zs = append-nil zs
+with_or_without number true false xs ys write s e =
+    rw e (sym (filter-append (is_other number) ys (write ∷ []) ∙ (rw s refl)))
+
+regroup : (keep same settled : Bool) → (keep && not (same || settled)) ≡ ((keep && not settled) && not (same || false))
+regroup keep same settled = grind arith
+
+pub pending-settled : (client file number : ℕ) (outcome : Settlement) (whole past : List Fact)
+    → pending client file (Fact.Settled client number outcome ∷ whole) past
+    ≡ filter (is_other number) (pending client file whole past)
+unfolding pending is_settled
+pending-settled client file number outcome whole [] = refl
+pending-settled client file number outcome whole (Fact.Wrote writer other used patch buffered ∷ past) =
+    rw (same_client client (number == used),
+    regroup (writer == client && other == file) (number == used) (is_settled client used whole))
+    (with_or_without number (writer == client && other == file && not (is_settled client used whole)) (number == used)
+    (pending client file (Fact.Settled client number outcome ∷ whole) past) (pending client file whole past)
+    (record { number = used; patch = patch }) refl (pending-settled client file number outcome whole past))
+pending-settled client file number outcome whole (_ ∷ past) = pending-settled client file number outcome whole past
+
+-- ---- a number that no write on the file has
+
+-- the write is on the file
+abbrev pub is_on : ℕ → Option SeenWrite → Bool
+is_on file (Some write) = write.file == file
+is_on file None = false
+
+apart-push : (number : ℕ) (keep : Bool) (xs : List Waiting) (write : Waiting) → (keep ≡ true → (number == write.number) ≡ false)
+    → filter (is_other number) xs ≡ xs
+    → filter (is_other number) (if keep then xs ++ write ∷ [] else xs) ≡ (if keep then xs ++ write ∷ [] else xs)
+apart-push number true xs write other e =
+    filter-append (is_other number) xs (write ∷ []) ∙ (rw (e, other refl) refl)
+apart-push number false xs write other e = e
+
+on_new : (same : Bool) (file : ℕ) (write : SeenWrite) (old : Option SeenWrite) → (same ≡ true → old ≡ None)
+    → is_on file (if same then Some write else old) ≡ false → is_on file old ≡ false
+on_new true file write old new e = ap (is_on file) (new refl)
+on_new false file write old new e = e
+
+other_number : (writer client used number other file : ℕ) (settled : Bool) (write : SeenWrite) (old : Option SeenWrite)
+    → write.file ≡ other
+    → is_on file (if writer == client && used == number then Some write else old) ≡ false
+    → (writer == client && other == file && not settled) ≡ true → (number == used) ≡ false
+other_number writer client used number other file settled write old w off keep =
+    elim (cases_Bool (writer == client && used == number)) [
+      | inl same ↦ absurd (clash (writer == client && used == number) file write old same (rw w (on_file (writer == client) (other == file) settled keep)) off)
+      | inr apart ↦ apart_so (writer == client) (other == file) settled used number keep apart
+    ]
+  where
+    on_file : (a b c : Bool) → (a && b && not c) ≡ true → b ≡ true
+    on_file a b c e = grind arith
+
+    clash : (same : Bool) (file : ℕ) (write : SeenWrite) (old : Option SeenWrite) → same ≡ true → (write.file == file) ≡ true
+        → is_on file (if same then Some write else old) ≡ false → ⊥
+    clash true file write old s e off = let c : ⊥ = cc in absurd c
+    clash false file write old s e off = let c : ⊥ = cc in absurd c
+
+    apart_so : (a b c : Bool) (used number : ℕ) → (a && b && not c) ≡ true → (a && used == number) ≡ false → (number == used) ≡ false
+    apart_so a b c used number keep apart = grind arith
+
+on_map : (same : Bool) (file other : ℕ) (patch : Patch) (old : Option SeenWrite)
+    → is_on file (if same then option_map (accepted_as other patch) old else old) ≡ false → is_on file old ≡ false
+on_map true file other patch None e = refl
+on_map true file other patch (Some w) e = rw (accepted_file other patch w) at e
+on_map false file other patch old e = e
+
+pub pending-apart : (client file number : ℕ) (whole past : List Fact) → EachFact WellFormed past
+    → is_on file (write_of client number past) ≡ false
+    → filter (is_other number) (pending client file whole past) ≡ pending client file whole past
+unfolding pending write_of
+pending-apart client file number whole [] w off = refl
+pending-apart client file number whole (Fact.Wrote writer other used patch buffered ∷ past) w off =
+    apart-push number (writer == client && other == file && not (is_settled client used whole))
+    (pending client file whole past) (record { number = used; patch = patch })
+    (other_number writer client used number other file (is_settled client used whole) _ (write_of client number past) refl off)
+    (pending-apart client file number whole past w.1
+    (on_new (writer == client && used == number) file _ (write_of client number past)
+    (new_where_same writer client used number other patch buffered past w.0) off))
+pending-apart client file number whole (Fact.Changed other writer used patch ∷ past) w off =
+    pending-apart client file number whole past w.1
+    (on_map (writer == client && used == number) file other patch (write_of client number past) off)
+pending-apart client file number whole (_ ∷ past) w off = pending-apart client file number whole past w.1 off

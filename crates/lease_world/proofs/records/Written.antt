@@ -1,0 +1,261 @@
+-- What is known of a client that is given a write, is told of one, has one accepted, or believes something.
+use Rattle.std.proofs.Common.{◌≡◌, ◌≢◌, ℕ, zero, suc, ◌+◌, ◌<◌, ◌≤◌, Bool, true, false, cond, List, [], ◌∷◌, ◌++◌, Option, Some, None, length, refl, sym, ap, subst, ◌∙◌, arith, inl, inr}
+use Rattle.std.specs.Prelude.{◌==◌, ◌&&◌, ◌||◌, not, if◌then◌else◌, filter}
+use Rattle.std.specs.Option.{option_map}
+use Rattle.std.proofs.lemmas.Bool.{cases_Bool}
+use Rattle.std.proofs.lemmas.List.Elements.{filter-append}
+use Rattle.lease_state.specs.State.{State}
+use Rattle.lease_state.specs.declared.patch.Patch.{Patch}
+use Rattle.lease_model.specs.client.Commands.{Settlement}
+use Rattle.lease_model.specs.records.Facts.{Fact}
+use Rattle.lease_model.specs.records.Past.{has_joined, is_served, has_strayed, sendings, takings, is_settled, believed}
+use Rattle.lease_model.specs.records.Safe.{EachFact, WellFormed}
+use Rattle.lease_world.specs.judge.Clients.{Writes, WritesCache, Settles, SettlesCache, Believes, Accepts, HasCache, HasSameCaches, HasWrites, AcceptsIn, with_write, with_settled, with_belief}
+use Rattle.lease_world.specs.judge.Knows.{KnowsCache, KnowsClient}
+use Rattle.lease_world.specs.judge.Seen.{SeenClient, SeenCache, SeenWrite, Waiting, cache_in, write_in, write_at, has_settled, accepted_as}
+use Rattle.lease_world.specs.judge.Told.{write_of, pending, is_unsettled}
+use Rattle.lease_world.proofs.records.Caches.{cache_over, filter-agree, pending-agree}
+use Rattle.lease_world.proofs.records.Others.{client_over}
+use Rattle.lease_world.proofs.records.Pending.{self, is_other, is_on, filter-and, unsettled-more, pending-settled, pending-apart}
+
+longer : (fact : Fact) (past : List Fact) → length past ≤ length (fact ∷ past)
+longer fact past = omega arith
+
+-- a client all of whose caches but that of one file are as before
+pub each_cache : (client file : ℕ) (old new : List SeenCache) (past next : List Fact) (cache : SeenCache) → HasCache old new file cache
+    → KnowsCache client file cache next
+    → ((other : ℕ) → (other == file) ≡ false → KnowsCache client other (cache_in old other) next)
+    → (other : ℕ) → KnowsCache client other (cache_in new other) next
+each_cache client file old new past next cache has here others other = by_case (other == file) refl
+  where
+    at_file : (other == file) ≡ true → KnowsCache client other cache next
+    at_file e = let is : other ≡ file = grind arith in rw is here
+
+    by_case : (b : Bool) → (other == file) ≡ b → KnowsCache client other (cache_in new other) next
+    by_case true e = rw (has other, e) (at_file e)
+    by_case false e = rw (has other, e) (others other e)
+
+-- ---- a belief
+
+pub client_believes : (client file : ℕ) (state : State) (seen now : SeenClient) (past : List Fact)
+    → Believes file state seen now → KnowsClient client seen past
+    → KnowsClient client now (Fact.Believes client file state ∷ past)
+unfolding has_joined is_served has_strayed sendings takings is_settled write_of believed pending
+client_believes client file state seen now past is k =
+    rw is.0 (client_over client seen (record seen { caches = now.caches }) past (Fact.Believes client file state ∷ past)
+    (longer (Fact.Believes client file state) past) refl refl refl refl refl
+    k.joined k.served k.strayed k.settled k.writes
+    (each_cache client file seen.caches now.caches past (Fact.Believes client file state ∷ past)
+    (with_belief state (cache_in seen.caches file)) is.1
+    (record {
+      belief = rw (self client, self file) refl;
+      waiting = (k.caches file).waiting ∙ refl;
+      fresh = (k.caches file).fresh;
+    })
+    (λ g e. cache_over client g (cache_in seen.caches g) past (Fact.Believes client file state ∷ past)
+    (other_file (client == client) g e) (λ n. refl) refl (k.caches g)))
+    k)
+  where
+    other_file : (b : Bool) (g : ℕ) → (g == file) ≡ false
+        → (if b && file == g then state else believed client g past) ≡ believed client g past
+    other_file b g e = let apart : (b && file == g) ≡ false = grind arith in rw apart refl
+
+-- ---- a write is accepted
+
+same_number : (client number n : ℕ) (x y : Option SeenWrite)
+    → (if n == number then x else y) ≡ (if client == client && number == n then x else y)
+same_number client number n x y = rw (self client) (turned number n x y)
+  where
+    turned : (number n : ℕ) (x y : Option SeenWrite) → (if n == number then x else y) ≡ (if true && number == n then x else y)
+    turned number n x y = grind arith
+
+-- a value by a number, of which that of one number is new
+at_number : (number n : ℕ) (x y : Option SeenWrite) (here there : Option SeenWrite) → (n ≡ number → x ≡ here) → y ≡ there
+    → (if n == number then x else y) ≡ (if n == number then here else there)
+at_number number n x y here there same e = rw e (go (n == number) refl)
+  where
+    go : (b : Bool) → (n == number) ≡ b → (if b then x else there) ≡ (if b then here else there)
+    go true is = let s : n ≡ number = grind arith in same s
+    go false is = refl
+
+pub client_accepts : (client file number : ℕ) (patch : Patch) (seen now : SeenClient) (past : List Fact)
+    → Accepts file number patch seen now → KnowsClient client seen past
+    → KnowsClient client now (Fact.Changed file client number patch ∷ past)
+unfolding has_joined is_served has_strayed sendings takings is_settled write_of believed pending
+client_accepts client file number patch seen now past is k =
+    rw is.0 (client_over client seen (record seen { writes = now.writes }) past (Fact.Changed file client number patch ∷ past)
+    (longer (Fact.Changed file client number patch) past) refl refl refl refl refl
+    k.joined k.served k.strayed k.settled
+    (λ n. is.1 n
+    ∙ (at_number number n (option_map (accepted_as file patch) (write_in seen number)) (write_in seen n)
+    (option_map (accepted_as file patch) (write_of client n past)) (write_of client n past)
+    (λ e. rw e (ap (λ (o : Option SeenWrite). option_map (accepted_as file patch) o) (k.writes number))) (k.writes n)
+    ∙ same_number client number n (option_map (accepted_as file patch) (write_of client n past)) (write_of client n past)))
+    (λ f. cache_over client f (cache_in seen.caches f) past (Fact.Changed file client number patch ∷ past) refl (λ n. refl) refl
+    (k.caches f))
+    k)
+
+-- ---- a write is settled
+
+settled_number : (client number n : ℕ) (b c : Bool) → b ≡ c
+    → (if n == number then true else b) ≡ ((client == client && number == n) || c)
+settled_number client number n b c e = rw (self client, e) (turned number n c)
+  where
+    turned : (number n : ℕ) (c : Bool) → (if n == number then true else c) ≡ ((true && number == n) || c)
+    turned number n c = grind arith
+
+-- what is known of a cache once one more number is settled, but for the mark
+settled_waiting : (client file number : ℕ) (outcome : Settlement) (cache : SeenCache) (past : List Fact)
+    → KnowsCache client file cache past
+    → filter (is_unsettled client (Fact.Settled client number outcome ∷ past)) cache.waiting
+    ≡ pending client file (Fact.Settled client number outcome ∷ past) (Fact.Settled client number outcome ∷ past)
+unfolding pending
+settled_waiting client file number outcome cache past k =
+    filter-and (is_other number) (is_unsettled client past) (is_unsettled client (Fact.Settled client number outcome ∷ past))
+    cache.waiting (unsettled-more client number outcome past)
+    ∙ (ap (λ (ws : List Waiting). filter (is_other number) ws) k.waiting
+    ∙ sym (pending-settled client file number outcome past past))
+
+-- a cache without a write of that number stays as it is
+settled_apart : (client file number : ℕ) (outcome : Settlement) (cache : SeenCache) (past : List Fact) → EachFact WellFormed past
+    → is_on file (write_of client number past) ≡ false → KnowsCache client file cache past
+    → KnowsCache client file cache (Fact.Settled client number outcome ∷ past)
+unfolding believed pending
+settled_apart client file number outcome cache past formed off k = record {
+  belief = k.belief;
+  waiting = settled_waiting client file number outcome cache past k;
+  fresh = λ e.
+      settled_waiting client file number outcome cache past k
+      ∙ (pending-settled client file number outcome past past
+      ∙ (pending-apart client file number past past formed off
+      ∙ (sym k.waiting ∙ k.fresh e)));
+}
+
+settled_marked : (client file number : ℕ) (outcome : Settlement) (cache : SeenCache) (past : List Fact)
+    → KnowsCache client file cache past
+    → KnowsCache client file (with_settled cache) (Fact.Settled client number outcome ∷ past)
+unfolding believed
+settled_marked client file number outcome cache past k = record {
+  belief = k.belief;
+  waiting = settled_waiting client file number outcome cache past k;
+  fresh = λ e. let c : ⊥ = cc in absurd c;
+}
+
+apart_file : (file other : ℕ) → (file == other) ≡ false → (other == file) ≡ false
+apart_file file other e = grind arith
+
+settled_caches : (client number : ℕ) (outcome : Settlement) (old new : List SeenCache) (write : Option SeenWrite) (past : List Fact)
+    → EachFact WellFormed past → write_of client number past ≡ write → SettlesCache write old new
+    → ((f : ℕ) → KnowsCache client f (cache_in old f) past)
+    → (f : ℕ) → KnowsCache client f (cache_in new f) (Fact.Settled client number outcome ∷ past)
+settled_caches client number outcome old new None past formed e is k = λ f.
+    rw (is f) (settled_apart client f number outcome (cache_in old f) past formed (ap (is_on f) e) (k f))
+settled_caches client number outcome old new (Some write) past formed e is k =
+    each_cache client write.file old new past (Fact.Settled client number outcome ∷ past) (with_settled (cache_in old write.file)) is
+    (settled_marked client write.file number outcome (cache_in old write.file) past (k write.file))
+    (λ f apart. settled_apart client f number outcome (cache_in old f) past formed
+    (ap (is_on f) e ∙ apart_file f write.file apart) (k f))
+
+pub client_settles : (client number : ℕ) (outcome : Settlement) (seen now : SeenClient) (past : List Fact) → EachFact WellFormed past
+    → Settles number seen now → KnowsClient client seen past
+    → KnowsClient client now (Fact.Settled client number outcome ∷ past)
+unfolding has_joined is_served has_strayed sendings takings is_settled write_of
+client_settles client number outcome seen now past formed is k =
+    rw is.0 (client_over client seen (record seen { settled = now.settled; caches = now.caches }) past
+    (Fact.Settled client number outcome ∷ past)
+    (longer (Fact.Settled client number outcome) past) refl refl refl refl refl
+    k.joined k.served k.strayed
+    (λ n. is.1 n ∙ settled_number client number n (has_settled seen n) (is_settled client n past) (k.settled n))
+    k.writes
+    (settled_caches client number outcome seen.caches now.caches (write_in seen number) past formed (sym (k.writes number)) is.2
+    k.caches)
+    k)
+
+-- ---- a write is given
+
+pushed : (client file number : ℕ) (patch : Patch) (cache : SeenCache) (past next : List Fact)
+    → is_settled client number next ≡ false → ((n : ℕ) → is_settled client n next ≡ is_settled client n past)
+    → filter (is_unsettled client next) (cache.waiting ++ record { number = number; patch = patch } ∷ [])
+    ≡ filter (is_unsettled client past) cache.waiting ++ record { number = number; patch = patch } ∷ []
+pushed client file number patch cache past next open_one same =
+    filter-append (is_unsettled client next) cache.waiting (record { number = number; patch = patch } ∷ [])
+    ∙ (rw (open_one, filter-agree (is_unsettled client next) (is_unsettled client past) cache.waiting (λ w. ap not (same w.number))) refl)
+
+kept_pending : (client file number : ℕ) (patch : Patch) (buffered : Bool) (past : List Fact) → is_settled client number past ≡ false
+    → pending client file (Fact.Wrote client file number patch buffered ∷ past) (Fact.Wrote client file number patch buffered ∷ past)
+    ≡ pending client file (Fact.Wrote client file number patch buffered ∷ past) past ++ record { number = number; patch = patch } ∷ []
+unfolding pending is_settled
+kept_pending client file number patch buffered past e = rw (self client, self file, e) refl
+
+skipped_pending : (client file other number : ℕ) (patch : Patch) (buffered : Bool) (past : List Fact)
+    → ((file == other) ≡ true → is_settled client number past ≡ true)
+    → pending client other past (Fact.Wrote client file number patch buffered ∷ past) ≡ pending client other past past
+unfolding pending
+skipped_pending client file other number patch buffered past settled =
+    rw (none (client == client) (file == other) (is_settled client number past) settled) refl
+  where
+    none : (a b s : Bool) → (b ≡ true → s ≡ true) → (a && b && not s) ≡ false
+    none a true true e = grind arith
+    none a true false e = let h : false ≡ true = e refl in let c : ⊥ = cc in absurd c
+    none a false s e = grind arith
+
+-- the cache of the file with one write more
+with_one_write : (client file number : ℕ) (patch : Patch) (buffered : Bool) (cache : SeenCache) (past : List Fact)
+    → is_settled client number past ≡ false → KnowsCache client file cache past
+    → KnowsCache client file (with_write number patch cache) (Fact.Wrote client file number patch buffered ∷ past)
+unfolding believed is_settled
+with_one_write client file number patch buffered cache past off k =
+    let next : List Fact = Fact.Wrote client file number patch buffered ∷ past in
+    let one : Waiting = record { number = number; patch = patch } in
+    let push : filter (is_unsettled client next) (cache.waiting ++ one ∷ []) ≡ filter (is_unsettled client past) cache.waiting ++ one ∷ [] =
+    pushed client file number patch cache past next off (λ n. refl) in
+    record {
+      belief = k.belief;
+      waiting = push
+          ∙ (ap (λ (ws : List Waiting). ws ++ one ∷ [])
+          (k.waiting ∙ pending-agree client file past next past (λ n. refl))
+          ∙ sym (kept_pending client file number patch buffered past off));
+      fresh = λ e. push ∙ ap (λ (ws : List Waiting). ws ++ one ∷ []) (k.fresh e);
+    }
+
+-- the cache of another file, or of a number that was settled already
+without_write : (client file other number : ℕ) (patch : Patch) (buffered : Bool) (cache : SeenCache) (past : List Fact)
+    → ((file == other) ≡ true → is_settled client number past ≡ true) → KnowsCache client other cache past
+    → KnowsCache client other cache (Fact.Wrote client file number patch buffered ∷ past)
+unfolding believed is_settled
+without_write client file other number patch buffered cache past settled k =
+    cache_over client other cache past (Fact.Wrote client file number patch buffered ∷ past) refl (λ n. refl)
+    (skipped_pending client file other number patch buffered past settled) k
+
+other_way : (file other : ℕ) (settled : Bool) → (other == file) ≡ false → (file == other) ≡ true → settled ≡ true
+other_way file other settled e f = grind arith
+
+written_caches : (client number : ℕ) (write : SeenWrite) (old new : List SeenCache) (settled : Bool) (past : List Fact)
+    → is_settled client number past ≡ settled → WritesCache settled number write old new
+    → ((f : ℕ) → KnowsCache client f (cache_in old f) past)
+    → (f : ℕ) → KnowsCache client f (cache_in new f)
+    (Fact.Wrote client write.file number write.patch write.buffered ∷ past)
+written_caches client number write old new true past e is k = λ f.
+    rw (is f) (without_write client write.file f number write.patch write.buffered (cache_in old f) past (λ _. e) (k f))
+written_caches client number write old new false past e is k =
+    each_cache client write.file old new past (Fact.Wrote client write.file number write.patch write.buffered ∷ past)
+    (with_write number write.patch (cache_in old write.file)) is
+    (with_one_write client write.file number write.patch write.buffered (cache_in old write.file) past e (k write.file))
+    (λ f apart. without_write client write.file f number write.patch write.buffered (cache_in old f) past
+    (other_way write.file f (is_settled client number past) apart) (k f))
+
+pub client_writes : (client number place : ℕ) (file : ℕ) (patch : Patch) (buffered : Bool) (seen now : SeenClient) (past : List Fact)
+    → place ≡ length past + 1
+    → Writes number (record { file = file; place = place; buffered = buffered; patch = patch; accepted = false }) seen now
+    → KnowsClient client seen past
+    → KnowsClient client now (Fact.Wrote client file number patch buffered ∷ past)
+unfolding has_joined is_served has_strayed sendings takings is_settled write_of
+client_writes client number place file patch buffered seen now past at is k =
+    rw is.0 (client_over client seen (record seen { writes = now.writes; caches = now.caches }) past
+    (Fact.Wrote client file number patch buffered ∷ past)
+    (longer (Fact.Wrote client file number patch buffered) past) refl refl refl refl refl
+    k.joined k.served k.strayed k.settled
+    (λ n. is.1 n ∙ rw (at, k.writes n) (same_number client number n _ (write_of client n past)))
+    (written_caches client number (record { file = file; place = place; buffered = buffered; patch = patch; accepted = false })
+    seen.caches now.caches (has_settled seen number) past (sym (k.settled number)) is.2 k.caches)
+    k)

@@ -1,0 +1,7 @@
+use Rattle.std.proofs.Common.{map}
+use Rattle.lease_world.specs.Facts.{fact_of}
+use Rattle.lease_world.specs.judge.Judged.{HasJudged}
+use Rattle.lease_world.proofs.whole.judge_each.Given as goal
+
+abbrev pub invariant-loop-fact : goal.invariant-loop-fact
+invariant-loop-fact g l = HasJudged l.judge (map (λ fact. fact_of fact.now) l.yielded)

@@ -1,0 +1,91 @@
+ghost use Rattle.std.specs.Prelude.{◌≡◌, [], IfOk};
+ghost use Rattle.lease_world.specs.Facts.{fact_of};
+ghost use Rattle.lease_world.specs.judge.Judged.{HasJudged, JudgesOneMore, TellsVerdict};
+
+use crate::fact::Fact;
+use crate::judging::known::Known;
+use crate::verdict::Verdict;
+use lease_state::Memory;
+use std::alloc::Global;
+use std::marker::Model;
+
+mod cache;
+mod client;
+mod clients;
+mod file;
+mod files;
+mod known;
+mod snapshot;
+
+/// Judges a record (own), of any origin, in one pass: it is given fact after fact, and can tell at any time what the record of
+/// the facts so far is. For each file it keeps the bytes with which it was started and its changes, for each client its
+/// beliefs, its writes, the numbers that were settled and the messages on their way, and for each client and file that the
+/// client read from its cache the bytes that it saw.
+#[derive(Debug, Drop)]
+pub struct Judge {
+    verdict: Verdict,
+    /// How many facts were taken.
+    count: u64,
+    known: Known,
+}
+
+impl Model for Judge {
+    ghost use Rattle.lease_world.specs.judge.Judged as judged;
+
+    ghost Value = { judged.Judging };
+
+    ghost view = { λ judge. record {
+      verdict = judge.verdict;
+      count = judge.count;
+      known = judge.known;
+    } };
+}
+
+impl Judge {
+    /// A judge that was given nothing. No memory is taken.
+    pub fn new(alloc: Global) -> Judge
+        ensures { HasJudged result [] }
+    {
+        Judge {
+            verdict: Verdict::Safe,
+            count: 0,
+            known: Known::new(alloc),
+        }
+    }
+
+    /// Takes the next fact of the record.
+    ///
+    /// # Errors
+    ///
+    /// `Memory` where there is none left for what is kept, or no number of 64 bits for the fact's place.
+    pub fn take(self, fact: &Fact) -> Result<Judge, Memory>
+        ensures { IfOk result (λ judge. JudgesOneMore self (fact_of fact.now) judge) }
+    {
+        let Judge {
+            verdict,
+            count,
+            mut known,
+        } = self;
+        if verdict != Verdict::Safe {
+            return Ok(Judge {
+                verdict,
+                count,
+                known,
+            });
+        }
+        let place = count.checked_add(1).ok_or(Memory)?;
+        let verdict = known.add(place, fact)?;
+        Ok(Judge {
+            verdict,
+            count: place,
+            known,
+        })
+    }
+
+    /// The verdict on the record of the facts so far: safe, or the first bad place.
+    pub fn verdict(&self) -> Verdict
+        ensures { TellsVerdict self.now result }
+    {
+        self.verdict
+    }
+}

@@ -1,0 +1,381 @@
+ghost use Rattle.std.specs.Prelude.{◌≡◌, ◌++◌, ◌<◌, [], ◌∷◌, true, false, ℕ, Some, None, ◌&&◌, ◌==◌, not, OnOk, IfOk, nat_eq, length, is_some, bytes_eq, vec_len};
+ghost use Rattle.std.specs.List.{list_any, slice_set};
+ghost use Rattle.std.specs.Map.{lookup};
+ghost use Rattle.lease_state.specs.State.{state_of};
+ghost use Rattle.lease_world.specs.judge.Seen.{unseen_client, joined, is_good_client, cache_in, write_at, write_in};
+
+use crate::judging::cache::CacheSeen;
+use crate::judging::file::FileSeen;
+use lease_state::{Bytes, FileNo, LeaseState, Memory, Patch};
+use std::alloc::Global;
+use std::collections::{HashMap, HashSet, VecDeque};
+use std::marker::Model;
+
+/// A write that was given to a client: its file, its place in the record, whether it was buffered, its patch, and whether the
+/// file was changed by it since.
+#[derive(Debug, Drop)]
+pub struct WriteSeen {
+    pub file: FileNo,
+    pub place: u64,
+    pub buffered: bool,
+    pub patch: Patch,
+    pub accepted: bool,
+}
+
+impl Model for WriteSeen {
+    ghost use Rattle.lease_world.specs.judge.Seen as seen;
+
+    ghost Value = { seen.SeenWrite };
+
+    ghost view = { λ write. record {
+      file = write.file.0;
+      place = write.place;
+      buffered = write.buffered;
+      patch = write.patch;
+      accepted = write.accepted;
+    } };
+}
+
+impl WriteSeen {
+    /// A file is changed by a write of this number: it is this one where file and patch are the same.
+    fn accept(&mut self, file: FileNo, patch: &Patch)
+        ensures { self.new ≡ accepted_as file.0 patch.now self.old }
+    {
+        if self.file == file && self.patch == *patch {
+            self.accepted = true;
+        }
+    }
+}
+
+/// What a judge keeps of a client.
+#[derive(Debug, Drop)]
+pub struct ClientSeen {
+    joined: bool,
+    /// It joined, and neither was its connection lost nor did a timer of its run out since.
+    served: bool,
+    strayed: bool,
+    /// The places of the messages that were sent to it since it joined, and not taken.
+    sent: VecDeque<u64>,
+    /// The place of the sending of the message that it took last.
+    taken: u64,
+    /// It took a message since it joined.
+    has_taken: bool,
+    /// By their numbers.
+    writes: HashMap<u64, WriteSeen>,
+    /// The numbers of writes that were settled.
+    settled: HashSet<u64>,
+    /// By the numbers of files.
+    caches: Vec<CacheSeen>,
+}
+
+impl Model for ClientSeen {
+    ghost use Rattle.lease_world.specs.judge.Seen as seen;
+
+    ghost Value = { seen.SeenClient };
+
+    ghost view = { λ client. record {
+      joined = client.joined;
+      served = client.served;
+      strayed = client.strayed;
+      sent = client.sent.items;
+      taken = client.taken;
+      has_taken = client.has_taken;
+      writes = client.writes.entries;
+      settled = client.settled.keys;
+      caches = client.caches.items;
+    } };
+}
+
+impl ClientSeen {
+    /// Of a client that no fact named. No memory is taken.
+    pub fn new(alloc: Global) -> ClientSeen
+        ensures { result ≡ unseen_client }
+    {
+        ClientSeen {
+            joined: false,
+            served: false,
+            strayed: false,
+            sent: VecDeque::new(alloc),
+            taken: 0,
+            has_taken: false,
+            writes: HashMap::new(alloc),
+            settled: HashSet::new(alloc),
+            caches: Vec::new(alloc),
+        }
+    }
+
+    /// Whether the client is served, and never strayed.
+    pub fn is_good(&self) -> bool
+        ensures { result ≡ is_good_client self.now }
+    {
+        !self.strayed && self.served
+    }
+
+    /// Whether the client ever strayed.
+    pub fn has_strayed(&self) -> bool
+        ensures { result ≡ self.now.strayed }
+    {
+        self.strayed
+    }
+
+    /// The place of the sending of the message that the client took last; `None` where it took none since it joined.
+    pub fn taken(&self) -> Option<u64>
+        ensures { result ≡ taken_of self.now }
+    {
+        self.has_taken.then_some(self.taken)
+    }
+
+    /// The client joins.
+    pub fn join(&mut self)
+        ensures { self.new ≡ joined self.old }
+    {
+        self.joined = true;
+        self.served = true;
+        self.sent.clear();
+        self.has_taken = false;
+    }
+
+    /// The client's connection is lost, or a timer of its runs out.
+    pub fn leave(&mut self)
+        ensures { self.new ≡ record self.old { served = false } }
+    {
+        self.served = false;
+    }
+
+    /// The client strays.
+    pub fn stray(&mut self)
+        ensures { self.new ≡ record self.old { strayed = true } }
+    {
+        self.strayed = true;
+    }
+
+    /// A message is sent to the client at this place.
+    ///
+    /// # Errors
+    ///
+    /// `Memory` where there is none left for the list of messages.
+    pub fn send(&mut self, place: u64) -> Result<(), Memory>
+        ensures { OnOk result (self.new ≡ record self.old { sent = self.old.sent ++ place ∷ [] }) }
+    {
+        self.sent.push_back(place)?;
+        Ok(())
+    }
+
+    /// The client takes the oldest message that was sent; whether there was one, since it joined.
+    pub fn take(&mut self) -> bool
+        ensures { TakesOne self.old self.new result }
+    {
+        if !self.joined {
+            return false;
+        }
+        match self.sent.pop_front() {
+            Some(place) => {
+                self.taken = place;
+                self.has_taken = true;
+                true
+            }
+            None => false,
+        }
+    }
+
+    /// Whether the client was given a write of this number.
+    pub fn has_number(&self, number: u64) -> bool
+        ensures { result ≡ is_some (write_in self.now number) }
+    {
+        self.writes.contains_key(&number)
+    }
+
+    /// Whether the client's buffered write of this number, on this file, stands before the place.
+    pub fn has_buffered(&self, file: FileNo, number: u64, place: u64) -> bool
+        ensures { result ≡ is_buffered_before file.0 place (write_in self.now number) }
+    {
+        match self.writes.get(&number) {
+            Some(write) => write.buffered && write.file == file && write.place < place,
+            None => false,
+        }
+    }
+
+    /// Whether the client's write of this number was accepted.
+    pub fn is_accepted(&self, number: u64) -> bool
+        ensures { result ≡ is_accepted_write (write_in self.now number) }
+    {
+        match self.writes.get(&number) {
+            Some(write) => write.accepted,
+            None => false,
+        }
+    }
+
+    /// A file is changed by the client's write of this number.
+    pub fn accept(&mut self, file: FileNo, number: u64, patch: &Patch)
+        ensures { Accepts file.0 number patch.now self.old self.new }
+    {
+        accept_in(&mut self.writes, file, number, patch);
+    }
+
+    /// The client is given a write at this place.
+    ///
+    /// # Errors
+    ///
+    /// `Memory` where there is none left for it.
+    pub fn write(&mut self, number: u64, write: WriteSeen) -> Result<(), Memory>
+        ensures { OnOk result (Writes number write self.old self.new) }
+    {
+        write_in_cache(&mut self.caches, &self.settled, number, &write)?;
+        put_write(&mut self.writes, number, write)
+    }
+
+    /// The client is told what became of its write of this number.
+    ///
+    /// # Errors
+    ///
+    /// `Memory` where there is none left for the list of such numbers.
+    pub fn settle(&mut self, number: u64) -> Result<(), Memory>
+        ensures { OnOk result (Settles number self.old self.new) }
+    {
+        settle_in_cache(&mut self.caches, &self.writes, number)?;
+        put_settled(&mut self.settled, number)
+    }
+
+    /// How many numbers of files there are below which all are of which something is kept.
+    pub fn files(&self) -> usize
+        ensures { result ≡ length self.now.caches }
+    {
+        self.caches.len()
+    }
+
+    /// What the client believes of a file's lease.
+    pub fn belief(&self, file: usize) -> LeaseState
+        ensures { state_of result ≡ (cache_in self.now.caches file).belief }
+    {
+        match self.caches.get(file) {
+            Some(cache) => cache.belief(),
+            None => LeaseState::NONE,
+        }
+    }
+
+    /// The client believes this of a file's lease from now on.
+    ///
+    /// # Errors
+    ///
+    /// `Memory` where there is none left for what is kept of the file.
+    pub fn believe(&mut self, file: FileNo, state: LeaseState) -> Result<(), Memory>
+        ensures { OnOk result (Believes file.0 (state_of state) self.old self.new) }
+    {
+        believe_in_cache(&mut self.caches, file, state)
+    }
+
+    /// Whether the client sees these bytes in a file: the file as it stood before the place, with the client's unanswered
+    /// writes.
+    ///
+    /// # Errors
+    ///
+    /// `Memory` where there is none left for what the client sees.
+    pub fn sees(
+        &mut self,
+        number: FileNo,
+        file: &FileSeen,
+        place: u64,
+        bytes: &Bytes,
+    ) -> Result<bool, Memory>
+        ensures { IfOk result (λ same. Sees number.0 file.now place bytes.now self.old self.new same) }
+    {
+        reach(&mut self.caches, number)?;
+        let cache = &mut self.caches[usize::from(number.0)];
+        cache.shows(file, place, &self.settled, bytes)
+    }
+}
+
+// Makes a place for what is kept of the file.
+fn reach(caches: &mut Vec<CacheSeen>, file: FileNo) -> Result<(), Memory>
+    ensures there { OnOk result (file.0 < vec_len caches.new) }
+    ensures same { (n : ℕ) → cache_in caches.new.items n ≡ cache_in caches.old.items n }
+{
+    let alloc = *caches.allocator();
+    while caches.len() <= usize::from(file.0) {
+        caches.push(CacheSeen::new(alloc))?;
+    }
+    Ok(())
+}
+
+// A write that isn't settled already is kept with its file.
+fn write_in_cache(
+    caches: &mut Vec<CacheSeen>,
+    settled: &HashSet<u64>,
+    number: u64,
+    write: &WriteSeen,
+) -> Result<(), Memory>
+    ensures { OnOk result (WritesCache (list_any (λ n. number == n) settled.now.keys) number write.now
+        caches.old.items caches.new.items) }
+{
+    if settled.contains(&number) {
+        return Ok(());
+    }
+    let file = write.file;
+    reach(caches, file)?;
+    let cache = &mut caches[usize::from(file.0)];
+    cache.write(number, write.patch.try_copy()?)
+}
+
+fn put_write(
+    writes: &mut HashMap<u64, WriteSeen>,
+    number: u64,
+    write: WriteSeen,
+) -> Result<(), Memory>
+    ensures { OnOk result (HasWrites writes.old.entries writes.new.entries number (Some write)) }
+{
+    writes.insert(number, write)?;
+    Ok(())
+}
+
+// The write of this number, if there is one, is settled on its file.
+fn settle_in_cache(
+    caches: &mut Vec<CacheSeen>,
+    writes: &HashMap<u64, WriteSeen>,
+    number: u64,
+) -> Result<(), Memory>
+    ensures { OnOk result (SettlesCache (write_at number writes.now.entries) caches.old.items caches.new.items) }
+{
+    let file = match writes.get(&number) {
+        Some(write) => write.file,
+        None => return Ok(()),
+    };
+    reach(caches, file)?;
+    let cache = &mut caches[usize::from(file.0)];
+    cache.settle();
+    Ok(())
+}
+
+fn put_settled(settled: &mut HashSet<u64>, number: u64) -> Result<(), Memory>
+    ensures { OnOk result ((n : ℕ) → list_any (λ k. n == k) settled.new.keys
+        ≡ (if n == number then true else list_any (λ k. n == k) settled.old.keys)) }
+{
+    settled.insert(number)?;
+    Ok(())
+}
+
+fn believe_in_cache(
+    caches: &mut Vec<CacheSeen>,
+    file: FileNo,
+    state: LeaseState,
+) -> Result<(), Memory>
+    ensures { OnOk result (HasCache caches.old.items caches.new.items file.0
+        (with_belief (state_of state) (cache_in caches.old.items file.0))) }
+{
+    reach(caches, file)?;
+    let cache = &mut caches[usize::from(file.0)];
+    cache.believe(state);
+    Ok(())
+}
+
+// A file is changed by the write of this number.
+fn accept_in(writes: &mut HashMap<u64, WriteSeen>, file: FileNo, number: u64, patch: &Patch)
+    ensures { AcceptsIn file.0 number patch.now writes.old.entries writes.new.entries }
+{
+    if let Some(write) = writes.get_mut(&number) {
+        write.accept(file, patch);
+    }
+}
+
+ghost use Rattle.std.specs.Prelude.{if◌then◌else◌};
+ghost use Rattle.lease_world.specs.judge.Seen.{accepted_as};
+ghost use Rattle.lease_world.specs.judge.Clients.{taken_of, TakesOne, is_buffered_before, is_accepted_write, Accepts, AcceptsIn, Writes, Settles, Believes, Sees, HasCache, HasWrites, WritesCache, SettlesCache, with_belief};

@@ -1,0 +1,185 @@
+ghost use Rattle.std.specs.Prelude.{◌≡◌, ◌++◌, [], ◌∷◌, Some, OnOk, IfOk, is_some, unwrap_or};
+ghost use Rattle.lease_world.specs.judge.Seen.{untouched, touched, touched_by_others, unseen_file};
+
+use crate::judging::snapshot::Snapshot;
+use lease_state::{Bytes, ClientNo, Memory, Patch};
+use std::alloc::Global;
+use std::marker::Model;
+
+/// A change of a file: its place in the record, counted from 1, and its patch.
+#[derive(Debug, Drop)]
+pub struct Change {
+    pub place: u64,
+    pub patch: Patch,
+}
+
+impl Model for Change {
+    ghost use Rattle.lease_world.specs.judge.Seen as seen;
+
+    ghost Value = { seen.Change };
+
+    ghost view = { λ change. record { place = change.place; patch = change.patch } };
+}
+
+/// Which client opened or changed a file last, and where; and where another client did so last. 0 is nowhere.
+#[derive(Clone, Copy, Debug)]
+pub struct Touches {
+    client: ClientNo,
+    place: u64,
+    by_others: u64,
+}
+
+impl Model for Touches {
+    ghost use Rattle.lease_world.specs.judge.Seen as seen;
+
+    ghost Value = { seen.Touches };
+
+    ghost view = { λ touches. record {
+      client = touches.client.0;
+      place = touches.place;
+      by_others = touches.by_others;
+    } };
+
+    ghost inverse = { λ touches. record {
+      client = record { 0 = touches.client };
+      place = touches.place;
+      by_others = touches.by_others;
+    } };
+}
+
+impl Touches {
+    /// Of a file that nobody opened or changed.
+    pub fn none() -> Touches
+        ensures { result ≡ untouched }
+    {
+        Touches {
+            client: ClientNo(0),
+            place: 0,
+            by_others: 0,
+        }
+    }
+
+    /// After the client opened or changed the file at this place.
+    pub fn with(self, client: ClientNo, place: u64) -> Touches
+        ensures { result ≡ touched self client.0 place }
+    {
+        if client == self.client {
+            Touches { place, ..self }
+        } else {
+            Touches {
+                client,
+                place,
+                by_others: self.place,
+            }
+        }
+    }
+
+    /// Where another client than this one opened or changed the file last.
+    pub fn by_others(self, client: ClientNo) -> u64
+        ensures { result ≡ touched_by_others client.0 self }
+    {
+        if client == self.client {
+            self.by_others
+        } else {
+            self.place
+        }
+    }
+}
+
+/// What a judge keeps of a file: the bytes with which it was started, its changes in order, and its touches.
+#[derive(Debug, Drop)]
+pub struct FileSeen {
+    start: Option<Bytes>,
+    changes: Vec<Change>,
+    touches: Touches,
+}
+
+impl Model for FileSeen {
+    ghost use Rattle.lease_world.specs.judge.Seen as seen;
+
+    ghost Value = { seen.SeenFile };
+
+    ghost view = { λ file. record {
+      start = file.start;
+      changes = file.changes.items;
+      touches = file.touches;
+    } };
+}
+
+impl FileSeen {
+    /// Of a file that no fact named. No memory is taken.
+    pub fn new(alloc: Global) -> FileSeen
+        ensures { result ≡ unseen_file }
+    {
+        FileSeen {
+            start: None,
+            changes: Vec::new(alloc),
+            touches: Touches::none(),
+        }
+    }
+
+    /// Whether the file was started.
+    pub fn is_started(&self) -> bool
+        ensures { result ≡ is_some self.now.start }
+    {
+        self.start.is_some()
+    }
+
+    /// The file is started with these bytes.
+    pub fn start(&mut self, bytes: Bytes)
+        ensures { self.new ≡ record self.old { start = Some bytes } }
+    {
+        self.start = Some(bytes);
+    }
+
+    /// A client opened the file at this place.
+    pub fn open(&mut self, client: ClientNo, place: u64)
+        ensures { self.new ≡ record self.old { touches = touched self.old.touches client.0 place } }
+    {
+        self.touches = self.touches.with(client, place);
+    }
+
+    /// A client changed the file at this place.
+    ///
+    /// # Errors
+    ///
+    /// `Memory` where there is none left for the list of changes.
+    pub fn change(&mut self, client: ClientNo, place: u64, patch: Patch) -> Result<(), Memory>
+        ensures { OnOk result (self.new ≡ record self.old {
+          changes = self.old.changes ++ record { place = place; patch = patch } ∷ [];
+          touches = touched self.old.touches client.0 place;
+        }) }
+    {
+        self.changes.push(Change { place, patch })?;
+        self.touches = self.touches.with(client, place);
+        Ok(())
+    }
+
+    /// Where another client than this one opened or changed the file last.
+    pub fn touched_by_others(&self, client: ClientNo) -> u64
+        ensures { result ≡ touched_by_others client.0 self.now.touches }
+    {
+        self.touches.by_others(client)
+    }
+
+    /// The bytes with which the file was started, in memory of their own; no bytes where it wasn't.
+    ///
+    /// # Errors
+    ///
+    /// `Memory` where there is none left.
+    pub fn first(&self, alloc: Global) -> Result<Snapshot, Memory>
+        ensures { IfOk result (λ snapshot. snapshot ≡ record { bytes = unwrap_or self.now.start []; applied = 0 }) }
+    {
+        match &self.start {
+            Some(bytes) => Snapshot::of(bytes),
+            None => Snapshot::of(&Bytes::new(Vec::new(alloc))),
+        }
+    }
+
+    /// The changes, in order.
+    pub fn changes(&self) -> &[Change]
+        ensures { result.now ≡ self.now.changes }
+    {
+        self.changes.as_slice()
+    }
+}

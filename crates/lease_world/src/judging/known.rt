@@ -1,0 +1,287 @@
+ghost use Rattle.std.specs.Prelude.{◌≡◌, [], IfOk};
+ghost use Rattle.lease_state.specs.State.{state_of};
+ghost use Rattle.lease_client.specs.Answers.{settlement_of};
+ghost use Rattle.lease_model.specs.values.Patches.{is_within_limit};
+ghost use Rattle.lease_world.specs.Facts.{fact_of};
+ghost use Rattle.lease_world.specs.judge.Added.{StartAdds, JoinedAdds, LeavingAdds, ExpiredAdds, StrayedAdds, SentAdds, TookAdds, OpenedAdds, ChangedAdds, WroteAdds, SettledAdds, BelievesAdds, CachedReadAdds, Adds};
+
+use crate::fact::Fact;
+use crate::judging::client::WriteSeen;
+use crate::judging::clients::Clients;
+use crate::judging::files::Files;
+use crate::verdict::{Rule, Verdict};
+use lease_client::Settlement;
+use lease_state::{Bytes, ClientNo, FileNo, LeaseState, Memory, Patch, FILE_LIMIT};
+use std::alloc::Global;
+use std::marker::Model;
+
+/// What a judge keeps of the facts that it was given.
+#[derive(Debug, Drop)]
+pub struct Known {
+    files: Files,
+    clients: Clients,
+}
+
+impl Model for Known {
+    ghost use Rattle.lease_world.specs.judge.Seen as seen;
+
+    ghost Value = { seen.Seen };
+
+    ghost view = { λ known. record { files = known.files; clients = known.clients } };
+}
+
+impl Known {
+    /// Before any fact. No memory is taken.
+    pub fn new(alloc: Global) -> Known
+        ensures { result ≡ record { files = []; clients = [] } }
+    {
+        Known {
+            files: Files::new(alloc),
+            clients: Clients::new(alloc),
+        }
+    }
+
+    /// Takes the fact at this place, and tells what it is in the light of those before it.
+    ///
+    /// # Errors
+    ///
+    /// `Memory` where there is none left for what is kept; the same holds of each call below.
+    pub fn add(&mut self, place: u64, fact: &Fact) -> Result<Verdict, Memory>
+        ensures { IfOk result (λ verdict. Adds place (fact_of fact.now) self.old self.new verdict) }
+    {
+        match fact {
+            Fact::Start(file, bytes) => self.start(place, *file, bytes),
+            Fact::Joined(client) => self.join(place, *client),
+            Fact::Dropped(client) => self.leave(*client),
+            Fact::Expired(client, file) => self.expire(place, *client, *file),
+            Fact::Sent(client) => self.send(place, *client),
+            Fact::Took(client) => self.take(place, *client),
+            Fact::Opened(file, client) => self.open(place, *file, *client),
+            Fact::Changed(file, client, number, patch) => {
+                self.change(place, *file, *client, *number, patch)
+            }
+            Fact::Wrote(client, file, number, patch, buffered) => {
+                self.write(place, *client, *file, *number, patch, *buffered)
+            }
+            Fact::Settled(client, number, outcome) => self.settle(place, *client, *number, *outcome),
+            Fact::Believes(client, file, state) => self.believe(place, *client, *file, *state),
+            Fact::CachedRead(client, file, bytes) => self.read(place, *client, *file, bytes),
+            Fact::Strayed(client) => self.stray(*client),
+        }
+    }
+
+    fn start(&mut self, place: u64, file: FileNo, bytes: &Bytes) -> Result<Verdict, Memory>
+        ensures { IfOk result (λ verdict. StartAdds place file.0 bytes.now self.old self.new verdict) }
+    {
+        if self.files.is_started(file) {
+            return Ok(Verdict::Malformed { place });
+        }
+        self.files.start(file, bytes.try_copy()?)?;
+        Ok(Verdict::Safe)
+    }
+
+    fn join(&mut self, place: u64, client: ClientNo) -> Result<Verdict, Memory>
+        ensures { IfOk result (λ verdict. JoinedAdds place client.0 self.old self.new verdict) }
+    {
+        self.clients.join(client)?;
+        if self.clients.has_rival_somewhere(client) {
+            return Ok(Verdict::Unsafe {
+                place,
+                rule: Rule::OneWriteCache,
+            });
+        }
+        Ok(Verdict::Safe)
+    }
+
+    fn leave(&mut self, client: ClientNo) -> Result<Verdict, Memory>
+        ensures { IfOk result (λ verdict. LeavingAdds client.0 self.old self.new verdict) }
+    {
+        self.clients.leave(client)?;
+        Ok(Verdict::Safe)
+    }
+
+    fn expire(&mut self, place: u64, client: ClientNo, file: FileNo) -> Result<Verdict, Memory>
+        ensures { IfOk result (λ verdict. ExpiredAdds place client.0 file.0 self.old self.new verdict) }
+    {
+        if !self.files.is_started(file) {
+            return Ok(Verdict::Malformed { place });
+        }
+        self.leave(client)
+    }
+
+    fn stray(&mut self, client: ClientNo) -> Result<Verdict, Memory>
+        ensures { IfOk result (λ verdict. StrayedAdds client.0 self.old self.new verdict) }
+    {
+        self.clients.stray(client)?;
+        Ok(Verdict::Safe)
+    }
+
+    fn send(&mut self, place: u64, client: ClientNo) -> Result<Verdict, Memory>
+        ensures { IfOk result (λ verdict. SentAdds place client.0 self.old self.new verdict) }
+    {
+        self.clients.send(client, place)?;
+        Ok(Verdict::Safe)
+    }
+
+    fn take(&mut self, place: u64, client: ClientNo) -> Result<Verdict, Memory>
+        ensures { IfOk result (λ verdict. TookAdds place client.0 self.old self.new verdict) }
+    {
+        if !self.clients.take(client)? {
+            return Ok(Verdict::Malformed { place });
+        }
+        Ok(Verdict::Safe)
+    }
+
+    fn open(&mut self, place: u64, file: FileNo, client: ClientNo) -> Result<Verdict, Memory>
+        ensures { IfOk result (λ verdict. OpenedAdds place file.0 client.0 self.old self.new verdict) }
+    {
+        if !self.files.is_started(file) {
+            return Ok(Verdict::Malformed { place });
+        }
+        self.files.open(file, client, place)?;
+        Ok(Verdict::Safe)
+    }
+
+    fn change(
+        &mut self,
+        place: u64,
+        file: FileNo,
+        client: ClientNo,
+        number: u64,
+        patch: &Patch,
+    ) -> Result<Verdict, Memory>
+        ensures { IfOk result (λ verdict. ChangedAdds place file.0 client.0 number patch.now self.old self.new verdict) }
+    {
+        if !self.files.is_started(file) || !is_within_limit(patch) {
+            return Ok(Verdict::Malformed { place });
+        }
+        let touched = self.files.touched_by_others(file, client);
+        if !self.clients.has_strayed(client)
+            && self.clients.has_buffered(client, file, number, touched)
+        {
+            return Ok(Verdict::Unsafe {
+                place,
+                rule: Rule::NoLateWrite,
+            });
+        }
+        self.clients.accept(client, file, number, patch)?;
+        self.files.change(file, client, place, patch.try_copy()?)?;
+        Ok(Verdict::Safe)
+    }
+
+    fn write(
+        &mut self,
+        place: u64,
+        client: ClientNo,
+        file: FileNo,
+        number: u64,
+        patch: &Patch,
+        buffered: bool,
+    ) -> Result<Verdict, Memory>
+        ensures { IfOk result (λ verdict.
+            WroteAdds place client.0 file.0 number patch.now buffered self.old self.new verdict) }
+    {
+        if !self.files.is_started(file)
+            || !is_within_limit(patch)
+            || self.clients.has_number(client, number)
+        {
+            return Ok(Verdict::Malformed { place });
+        }
+        let write = WriteSeen {
+            file,
+            place,
+            buffered,
+            patch: patch.try_copy()?,
+            accepted: false,
+        };
+        self.clients.write(client, number, write)?;
+        Ok(Verdict::Safe)
+    }
+
+    fn settle(
+        &mut self,
+        place: u64,
+        client: ClientNo,
+        number: u64,
+        outcome: Settlement,
+    ) -> Result<Verdict, Memory>
+        ensures { IfOk result (λ verdict.
+            SettledAdds place client.0 number (settlement_of outcome) self.old self.new verdict) }
+    {
+        if outcome == Settlement::Done
+            && !self.clients.has_strayed(client)
+            && !self.clients.is_accepted(client, number)
+        {
+            return Ok(Verdict::Unsafe {
+                place,
+                rule: Rule::NoFalseDone,
+            });
+        }
+        self.clients.settle(client, number)?;
+        Ok(Verdict::Safe)
+    }
+
+    fn believe(
+        &mut self,
+        place: u64,
+        client: ClientNo,
+        file: FileNo,
+        state: LeaseState,
+    ) -> Result<Verdict, Memory>
+        ensures { IfOk result (λ verdict.
+            BelievesAdds place client.0 file.0 (state_of state) self.old self.new verdict) }
+    {
+        if !self.files.is_started(file) {
+            return Ok(Verdict::Malformed { place });
+        }
+        self.clients.believe(client, file, state)?;
+        if self.clients.has_rival_at(client, file) {
+            return Ok(Verdict::Unsafe {
+                place,
+                rule: Rule::OneWriteCache,
+            });
+        }
+        Ok(Verdict::Safe)
+    }
+
+    fn read(
+        &mut self,
+        place: u64,
+        client: ClientNo,
+        file: FileNo,
+        bytes: &Bytes,
+    ) -> Result<Verdict, Memory>
+        ensures { IfOk result (λ verdict.
+            CachedReadAdds place client.0 file.0 bytes.now self.old self.new verdict) }
+    {
+        let Some(seen) = self.files.get(file) else {
+            return Ok(Verdict::Malformed { place });
+        };
+        if !seen.is_started() {
+            return Ok(Verdict::Malformed { place });
+        }
+        if !self.clients.is_good(client) {
+            return Ok(Verdict::Safe);
+        }
+        let stale = Verdict::Unsafe {
+            place,
+            rule: Rule::FreshCachedReads,
+        };
+        let Some(taken) = self.clients.taken(client) else {
+            return Ok(stale);
+        };
+        if self.clients.sees(client, file, seen, taken, bytes)? {
+            Ok(Verdict::Safe)
+        } else {
+            Ok(stale)
+        }
+    }
+}
+
+// Whether the patch ends within the limit of a file.
+fn is_within_limit(patch: &Patch) -> bool
+    ensures { result ≡ is_within_limit patch.now }
+{
+    let offset = patch.offset as usize;
+    offset <= FILE_LIMIT && patch.bytes.len() <= FILE_LIMIT - offset
+}

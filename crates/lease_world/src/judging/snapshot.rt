@@ -1,0 +1,146 @@
+ghost use Rattle.std.specs.Prelude.{◌≡◌, ◌+◌, ◌≤◌, IfOk, OnOk, length, take, drop, ◌++◌};
+ghost use Rattle.lease_state.specs.Content.{patch, patches};
+ghost use Rattle.lease_world.specs.judge.Before.{before, patches_of, patches_waiting};
+
+use crate::judging::cache::Waiting;
+use crate::judging::file::Change;
+use lease_state::{Bytes, Memory, Patch};
+use std::marker::Model;
+
+/// The bytes of a file, with how many patches of a list were put onto them.
+#[derive(Debug, Drop)]
+pub struct Snapshot {
+    bytes: Vec<u8>,
+    applied: usize,
+}
+
+impl Model for Snapshot {
+    ghost use Rattle.lease_world.specs.judge.Seen as seen;
+
+    ghost Value = { seen.Snapshot };
+
+    ghost view = { λ snapshot. record { bytes = snapshot.bytes.items; applied = snapshot.applied } };
+}
+
+impl Snapshot {
+    /// These bytes, with no patch, in memory of their own.
+    ///
+    /// # Errors
+    ///
+    /// `Memory` where there is none left.
+    pub fn of(bytes: &Bytes) -> Result<Snapshot, Memory>
+        ensures { IfOk result (λ snapshot. snapshot ≡ record { bytes = bytes.now; applied = 0 }) }
+    {
+        Ok(Snapshot {
+            bytes: bytes.try_copy()?.into_vec(),
+            applied: 0,
+        })
+    }
+
+    /// The same bytes, with no patch, in memory of their own.
+    ///
+    /// # Errors
+    ///
+    /// `Memory` where there is none left.
+    pub fn anew(&self) -> Result<Snapshot, Memory>
+        ensures { IfOk result (λ snapshot. snapshot ≡ record { bytes = self.now.bytes; applied = 0 }) }
+    {
+        let bytes = Vec::from_slice(*self.bytes.allocator(), self.bytes.as_slice())?;
+        Ok(Snapshot { bytes, applied: 0 })
+    }
+
+    /// How many patches were put onto the bytes.
+    pub fn applied(&self) -> usize
+        ensures { result ≡ self.now.applied }
+    {
+        self.applied
+    }
+
+    /// Whether these are the bytes.
+    pub fn shows(&self, bytes: &Bytes) -> bool
+        ensures { result ≡ bytes_eq bytes.now self.now.bytes }
+    {
+        bytes.as_slice() == self.bytes.as_slice()
+    }
+
+    /// With the patches of the changes that follow, as long as they stand before the place.
+    ///
+    /// # Errors
+    ///
+    /// `Memory` where the bytes grow and there is none left.
+    pub fn moved(self, changes: &[Change], place: u64) -> Result<Snapshot, Memory>
+        ensures { IfOk result (λ snapshot. snapshot ≡ record {
+          bytes = patches self.bytes (patches_of (before place (drop self.applied changes.now)));
+          applied = self.applied + length (before place (drop self.applied changes.now));
+        }) }
+    {
+        let Snapshot {
+            mut bytes,
+            mut applied,
+        } = self;
+        while applied < changes.len() {
+            let change = &changes[applied];
+            if change.place >= place {
+                break;
+            }
+            apply(&mut bytes, &change.patch)?;
+            applied += 1;
+        }
+        Ok(Snapshot { bytes, applied })
+    }
+
+    /// With the patches of all writes that follow.
+    ///
+    /// # Errors
+    ///
+    /// `Memory` where the bytes grow and there is none left.
+    pub fn with_writes(self, writes: &[Waiting]) -> Result<Snapshot, Memory>
+        ensures { IfOk result (λ snapshot. snapshot ≡ record {
+          bytes = patches self.bytes (patches_waiting (drop self.applied writes.now));
+          applied = self.applied + length (drop self.applied writes.now);
+        }) }
+    {
+        let Snapshot {
+            mut bytes,
+            mut applied,
+        } = self;
+        while applied < writes.len() {
+            let write = &writes[applied];
+            apply(&mut bytes, &write.patch)?;
+            applied += 1;
+        }
+        Ok(Snapshot { bytes, applied })
+    }
+}
+
+ghost use Rattle.std.specs.Prelude.{bytes_eq};
+
+/// Puts a patch onto a file's bytes.
+///
+/// # Errors
+///
+/// `Memory` where the file grows and there is none left.
+fn apply(bytes: &mut Vec<u8>, change: &Patch) -> Result<(), Memory>
+    ensures { OnOk result (bytes.new.items ≡ patch bytes.old.items change.now) }
+{
+    let held = bytes.len();
+    let offset = change.offset as usize;
+    let added = change.bytes.as_slice();
+    if added.len() > usize::MAX - offset {
+        return Err(Memory);
+    }
+    if !added.is_empty() {
+        let end = offset + added.len();
+        bytes.resize(end.max(held), 0)?;
+        write_over(bytes, offset, added);
+    }
+    Ok(())
+}
+
+// Writes bytes over those from `offset` on.
+fn write_over(items: &mut [u8], offset: usize, bytes: &[u8])
+    requires { offset + length bytes.now ≤ length items.old }
+    ensures { items.new ≡ take offset items.old ++ (bytes.now ++ drop (offset + length bytes.now) items.old) }
+{
+    items[offset..offset + bytes.len()].copy_from_slice(bytes);
+}

@@ -1,0 +1,44 @@
+ghost use Rattle.std.specs.Prelude.{◌≡◌, map, IfOk};
+ghost use Rattle.std.specs.Iterator.{IsFinite};
+ghost use Rattle.std.specs.Iterator.Runs.{WholeRun};
+ghost use Rattle.lease_model.specs.records.Verdict.{verdict};
+ghost use Rattle.lease_world.specs.Facts.{fact_of};
+ghost use Rattle.lease_world.specs.Verdicts.{verdict_of};
+
+use crate::fact::Fact;
+use crate::judging::Judge;
+use crate::verdict::Verdict;
+use lease_state::Memory;
+use std::alloc::Global;
+
+/// The verdict on the record of these facts: safe, or the first bad place.
+///
+/// # Errors
+///
+/// `Memory` where there is none left for what the judge keeps, or a place has no number of 64 bits.
+pub fn judge_each<'a, I: Iterator<Item = &'a Fact>>(
+    alloc: Global,
+    facts: I,
+) -> Result<Verdict, Memory>
+    requires can { I.can_next facts }
+    requires ends { IsFinite (I.remaining facts) }
+    ensures { IfOk result (λ told. WholeRun I.next_gives facts
+        (λ run. verdict_of told ≡ verdict (map (λ fact. fact_of fact.now) run.items))) }
+{
+    let mut judge = Judge::new(alloc);
+    for fact in facts {
+        judge = judge.take(fact)?;
+    }
+    Ok(judge.verdict())
+}
+
+/// The verdict on a record: safe, or the first bad place.
+///
+/// # Errors
+///
+/// `Memory` where there is none left for what the judge keeps.
+pub fn judge(alloc: Global, facts: &[Fact]) -> Result<Verdict, Memory>
+    ensures { IfOk result (λ told. verdict_of told ≡ verdict (map fact_of facts.now)) }
+{
+    judge_each(alloc, facts.iter())
+}
