@@ -4,6 +4,8 @@
 
 mod fact;
 mod judging;
+#[cfg(test)]
+mod tests;
 mod verdict;
 mod whole;
 

@@ -59,13 +59,16 @@ pub nothing_judged : HasJudged (record { verdict = Verdict.Safe; count = 0; know
 unfolding verdict_from
 nothing_judged = record {
   verdict = refl;
-  known = λ e. (refl, record {
-    files = λ f. rw (past_the_end unseen_file [] f (omega arith)) (file_unseen f);
-    clients = λ c. rw (past_the_end unseen_client [] c (omega arith)) (client_unseen c);
-    contents = contents_unseen;
-    well_formed = tt;
-    one_write_cache = nobody_yet;
-  });
+  known = λ e. (
+    refl,
+    record {
+      files = λ f. rw (past_the_end unseen_file [] f (omega arith)) (file_unseen f);
+      clients = λ c. rw (past_the_end unseen_client [] c (omega arith)) (client_unseen c);
+      contents = contents_unseen;
+      well_formed = tt;
+      one_write_cache = nobody_yet;
+    },
+  );
 }
 
 -- ---- one fact more

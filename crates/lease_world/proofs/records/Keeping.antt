@@ -44,12 +44,11 @@ view-push : (cache : SeenCache) (write : Waiting) (base view : Option Snapshot) 
     → IsView (record cache { waiting = cache.waiting ++ write ∷ [] }) base view
 view-push cache write base None is = tt
 view-push cache write None (Some view) is = is
-view-push cache write (Some base) (Some view) is =
-    (
-      is.0 ∙ ap (λ (ws : List Waiting). patches base.bytes (patches_waiting ws))
+view-push cache write (Some base) (Some view) is = (
+  is.0 ∙ ap (λ (ws : List Waiting). patches base.bytes (patches_waiting ws))
       (sym (take-append-le view.applied cache.waiting (write ∷ []) is.1)),
-      let e = length-append cache.waiting (write ∷ []) in omega (arith, is.1, e),
-    )
+  let e = length-append cache.waiting (write ∷ []) in omega (arith, is.1, e),
+)
 
 pub contents-write : (file : SeenFile) (taken number : ℕ) (patch : Patch) (cache : SeenCache) → HasContents file taken cache
     → HasContents file taken (with_write number patch cache)
@@ -77,11 +76,10 @@ base-change : (file : SeenFile) (touches : Touches) (change : Change) (taken : �
     → IsBase (record file { changes = file.changes ++ change ∷ []; touches = touches }) taken base
 base-change file touches change taken None le is = tt
 base-change file touches change taken (Some base) le is =
-    let within : base.applied ≤ length file.changes = let e = before-within taken file.changes in omega (arith, is.2, e) in
-    (
+    let within : base.applied ≤ length file.changes = let e = before-within taken file.changes in omega (arith, is.2, e) in (
       is.0,
       is.1 ∙ ap (λ (cs : List Change). patches (unwrap_or file.start []) (patches_of cs))
-      (sym (take-append-le base.applied file.changes (change ∷ []) within)),
+          (sym (take-append-le base.applied file.changes (change ∷ []) within)),
       rw (before-push taken file.changes change le) is.2,
     )
   where

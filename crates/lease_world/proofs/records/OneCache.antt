@@ -66,9 +66,9 @@ conflict_either : (one other : State) → is_conflict one other ≡ true
 conflict_either one other e f g = elim (cases_Bool one.write) [
   | inl w ↦ clash_one one other e w (f w)
   | inr n ↦ elim (cases_Bool other.write) [
-      | inl w ↦ clash_other one other e n (g w)
-      | inr m ↦ clash_none one other e n m
-    ]
+    | inl w ↦ clash_other one other e n (g w)
+    | inr m ↦ clash_none one other e n m
+  ]
 ]
   where
     clash_one : (one other : State) → is_conflict one other ≡ true → one.write ≡ true → other ≡ nothing_cached → ⊥
@@ -122,18 +122,18 @@ one-after past next client one goods beliefs free file a b ne good writes good_t
           (subst (λ (n : ℕ). (believed n file next).write ≡ true) is writes)
           (free (subst (λ (n : ℕ). is_good n next ≡ true) is good) file b apart good_too)
       | inr a_not ↦ elim (cases_Bool (b == client)) [
-          | inl e ↦
-              let is : b ≡ client = eqb-true b client e in
-              let apart : a ≢ client = λ s. ne (is ∙ sym s) in
-              subst (λ (n : ℕ). believed n file next ≡ nothing_cached) (sym is)
-              (written_conflict (believed client file next) (believed a file next) writes
-              (free (subst (λ (n : ℕ). is_good n next ≡ true) is good_too) file a apart good))
-          | inr b_not ↦
-              let a_apart : a ≢ client = λ s. both_ways _ a_not (eq-eqb a client s) in
-              let b_apart : b ≢ client = λ s. both_ways _ b_not (eq-eqb b client s) in
-              beliefs b file b_apart
-              ∙ one file a b ne (sym (goods a a_apart) ∙ good)
-              (subst (λ (s : State). s.write ≡ true) (beliefs a file a_apart) writes)
-              (sym (goods b b_apart) ∙ good_too)
-        ]
+        | inl e ↦
+            let is : b ≡ client = eqb-true b client e in
+            let apart : a ≢ client = λ s. ne (is ∙ sym s) in
+            subst (λ (n : ℕ). believed n file next ≡ nothing_cached) (sym is)
+            (written_conflict (believed client file next) (believed a file next) writes
+            (free (subst (λ (n : ℕ). is_good n next ≡ true) is good_too) file a apart good))
+        | inr b_not ↦
+            let a_apart : a ≢ client = λ s. both_ways _ a_not (eq-eqb a client s) in
+            let b_apart : b ≢ client = λ s. both_ways _ b_not (eq-eqb b client s) in
+            beliefs b file b_apart
+            ∙ one file a b ne (sym (goods a a_apart) ∙ good)
+            (subst (λ (s : State). s.write ≡ true) (beliefs a file a_apart) writes)
+            (sym (goods b b_apart) ∙ good_too)
+      ]
     ]

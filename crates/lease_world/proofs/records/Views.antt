@@ -80,12 +80,11 @@ pub moved-base : (file : SeenFile) (taken place : ℕ) (base : Snapshot) → tak
     → IsBase file place (Some (moved file.changes place base))
 moved-base file taken place base le is =
     let counted : (moved file.changes place base).applied ≡ length (before place file.changes) =
-    (advances taken place base.applied file.changes le is.2).1 in
-    (
+    (advances taken place base.applied file.changes le is.2).1 in (
       is.0,
       moved-bytes file taken place base le is
-      ∙ ap (λ (cs : List Change). patches (unwrap_or file.start []) (patches_of cs))
-      (sym (take-before place file.changes) ∙ ap (λ (n : ℕ). take n file.changes) (sym counted)),
+          ∙ ap (λ (cs : List Change). patches (unwrap_or file.start []) (patches_of cs))
+          (sym (take-before place file.changes) ∙ ap (λ (n : ℕ). take n file.changes) (sym counted)),
       omega (arith, counted),
     )
 
@@ -213,7 +212,7 @@ up base cache view is = record {
   bytes = writes-bytes base cache.waiting view is.0;
   is_view = (
     writes-bytes base cache.waiting view is.0
-    ∙ ap (λ (ws : List Waiting). patches base.bytes (patches_waiting ws)) (sym (all_taken view.applied cache.waiting is.1)),
+        ∙ ap (λ (ws : List Waiting). patches base.bytes (patches_waiting ws)) (sym (all_taken view.applied cache.waiting is.1)),
     counted_all view.applied cache.waiting is.1,
   );
   same_base = refl;
@@ -260,12 +259,11 @@ looked-contents file taken false waiting cache h = h
 contents-from : (file : SeenFile) (place : ℕ) (base : Snapshot) (cache : SeenCache) (view : Snapshot)
     → cache.base ≡ Some base → cache.view ≡ Some view
     → IsBase file place (Some base) → IsView cache (Some base) (Some view) → HasContents file place cache
-contents-from file place base cache view b v is_base is_view =
-    (
-      subst (λ (o : Option Snapshot). IsBase file place o) (sym b) is_base,
-      subst (λ (o : Option Snapshot). IsView cache o cache.view) (sym b)
+contents-from file place base cache view b v is_base is_view = (
+  subst (λ (o : Option Snapshot). IsBase file place o) (sym b) is_base,
+  subst (λ (o : Option Snapshot). IsView cache o cache.view) (sym b)
       (subst (λ (o : Option Snapshot). IsView cache (Some base) o) (sym v) is_view),
-    )
+)
 
 pub brings-up : (file : SeenFile) (taken place : ℕ) (settled : List ℕ) (cache : SeenCache) → taken ≤ place
     → is_some file.start ≡ true → HasContents file taken cache

@@ -81,13 +81,7 @@ impl Clients {
     }
 
     /// Whether the client's buffered write of this number, on this file, stands before the place.
-    pub fn has_buffered(
-        &self,
-        client: ClientNo,
-        file: FileNo,
-        number: u64,
-        place: u64,
-    ) -> bool
+    pub fn has_buffered(&self, client: ClientNo, file: FileNo, number: u64, place: u64) -> bool
         ensures { result ≡ is_buffered_before file.0 place (write_in (client_in self.now client.0) number) }
     {
         match self.seen.get(usize::from(client.0)) {
@@ -198,7 +192,12 @@ impl Clients {
     }
 
     /// The client believes this of a file's lease from now on.
-    pub fn believe(&mut self, client: ClientNo, file: FileNo, state: LeaseState) -> Result<(), Memory>
+    pub fn believe(
+        &mut self,
+        client: ClientNo,
+        file: FileNo,
+        state: LeaseState,
+    ) -> Result<(), Memory>
         ensures { OnOk result (ChangesClient (Believes file.0 (state_of state)) client.0 self.old self.new) }
     {
         self.reach(client)?;

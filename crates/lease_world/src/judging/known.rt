@@ -11,7 +11,7 @@ use crate::judging::clients::Clients;
 use crate::judging::files::Files;
 use crate::verdict::{Rule, Verdict};
 use lease_client::Settlement;
-use lease_state::{Bytes, ClientNo, FileNo, LeaseState, Memory, Patch, FILE_LIMIT};
+use lease_state::{Bytes, ClientNo, FILE_LIMIT, FileNo, LeaseState, Memory, Patch};
 use std::alloc::Global;
 use std::marker::Model;
 
@@ -63,7 +63,9 @@ impl Known {
             Fact::Wrote(client, file, number, patch, buffered) => {
                 self.write(place, *client, *file, *number, patch, *buffered)
             }
-            Fact::Settled(client, number, outcome) => self.settle(place, *client, *number, *outcome),
+            Fact::Settled(client, number, outcome) => self.settle(
+                place, *client, *number, *outcome,
+            ),
             Fact::Believes(client, file, state) => self.believe(place, *client, *file, *state),
             Fact::CachedRead(client, file, bytes) => self.read(place, *client, *file, bytes),
             Fact::Strayed(client) => self.stray(*client),

@@ -1,0 +1,102 @@
+//! Words for records in tests.
+
+use crate::Fact;
+use lease_client::Settlement;
+use lease_state::{Bytes, ClientNo, FileNo, LeaseState, Patch};
+use std::alloc::Global;
+use std::test::Fail;
+
+pub fn bytes(alloc: Global, bytes: &[u8]) -> Result<Bytes, Fail> {
+    Ok(Bytes::new(Vec::from_slice(alloc, bytes)?))
+}
+
+pub fn patch(alloc: Global, offset: u32, added: &[u8]) -> Result<Patch, Fail> {
+    Ok(Patch {
+        offset,
+        bytes: bytes(alloc, added)?,
+    })
+}
+
+pub fn start(alloc: Global, file: u8, first: &[u8]) -> Result<Fact, Fail> {
+    Ok(Fact::Start(FileNo(file), bytes(alloc, first)?))
+}
+
+pub fn joined(client: u8) -> Fact {
+    Fact::Joined(ClientNo(client))
+}
+
+pub fn dropped(client: u8) -> Fact {
+    Fact::Dropped(ClientNo(client))
+}
+
+pub fn expired(client: u8, file: u8) -> Fact {
+    Fact::Expired(ClientNo(client), FileNo(file))
+}
+
+pub fn sent(client: u8) -> Fact {
+    Fact::Sent(ClientNo(client))
+}
+
+pub fn took(client: u8) -> Fact {
+    Fact::Took(ClientNo(client))
+}
+
+pub fn opened(file: u8, client: u8) -> Fact {
+    Fact::Opened(FileNo(file), ClientNo(client))
+}
+
+/// The file is changed by the client's write of this number, one byte at the offset.
+pub fn changed(
+    alloc: Global,
+    file: u8,
+    client: u8,
+    number: u64,
+    offset: u32,
+    byte: u8,
+) -> Result<Fact, Fail> {
+    let patch = patch(alloc, offset, &[byte])?;
+    Ok(Fact::Changed(FileNo(file), ClientNo(client), number, patch))
+}
+
+/// The client buffers a write of one byte at the offset.
+pub fn buffered(
+    alloc: Global,
+    client: u8,
+    file: u8,
+    number: u64,
+    offset: u32,
+    byte: u8,
+) -> Result<Fact, Fail> {
+    let patch = patch(alloc, offset, &[byte])?;
+    Ok(Fact::Wrote(ClientNo(client), FileNo(file), number, patch, true))
+}
+
+/// The client sends a write of one byte at the offset.
+pub fn through(
+    alloc: Global,
+    client: u8,
+    file: u8,
+    number: u64,
+    offset: u32,
+    byte: u8,
+) -> Result<Fact, Fail> {
+    let patch = patch(alloc, offset, &[byte])?;
+    Ok(Fact::Wrote(ClientNo(client), FileNo(file), number, patch, false))
+}
+
+pub fn settled(client: u8, number: u64, outcome: Settlement) -> Fact {
+    Fact::Settled(ClientNo(client), number, outcome)
+}
+
+/// The client believes the state that the wire's number names: 1 reads, 2 handles, 4 writes.
+pub fn believes(client: u8, file: u8, state: u32) -> Fact {
+    Fact::Believes(ClientNo(client), FileNo(file), LeaseState::from_wire(state))
+}
+
+pub fn read(alloc: Global, client: u8, file: u8, seen: &[u8]) -> Result<Fact, Fail> {
+    Ok(Fact::CachedRead(ClientNo(client), FileNo(file), bytes(alloc, seen)?))
+}
+
+pub fn strayed(client: u8) -> Fact {
+    Fact::Strayed(ClientNo(client))
+}
