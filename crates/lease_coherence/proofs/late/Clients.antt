@@ -1,7 +1,6 @@
 -- What a client does leaves its writes safe.
-use Rattle.std.proofs.Common.{◌≡◌, ◌≢◌, ◌⊎◌, inl, inr, ⊎_elim, ℕ, ◌+◌, ◌≤◌, Bool, true, false, not, List, [], ◌∷◌, ◌++◌, Option, Some, None, refl, sym, ap, ap₂, ◌∙◌, subst, arith, true≢false, ◌==◌}
-use Rattle.std.specs.Prelude.{⊤, ◌&&◌, ◌||◌, if◌then◌else◌}
-use Rattle.std.specs.List.{list_any}
+use Rattle.std.proofs.Common.{◌≡◌, ◌≢◌, ◌⊎◌, inl, inr, ⊎_elim, ℕ, ◌+◌, Bool, true, false, not, List, [], ◌∷◌, ◌++◌, Option, Some, None, refl, sym, ap, ◌∙◌, subst, ◌==◌}
+use Rattle.std.specs.Prelude.{⊤, ◌&&◌, if◌then◌else◌}
 use Rattle.std.proofs.lemmas.Bool.{eqb-true, eq-eqb}
 use Rattle.lease_state.specs.State.{State}
 use Rattle.lease_state.specs.declared.patch.Patch.{Patch}
@@ -10,25 +9,24 @@ use Rattle.lease_model.specs.client.Commanded.{next_write, cached_read, opened_a
 use Rattle.lease_model.specs.client.Commands.{Answer, Note}
 use Rattle.lease_model.specs.client.State.{Client, Entry, LiveEntry, Asked, Parted, Pending, Phase, knows_file}
 use Rattle.lease_model.specs.client.Step.{Step, Turn, turned, quiet_step, write_requests}
-use Rattle.lease_model.specs.client.Taken.{acknowledgment, break_turn, parked_closed, belief_lowered, flushed, unflushed, gives_up, opened_turn, reconnected_turn, promoted_turn, read_turn, read_failed_turn, is_file_closed, closed_by_server, without_open, is_numbered, has_sent, sent_without, phase_with, write_done_turn, write_failed_in, file_where}
-use Rattle.lease_model.specs.messages.Replies.{Reply, BreakNotice, CreateAnswer}
+use Rattle.lease_model.specs.client.Taken.{acknowledgment, break_turn, parked_closed, belief_lowered, flushed, gives_up, opened_turn, reconnected_turn, promoted_turn, read_turn, read_failed_turn, is_file_closed, closed_by_server, without_open, has_sent, sent_without, phase_with, write_done_turn, write_failed_in, file_where}
+use Rattle.lease_model.specs.messages.Replies.{Reply, BreakNotice}
 use Rattle.lease_model.specs.messages.Requests.{FileRequest, Request}
 use Rattle.lease_model.specs.values.LeaseStates.{meet}
 use Rattle.lease_model.specs.values.Tables.{put}
 use Rattle.lease_laws.specs.client.Laws.{IsSoundClient, are_rising, has_number, unanswered_in, unsent_in}
 use Rattle.lease_laws.specs.server.Laws.{Among}
 use Rattle.lease_laws.proofs.client.Thin.{put_same, put_other}
-use Rattle.lease_laws.proofs.server.Lists.{if_cases, either, clash, and_parts, not_true, among_append, true_or}
+use Rattle.lease_laws.proofs.server.Lists.{if_cases, clash, not_true, among_append, true_or}
 use Rattle.lease_laws.proofs.world.Links.{by_client}
 use Rattle.lease_coherence.specs.Creates.{one_if}
 use Rattle.lease_coherence.specs.Names.{Each}
-use Rattle.lease_coherence.proofs.clients.Commands.{HasCommands, IsEntry, sent_of}
+use Rattle.lease_coherence.proofs.clients.Commands.{HasCommands, sent_of}
 use Rattle.lease_coherence.proofs.clients.Files.{never_found}
-use Rattle.lease_coherence.proofs.clients.Takes.{HasTakes, PassesOver, is_live}
+use Rattle.lease_coherence.proofs.clients.Takes.{HasTakes, PassesOver}
 use Rattle.lease_coherence.proofs.moves.Shift.{append_none}
-use Rattle.lease_coherence.proofs.names.Words.{each_append, each_weaker}
 use Rattle.lease_coherence.proofs.writes.Counts.{settles_of}
-use Rattle.lease_coherence.proofs.writes.Settled.{number_there, number_append, rising_rest, or_later}
+use Rattle.lease_coherence.proofs.writes.Settled.{number_there, number_append, rising_rest}
 
 -- ---- what is sent
 
@@ -246,13 +244,19 @@ left_numbers used low last (x ∷ sent) more e w a = let r = rising_rest x low l
     if_cases (λ l. Among w l → Among w (x ∷ sent)
     × ((used == w.number) ≡ false ⊎ (has_number used (x ∷ sent) ≡ false))) (x.number == used) sent
     (x ∷ sent_without used sent)
-    (λ same b. (inr b, inl (not_true (used == w.number) (λ also. clash (has_number x.number (sent ++ more))
-    (ap (λ n. has_number n (sent ++ more)) (eqb-true x.number used same ∙ eqb-true used w.number also)
-    ∙ number_append w.number sent more ∙ true_or (has_number w.number sent) (has_number w.number more)
-    (number_there w sent b)) r.0))))
+    (λ same b. (
+      inr b,
+      inl (not_true (used == w.number) (λ also. clash (has_number x.number (sent ++ more))
+          (ap (λ n. has_number n (sent ++ more)) (eqb-true x.number used same ∙ eqb-true used w.number also)
+          ∙ number_append w.number sent more ∙ true_or (has_number w.number sent) (has_number w.number more)
+          (number_there w sent b)) r.0)),
+    ))
     (λ other b. ⊎_elim
-    (λ same. (inl same, inl (not_true (used == w.number) (λ also. clash (x.number == used)
-    (eq-eqb x.number used (ap (λ (y : Pending). y.number) (sym same) ∙ sym (eqb-true used w.number also))) other))))
+    (λ same. (
+      inl same,
+      inl (not_true (used == w.number) (λ also. clash (x.number == used)
+          (eq-eqb x.number used (ap (λ (y : Pending). y.number) (sym same) ∙ sym (eqb-true used w.number also))) other)),
+    ))
     (λ later. let p = left_numbers used x.number last sent more r.1 w later in
     (inr p.0, ⊎_elim (λ apart. inl apart) (λ none. inr (rw (other) none)) p.1)) b) a
 

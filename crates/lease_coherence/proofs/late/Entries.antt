@@ -1,14 +1,12 @@
 -- Each step of a client leaves its entries safe.
-use Rattle.std.proofs.Common.{◌≡◌, ◌≢◌, ◌⊎◌, inl, inr, ⊎_elim, ℕ, ◌+◌, Bool, true, false, not, List, [], ◌∷◌, ◌++◌, filter, Option, Some, None, refl, sym, ap, ap₂, ◌∙◌, subst, true≢false, ◌==◌}
-use Rattle.std.specs.Prelude.{⊤, ◌&&◌, ◌||◌, if◌then◌else◌, bytes_eq}
-use Rattle.std.specs.List.{list_all}
+use Rattle.std.proofs.Common.{◌≡◌, ◌⊎◌, inl, inr, ⊎_elim, ℕ, ◌+◌, Bool, true, false, not, List, [], ◌∷◌, ◌++◌, filter, Option, Some, None, refl, sym, ap, ◌∙◌, subst, true≢false, ◌==◌}
+use Rattle.std.specs.Prelude.{◌&&◌, ◌||◌, if◌then◌else◌, bytes_eq}
 use Rattle.lease_state.specs.State.{State, nothing_cached}
 use Rattle.lease_state.specs.declared.status.Status.{Status}
-use Rattle.lease_model.specs.client.Commanded.{next_write, cached_read, opened_anew, write_buffered, write_sent, flush_on_live, wrote_step}
-use Rattle.lease_model.specs.client.Commands.{Answer}
+use Rattle.lease_model.specs.client.Commanded.{next_write, cached_read, opened_anew, write_buffered, write_sent, flush_on_live}
 use Rattle.lease_model.specs.client.Connection.{notice_turn, connect_turn, live_noticed, live_parted}
 use Rattle.lease_model.specs.client.State.{Client, Entry, LiveEntry, Asked, Parted, Pending, Phase, live_entry, lease_key}
-use Rattle.lease_model.specs.client.Step.{Step, Turn, turned, quiet_step}
+use Rattle.lease_model.specs.client.Step.{Step, Turn, turned}
 use Rattle.lease_model.specs.client.Taken.{given_state, break_turn, parked_closed, belief_lowered, gives_up, opened_turn, reconnected_turn, promoted_turn, promoted_belief, first_belief, read_turn, read_failed_turn, is_file_closed, closed_by_server, without_open, sent_without, phase_with, write_done_turn, write_failed_in}
 use Rattle.lease_model.specs.messages.Replies.{Reply, BreakNotice, CreateAnswer, LeaseGiven}
 use Rattle.lease_model.specs.records.Past.{is_touched}
@@ -20,7 +18,7 @@ use Rattle.lease_model.specs.world.World.{World}
 use Rattle.lease_laws.specs.client.Laws.{IsSoundClient, IsSoundPhase, IsSoundLive}
 use Rattle.lease_laws.specs.server.Laws.{Among}
 use Rattle.lease_laws.proofs.client.Thin.{put_same, put_other}
-use Rattle.lease_laws.proofs.server.Lists.{if_cases, either, clash, and_parts, or_true}
+use Rattle.lease_laws.proofs.server.Lists.{if_cases, either, clash, and_parts}
 use Rattle.lease_laws.proofs.world.Links.{by_client}
 use Rattle.lease_coherence.specs.Names.{Each}
 use Rattle.lease_coherence.specs.Standing.{IsOpenFor, FitsPhase}
@@ -28,7 +26,7 @@ use Rattle.lease_coherence.proofs.beliefs.Trust.{file_key}
 use Rattle.lease_coherence.proofs.beliefs.Words.{HoldsWrites, OnGiven}
 use Rattle.lease_coherence.proofs.clients.Commands.{HasCommands, sent_of}
 use Rattle.lease_coherence.proofs.clients.Takes.{HasTakes}
-use Rattle.lease_coherence.proofs.late.Words.{holds_write, IsClean, LiveSafe, KeptWrite, KeptSafe, PhaseSafe, given_writes, IsGrantSafe, GrantSafe}
+use Rattle.lease_coherence.proofs.late.Words.{holds_write, IsClean, LiveSafe, KeptWrite, KeptSafe, PhaseSafe, given_writes, GrantSafe}
 use Rattle.lease_coherence.proofs.names.Words.{each_append, each_weaker, each_without}
 
 -- ---- lists
@@ -322,9 +320,11 @@ promoted_safe world c client at file_id answer live next turn so_next so_sent s 
     at_among (IsClean c at world.past) live.unsent w
     (each_parts (IsClean c at world.past) (sent_of client at) live.unsent
     (old (unsent_writes live (sound_live client at live s is) w mine)).1).1 mine) in ⊎_elim
-    (λ had. let was = old had in
-    (was.0, each_append (IsClean c at world.past) (sent_of client at) next.unsent
-    (each_parts (IsClean c at world.past) (sent_of client at) live.unsent was.1).0 unsent))
+    (λ had. let was = old had in (
+      was.0,
+      each_append (IsClean c at world.past) (sent_of client at) next.unsent
+          (each_parts (IsClean c at world.past) (sent_of client at) live.unsent was.1).0 unsent,
+    ))
     (λ gives. let g = grant_taken world c client at file_id answer guid t gives x there by (id ∙ new) in
     (g.holds, each_append (IsClean c at world.past) (sent_of client at) next.unsent g.clean unsent))
     so.1)))
@@ -341,9 +341,11 @@ takes_safe world c client s guid = record {
   reconnected = λ at file_id answer parted is t. turned_safe world c client at _ (λ p. λ x there by id write.
       let same : file_id ≡ parted.file_id = subst (λ q. FitsPhase q file_id) is (t.fits at file_id (Some answer) refl) in
       let g = grant_taken world c client at file_id answer guid t write x there by (id ∙ sym same) in
-      let kept : KeptSafe world c at parted = subst (PhaseSafe world c at (sent_of client at)) is p in
-      (g.holds, each_append (IsClean c at world.past) (sent_of client at) _ g.clean
-      (some_kept (first_belief client at answer).write at parted (kept x there by id))));
+      let kept : KeptSafe world c at parted = subst (PhaseSafe world c at (sent_of client at)) is p in (
+        g.holds,
+        each_append (IsClean c at world.past) (sent_of client at) _ g.clean
+            (some_kept (first_belief client at answer).write at parted (kept x there by id)),
+      ));
   promoted = λ at file_id answer live asked is asks t. promoted_safe world c client at file_id answer live _ _ refl refl s
       guid is t refl refl
       (λ w a. some_unsent (promoted_belief (lease_key client.guid at) live.belief answer.lease).write live w a);

@@ -1,26 +1,23 @@
 -- What moves of the server leave of the writes and grants on their way.
-use Rattle.std.proofs.Common.{◌≡◌, ◌≢◌, ◌⊎◌, inl, inr, ⊎_elim, ℕ, ◌+◌, ◌≤◌, Bool, true, false, not, List, [], ◌∷◌, ◌++◌, map, Option, Some, None, refl, sym, ap, ap₂, ◌∙◌, subst, arith, true≢false, ◌==◌}
-use Rattle.std.specs.Prelude.{⊤, ◌&&◌, ◌||◌, if◌then◌else◌}
-use Rattle.std.proofs.lemmas.Bool.{eqb-true, eq-eqb}
-use Rattle.lease_state.specs.State.{State}
+use Rattle.std.proofs.Common.{◌≡◌, inl, inr, ⊎_elim, ℕ, ◌≤◌, Bool, true, false, not, List, [], ◌∷◌, ◌++◌, Some, None, refl, sym, ap, ◌∙◌, subst, ◌==◌}
+use Rattle.std.specs.Prelude.{◌&&◌, ◌||◌}
+use Rattle.std.proofs.lemmas.Bool.{eq-eqb}
 use Rattle.lease_state.specs.declared.patch.Patch.{Patch}
 use Rattle.lease_model.specs.client.Commands.{Note}
-use Rattle.lease_model.specs.client.State.{Client, Pending, Phase}
+use Rattle.lease_model.specs.client.State.{Pending}
 use Rattle.lease_model.specs.client.Taken.{given_state}
 use Rattle.lease_model.specs.messages.Replies.{Reply}
 use Rattle.lease_model.specs.messages.Requests.{FileRequest, Request}
 use Rattle.lease_model.specs.records.Facts.{Fact}
 use Rattle.lease_model.specs.records.Past.{has_buffered, is_touched}
-use Rattle.lease_model.specs.server.State.{Open, Held}
+use Rattle.lease_model.specs.server.State.{Held}
 use Rattle.lease_model.specs.world.World.{World, fact_of}
 use Rattle.lease_laws.specs.server.Laws.{Among}
-use Rattle.lease_laws.specs.world.FileIds.{was_opened, opened_count}
+use Rattle.lease_laws.specs.world.FileIds.{was_opened}
 use Rattle.lease_coherence.specs.Names.{Each, IsNamedAt, IsNamedRequest, IsNamedReply, WasWrittenOn}
 use Rattle.lease_coherence.specs.Standing.{AllAsked}
-use Rattle.lease_coherence.proofs.beliefs.Trust.{file_key}
 use Rattle.lease_coherence.proofs.beliefs.Words.{AckKeeps}
-use Rattle.lease_coherence.proofs.late.Words.{holds_write, IsSafeWrite, IsClean, WriteSafe, HeldPlain, NotBuffered, AcksKeep, given_writes, IsGrantSafe, GrantSafe, GrantsSafe, WasOpen, SamePast, IsLike, StillHolds, KnowsIds, same_key, write_like, plain_like}
-use Rattle.lease_coherence.proofs.moves.Events.{Ground}
+use Rattle.lease_coherence.proofs.late.Words.{WriteSafe, HeldPlain, NotBuffered, AcksKeep, given_writes, GrantSafe, GrantsSafe, SamePast, IsLike, StillHolds, KnowsIds, same_key, write_like, plain_like}
 use Rattle.lease_coherence.proofs.names.Names.{IsCountedOff}
 use Rattle.lease_coherence.proofs.names.Words.{opened_within, opened_once, opened_by}
 use Rattle.lease_coherence.proofs.records.Later.{past_noted}
@@ -31,9 +28,10 @@ pub ids_of : (world : World) (c : ℕ) → IsCountedOff world → KnowsIds world
 ids_of world c counted = record {
   low = λ file_id file e. subst (λ n. file_id ≤ n) (sym counted.last) (opened_within file_id file c world.past e);
   on = λ file_id file e x there id.
-      let told = subst (λ i. was_opened i x.file x.client world.past ≡ true) id (counted.opens x there) in
-      (opened_once file_id x.file x.client file c world.past told e,
-      opened_by file_id x.file x.client file c world.past told e);
+      let told = subst (λ i. was_opened i x.file x.client world.past ≡ true) id (counted.opens x there) in (
+        opened_once file_id x.file x.client file c world.past told e,
+        opened_by file_id x.file x.client file c world.past told e,
+      );
 }
 
 -- ---- what own facts say of own writes

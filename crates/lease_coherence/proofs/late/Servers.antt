@@ -1,54 +1,45 @@
 -- What the server does for a client leaves its writes safe.
-use Rattle.std.proofs.Common.{◌≡◌, ◌≢◌, ◌⊎◌, inl, inr, ⊎_elim, ℕ, zero, suc, ◌+◌, ◌≤◌, Bool, true, false, not, List, [], ◌∷◌, ◌++◌, map, Option, Some, None, refl, sym, ap, ap₂, ◌∙◌, subst, arith, true≢false, ◌==◌}
-use Rattle.std.specs.Prelude.{⊤, ◌&&◌, ◌||◌, if◌then◌else◌, bytes_eq, Ok}
-use Rattle.std.specs.List.{list_any}
+use Rattle.std.proofs.Common.{◌≡◌, ◌⊎◌, inl, inr, ⊎_elim, ℕ, zero, suc, ◌+◌, ◌≤◌, Bool, true, false, not, List, [], ◌∷◌, ◌++◌, Option, Some, refl, sym, ap, ap₂, ◌∙◌, subst, arith, true≢false, ◌==◌}
+use Rattle.std.specs.Prelude.{◌&&◌, ◌||◌, if◌then◌else◌, bytes_eq}
 use Rattle.std.proofs.lemmas.Bool.{eqb-true, eq-eqb}
-use Rattle.std.proofs.lemmas.Slice.Eq.{bytes_eq-Decides}
 use Rattle.lease_state.specs.State.{State, nothing_cached, granted_form_of, is_state_within}
 use Rattle.lease_state.specs.declared.patch.Patch.{Patch}
 use Rattle.lease_model.specs.client.State.{Client, LiveEntry, Parted, Pending, Phase, knows_file, lease_key}
 use Rattle.lease_model.specs.client.Taken.{given_state}
 use Rattle.lease_model.specs.messages.Replies.{Reply}
-use Rattle.lease_model.specs.messages.Requests.{FileRequest, Request, CreateAsk, LeaseOf}
-use Rattle.lease_model.specs.records.Facts.{Fact}
-use Rattle.lease_model.specs.records.Past.{has_buffered, has_written, is_touched}
+use Rattle.lease_model.specs.messages.Requests.{FileRequest, Request}
+use Rattle.lease_model.specs.records.Past.{has_written, is_touched}
 use Rattle.lease_model.specs.server.Allowed.{allowed}
 use Rattle.lease_model.specs.server.Calls.{held_of}
 use Rattle.lease_model.specs.server.Grant.{lease_granted, offered}
-use Rattle.lease_model.specs.server.Naming.{key_of}
 use Rattle.lease_model.specs.server.Progress.{with_opens}
-use Rattle.lease_model.specs.server.State.{Server, Open, Held, Lease, no_lease, is_breaking, is_key, has_key, has_own_key}
-use Rattle.lease_model.specs.values.Keys.{Key, key_eq}
+use Rattle.lease_model.specs.server.State.{Server, Open, Held, Lease, is_breaking, is_key, has_key, has_own_key}
+use Rattle.lease_model.specs.values.Keys.{Key}
 use Rattle.lease_model.specs.values.Lists.{without}
-use Rattle.lease_model.specs.values.Tables.{put, put_key}
 use Rattle.lease_model.specs.world.Events.{machine_key}
 use Rattle.lease_model.specs.world.World.{World}
-use Rattle.lease_laws.specs.client.Laws.{IsSoundClient, IsSoundPhase}
 use Rattle.lease_laws.specs.server.Laws.{Among, IsSound, IsBlockedBy}
 use Rattle.lease_laws.specs.world.FileIds.{was_opened}
 use Rattle.lease_laws.proofs.client.Thin.{put_same}
-use Rattle.lease_laws.proofs.server.Keys.{is_key-refl, key_eq-refl, put_key-cases}
-use Rattle.lease_laws.proofs.server.Lists.{if_cases, either, clash, and_parts, and_both, not_true, not_false, or_true, has_any, among_filter}
+use Rattle.lease_laws.proofs.server.Keys.{is_key-refl}
+use Rattle.lease_laws.proofs.server.Lists.{if_cases, either, clash, and_parts, not_true, or_true, has_any, among_filter}
 use Rattle.lease_laws.proofs.server.PassWaits.{among_more}
 use Rattle.lease_coherence.specs.Creates.{held_by, one_if}
-use Rattle.lease_coherence.specs.Names.{Each, IsNamedAt, IsNamedEntry, IsNamedPhase, IsNamedRequest, IsNamedReply, IsOwnOpen, WasWritten, WasWrittenOn}
+use Rattle.lease_coherence.specs.Names.{Each, IsNamedAt, IsNamedPhase, IsNamedRequest, IsOwnOpen, WasWritten, WasWrittenOn}
 use Rattle.lease_coherence.specs.Standing.{AllAsked, IsOpenFor, Stands}
 use Rattle.lease_coherence.proofs.beliefs.Closed.{lease_stays}
 use Rattle.lease_coherence.proofs.beliefs.Sent.{is_bare}
-use Rattle.lease_coherence.proofs.beliefs.Trust.{file_key, HasTrust, IsTrustedFor}
-use Rattle.lease_coherence.proofs.beliefs.Words.{AckKeeps, acks, ack_of, IsAnswering}
+use Rattle.lease_coherence.proofs.beliefs.Trust.{file_key}
+use Rattle.lease_coherence.proofs.beliefs.Words.{acks, ack_of}
 use Rattle.lease_coherence.proofs.late.Likes.{same_past, asked_both, named_asked, writes_up, held_up, acks_like, grants_like, grants_last}
-use Rattle.lease_coherence.proofs.late.Words.{holds_write, IsSafeWrite, IsClean, WriteSafe, HeldPlain, LiveSafe, KeptWrite, KeptSafe, PhaseSafe, IsSafeAt, NotBuffered, AcksKeep, given_writes, IsGrantSafe, GrantSafe, GrantsSafe, IsSafeUp, WasOpen, SamePast, IsLike, StillHolds, KnowsIds, same_key, phase_like, write_like, plain_like}
+use Rattle.lease_coherence.proofs.late.Words.{holds_write, WriteSafe, PhaseSafe, IsSafeAt, AcksKeep, given_writes, GrantSafe, GrantsSafe, IsSafeUp, WasOpen, IsLike, StillHolds, KnowsIds, same_key, phase_like}
 use Rattle.lease_coherence.proofs.moves.Deeds.{IsSource, with_held}
-use Rattle.lease_coherence.proofs.moves.Foreign.{IsUnmoved, key_client}
-use Rattle.lease_coherence.proofs.moves.Frames.{from_source}
 use Rattle.lease_coherence.proofs.moves.Ground.{among_put}
-use Rattle.lease_coherence.proofs.moves.Moves.{IsOldest, rest_of, popped}
-use Rattle.lease_coherence.proofs.names.Words.{each_append, each_weaker, each_rest, opened_once}
+use Rattle.lease_coherence.proofs.moves.Moves.{rest_of, popped}
+use Rattle.lease_coherence.proofs.names.Words.{each_rest, opened_once}
 use Rattle.lease_coherence.proofs.order.Words.{WriteStands, WriteStandsOn}
-use Rattle.lease_coherence.proofs.records.Once.{IsOneWrite, unbuffered_clean}
 use Rattle.lease_coherence.proofs.standing.Words.{asked_off, asked_popped}
-use Rattle.lease_coherence.proofs.writes.Counts.{write_of, writes, held_writes, settling, numbered_in, writes_left, writes_under_way}
+use Rattle.lease_coherence.proofs.writes.Counts.{write_of, writes, held_writes, settling, numbered_in, writes_left}
 use Rattle.lease_coherence.proofs.writes.Runs.{IsSentOnce}
 use Rattle.lease_coherence.proofs.writes.Steps.{IsKnownBy}
 
@@ -357,8 +348,11 @@ expired_nothing server key file want sound out =
     if_cases T (is_breaking (server.leases key)) _ _
     (λ breaks. clash (is_breaking (server.leases key)) breaks (ap is_breaking none))
     (λ settled. if_cases T (is_state_within (server.leases key).state (granted_form_of want)) _ _
-    (λ within. (refl, if_cases (λ (s : State). s.write ≡ false) (server.expired key) nothing_cached _ (λ o. refl)
-    (λ fresh. clash (server.expired key) out fresh)))
+    (λ within. (
+      refl,
+      if_cases (λ (s : State). s.write ≡ false) (server.expired key) nothing_cached _ (λ o. refl)
+          (λ fresh. clash (server.expired key) out fresh),
+    ))
     (λ more. (ap is_breaking none, ap (λ (l : Lease). l.state.write) none)))
 
 -- of a key whose timer ran out nothing is given

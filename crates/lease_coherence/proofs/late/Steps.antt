@@ -1,17 +1,17 @@
 -- A step of a client leaves its writes safe, in its entries and on their way.
-use Rattle.std.proofs.Common.{◌≡◌, ◌≢◌, ◌⊎◌, inl, inr, ⊎_elim, ℕ, ◌+◌, ◌≤◌, ◌<◌, Bool, true, false, not, List, [], ◌∷◌, ◌++◌, Option, Some, None, refl, sym, ap, ap₂, ◌∙◌, subst, arith, true≢false, ◌==◌}
-use Rattle.std.specs.Prelude.{⊤, ◌&&◌, ◌||◌, if◌then◌else◌}
+use Rattle.std.proofs.Common.{◌≡◌, ◌⊎◌, inl, inr, ⊎_elim, ℕ, ◌+◌, ◌≤◌, ◌<◌, Bool, true, false, List, [], ◌∷◌, ◌++◌, Some, None, refl, sym, ap, ap₂, ◌∙◌, subst, arith, ◌==◌}
+use Rattle.std.specs.Prelude.{◌&&◌, ◌||◌}
 use Rattle.std.specs.List.{list_any}
 use Rattle.std.proofs.lemmas.Bool.{eqb-true, eq-eqb}
 use Rattle.lease_state.specs.declared.patch.Patch.{Patch}
 use Rattle.lease_model.specs.client.Commands.{Note}
-use Rattle.lease_model.specs.client.State.{Client, Entry, LiveEntry, Parted, Pending, Phase, knows_file, lease_key}
+use Rattle.lease_model.specs.client.State.{Client, LiveEntry, Parted, Pending, Phase, knows_file, lease_key}
 use Rattle.lease_model.specs.client.Step.{Step, write_requests}
 use Rattle.lease_model.specs.client.Taken.{given_state}
 use Rattle.lease_model.specs.messages.Replies.{Reply}
 use Rattle.lease_model.specs.messages.Requests.{FileRequest, Request}
 use Rattle.lease_model.specs.records.Facts.{Fact}
-use Rattle.lease_model.specs.records.Past.{has_buffered, has_written, is_touched}
+use Rattle.lease_model.specs.records.Past.{has_buffered, is_touched}
 use Rattle.lease_model.specs.server.Naming.{key_of}
 use Rattle.lease_model.specs.server.State.{Server, Open, Held, Lease}
 use Rattle.lease_model.specs.world.Events.{stepped_in, machine_key}
@@ -20,7 +20,7 @@ use Rattle.lease_laws.specs.client.Laws.{IsSoundClient, TellNumbers, are_buffere
 use Rattle.lease_laws.specs.server.Laws.{Among, IsSound}
 use Rattle.lease_laws.specs.world.FileIds.{was_opened}
 use Rattle.lease_laws.specs.world.Links.{is_up}
-use Rattle.lease_laws.proofs.server.Lists.{if_cases, either, clash, and_parts, and_both, or_true, not_true, any_has, has_any, among_behind}
+use Rattle.lease_laws.proofs.server.Lists.{either, clash, and_parts, and_both, not_true, any_has, has_any, among_behind}
 use Rattle.lease_laws.proofs.world.Runs.{stepped_server}
 use Rattle.lease_coherence.specs.Names.{Each, IsNamedRequest, WasWrittenOn}
 use Rattle.lease_coherence.specs.Standing.{AllAsked, IsOpenFor}
@@ -37,7 +37,7 @@ use Rattle.lease_coherence.proofs.moves.Frames.{stepped_past, stepped_replies}
 use Rattle.lease_coherence.proofs.names.Words.{each_append, each_weaker}
 use Rattle.lease_coherence.proofs.records.Later.{past_noted}
 use Rattle.lease_coherence.proofs.records.Once.{buffered_number, unbuffered_clean, written_number}
-use Rattle.lease_coherence.proofs.standing.Standing.{IsStepped, step_of}
+use Rattle.lease_coherence.proofs.standing.Standing.{step_of}
 use Rattle.lease_coherence.proofs.writes.Counts.{settles_of, settling, settling_last}
 use Rattle.lease_coherence.proofs.writes.Steps.{IsKnownBy}
 
@@ -159,9 +159,11 @@ phase_same : (world new : World) (c file : ℕ) (sent : List Pending) (phase : P
 phase_same world new c file sent Phase.Closed i p = tt
 phase_same world new c file sent (Phase.Opening access share) i p = tt
 phase_same world new c file sent (Phase.Live live) i p = λ x there by id write.
-    let old = p x (subst (λ (l : List Open). Among x l) i.opens there) by id write in
-    (i.holds file ∙ old.0, each_weaker (IsClean c file world.past) (IsClean c file new.past) (sent ++ live.unsent)
-    (λ w clean b. i.touched file w.number ∙ clean b) old.1)
+    let old = p x (subst (λ (l : List Open). Among x l) i.opens there) by id write in (
+      i.holds file ∙ old.0,
+      each_weaker (IsClean c file world.past) (IsClean c file new.past) (sent ++ live.unsent)
+          (λ w clean b. i.touched file w.number ∙ clean b) old.1,
+    )
 phase_same world new c file sent (Phase.Offline parted) i p = λ x there by id.
     each_weaker (KeptWrite world c file) (KeptWrite new c file) parted.writes
     (λ w k. (i.holds file ∙ k.0, i.touched file w.number ∙ k.1))
@@ -248,10 +250,12 @@ unsent_safe world c settles step w e at live is write a x there by id =
     let l = sound_live (world.clients c) at live w.client_sound is in
     let safe : LiveSafe world c at ((world.clients c).entries at).sent live =
     subst (PhaseSafe world c at ((world.clients c).entries at).sent) is (e at) in
-    let old = safe x there by id (unsent_writes live l write a) in
-    (old.0, at_among (IsClean c at world.past) (((world.clients c).entries at).sent ++ live.unsent) write old.1
-    (among_behind write ((world.clients c).entries at).sent live.unsent a)
-    (buffered_among live.unsent write l.unsent_buffered a))
+    let old = safe x there by id (unsent_writes live l write a) in (
+      old.0,
+      at_among (IsClean c at world.past) (((world.clients c).entries at).sent ++ live.unsent) write old.1
+          (among_behind write ((world.clients c).entries at).sent live.unsent a)
+          (buffered_among live.unsent write l.unsent_buffered a),
+    )
 
 new_safe : (world : World) (c : ℕ) (settles : ℕ → ℕ) (step : Step) → IsStepWell world c settles step → IsSafeAt world c
     → Each (WriteSafe (stepped_in world c step) c) step.requests
@@ -278,11 +282,13 @@ new_safe world c settles step w e = by_sends w.from.sends
         (each_weaker IsOther (WriteSafe (stepped_in world c step) c) tail (other_safe (stepped_in world c step) c) others))
     by_sends (SendsWrites.New at live is patch are notes) =
         let number = (world.clients c).last_number + 1 in
-        subst (Each (WriteSafe (stepped_in world c step) c)) (sym are)
-        ((λ x there by id. let none = plain x.file in record {
-          held = λ b. clash (has_buffered c x.file number (stepped_in world c step).past) b none;
-          clean = unbuffered_clean c x.file number (stepped_in world c step).past none;
-        }), tt)
+        subst (Each (WriteSafe (stepped_in world c step) c)) (sym are) (
+          (λ x there by id. let none = plain x.file in record {
+            held = λ b. clash (has_buffered c x.file number (stepped_in world c step).past) b none;
+            clean = unbuffered_clean c x.file number (stepped_in world c step).past none;
+          }),
+          tt,
+        )
       where
         plain : (f : ℕ) → has_buffered c f ((world.clients c).last_number + 1) (stepped_in world c step).past ≡ false
         plain f = ap (has_buffered c f ((world.clients c).last_number + 1))
@@ -379,11 +385,13 @@ new_acks world c settles step w e file = by_sends w.from.sends
         ⊎ Each (NotBuffered (stepped_in world c step) c file) step.requests
     by_sends (SendsWrites.NoWrite others) = inr (others_plain step.requests others)
     by_sends (SendsWrites.New at live is patch are notes) = inr
-        (subst (Each (NotBuffered (stepped_in world c step) c file)) (sym are)
-        ((λ x there by id on. ap (has_buffered c file ((world.clients c).last_number + 1))
-        (stepped_past world c step ∙ ap (past_noted c world.past) notes)
-        ∙ sent_plain c at file ((world.clients c).last_number + 1) patch world.past
-        (new_number c (world.clients c) world.past w.known file)), tt))
+        (subst (Each (NotBuffered (stepped_in world c step) c file)) (sym are) (
+          (λ x there by id on. ap (has_buffered c file ((world.clients c).last_number + 1))
+              (stepped_past world c step ∙ ap (past_noted c world.past) notes)
+              ∙ sent_plain c at file ((world.clients c).last_number + 1) patch world.past
+              (new_number c (world.clients c) world.past w.known file)),
+          tt,
+        ))
     by_sends (SendsWrites.Flush at live is [] all tail others are) =
         inr (subst (Each (NotBuffered (stepped_in world c step) c file)) (sym are) (others_plain tail others))
     by_sends (SendsWrites.Flush at live is (write ∷ writes) all tail others are) = either (at == file)

@@ -1,9 +1,7 @@
 -- Which writes of a client may still be accepted, and that no other client opened or changed their files: in its
 -- entries, on their way, and over a lost connection.
-use Rattle.std.proofs.Common.{◌≡◌, ◌≢◌, ◌⊎◌, inl, inr, ⊎_elim, ℕ, ◌+◌, ◌≤◌, Bool, true, false, not, List, [], ◌∷◌, ◌++◌, Option, Some, None, refl, sym, ap, ap₂, ◌∙◌, subst, arith, true≢false, ◌==◌}
-use Rattle.std.specs.Prelude.{⊤, ◌&&◌, ◌||◌, if◌then◌else◌, bytes_eq}
-use Rattle.std.proofs.lemmas.Bool.{eqb-true, eq-eqb}
-use Rattle.lease_state.specs.State.{State}
+use Rattle.std.proofs.Common.{◌≡◌, ◌⊎◌, inl, inr, ℕ, ◌≤◌, Bool, true, false, List, [], ◌∷◌, ◌++◌, Option, Some, None, refl, sym, ap, ◌∙◌, subst}
+use Rattle.std.specs.Prelude.{⊤, ◌&&◌, ◌||◌, bytes_eq}
 use Rattle.lease_model.specs.client.State.{Client, LiveEntry, Parted, Pending, Phase, knows_file, lease_key}
 use Rattle.lease_model.specs.client.Taken.{given_state}
 use Rattle.lease_model.specs.messages.Replies.{Reply, LeaseGiven}
@@ -16,13 +14,12 @@ use Rattle.lease_model.specs.world.World.{World}
 use Rattle.lease_laws.specs.server.Laws.{Among}
 use Rattle.lease_laws.specs.world.FileIds.{was_opened}
 use Rattle.lease_laws.specs.world.Links.{is_up}
-use Rattle.lease_coherence.specs.Creates.{one_if}
 use Rattle.lease_coherence.specs.Names.{Each}
 use Rattle.lease_coherence.specs.Standing.{AllAsked}
 use Rattle.lease_coherence.proofs.beliefs.Trust.{file_key}
 use Rattle.lease_coherence.proofs.beliefs.Words.{AckKeeps, acks}
-use Rattle.lease_coherence.proofs.names.Words.{each_append, each_weaker}
-use Rattle.lease_coherence.proofs.writes.Counts.{settling, settles_of}
+use Rattle.lease_coherence.proofs.names.Words.{each_weaker}
+use Rattle.lease_coherence.proofs.writes.Counts.{settling}
 
 -- the lease of a file holds writes
 abbrev pub holds_write : World → ℕ → ℕ → Bool
@@ -194,25 +191,30 @@ phase_like world new c file sent (Phase.Live live) like ids live_ids parted_ids 
     let opened = live_ids live refl in
     let w = like.from x there by (subst (λ n. n ≤ world.server.last_id) (sym id) (ids.low live.file_id file opened)) in
     let on = ids.on live.file_id file opened w.was w.there (w.id ∙ id) in
-    let old = p w.was w.there (w.client ∙ by) (w.id ∙ id) write in
-    (live_holds live refl write x there (sym w.client ∙ on.1) (sym w.file ∙ on.0) old.0,
-    clean_like c file world.past new.past like.past (sent ++ live.unsent) old.1)
+    let old = p w.was w.there (w.client ∙ by) (w.id ∙ id) write in (
+      live_holds live refl write x there (sym w.client ∙ on.1) (sym w.file ∙ on.0) old.0,
+      clean_like c file world.past new.past like.past (sent ++ live.unsent) old.1,
+    )
 phase_like world new c file sent (Phase.Offline parted) like ids live_ids parted_ids live_holds parted_holds p =
     λ x there by id.
     let opened = parted_ids parted (inl refl) in
     let w = like.from x there by (subst (λ n. n ≤ world.server.last_id) (sym id) (ids.low parted.file_id file opened)) in
     let on = ids.on parted.file_id file opened w.was w.there (w.id ∙ id) in
     each_weaker (KeptWrite world c file) (KeptWrite new c file) parted.writes
-    (λ write kept. (parted_holds parted (inl refl) x there (sym w.client ∙ on.1) (sym w.file ∙ on.0) kept.0,
-    like.past.touched file write.number ∙ kept.1)) (p w.was w.there (w.client ∙ by) (w.id ∙ id))
+    (λ write kept. (
+      parted_holds parted (inl refl) x there (sym w.client ∙ on.1) (sym w.file ∙ on.0) kept.0,
+      like.past.touched file write.number ∙ kept.1,
+    )) (p w.was w.there (w.client ∙ by) (w.id ∙ id))
 phase_like world new c file sent (Phase.Reconnecting parted) like ids live_ids parted_ids live_holds parted_holds p =
     λ x there by id.
     let opened = parted_ids parted (inr refl) in
     let w = like.from x there by (subst (λ n. n ≤ world.server.last_id) (sym id) (ids.low parted.file_id file opened)) in
     let on = ids.on parted.file_id file opened w.was w.there (w.id ∙ id) in
     each_weaker (KeptWrite world c file) (KeptWrite new c file) parted.writes
-    (λ write kept. (parted_holds parted (inr refl) x there (sym w.client ∙ on.1) (sym w.file ∙ on.0) kept.0,
-    like.past.touched file write.number ∙ kept.1)) (p w.was w.there (w.client ∙ by) (w.id ∙ id))
+    (λ write kept. (
+      parted_holds parted (inr refl) x there (sym w.client ∙ on.1) (sym w.file ∙ on.0) kept.0,
+      like.past.touched file write.number ∙ kept.1,
+    )) (p w.was w.there (w.client ∙ by) (w.id ∙ id))
 
 -- a write on its way, by the FileId that the record tells of
 pub write_like : (world new : World) (c : ℕ) → IsLike world new c → KnowsIds world c → (file_id file number : ℕ)

@@ -1,31 +1,26 @@
 -- Every move keeps a client's requests in order.
-use Rattle.std.proofs.Common.{◌≡◌, ◌≢◌, ◌⊎◌, inl, inr, ⊎_elim, ℕ, ◌+◌, Bool, true, false, not, List, [], ◌∷◌, ◌++◌, flat_map, Option, Some, None, refl, sym, ap, ap₂, ◌∙◌, subst, true≢false, ◌==◌}
-use Rattle.std.specs.Prelude.{⊤, ◌&&◌, ◌||◌, Ok, if◌then◌else◌}
+use Rattle.std.proofs.Common.{◌≡◌, inl, inr, ⊎_elim, ℕ, Bool, true, false, not, List, [], ◌∷◌, ◌++◌, flat_map, Some, None, refl, sym, ap, ap₂, ◌∙◌, subst, true≢false, ◌==◌}
+use Rattle.std.specs.Prelude.{⊤, ◌&&◌, ◌||◌, Ok}
 use Rattle.std.proofs.lemmas.Bool.{eqb-true, eq-eqb}
 use Rattle.lease_state.specs.State.{State, granted_form_of}
-use Rattle.lease_state.specs.declared.access.Access.{Access}
-use Rattle.lease_state.specs.declared.access.Share.{Share}
 use Rattle.lease_state.specs.declared.status.Status.{Status}
-use Rattle.lease_model.specs.client.Commanded.{commanded, create_request, cached_read, opened_anew, write_buffered, write_sent, flush_on_live}
-use Rattle.lease_model.specs.client.Commands.{Command}
+use Rattle.lease_model.specs.client.Commanded.{commanded, cached_read, opened_anew, write_buffered, write_sent, flush_on_live}
 use Rattle.lease_model.specs.client.Connection.{all_turned, noticed, connection_made, connect_turn}
 use Rattle.lease_model.specs.client.State.{Client, LiveEntry, Pending, Phase, lease_key}
 use Rattle.lease_model.specs.client.Step.{Step, Turn, turned, write_requests}
 use Rattle.lease_model.specs.client.Taken.{taken, acknowledgment, break_turn, parked_closed, belief_lowered, flushed, opened_turn, reconnected_turn, promoted_turn, read_turn, read_failed_turn, is_file_closed, closed_by_server, write_done_turn, write_failed_in}
 use Rattle.lease_model.specs.messages.Replies.{Reply, BreakNotice}
-use Rattle.lease_model.specs.messages.Requests.{FileRequest, Request, CreateAsk, LeaseOf}
+use Rattle.lease_model.specs.messages.Requests.{FileRequest, Request}
 use Rattle.lease_model.specs.records.Facts.{Fact}
-use Rattle.lease_model.specs.records.Past.{has_strayed}
 use Rattle.lease_model.specs.server.Calls.{held_of, file_asked, file_of_open, joined, key_expired}
 use Rattle.lease_model.specs.server.Findings.{connected_open}
-use Rattle.lease_model.specs.server.Grant.{connected_again, lease_after, lease_put}
+use Rattle.lease_model.specs.server.Grant.{connected_again, lease_after}
 use Rattle.lease_model.specs.server.Naming.{key_of}
 use Rattle.lease_model.specs.server.Passes.{is_behind}
 use Rattle.lease_model.specs.server.Progress.{opens_dropped, with_opens, break_notice, refusal_of}
-use Rattle.lease_model.specs.server.State.{Server, Open, Held, Lease, has_key}
-use Rattle.lease_model.specs.values.Keys.{Key}
-use Rattle.lease_model.specs.values.Lists.{numbers_to, without}
-use Rattle.lease_model.specs.values.Tables.{put, put_key}
+use Rattle.lease_model.specs.server.State.{Server, Open, Held}
+use Rattle.lease_model.specs.values.Lists.{numbers_to}
+use Rattle.lease_model.specs.values.Tables.{put}
 use Rattle.lease_model.specs.world.Events.{stepped_in, machine_key}
 use Rattle.lease_model.specs.world.World.{World, Link}
 use Rattle.lease_laws.specs.server.Laws.{Among}
@@ -34,29 +29,26 @@ use Rattle.lease_laws.specs.world.FileIds.{was_opened}
 use Rattle.lease_laws.specs.world.Links.{is_up}
 use Rattle.lease_laws.proofs.client.Forms.{commanded-stays, taken-stays}
 use Rattle.lease_laws.proofs.client.Thin.{put_same, put_other}
-use Rattle.lease_laws.proofs.server.Keys.{put_key-cases}
-use Rattle.lease_laws.proofs.server.Lists.{if_cases, either, clash, not_true, true_or, find_has, among_append, among_before, among_behind, among_filter, among_filtered}
-use Rattle.lease_laws.proofs.server.PassWaits.{among_more}
+use Rattle.lease_laws.proofs.server.Lists.{if_cases, either, clash, not_true, true_or, find_has, among_append, among_before, among_behind, among_filtered}
 use Rattle.lease_laws.proofs.world.Links.{stepped_links}
 use Rattle.lease_laws.proofs.world.Runs.{stepped_server}
 use Rattle.lease_coherence.specs.Creates.{held_by}
 use Rattle.lease_coherence.specs.Names.{Each, IsNamedAt, IsNamedPhase}
-use Rattle.lease_coherence.specs.Standing.{AllAsked, IsNoClose, NotClosed, IsOpenFor, Stands, IsStandingAt, PhaseStands}
+use Rattle.lease_coherence.specs.Standing.{AllAsked, IsNoClose, NotClosed, Stands, IsStandingAt, PhaseStands}
 use Rattle.lease_coherence.proofs.clients.Commands.{HasCommands, any_command, sent_of}
 use Rattle.lease_coherence.proofs.clients.Takes.{HasTakes, any_reply}
 use Rattle.lease_coherence.proofs.creates.Creates.{none_held}
 use Rattle.lease_coherence.proofs.fresh.Runs.{HasFresh, fresh_carried}
 use Rattle.lease_coherence.proofs.moves.Deeds.{IsSource, HasArrived, WasHeld, with_held, told_to, held_in, granted_in, reconnected_in, changed_in, without_opens, leased_in, done_reply}
-use Rattle.lease_coherence.proofs.moves.Events.{Ground, IsCarried, Both, carried_both, timed_out, come_back, connected, reply_gone, reply_taken}
-use Rattle.lease_coherence.proofs.moves.Foreign.{IsUnmoved, apart, false_not, map_kept, unmoved_same}
-use Rattle.lease_coherence.proofs.moves.Frames.{lease_put_rest, stepped_past, stepped_requests}
-use Rattle.lease_coherence.proofs.moves.Ground.{among_put}
+use Rattle.lease_coherence.proofs.moves.Events.{Ground, IsCarried, Both, carried_both, timed_out, come_back, connected, reply_gone}
+use Rattle.lease_coherence.proofs.moves.Foreign.{IsUnmoved, apart, false_not, map_kept}
+use Rattle.lease_coherence.proofs.moves.Frames.{lease_put_rest, stepped_past}
 use Rattle.lease_coherence.proofs.moves.Moves.{IsOldest, rest_of, popped}
 use Rattle.lease_coherence.proofs.moves.Own.{IsOwnMoved, OfGood, own_moves}
-use Rattle.lease_coherence.proofs.names.Names.{off_counted, open_parts}
-use Rattle.lease_coherence.proofs.names.Words.{each_append, each_weaker, opened_once}
-use Rattle.lease_coherence.proofs.order.Words.{IsNoWrite, AreOrdered, as_requests, asked_of, IsOpenIn, ordered_behind, ordered_more, append_three, asked_among, popped_ordered, off_ordered, none_behind, held_ordered, WriteStandsOn, WriteStands, IsInOrder, IsUpInOrder}
-use Rattle.lease_coherence.proofs.records.Later.{IsLater, later_same, later_fact, later_two, later_then, later_noted, past_noted}
+use Rattle.lease_coherence.proofs.names.Names.{open_parts}
+use Rattle.lease_coherence.proofs.names.Words.{each_append, each_weaker}
+use Rattle.lease_coherence.proofs.order.Words.{IsNoWrite, AreOrdered, as_requests, asked_of, IsOpenIn, ordered_behind, ordered_more, append_three, asked_among, popped_ordered, off_ordered, none_behind, held_ordered, WriteStands, IsInOrder, IsUpInOrder}
+use Rattle.lease_coherence.proofs.records.Later.{IsLater, later_same, later_fact, later_two, later_noted}
 use Rattle.lease_coherence.proofs.standing.Runs.{link_of, was_up, each_flat, gone_standing}
 use Rattle.lease_coherence.proofs.standing.Servers.{stands_by, again_up, timer_stands}
 use Rattle.lease_coherence.proofs.standing.Standing.{IsStepped, step_of, stands_after}

@@ -1,26 +1,23 @@
 -- What a client asks about a file, in its order: what is held first, then what is on its way. No write stands behind a
 -- Close of its open.
-use Rattle.std.proofs.Common.{◌≡◌, ◌≢◌, ◌⊎◌, inl, inr, ⊎_elim, ℕ, Bool, true, false, not, List, [], ◌∷◌, ◌++◌, filter, Option, Some, None, refl, sym, ap, ap₂, ◌∙◌, subst, true≢false, ◌==◌}
+use Rattle.std.proofs.Common.{◌≡◌, ◌≢◌, ⊎_elim, ℕ, Bool, true, false, List, [], ◌∷◌, ◌++◌, refl, sym, ap, ◌∙◌, subst, true≢false, ◌==◌}
 use Rattle.std.specs.Prelude.{⊤, ◌||◌}
 use Rattle.std.proofs.lemmas.Bool.{eqb-true, eq-eqb}
 use Rattle.lease_model.specs.messages.Requests.{FileRequest, Request}
-use Rattle.lease_model.specs.records.Facts.{Fact}
 use Rattle.lease_model.specs.server.Calls.{held_of}
 use Rattle.lease_model.specs.server.Passes.{is_behind}
 use Rattle.lease_model.specs.server.State.{Held}
 use Rattle.lease_model.specs.values.Tables.{put}
 use Rattle.lease_model.specs.world.World.{World}
-use Rattle.lease_laws.specs.server.Laws.{Among}
 use Rattle.lease_laws.specs.world.FileIds.{was_opened}
 use Rattle.lease_laws.specs.world.Links.{is_up}
 use Rattle.lease_laws.proofs.client.Thin.{put_same, put_other}
-use Rattle.lease_laws.proofs.server.Lists.{if_cases, either, clash, not_true}
+use Rattle.lease_laws.proofs.server.Lists.{either, clash}
 use Rattle.lease_coherence.specs.Creates.{held_by}
 use Rattle.lease_coherence.specs.Names.{Each}
 use Rattle.lease_coherence.specs.Standing.{AllAsked, IsNoClose, Stands}
-use Rattle.lease_coherence.proofs.moves.Deeds.{IsSource, HasArrived, WasHeld, with_held, held_in}
+use Rattle.lease_coherence.proofs.moves.Deeds.{IsSource, with_held, held_in}
 use Rattle.lease_coherence.proofs.moves.Events.{chosen, not_chosen}
-use Rattle.lease_coherence.proofs.moves.Foreign.{filter_off}
 use Rattle.lease_coherence.proofs.moves.Moves.{IsOldest, rest_of, popped}
 use Rattle.lease_coherence.proofs.names.Words.{each_append}
 

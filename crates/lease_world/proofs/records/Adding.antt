@@ -1,27 +1,24 @@
 -- What a judge makes of one fact is what the definitions say of it.
-use Rattle.std.proofs.Common.{◌≡◌, ◌≢◌, ℕ, suc, ◌+◌, ◌≤◌, Bool, true, false, List, [], ◌∷◌, ◌++◌, Option, Some, None, length, refl, sym, ap, subst, ◌∙◌, arith, inl, inr}
-use Rattle.std.specs.Prelude.{◌==◌, ◌&&◌, not, if◌then◌else◌, is_some, MatchBool}
-use Rattle.std.proofs.lemmas.Bool.{cases_Bool}
+use Rattle.std.proofs.Common.{◌≡◌, ◌≢◌, ℕ, ◌+◌, Bool, true, false, List, [], ◌∷◌, ◌++◌, Option, Some, None, length, refl, sym, ap, ◌∙◌, arith}
+use Rattle.std.specs.Prelude.{◌==◌, ◌&&◌, not, if◌then◌else◌, is_some}
 use Rattle.lease_state.specs.State.{State}
 use Rattle.lease_state.specs.declared.patch.Patch.{Patch}
 use Rattle.lease_model.specs.client.Commands.{Settlement}
 use Rattle.lease_model.specs.values.Patches.{is_within_limit}
 use Rattle.lease_model.specs.records.Facts.{Fact}
-use Rattle.lease_model.specs.records.Past.{is_started, is_good, is_served, has_strayed, believed, has_number, is_touched, is_accepted}
-use Rattle.lease_model.specs.records.Safe.{is_well_formed, EachFact, WellFormed, OneWriteCache}
-use Rattle.lease_model.specs.records.Verdict as model
+use Rattle.lease_model.specs.records.Past.{is_started, is_good, is_served, has_strayed, believed}
+use Rattle.lease_model.specs.records.Safe.{is_well_formed, OneWriteCache}
 use Rattle.lease_model.specs.records.Verdict.{flaw_at, is_stale_read, is_late_write, is_false_done, has_two_caches}
 use Rattle.lease_world.specs.Verdicts.{verdict_of}
 use Rattle.lease_world.specs.declared.verdict.Rule.{Rule}
 use Rattle.lease_world.specs.declared.verdict.Verdict.{Verdict}
-use Rattle.lease_world.specs.judge.Added.{IsSafe, PutsClient, StartAdds, JoinedAdds, LeavingAdds, ExpiredAdds, StrayedAdds, SentAdds, TookAdds, OpenedAdds, ChangedAdds, WroteAdds, SettledAdds, BelievesAdds, CachedReadAdds, ShowsAt, Adds, is_late, is_false, is_done}
+use Rattle.lease_world.specs.judge.Added.{PutsClient, StartAdds, JoinedAdds, LeavingAdds, ExpiredAdds, StrayedAdds, SentAdds, TookAdds, OpenedAdds, ChangedAdds, WroteAdds, SettledAdds, BelievesAdds, CachedReadAdds, ShowsAt, Adds, is_late, is_false}
 use Rattle.lease_world.specs.judge.Caches.{brought_up}
-use Rattle.lease_world.specs.judge.Clients.{can_take, took_from, after_taking, is_buffered_before, is_accepted_write, taken_of, Accepts, Writes, WritesCache, Settles, SettlesCache, Believes, Sees, with_write, with_settled, with_belief}
+use Rattle.lease_world.specs.judge.Clients.{can_take, took_from, after_taking, taken_of, Accepts, Writes, WritesCache, Settles, SettlesCache, Believes, Sees, with_write, with_settled, with_belief}
 use Rattle.lease_world.specs.judge.Judged.{is_safe}
 use Rattle.lease_world.specs.judge.Knows.{KnowsFile, KnowsClient, HasContents, RisesTo, Knows}
-use Rattle.lease_world.specs.judge.Seen.{Seen, SeenFile, SeenClient, SeenWrite, joined, touched, touched_by_others, has_settled, file_in, client_in, cache_in, write_in, is_good_client, is_conflict}
-use Rattle.lease_world.specs.judge.Tables.{HasClient, HasFile, HasSameClients, HasSameFiles, ChangesClient, is_started_in, HasRival, HasNoRival, HasRivalAt, HasNoRivalAt, HasRivalSomewhere, HasRivalNowhere}
-use Rattle.lease_world.specs.judge.Told.{write_of, last_touch}
+use Rattle.lease_world.specs.judge.Seen.{Seen, SeenFile, SeenClient, SeenWrite, joined, touched, has_settled, file_in, client_in, cache_in, write_in, is_good_client, is_conflict}
+use Rattle.lease_world.specs.judge.Tables.{is_started_in, HasNoRivalAt}
 use Rattle.lease_world.proofs.records.Clients.{client_joins, client_drops, client_expires, client_strays, client_sent, client_took, took-formed, took-malformed}
 use Rattle.lease_world.proofs.records.Files.{file_starts, file_opens, file_changes}
 use Rattle.lease_world.proofs.records.Flaws.{malformed-here, two-here, stale-here, late-here, false-here, safe-here}

@@ -1,10 +1,10 @@
 -- What is kept of a client and a file, over one fact more.
-use Rattle.std.proofs.Common.{◌≡◌, ℕ, ◌≤◌, Bool, true, false, List, [], ◌∷◌, ◌++◌, length, refl, sym, ap, ◌∙◌, arith}
-use Rattle.std.specs.Prelude.{filter, not, if◌then◌else◌}
+use Rattle.std.proofs.Common.{◌≡◌, ℕ, Bool, List, [], ◌∷◌, refl, sym, ap, ◌∙◌}
+use Rattle.std.specs.Prelude.{filter, not}
 use Rattle.lease_model.specs.records.Facts.{Fact}
 use Rattle.lease_model.specs.records.Past.{is_settled, believed}
 use Rattle.lease_world.specs.judge.Knows.{KnowsCache}
-use Rattle.lease_world.specs.judge.Seen.{SeenCache, Waiting}
+use Rattle.lease_world.specs.judge.Seen.{SeenCache}
 use Rattle.lease_world.specs.judge.Told.{pending, is_unsettled}
 
 -- tests that agree pass the same elements

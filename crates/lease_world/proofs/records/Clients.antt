@@ -1,20 +1,15 @@
 -- What is known of the client that a fact is about.
-use Rattle.std.proofs.Common.{◌≡◌, ◌≢◌, ℕ, zero, suc, ◌+◌, ◌<◌, ◌≤◌, Bool, true, false, cond, List, [], ◌∷◌, ◌++◌, Option, Some, None, length, take, drop, map, refl, sym, ap, subst, ◌∙◌, arith, inl, inr}
-use Rattle.std.specs.Prelude.{◌==◌, ◌&&◌, ◌||◌, not, if◌then◌else◌, filter, slice_get, nat_lt}
-use Rattle.std.specs.Option.{option_map}
-use Rattle.std.proofs.lemmas.Bool.{cases_Bool}
+use Rattle.std.proofs.Common.{◌≡◌, ℕ, zero, suc, ◌+◌, ◌<◌, ◌≤◌, Bool, true, false, List, [], ◌∷◌, ◌++◌, Some, length, drop, map, refl, sym, ap, subst, ◌∙◌, arith}
+use Rattle.std.specs.Prelude.{◌&&◌, not, slice_get, nat_lt}
 use Rattle.std.proofs.lemmas.List.{map-append, length-append, drop-append-le}
-use Rattle.lease_state.specs.State.{State}
-use Rattle.lease_state.specs.declared.patch.Patch.{Patch}
-use Rattle.lease_model.specs.client.Commands.{Settlement}
 use Rattle.lease_model.specs.values.Lists.{is_empty}
 use Rattle.lease_model.specs.records.Facts.{Fact}
 use Rattle.lease_model.specs.records.Past.{has_joined, is_served, has_strayed, sendings, takings, last_of, last_sending, is_settled, believed}
 use Rattle.lease_model.specs.records.Safe.{is_well_formed}
-use Rattle.lease_world.specs.judge.Clients.{can_take, took_from, after_taking, taken_of}
-use Rattle.lease_world.specs.judge.Knows.{KnowsCache, KnowsClient, RisesTo}
-use Rattle.lease_world.specs.judge.Seen.{SeenClient, SeenCache, joined, cache_in, write_in, has_settled}
-use Rattle.lease_world.specs.judge.Told.{write_of, pending, place_of, sent_places}
+use Rattle.lease_world.specs.judge.Clients.{can_take, took_from, after_taking}
+use Rattle.lease_world.specs.judge.Knows.{KnowsClient, RisesTo}
+use Rattle.lease_world.specs.judge.Seen.{SeenClient, joined, cache_in}
+use Rattle.lease_world.specs.judge.Told.{write_of, pending, place_of}
 use Rattle.lease_world.proofs.records.Caches.{cache_over}
 use Rattle.lease_world.proofs.records.Others.{client_over, rises-more, rises-low, rises-push}
 use Rattle.lease_world.proofs.records.Pending.{self}

@@ -1,8 +1,7 @@
 -- A judge that was given facts, and is given one more.
-use Rattle.std.proofs.Common.{◌≡◌, ◌≢◌, ℕ, suc, ◌+◌, ◌≤◌, Bool, true, false, List, [], ◌∷◌, ◌++◌, Option, Some, None, length, refl, sym, ap, subst, ◌∙◌, arith}
-use Rattle.std.specs.Prelude.{◌==◌, if◌then◌else◌, reverse, MatchBool}
+use Rattle.std.proofs.Common.{◌≡◌, ℕ, ◌+◌, Bool, true, false, List, [], ◌∷◌, ◌++◌, length, refl, sym, ap, subst, ◌∙◌, arith}
+use Rattle.std.specs.Prelude.{◌==◌, if◌then◌else◌, reverse}
 use Rattle.std.proofs.lemmas.List.{length-append, length-reverse, reverse-append}
-use Rattle.lease_state.specs.State.{nothing_cached}
 use Rattle.lease_model.specs.records.Facts.{Fact}
 use Rattle.lease_model.specs.records.Past.{is_started, start_of, has_joined, is_served, has_strayed, sendings, takings, last_sending, is_settled, believed}
 use Rattle.lease_model.specs.records.Safe.{OneWriteCache}
@@ -12,7 +11,7 @@ use Rattle.lease_world.specs.Verdicts.{verdict_of}
 use Rattle.lease_world.specs.declared.verdict.Verdict.{Verdict}
 use Rattle.lease_world.specs.judge.Judged.{Judging, is_safe, Steps, HasJudged, JudgesOneMore}
 use Rattle.lease_world.specs.judge.Knows.{KnowsFile, KnowsCache, KnowsClient, HasContents, Knows}
-use Rattle.lease_world.specs.judge.Seen.{SeenFile, SeenCache, SeenClient, unseen_file, unseen_cache, unseen_client, file_in, client_in, cache_in, touched_by_others, untouched}
+use Rattle.lease_world.specs.judge.Seen.{unseen_file, unseen_cache, unseen_client, file_in, client_in, cache_in}
 use Rattle.lease_world.specs.judge.Told.{placed_changes, last_touch, write_of, pending}
 use Rattle.lease_world.proofs.Places.{past_the_end}
 use Rattle.lease_world.proofs.records.Adding.{Judges, judged}

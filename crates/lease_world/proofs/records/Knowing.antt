@@ -1,13 +1,11 @@
 -- What is known after one fact more, from what is known of the file and the client that it is about.
-use Rattle.std.proofs.Common.{◌≡◌, ◌≢◌, ℕ, ◌+◌, Bool, true, false, List, [], ◌∷◌, refl, sym, ap, subst, ◌∙◌, arith, inl, inr}
-use Rattle.std.specs.Prelude.{◌==◌, ◌&&◌, not, if◌then◌else◌, is_some, MatchBool}
-use Rattle.std.proofs.lemmas.Bool.{cases_Bool}
+use Rattle.std.proofs.Common.{◌≡◌, ◌≢◌, ℕ, Bool, true, false, List, ◌∷◌, refl, sym, ◌∙◌, arith}
+use Rattle.std.specs.Prelude.{◌==◌, ◌&&◌, if◌then◌else◌, MatchBool}
 use Rattle.lease_model.specs.records.Facts.{Fact}
 use Rattle.lease_model.specs.records.Past.{is_started, is_good, believed}
-use Rattle.lease_model.specs.records.Safe.{WellFormed, OneWriteCache}
 use Rattle.lease_world.specs.judge.Knows.{KnowsFile, KnowsClient, HasContents, Knows}
 use Rattle.lease_world.specs.judge.Seen.{Seen, SeenFile, SeenClient, file_in, client_in, cache_in, is_good_client, is_conflict}
-use Rattle.lease_world.specs.judge.Tables.{HasClient, HasFile, HasSameClients, HasSameFiles, is_started_in, belief_in, is_rival, HasRival, HasNoRival}
+use Rattle.lease_world.specs.judge.Tables.{HasClient, HasFile, HasSameClients, HasSameFiles, is_started_in, belief_in, HasRival, HasNoRival}
 use Rattle.lease_world.proofs.records.OneCache.{two-where}
 use Rattle.lease_world.proofs.records.Others.{file_stays, client_stays}
 use Rattle.lease_world.proofs.records.Skips.{touches, concerns}

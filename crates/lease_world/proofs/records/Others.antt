@@ -1,12 +1,10 @@
 -- Files and clients that a fact leaves alone.
-use Rattle.std.proofs.Common.{◌≡◌, ℕ, ◌+◌, ◌≤◌, Bool, true, false, List, [], ◌∷◌, ◌++◌, length, drop, map, refl, sym, ap, ◌∙◌, arith}
-use Rattle.std.specs.Prelude.{slice_get, Option}
-use Rattle.std.specs.Option.{option_map}
+use Rattle.std.proofs.Common.{◌≡◌, ℕ, ◌≤◌, false, List, [], ◌∷◌, ◌++◌, length, drop, refl, sym, ◌∙◌, arith}
 use Rattle.lease_model.specs.records.Facts.{Fact}
-use Rattle.lease_model.specs.records.Past.{is_started, start_of, has_joined, is_served, has_strayed, sendings, takings, last_of, last_sending, is_settled, believed}
+use Rattle.lease_model.specs.records.Past.{has_joined, is_served, has_strayed, sendings, takings, last_sending, is_settled}
 use Rattle.lease_world.specs.judge.Knows.{KnowsFile, KnowsCache, KnowsClient, RisesTo}
 use Rattle.lease_world.specs.judge.Seen.{SeenFile, SeenClient, cache_in, write_in, has_settled}
-use Rattle.lease_world.specs.judge.Told.{placed_changes, last_touch, write_of, pending, place_of, sent_places}
+use Rattle.lease_world.specs.judge.Told.{write_of, sent_places}
 use Rattle.lease_world.proofs.records.Caches.{cache_over}
 use Rattle.lease_world.proofs.records.Skips.{touches, concerns, started-skip, start-skip, changes-skip, touch-skip, joined-skip, served-skip, strayed-skip, sendings-skip, takings-skip, settled-skip, write-skip, believed-skip, pending-skip}
 

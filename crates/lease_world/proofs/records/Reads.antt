@@ -1,17 +1,17 @@
 -- A client's cached read.
-use Rattle.std.proofs.Common.{◌≡◌, ◌≢◌, ℕ, zero, suc, ◌+◌, ◌<◌, ◌≤◌, Bool, true, false, List, [], ◌∷◌, ◌++◌, Option, Some, None, length, take, refl, sym, ap, subst, ◌∙◌, arith, inl, inr}
-use Rattle.std.specs.Prelude.{◌==◌, ◌&&◌, not, if◌then◌else◌, is_some, unwrap_or, filter, bytes_eq}
+use Rattle.std.proofs.Common.{◌≡◌, ℕ, ◌≤◌, Bool, true, false, List, ◌∷◌, Option, Some, None, length, refl, sym, ap, subst, ◌∙◌, arith}
+use Rattle.std.specs.Prelude.{◌&&◌, not, if◌then◌else◌, is_some, filter, bytes_eq}
 use Rattle.std.specs.Option.{option_map}
 use Rattle.lease_state.specs.Content.{patches}
 use Rattle.lease_state.specs.declared.patch.Patch.{Patch}
 use Rattle.lease_model.specs.records.Facts.{Fact}
-use Rattle.lease_model.specs.records.Past.{is_good, last_sending, content_at, unanswered, start_of, changes_of, has_joined, is_served, has_strayed, sendings, takings, is_settled, believed}
-use Rattle.lease_model.specs.records.Verdict.{is_fresh, is_stale_read}
+use Rattle.lease_model.specs.records.Past.{is_good, last_sending, content_at, unanswered, start_of, has_joined, is_served, has_strayed, sendings, takings, is_settled, believed}
+use Rattle.lease_model.specs.records.Verdict.{is_stale_read}
 use Rattle.lease_world.specs.judge.Before.{before, patches_of, patches_waiting}
 use Rattle.lease_world.specs.judge.Caches.{is_open, looked_through, brought_up, is_seen}
 use Rattle.lease_world.specs.judge.Clients.{Sees, taken_of}
 use Rattle.lease_world.specs.judge.Knows.{KnowsFile, KnowsCache, KnowsClient, HasContents}
-use Rattle.lease_world.specs.judge.Seen.{Change, Waiting, Snapshot, SeenFile, SeenCache, SeenClient, cache_in, has_settled, is_good_client}
+use Rattle.lease_world.specs.judge.Seen.{Change, Waiting, Snapshot, SeenFile, SeenCache, SeenClient, cache_in, is_good_client}
 use Rattle.lease_world.specs.judge.Told.{placed_changes, pending, place_of, is_unsettled, write_of}
 use Rattle.lease_world.proofs.records.Caches.{filter-agree, cache_over}
 use Rattle.lease_world.proofs.records.Contents.{changes-told, unsettled-told, before-told}

@@ -1,7 +1,6 @@
 -- Facts that change nothing of what a record says of a file, or of a client.
-use Rattle.std.proofs.Common.{◌≡◌, ℕ, Bool, false, List, ◌∷◌, Option, refl, ap}
+use Rattle.std.proofs.Common.{◌≡◌, ℕ, Bool, false, List, ◌∷◌, refl}
 use Rattle.std.specs.Prelude.{◌==◌}
-use Rattle.lease_state.specs.State.{State}
 use Rattle.lease_model.specs.records.Facts.{Fact}
 use Rattle.lease_model.specs.records.Past.{is_started, start_of, has_joined, is_served, has_strayed, sendings, takings, is_settled, believed}
 use Rattle.lease_world.specs.judge.Told.{placed_changes, last_touch, write_of, pending}

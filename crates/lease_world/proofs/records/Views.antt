@@ -1,13 +1,13 @@
 -- What is kept of a file for a client, brought up to a place.
-use Rattle.std.proofs.Common.{◌≡◌, ℕ, zero, suc, ◌+◌, ◌<◌, ◌≤◌, Bool, true, false, List, [], ◌∷◌, ◌++◌, length, take, drop, map, refl, sym, ap, subst, ◌∙◌, arith, Option, Some, None, inl, inr}
-use Rattle.std.specs.Prelude.{⊤, ◌==◌, if◌then◌else◌, nat_lt, unwrap_or, is_some, filter}
-use Rattle.std.proofs.lemmas.Bool.{cases_Bool, both_ways}
+use Rattle.std.proofs.Common.{◌≡◌, ℕ, zero, suc, ◌+◌, ◌≤◌, Bool, true, false, List, [], ◌∷◌, ◌++◌, length, take, drop, refl, sym, ap, subst, ◌∙◌, arith, Option, Some, None, inl, inr}
+use Rattle.std.specs.Prelude.{◌==◌, if◌then◌else◌, nat_lt, unwrap_or, is_some, filter}
+use Rattle.std.proofs.lemmas.Bool.{cases_Bool}
 use Rattle.std.proofs.lemmas.List.{map-append, take-append-drop}
 use Rattle.lease_state.specs.declared.patch.Patch.{Patch}
 use Rattle.lease_state.specs.Content.{patches}
 use Rattle.lease_state.proofs.PatchLemmas.{patches-append}
 use Rattle.lease_world.specs.judge.Before.{before, patches_of, patches_waiting}
-use Rattle.lease_world.specs.judge.Caches.{is_open, looked_through, moved, first_of, with_base, based_from, based_on, based_at, with_writes, anew, viewed_by, viewed, brought_up}
+use Rattle.lease_world.specs.judge.Caches.{is_open, looked_through, moved, first_of, based_on, based_at, with_writes, anew, viewed_by, viewed, brought_up}
 use Rattle.lease_world.specs.judge.Knows.{IsBase, IsView, HasContents}
 use Rattle.lease_world.specs.judge.Seen.{Change, Waiting, Snapshot, SeenFile, SeenCache}
 

@@ -1,5 +1,5 @@
 -- The writes of a client in a record whose facts are well formed: no number is given twice.
-use Rattle.std.proofs.Common.{◌≡◌, ◌≢◌, ℕ, suc, ◌+◌, ◌<◌, ◌≤◌, Bool, true, false, List, [], ◌∷◌, Option, Some, None, length, refl, sym, ap, ◌∙◌, arith}
+use Rattle.std.proofs.Common.{◌≡◌, ℕ, suc, ◌+◌, ◌≤◌, Bool, true, false, List, [], ◌∷◌, Option, Some, None, length, refl, sym, ap, ◌∙◌, arith}
 use Rattle.std.specs.Prelude.{⊤, ◌&&◌, ◌||◌, not, ◌==◌, if◌then◌else◌, is_some, nat_lt}
 use Rattle.std.specs.Option.{option_map}
 use Rattle.lease_state.specs.declared.patch.Patch.{Patch}

@@ -1,8 +1,7 @@
 -- What is known of a client that is given a write, is told of one, has one accepted, or believes something.
-use Rattle.std.proofs.Common.{◌≡◌, ◌≢◌, ℕ, zero, suc, ◌+◌, ◌<◌, ◌≤◌, Bool, true, false, cond, List, [], ◌∷◌, ◌++◌, Option, Some, None, length, refl, sym, ap, subst, ◌∙◌, arith, inl, inr}
+use Rattle.std.proofs.Common.{◌≡◌, ℕ, ◌+◌, ◌≤◌, Bool, true, false, List, [], ◌∷◌, ◌++◌, Option, Some, None, length, refl, sym, ap, ◌∙◌, arith}
 use Rattle.std.specs.Prelude.{◌==◌, ◌&&◌, ◌||◌, not, if◌then◌else◌, filter}
 use Rattle.std.specs.Option.{option_map}
-use Rattle.std.proofs.lemmas.Bool.{cases_Bool}
 use Rattle.std.proofs.lemmas.List.Elements.{filter-append}
 use Rattle.lease_state.specs.State.{State}
 use Rattle.lease_state.specs.declared.patch.Patch.{Patch}
@@ -10,9 +9,9 @@ use Rattle.lease_model.specs.client.Commands.{Settlement}
 use Rattle.lease_model.specs.records.Facts.{Fact}
 use Rattle.lease_model.specs.records.Past.{has_joined, is_served, has_strayed, sendings, takings, is_settled, believed}
 use Rattle.lease_model.specs.records.Safe.{EachFact, WellFormed}
-use Rattle.lease_world.specs.judge.Clients.{Writes, WritesCache, Settles, SettlesCache, Believes, Accepts, HasCache, HasSameCaches, HasWrites, AcceptsIn, with_write, with_settled, with_belief}
+use Rattle.lease_world.specs.judge.Clients.{Writes, WritesCache, Settles, SettlesCache, Believes, Accepts, HasCache, with_write, with_settled, with_belief}
 use Rattle.lease_world.specs.judge.Knows.{KnowsCache, KnowsClient}
-use Rattle.lease_world.specs.judge.Seen.{SeenClient, SeenCache, SeenWrite, Waiting, cache_in, write_in, write_at, has_settled, accepted_as}
+use Rattle.lease_world.specs.judge.Seen.{SeenClient, SeenCache, SeenWrite, Waiting, cache_in, write_in, has_settled, accepted_as}
 use Rattle.lease_world.specs.judge.Told.{write_of, pending, is_unsettled}
 use Rattle.lease_world.proofs.records.Caches.{cache_over, filter-agree, pending-agree}
 use Rattle.lease_world.proofs.records.Others.{client_over}

@@ -1,6 +1,6 @@
 -- What a judge makes of one fact: its verdict on it, and what it keeps afterwards. Where the verdict isn't Safe, nothing is
 -- said of what it keeps.
-use Rattle.std.specs.Prelude.{◌≡◌, ◌≢◌, ℕ, Bool, true, false, not, Option, Some, None, List, [], ◌∷◌, ◌++◌, ◌&&◌, is_some, MatchBool}
+use Rattle.std.specs.Prelude.{◌≡◌, ℕ, Bool, true, false, not, Option, Some, None, List, [], ◌∷◌, ◌++◌, ◌&&◌, is_some, MatchBool}
 use Rattle.lease_state.specs.State.{State}
 use Rattle.lease_state.specs.declared.patch.Patch.{Patch}
 use Rattle.lease_model.specs.values.Patches.{is_within_limit}

@@ -1,5 +1,5 @@
 -- How facts change what is kept of a client.
-use Rattle.std.specs.Prelude.{◌≡◌, ℕ, Bool, true, false, not, Option, Some, None, List, [], ◌∷◌, ◌++◌, if◌then◌else◌, ◌==◌, ◌&&◌, nat_lt, nat_eq}
+use Rattle.std.specs.Prelude.{◌≡◌, ℕ, Bool, true, false, not, Option, Some, None, List, [], ◌∷◌, ◌++◌, if◌then◌else◌, ◌==◌, ◌&&◌, nat_lt}
 use Rattle.std.specs.Option.{option_map}
 use Rattle.lease_state.specs.declared.patch.Patch.{Patch}
 use Rattle.lease_model.specs.values.Lists.{is_empty}

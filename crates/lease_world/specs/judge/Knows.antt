@@ -1,13 +1,10 @@
 -- When what a judge keeps is what a record says.
-use Rattle.std.specs.Prelude.{◌≡◌, ⊤, ℕ, ◌+◌, ◌≤◌, Bool, true, false, Option, Some, None, List, [], ◌∷◌, ◌++◌, length, reverse, take, drop, filter, is_some, unwrap_or}
+use Rattle.std.specs.Prelude.{◌≡◌, ⊤, ℕ, ◌≤◌, true, false, Option, Some, None, List, [], ◌∷◌, length, take, drop, filter, is_some, unwrap_or}
 use Rattle.std.specs.Option.{option_map}
 use Rattle.lease_state.specs.Content.{patches}
 use Rattle.lease_model.specs.records.Facts.{Fact}
 use Rattle.lease_model.specs.records.Past.{is_started, start_of, has_joined, is_served, has_strayed, sendings, takings, last_sending, is_settled, believed}
 use Rattle.lease_model.specs.records.Safe.{EachFact, WellFormed, OneWriteCache}
-use Rattle.lease_model.specs.records.Verdict as model
-use Rattle.lease_world.specs.Verdicts.{verdict_of}
-use Rattle.lease_world.specs.declared.verdict.Verdict.{Verdict}
 use Rattle.lease_world.specs.judge.Before.{before, patches_of, patches_waiting}
 use Rattle.lease_world.specs.judge.Clients.{taken_of}
 use Rattle.lease_world.specs.judge.Seen.{Seen, SeenFile, SeenCache, SeenClient, Snapshot, file_in, client_in, cache_in, touched_by_others, write_in, has_settled}

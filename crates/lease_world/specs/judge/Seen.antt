@@ -1,5 +1,5 @@
 -- What a judge keeps, as plain data. Places in a record count facts from 1; 0 is no place.
-use Rattle.std.specs.Prelude.{ℕ, Bool, true, false, not, Option, Some, None, List, [], ◌∷◌, ◌++◌, if◌then◌else◌, ◌==◌, ◌&&◌, unwrap_or, slice_get, is_some}
+use Rattle.std.specs.Prelude.{ℕ, Bool, true, false, not, Option, None, List, [], if◌then◌else◌, ◌==◌, ◌&&◌, unwrap_or, slice_get}
 use Rattle.std.specs.List.{list_any}
 use Rattle.std.specs.Map.{lookup}
 use Rattle.lease_state.specs.State.{State, nothing_cached}
