@@ -188,16 +188,16 @@ grant_bare world c file sent front (Reply.AckDone response) bare = tt
 grant_bare world c file sent front (Reply.AckFailed status) bare = tt
 
 -- one more reply, where it is safe
-pub grants_sent : (off new : World) (c : ℕ) (reply : Reply) → IsLike off new c → KnowsIds off c → IsNamedAt off c
-    → new.replies c ≡ off.replies c ++ reply ∷ []
-    → ((file : ℕ) → GrantSafe new c file ((off.clients c).entries file).sent (off.replies c) reply)
-    → IsSafeUp off c → (file : ℕ) → knows_file (off.clients c) file ≡ true
+pub grants_more : (off new : World) (c : ℕ) (reply : Reply) (file : ℕ) → IsLike off new c → KnowsIds off c
+    → IsNamedAt off c → new.replies c ≡ off.replies c ++ reply ∷ []
+    → GrantSafe new c file ((off.clients c).entries file).sent (off.replies c) reply → IsSafeUp off c
+    → knows_file (off.clients c) file ≡ true
     → GrantsSafe new c file ((off.clients c).entries file).sent [] (new.replies c)
-grants_sent off new c reply like ids n replies last u file known =
+grants_more off new c reply file like ids n replies last u known =
     let sent = ((off.clients c).entries file).sent in
     subst (GrantsSafe new c file sent []) (sym replies)
     (grants_last new c file sent [] (off.replies c) reply
-    (grants_like off new c file like ids sent [] (off.replies c) n.replies (u.given file known)) (last file))
+    (grants_like off new c file like ids sent [] (off.replies c) n.replies (u.given file known)) last)
 
 -- ---- a write that was sent, and isn't answered yet
 
@@ -338,7 +338,7 @@ sent_clean world c u once stands n k file known fresh write a none =
 
 -- ---- grants
 
-expired_nothing : (server : Server) (key : Key) (file : ℕ) (want : State) → IsSound server
+pub expired_nothing : (server : Server) (key : Key) (file : ℕ) (want : State) → IsSound server
     → server.expired key ≡ true → (is_breaking (lease_granted server key file want) ≡ false)
     × ((lease_granted server key file want).state.write ≡ false)
 unfolding lease_granted offered allowed
