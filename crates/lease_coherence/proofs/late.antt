@@ -3,6 +3,7 @@ pub mod Entries
 pub mod Granted
 pub mod Likes
 pub mod Moves
+pub mod Others
 pub mod Servers
 pub mod Steps
 pub mod Words

@@ -49,12 +49,12 @@ named_live : (world : World) (c : ℕ) → IsNamedAt world c → (file : ℕ) (p
     → ((world.clients c).entries file).phase ≡ phase → IsNamedPhase c file world.past phase
 named_live world c n file phase is = subst (IsNamedPhase c file world.past) is (n.entries file).phase
 
-live_id : (c file : ℕ) (past : _) (phase : Phase) → IsNamedPhase c file past phase → (live : LiveEntry)
+pub live_id : (c file : ℕ) (past : _) (phase : Phase) → IsNamedPhase c file past phase → (live : LiveEntry)
     → phase ≡ Phase.Live live → was_opened live.file_id file c past ≡ true
 live_id c file past phase n live is = let m : IsNamedPhase c file past (Phase.Live live) =
     subst (IsNamedPhase c file past) is n in m.0
 
-parted_id : (c file : ℕ) (past : _) (phase : Phase) → IsNamedPhase c file past phase → (parted : Parted)
+pub parted_id : (c file : ℕ) (past : _) (phase : Phase) → IsNamedPhase c file past phase → (parted : Parted)
     → (phase ≡ Phase.Offline parted) ⊎ (phase ≡ Phase.Reconnecting parted) → was_opened parted.file_id file c past ≡ true
 parted_id c file past phase n parted is = ⊎_elim
     (λ e. let m : IsNamedPhase c file past (Phase.Offline parted) = subst (IsNamedPhase c file past) e n in m.0)
