@@ -1,3 +1,4 @@
+pub mod Called
 pub mod Clients
 pub mod Entries
 pub mod Granted

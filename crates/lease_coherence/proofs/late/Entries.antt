@@ -5,7 +5,7 @@ use Rattle.lease_state.specs.State.{State, nothing_cached}
 use Rattle.lease_state.specs.declared.status.Status.{Status}
 use Rattle.lease_model.specs.client.Commanded.{next_write, cached_read, opened_anew, write_buffered, write_sent, flush_on_live}
 use Rattle.lease_model.specs.client.Connection.{notice_turn, connect_turn, live_noticed, live_parted}
-use Rattle.lease_model.specs.client.State.{Client, Entry, LiveEntry, Asked, Parted, Pending, Phase, live_entry, lease_key}
+use Rattle.lease_model.specs.client.State.{Client, Entry, LiveEntry, Asked, Parted, Pending, Phase, live_entry, knows_file, lease_key}
 use Rattle.lease_model.specs.client.Step.{Step, Turn, turned}
 use Rattle.lease_model.specs.client.Taken.{given_state, break_turn, parked_closed, belief_lowered, gives_up, opened_turn, reconnected_turn, promoted_turn, promoted_belief, first_belief, read_turn, read_failed_turn, is_file_closed, closed_by_server, without_open, sent_without, phase_with, write_done_turn, write_failed_in}
 use Rattle.lease_model.specs.messages.Replies.{Reply, BreakNotice, CreateAnswer, LeaseGiven}
@@ -158,7 +158,7 @@ commands_safe world c client fresh = record {
 
 -- what is known of a reply and of the entries where it is taken
 pub record IsTakenSafe (world : World) (c : ℕ) (client : Client) (reply : Reply) : Type 0 where
-  pub grant : (file : ℕ) → GrantSafe world c file (client.entries file).sent [] reply
+  pub grant : (file : ℕ) → knows_file client file ≡ true → GrantSafe world c file (client.entries file).sent [] reply
   pub given : (file : ℕ) → world.server.expired (machine_key world c file) ≡ false
       → OnGiven (HoldsWrites (world.server.leases (machine_key world c file)).state) (file_key world c file) file reply
   pub own : (file : ℕ) (live : LiveEntry) → (client.entries file).phase ≡ Phase.Live live
@@ -198,18 +198,33 @@ promoted_so key belief (Some given) e = by_cases given.in_progress (bytes_eq giv
     by_cases false true h = (h, inr h)
     by_cases false false h = absurd (true≢false (sym h))
 
+-- a file whose entry isn't closed is known
+is_known : (client : Client) (file : ℕ) (phase : Phase) → IsSoundClient client → (client.entries file).phase ≡ phase
+    → (phase ≡ Phase.Closed → ⊥) → knows_file client file ≡ true
+is_known client file phase s is never = either (knows_file client file) (λ e. e)
+    (λ unknown. absurd (never (sym is ∙ s.in_files file unknown)))
+
+live_not_closed : (live : LiveEntry) → Phase.Live live ≡ Phase.Closed → ⊥
+live_not_closed live e = cc
+
+again_not_closed : (parted : Parted) → Phase.Reconnecting parted ≡ Phase.Closed → ⊥
+again_not_closed parted e = cc
+
+opening_not_closed : (access : _) (share : _) → Phase.Opening access share ≡ Phase.Closed → ⊥
+opening_not_closed access share e = cc
+
 -- a grant that is taken: the lease holds writes, and what was sent is safe
 record IsGrantTaken (world : World) (c file : ℕ) (sent : List Pending) : Type 0 where
   holds : holds_write world c file ≡ true
   clean : Each (IsClean c file world.past) sent
 
 grant_taken : (world : World) (c : ℕ) (client : Client) (file file_id : ℕ) (answer : CreateAnswer)
-    → client.guid ≡ (world.clients c).guid → IsTakenSafe world c client (Reply.Created file file_id (Some answer))
-    → (given_state (lease_key client.guid file) answer.lease).write ≡ true → (x : Open) → Among x world.server.opens
+    → client.guid ≡ (world.clients c).guid → knows_file client file ≡ true
+    → IsTakenSafe world c client (Reply.Created file file_id (Some answer)) → (given_state (lease_key client.guid file) answer.lease).write ≡ true → (x : Open) → Among x world.server.opens
     → x.client ≡ c → x.file_id ≡ file_id → IsGrantTaken world c file (client.entries file).sent
-grant_taken world c client file file_id answer guid t write x there by id =
+grant_taken world c client file file_id answer guid known t write x there by id =
     let w = subst (λ g. (given_state (lease_key g file) answer.lease).write ≡ true) guid write in
-    let safe = t.grant file refl x there by id in
+    let safe = t.grant file known refl x there by id in
     let fresh = safe.timely (given_so (file_key world c file) answer.lease w) in record {
       holds = ((t.given file fresh) refl w).1;
       clean = from_among (IsClean c file world.past) (client.entries file).sent (λ p a b. safe.clean w p a b refl);
@@ -311,7 +326,8 @@ promoted_safe world c client at file_id answer live next turn so_next so_sent s 
     (subst (PhaseSafe world c at (sent_of client at)) (sym so_next) (λ x there by id write.
     let so = promoted_so (lease_key client.guid at) live.belief answer.lease
     (ap (λ (b : State). b.write) (sym belief) ∙ write) in
-    let safe = t.grant at refl x there by (id ∙ new) in
+    let known = is_known client at (Phase.Live live) s is (live_not_closed live) in
+    let safe = t.grant at known refl x there by (id ∙ new) in
     let fresh = safe.timely (subst (λ g. given_writes (lease_key g at) answer.lease ≡ true) guid so.0) in
     let o = t.stands at live is fresh in
     let old = was_live world c client at live is p o.one o.there o.by o.id in
@@ -325,7 +341,7 @@ promoted_safe world c client at file_id answer live next turn so_next so_sent s 
       each_append (IsClean c at world.past) (sent_of client at) next.unsent
           (each_parts (IsClean c at world.past) (sent_of client at) live.unsent was.1).0 unsent,
     ))
-    (λ gives. let g = grant_taken world c client at file_id answer guid t gives x there by (id ∙ new) in
+    (λ gives. let g = grant_taken world c client at file_id answer guid known t gives x there by (id ∙ new) in
     (g.holds, each_append (IsClean c at world.past) (sent_of client at) next.unsent g.clean unsent))
     so.1)))
 
@@ -336,11 +352,13 @@ takes_safe world c client s guid = record {
   passed = λ reply why t file p. p;
   broken = λ at notice live found is t. break_safe world c client at notice live is;
   opened = λ at file_id answer access share is t. turned_safe world c client at _ (λ p. λ x there by id write.
-      let g = grant_taken world c client at file_id answer guid t write x there by id in
+      let g = grant_taken world c client at file_id answer guid
+      (is_known client at (Phase.Opening access share) s is (λ e. opening_not_closed access share e)) t write x there by id in
       (g.holds, each_append (IsClean c at world.past) (sent_of client at) [] g.clean tt));
   reconnected = λ at file_id answer parted is t. turned_safe world c client at _ (λ p. λ x there by id write.
       let same : file_id ≡ parted.file_id = subst (λ q. FitsPhase q file_id) is (t.fits at file_id (Some answer) refl) in
-      let g = grant_taken world c client at file_id answer guid t write x there by (id ∙ sym same) in
+      let g = grant_taken world c client at file_id answer guid
+      (is_known client at (Phase.Reconnecting parted) s is (again_not_closed parted)) t write x there by (id ∙ sym same) in
       let kept : KeptSafe world c at parted = subst (PhaseSafe world c at (sent_of client at)) is p in (
         g.holds,
         each_append (IsClean c at world.past) (sent_of client at) _ g.clean
