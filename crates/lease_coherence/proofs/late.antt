@@ -1,3 +1,4 @@
+pub mod Acked
 pub mod Called
 pub mod Clients
 pub mod Entries

@@ -147,7 +147,7 @@ failed_trusted world c given status oldest t = told_trusted (popped world c) c (
 
 -- ---- one that ends its break
 
-served_state : (given : State) → given.write ≡ true → given.read ≡ true → (granted_form_of given).write ≡ true
+pub served_state : (given : State) → given.write ≡ true → given.read ≡ true → (granted_form_of given).write ≡ true
 served_state given w r = if_cases (λ (s : State). s.write ≡ true) given.read given
     (record { read = false; write = false; handle = false }) (λ reads. w) (λ none. clash given.read r none)
 
