@@ -3,6 +3,7 @@ pub mod Called
 pub mod Clients
 pub mod Entries
 pub mod Granted
+pub mod Held
 pub mod Likes
 pub mod Moves
 pub mod Others

@@ -497,7 +497,7 @@ live_opened world c n file live is =
 
 -- ---- a client connects
 
-abbrev IsCreate : Request → Type 0
+abbrev pub IsCreate : Request → Type 0
 IsCreate (Request.OnFile (FileRequest.Create file access share contexts)) = ⊤
 IsCreate request = ⊥
 
@@ -517,33 +517,21 @@ create_stands world c (Request.OnFile (FileRequest.Write file_id number patch)) 
 create_stands world c (Request.OnFile (FileRequest.Close file_id)) is = absurd is
 create_stands world c (Request.Acknowledge given) is = absurd is
 
-connect_order : (world : World) (c : ℕ) → Ground world → world.links c ≡ Link.Down → IsInOrder (connected world c) c
-unfolding joined connection_made all_turned
-connect_order world c g down =
+-- a client that connects asks only for creates
+pub connect_creates : (world : World) (c : ℕ) → Ground world → world.links c ≡ Link.Down
+    → Each IsCreate ((connected world c).requests c)
+unfolding connection_made all_turned
+connect_creates world c g down =
     let machine = world.clients c in
     let back = come_back world c in
     let step = connection_made machine in
-    let new = connected world c in
-    let is_off : is_up (world.links c) ≡ false = ap is_up down in
     let turn : ℕ → List Request =
     λ f. (connect_turn machine f (machine.entries f).sent (machine.entries f).phase).requests in
-    let queued : new.requests c ≡ flat_map turn (numbers_to machine.files) =
+    let queued : (connected world c).requests c ≡ flat_map turn (numbers_to machine.files) =
     (step_of back c step (ap is_up (put_same world.links c Link.Up)) refl).queued
-    ∙ ap (λ (q : List Request). q ++ flat_map turn (numbers_to machine.files)) ((g.tied c).requests is_off) in
-    let creates : Each IsCreate (flat_map turn (numbers_to machine.files)) =
-    each_flat IsCreate turn (numbers_to machine.files) (λ f. only f (machine.entries f).sent (machine.entries f).phase) in
-    let held : (file : ℕ) → held_by c (new.server.held file) ≡ [] =
-    λ file. ap (λ (x : Server). held_by c (x.held file)) (stepped_server back c step) ∙ none_held world c g is_off file in
-    record {
-      ordered = λ file. subst (λ l. AreOrdered (as_requests l ++ new.requests c)) (sym (held file))
-          (subst AreOrdered (sym queued) (creates_ordered (flat_map turn (numbers_to machine.files)) creates));
-      stands = record {
-        queued = subst (Each (WriteStands new c)) (sym queued)
-            (each_weaker IsCreate (WriteStands new c) (flat_map turn (numbers_to machine.files)) (create_stands new c) creates);
-        held = λ file one a own. absurd (not_there one (subst (λ (l : List Held). Among one l) (held file)
-            (among_filtered (λ h. h.client == c) one (new.server.held file) a (eq-eqb one.client c own))));
-      };
-    }
+    ∙ ap (λ (q : List Request). q ++ flat_map turn (numbers_to machine.files)) ((g.tied c).requests (ap is_up down)) in
+    subst (Each IsCreate) (sym queued) (each_flat IsCreate turn (numbers_to machine.files)
+    (λ f. only f (machine.entries f).sent (machine.entries f).phase))
   where
     only : (f : ℕ) (sent : List Pending) (phase : Phase)
         → Each IsCreate (connect_turn (world.clients c) f sent phase).requests
@@ -553,6 +541,28 @@ connect_order world c g down =
     only f sent (Phase.Offline parted) = (tt, tt)
     only f sent (Phase.Reconnecting parted) = tt
 
+-- and has none that is held
+pub connect_held : (world : World) (c : ℕ) → Ground world → world.links c ≡ Link.Down → (file : ℕ)
+    → held_by c ((connected world c).server.held file) ≡ []
+unfolding joined
+connect_held world c g down file =
+    ap (λ (x : Server). held_by c (x.held file)) (stepped_server (come_back world c) c (connection_made (world.clients c)))
+    ∙ none_held world c g (ap is_up down) file
+
+connect_order : (world : World) (c : ℕ) → Ground world → world.links c ≡ Link.Down → IsInOrder (connected world c) c
+connect_order world c g down =
+    let new = connected world c in
+    let creates = connect_creates world c g down in record {
+      ordered = λ file. subst (λ l. AreOrdered (as_requests l ++ new.requests c)) (sym (connect_held world c g down file))
+          (creates_ordered (new.requests c) creates);
+      stands = record {
+        queued = each_weaker IsCreate (WriteStands new c) (new.requests c) (create_stands new c) creates;
+        held = λ file one a own. absurd (not_there one (subst (λ (l : List Held). Among one l)
+            (connect_held world c g down file)
+            (among_filtered (λ h. h.client == c) one (new.server.held file) a (eq-eqb one.client c own))));
+      };
+    }
+  where
     not_there : (one : Held) → Among one [] → ⊥
     not_there one a = a
 

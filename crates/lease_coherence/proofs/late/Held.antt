@@ -1,0 +1,166 @@
+-- A request that is held was no buffered write: where a lease holds writes, nothing is in the way of its own requests.
+use Rattle.std.proofs.Common.{◌≡◌, ◌⊎◌, inl, inr, ⊎_elim, ℕ, Bool, true, false, List, [], ◌∷◌, ◌++◌, Option, Some, None, refl, sym, ap, ap₂, ◌∙◌, subst, true≢false, ◌==◌}
+use Rattle.std.specs.Prelude.{⊤, ◌&&◌, ◌||◌, Ok, Result, find, if◌then◌else◌}
+use Rattle.std.specs.List.{list_any}
+use Rattle.std.proofs.lemmas.Bool.{eqb-true}
+use Rattle.lease_state.specs.declared.status.Status.{Status}
+use Rattle.lease_model.specs.client.State.{lease_key}
+use Rattle.lease_model.specs.messages.Requests.{FileRequest, Request}
+use Rattle.lease_model.specs.records.Past.{has_buffered}
+use Rattle.lease_model.specs.server.Calls.{file_asked, file_of_open}
+use Rattle.lease_model.specs.server.Findings.{connected_open}
+use Rattle.lease_model.specs.server.Naming.{key_of, own_key, key_under, key_of_open}
+use Rattle.lease_model.specs.server.State.{Server, Open, Held, Lease, is_breaking}
+use Rattle.lease_model.specs.server.Ready.{breaks_to_some}
+use Rattle.lease_model.specs.world.Events.{machine_key}
+use Rattle.lease_model.specs.world.World.{World}
+use Rattle.lease_laws.specs.server.Laws.{Among, IsSound, HasToWait}
+use Rattle.lease_laws.specs.server.SmallSteps.{SmallStep, MayHold, IsInTurn}
+use Rattle.lease_laws.specs.server.Waiting.{IsAbout}
+use Rattle.lease_laws.specs.world.Links.{is_up}
+use Rattle.lease_laws.proofs.server.Lists.{if_cases, clash, not_true, or_true, find_has, among_append}
+use Rattle.lease_coherence.specs.Names.{Each, IsNamedAt, IsNamedOnFile, IsNamedRequest, WasWrittenOn}
+use Rattle.lease_coherence.proofs.late.Acked.{popped_ids, popped_named}
+use Rattle.lease_coherence.proofs.late.Likes.{same_past, acks_like, grants_like}
+use Rattle.lease_coherence.proofs.late.Servers.{itself, popped_safe, own_has_key, none_in_the_way}
+use Rattle.lease_coherence.proofs.late.Words.{holds_write, WriteSafe, HeldPlain, IsSafeUp, IsNotLate, IsLike, KnowsIds}
+use Rattle.lease_coherence.proofs.moves.Deeds.{held_in}
+use Rattle.lease_coherence.proofs.moves.Ground.{among_put}
+use Rattle.lease_coherence.proofs.moves.Moves.{IsOldest, popped}
+use Rattle.lease_coherence.proofs.names.Names.{open_parts}
+use Rattle.lease_coherence.proofs.standing.Words.{asked_held, head_of}
+
+-- the file that a request asks for
+abbrev AsksOn : World → ℕ → FileRequest → Type 0
+AsksOn world file (FileRequest.Create other access share contexts) = other ≡ file
+AsksOn world file (FileRequest.Write file_id number patch) =
+    (z : Open) → Among z world.server.opens → z.file_id ≡ file_id → z.file ≡ file
+AsksOn world file request = ⊤
+
+about_asks : (world : World) (file : ℕ) (request : FileRequest) → IsAbout world.server file request
+    → AsksOn world file request
+about_asks world file (FileRequest.Create other access share contexts) a = a
+about_asks world file (FileRequest.Read file_id) a = tt
+about_asks world file (FileRequest.Write file_id number patch) a = a.is_on_file
+about_asks world file (FileRequest.Close file_id) a = tt
+
+-- where the client's lease holds writes, no request of it on the file has to wait
+none_waits : (world : World) (c : ℕ) → IsSound world.server → IsNamedAt world c → (file : ℕ) (x : Open)
+    → Among x world.server.opens → x.client ≡ c → x.file ≡ file → holds_write world c file ≡ true
+    → (request : FileRequest) → IsNamedOnFile c (world.clients c).guid world.past request → AsksOn world file request
+    → HasToWait world.server c request → ⊥
+none_waits world c sound n file x there by on holds (FileRequest.Create f access share None) named asks b = absurd named
+none_waits world c sound n file x there by on holds (FileRequest.Create f access share (Some ask)) named asks b =
+    none_in_the_way (λ lease. is_breaking lease) world.server (own_key c ask.lease) (machine_key world c file) f x sound
+    (ap (λ o. own_key c o) named.asks ∙ ap (λ k. Some (key_of c k)) named.key
+    ∙ ap (λ g. Some (key_of c (lease_key (world.clients c).guid g))) asks) there
+    (own_has_key world c file x by on (n.opens x there by)) (on ∙ sym asks) holds b
+none_waits world c sound n file x there by on holds (FileRequest.Write file_id number patch) named asks b =
+    let found = find_has _ b.one world.server.opens b.is_open in
+    let parts = open_parts c file_id b.one found.1 in
+    let here = asks b.one found.0 parts.0 in
+    none_in_the_way (λ lease. breaks_to_some lease) world.server (key_of_open b.one) (machine_key world c file)
+    (b.one).file x sound
+    (ap₂ key_under parts.1.0 (n.opens b.one found.0 parts.1.0)
+    ∙ ap (λ g. Some (key_of c (lease_key (world.clients c).guid g))) here) there
+    (own_has_key world c file x by on (n.opens x there by)) (on ∙ sym here) holds b.is_blocked
+none_waits world c sound n file x there by on holds (FileRequest.Read file_id) named asks b = absurd b
+none_waits world c sound n file x there by on holds (FileRequest.Close file_id) named asks b = absurd b
+
+-- the first that passes the test
+first_of : (test : Held → Bool) (held : List Held) → list_any test held ≡ true → (y : Held) × (find test held ≡ Some y)
+first_of test [] e = absurd (true≢false (sym e))
+first_of test (x ∷ held) e = if_cases (λ o. (y : Held) × (o ≡ Some y)) (test x) (Some x) (find test held)
+    (λ yes. (x, refl))
+    (λ no. first_of test held (⊎_elim (λ yes. clash (test x) yes no) (λ later. later) (or_true (test x) (list_any test held) e)))
+
+no_file : (asked : Result ℕ Status) (status : Status) (at : ℕ) → asked ≡ Result.Err status → asked ≡ Ok at → ⊥
+no_file asked status at e f = cc
+
+same_file : (asked : Result ℕ Status) (file at : ℕ) → asked ≡ Ok file → asked ≡ Ok at → file ≡ at
+same_file asked file at e f = cc
+
+-- the open of a write that is held stands on the file
+held_on : (world : World) (c file_id : ℕ) (at : ℕ) (x : Open)
+    → ((z : Open) → Among z world.server.opens → z.file_id ≡ file_id → z.file ≡ x.file) → (found : Option Open)
+    → connected_open world.server c file_id ≡ found → file_of_open found ≡ Ok at → x.file ≡ at
+held_on world c file_id at x same None e a = absurd (no_file _ Status.FileClosed at refl a)
+held_on world c file_id at x same (Some z) e a =
+    let there = find_has _ z world.server.opens e in
+    sym (same z there.0 (open_parts c file_id z there.1).0) ∙ same_file _ z.file at refl a
+
+held_plain : (world : World) (at : ℕ) (one : Held) → MayHold world.server at one
+    → IsInTurn (SmallStep.Hold at one) world.server → IsSound world.server → KnowsIds world one.client
+    → IsNamedAt world one.client → IsNamedOnFile one.client (world.clients one.client).guid world.past one.request
+    → WriteSafe world one.client (Request.OnFile one.request) → HeldPlain world one.client (Request.OnFile one.request)
+unfolding file_asked
+held_plain world at one may turn sound ids n named safe = by_request one.request refl
+  where
+    c : ℕ
+    c = one.client
+
+    by_request : (r : FileRequest) → one.request ≡ r → HeldPlain world one.client (Request.OnFile r)
+    by_request (FileRequest.Create f access share contexts) is = tt
+    by_request (FileRequest.Read file_id) is = tt
+    by_request (FileRequest.Close file_id) is = tt
+    by_request (FileRequest.Write file_id number patch) is = λ x there by id.
+        let w : WasWrittenOn one.client file_id number patch world.past =
+        subst (IsNamedOnFile one.client (world.clients one.client).guid world.past) is named in
+        let s : WriteSafe world one.client (Request.OnFile (FileRequest.Write file_id number patch)) =
+        subst (λ r. WriteSafe world one.client (Request.OnFile r)) is safe in
+        let same : (z : Open) → Among z world.server.opens → z.file_id ≡ file_id → z.file ≡ x.file =
+        λ z zin zid. (ids.on file_id w.file w.opened z zin zid).0 ∙ sym (ids.on file_id w.file w.opened x there id).0 in
+        let here = held_on world one.client file_id at x same (connected_open world.server one.client file_id) refl
+        (subst (λ r. file_asked world.server one.client r ≡ Ok at) is turn) in
+        not_true (has_buffered one.client x.file number world.past) (λ b.
+        let holds = (s x there by id).held b in ⊎_elim
+        (λ waits. none_waits world one.client sound n x.file x there by refl holds (FileRequest.Write file_id number patch) w
+        same (subst (HasToWait world.server one.client) is waits))
+        (λ behind. let y = first_of (λ o. o.client == one.client) (world.server.held at) behind.1 in
+        let found = find_has _ y.0 (world.server.held at) y.1 in
+        none_waits world one.client sound n at x there by here
+        (subst (λ f. holds_write world one.client f ≡ true) here holds) (y.0).request
+        (n.held at y.0 found.0 (eqb-true (y.0).client one.client found.1))
+        (about_asks world at (y.0).request ((behind.0).is_orderly.held_about at y.0 found.0))
+        ((behind.0).all_wait at one.client y.0 y.1)) may.1)
+
+held_like : (world : World) (at : ℕ) (one : Held) → IsLike world (held_in world at one) one.client
+held_like world at one = record {
+  machine = refl;
+  past = same_past one.client world.past;
+  from = λ x there by low. itself world x there;
+  timely = λ file x there by on e. e;
+}
+
+pub hold_late : (world : World) (at : ℕ) (one : Held) → IsOldest world one.client (Request.OnFile one.request)
+    → MayHold world.server at one → IsInTurn (SmallStep.Hold at one) world.server → IsSound world.server
+    → KnowsIds world one.client → IsNamedAt world one.client → IsNotLate world one.client
+    → IsNotLate (held_in (popped world one.client) at one) one.client
+hold_late world at one oldest may turn sound ids n a = record {
+  entries = a.entries;
+  up = λ up. let u = a.up up in
+      let m = popped_safe world one.client ids n u in
+      let new = held_in (popped world one.client) at one in
+      let asked = asked_held (WriteSafe world one.client) world at one oldest u.writes in
+      let named : IsNamedRequest one.client (world.clients one.client).guid world.past (Request.OnFile one.request) =
+      head_of (IsNamedRequest one.client (world.clients one.client).guid world.past) (world.requests one.client)
+      oldest.queue (Request.OnFile one.request) oldest.is_first n.requests in
+      let plain = held_plain world at one may turn sound ids n named
+      (head_of (WriteSafe world one.client) (world.requests one.client) oldest.queue (Request.OnFile one.request)
+      oldest.is_first u.writes.queued) in record {
+        writes = record { queued = asked.queued; held = asked.held };
+        held = λ place x b own. ⊎_elim (λ old. u.held place x old own)
+            (λ fresh. ⊎_elim (λ old. u.held at x old own)
+            (λ last. ⊎_elim (λ same. subst (λ (h : Held). HeldPlain world one.client (Request.OnFile h.request)) (sym same) plain)
+            (λ none. absurd none) last)
+            (among_append x (world.server.held at) (one ∷ []) fresh.1))
+            (among_put world.server.held at (world.server.held at ++ one ∷ []) place x b);
+        acks_keep = acks_like (popped world one.client) new one.client (held_like (popped world one.client) at one)
+            (popped_ids world one.client ids) ((popped world one.client).requests one.client)
+            (popped_named world one.client n).requests m.acks_keep;
+        again = m.again;
+        given = λ file known. grants_like (popped world one.client) new one.client file
+            (held_like (popped world one.client) at one) (popped_ids world one.client ids)
+            ((world.clients one.client).entries file).sent [] (world.replies one.client) n.replies (m.given file known);
+      };
+}
