@@ -5,8 +5,10 @@ pub mod Entries
 pub mod Granted
 pub mod Held
 pub mod Likes
+pub mod Links
 pub mod Moves
 pub mod Others
+pub mod Runs
 pub mod Servers
 pub mod Steps
 pub mod Words
