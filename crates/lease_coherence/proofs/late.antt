@@ -2,6 +2,7 @@ pub mod Acked
 pub mod Called
 pub mod Clients
 pub mod Entries
+pub mod Facts
 pub mod Granted
 pub mod Held
 pub mod Likes

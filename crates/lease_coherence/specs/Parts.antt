@@ -2,7 +2,7 @@
 use Rattle.std.specs.Prelude.{◌≡◌, ℕ, true, false, List, reverse}
 use Rattle.lease_model.specs.records.Facts.{Fact}
 use Rattle.lease_model.specs.records.Past.{has_strayed}
-use Rattle.lease_model.specs.records.Safe.{EachFact, EachBeginning, WellFormed, OneWriteCache, FreshRead, NoFalseDone}
+use Rattle.lease_model.specs.records.Safe.{EachFact, EachBeginning, WellFormed, OneWriteCache, FreshRead, NoLateWrite, NoFalseDone, Safe}
 use Rattle.lease_model.specs.world.Allowed.{is_allowed_setup}
 use Rattle.lease_model.specs.world.Events.{Event, after, recorded}
 use Rattle.lease_model.specs.world.World.{World, Setup, first_world}
@@ -31,6 +31,17 @@ RunsHaveOneWriteCache = (setup : Setup) (events : List Event)
 -- Every cached read of a run is fresh.
 abbrev pub CachedReadsAreFresh : Type 0
 CachedReadsAreFresh = InRuns FreshRead
+
+-- No buffered write of a run is accepted after another client opened or changed its file.
+abbrev pub NoWriteIsLate : Type 0
+NoWriteIsLate = InRuns NoLateWrite
+
+-- ---- the theorem
+
+-- For every allowed setup and every list of events, the record of the run is safe.
+abbrev pub EveryRunIsSafe : Type 0
+EveryRunIsSafe = (setup : Setup) (events : List Event) → is_allowed_setup setup ≡ true
+    → Safe (recorded setup events)
 
 -- ---- what every run has, of each client that hasn't strayed
 

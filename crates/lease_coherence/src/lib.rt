@@ -3,9 +3,11 @@
 
 mod parts;
 mod structure;
+mod theorem;
 
 pub use parts::{
-    cached_reads_are_fresh, nothing_is_falsely_done, runs_are_well_formed,
+    cached_reads_are_fresh, no_write_is_late, nothing_is_falsely_done, runs_are_well_formed,
     runs_have_one_write_cache,
 };
 pub use structure::runs_have_structure;
+pub use theorem::coherent;

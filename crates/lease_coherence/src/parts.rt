@@ -1,4 +1,6 @@
-ghost use Rattle.lease_coherence.specs.Parts.{CachedReadsAreFresh, NothingIsFalselyDone, RunsAreWellFormed, RunsHaveOneWriteCache};
+ghost use Rattle.lease_coherence.specs.Parts.{
+    CachedReadsAreFresh, NoWriteIsLate, NothingIsFalselyDone, RunsAreWellFormed, RunsHaveOneWriteCache,
+};
 
 /// Where the setup is allowed, the record of every run is well formed: a file is started once and before any other fact
 /// names it, a message that is taken was sent before, a patch ends within the limit of a file, and a client uses the
@@ -19,6 +21,13 @@ pub fn runs_have_one_write_cache()
 /// out since it connected. Does nothing.
 pub fn cached_reads_are_fresh()
     ensures facts { CachedReadsAreFresh }
+{}
+
+/// Where the setup is allowed, a buffered write of a client that hasn't strayed is accepted in a run only if no other
+/// client opened or changed its file since it was buffered. This holds of clients that were cut or expired too, and of
+/// writes that were sent again after a reconnect. Does nothing.
+pub fn no_write_is_late()
+    ensures facts { NoWriteIsLate }
 {}
 
 /// Where the setup is allowed, a write of a client that hasn't strayed is settled as done in a run only if the server

@@ -41,7 +41,7 @@ use Rattle.lease_coherence.proofs.writes.Runs.{ground_of, names_of, known_by}
 
 -- ---- what is known
 
-ground_in : (world : World) → HasOrder world → Ground world
+pub ground_in : (world : World) → HasOrder world → Ground world
 ground_in world v = ground_of world v.0.0.0.0
 
 names_in : (world : World) → HasOrder world → (c : ℕ) → has_strayed c world.past ≡ false → IsNamedAt world c

@@ -1,0 +1,155 @@
+-- No write is accepted late: each change in a record is of a write that nobody overtook.
+use Rattle.std.proofs.Common.{◌≡◌, ◌⊎◌, inl, inr, ⊎_elim, ℕ, ◌+◌, false, true, true≢false, List, [], ◌∷◌, Some, refl, sym, ap, ◌∙◌, subst, ◌==◌}
+use Rattle.std.proofs.lemmas.List.{reverse-reverse}
+use mathlib.Core.List.{reverse_aux}
+use Rattle.lease_state.specs.declared.patch.Patch.{Patch}
+use Rattle.lease_model.specs.client.Commanded.{commanded}
+use Rattle.lease_model.specs.client.Commands.{Note}
+use Rattle.lease_model.specs.client.Connection.{noticed, connection_made}
+use Rattle.lease_model.specs.client.State.{new_client}
+use Rattle.lease_model.specs.client.Step.{Step}
+use Rattle.lease_model.specs.client.Taken.{taken}
+use Rattle.lease_model.specs.messages.Requests.{FileRequest, Request}
+use Rattle.lease_model.specs.records.Facts.{Fact}
+use Rattle.lease_model.specs.records.Past.{has_strayed, is_touched}
+use Rattle.lease_model.specs.records.Safe.{EachFact, NoLateWrite}
+use Rattle.lease_model.specs.server.Findings.{connected_open}
+use Rattle.lease_model.specs.server.State.{Open, new_server}
+use Rattle.lease_model.specs.values.Tables.{put}
+use Rattle.lease_model.specs.world.Allowed.{is_allowed_setup}
+use Rattle.lease_model.specs.world.Events.{Event, stepped_in, after}
+use Rattle.lease_model.specs.world.World.{World, Setup, Link, first_world, starts_from, requests_sent, fact_of}
+use Rattle.lease_laws.specs.server.Laws.{Among}
+use Rattle.lease_laws.specs.server.SmallSteps.{SmallStep}
+use Rattle.lease_laws.specs.world.Links.{is_up}
+use Rattle.lease_laws.proofs.server.Lists.{find_has}
+use Rattle.lease_coherence.specs.Parts.{InRuns}
+use Rattle.lease_coherence.proofs.fresh.Reads.{run_reads, first_reads}
+use Rattle.lease_coherence.proofs.late.Runs.{HasLate, ground_in, late_carried}
+use Rattle.lease_coherence.proofs.late.Words.{WriteSafe}
+use Rattle.lease_coherence.proofs.moves.Deeds.{HasDeeds, IsSource, step_deed}
+use Rattle.lease_coherence.proofs.moves.Events.{IsMoved, IsCarried, Both, carried_both, runs_have, come_back, reply_gone}
+use Rattle.lease_coherence.proofs.moves.Frames.{from_source, stepped_past}
+use Rattle.lease_coherence.proofs.moves.Moves.{IsNext, moved}
+use Rattle.lease_coherence.proofs.names.Names.{open_parts}
+use Rattle.lease_coherence.proofs.records.Later.{past_noted}
+use Rattle.lease_coherence.proofs.standing.Words.{asked_off}
+
+abbrev NoneLate : World → Type 0
+NoneLate world = EachFact NoLateWrite world.past
+
+-- ---- a change
+
+off_past : (world off : World) (c : ℕ) (request : FileRequest) → IsSource world off c request → off.past ≡ world.past
+off_past world off c request source =
+    from_source world off c request (λ o. o.past ≡ world.past) source refl (λ file left. refl)
+
+off_opens : (world off : World) (c : ℕ) (request : FileRequest) → IsSource world off c request
+    → off.server.opens ≡ world.server.opens
+off_opens world off c request source = from_source world off c request
+    (λ o. o.server.opens ≡ world.server.opens) source refl (λ file left. refl)
+
+off_none : (world off : World) (c : ℕ) (request : FileRequest) → IsSource world off c request → NoneLate world
+    → NoneLate off
+off_none world off c request source l = subst (EachFact NoLateWrite) (sym (off_past world off c request source)) l
+
+change_clean : (world off : World) (c file_id number : ℕ) (patch : Patch) (one : Open) → HasLate world
+    → IsSource world off c (FileRequest.Write file_id number patch) → connected_open off.server c file_id ≡ Some one
+    → has_strayed c off.past ≡ false → is_touched c one.file number off.past ≡ false
+change_clean world off c file_id number patch one v source found good =
+    let request = FileRequest.Write file_id number patch in
+    let past = off_past world off c request source in
+    let there = find_has _ one off.server.opens found in
+    let parts = open_parts c file_id one there.1 in
+    let a = v.1 c (ap (has_strayed c) (sym past) ∙ good) in
+    let up = sym (((ground_in world v.0).tied c).present) ∙ source.up in
+    let safe : WriteSafe world c (Request.OnFile request) =
+    (asked_off (WriteSafe world c) world off c request source (a.up up).writes).1 in
+    ap (is_touched c one.file number) past
+    ∙ (safe one (subst (λ (l : List Open). Among one l) (off_opens world off c request source) there.0) parts.1.0 parts.0).clean
+
+-- ---- steps of the server
+
+deeds_none : (world : World) → HasLate world → NoneLate world → HasDeeds world NoneLate
+deeds_none world v l = record {
+  refused = λ off client request status source may. (tt, off_none world off client request source l);
+  full = λ off client file access share ask source. (tt, off_none world off client _ source l);
+  granted = λ off client file access share ask source none on free. (tt, (tt, off_none world off client _ source l));
+  reconnected = λ off client file access share ask file_id source again on waits. (tt, off_none world off client _ source l);
+  read = λ off client file_id one source found may. (tt, off_none world off client _ source l);
+  changed = λ off client file_id number patch one source found may. (
+    tt,
+    (change_clean world off client file_id number patch one v source found, off_none world off client _ source l),
+  );
+  closed = λ off client file_id one source found. (tt, off_none world off client _ source l);
+  ack_failed = λ client given status oldest up. (tt, l);
+  ack_done = λ client given lowered oldest up there breaks within. (tt, l);
+  hold = λ file one oldest may turn. l;
+  drop = λ key. l;
+  lower = λ key lowered may light. (tt, l);
+  begin = λ key lowered may heavy. (tt, l);
+}
+
+-- ---- steps of clients
+
+noted_none : (client : ℕ) (past : List Fact) (notes : List Note) → EachFact NoLateWrite past
+    → EachFact NoLateWrite (past_noted client past notes)
+noted_none client past [] l = l
+noted_none client past (Note.Settled number outcome ∷ notes) l =
+    noted_none client (fact_of client (Note.Settled number outcome) ∷ past) notes (tt, l)
+noted_none client past (Note.Wrote file number patch buffered ∷ notes) l =
+    noted_none client (fact_of client (Note.Wrote file number patch buffered) ∷ past) notes (tt, l)
+noted_none client past (Note.Believes file state ∷ notes) l =
+    noted_none client (fact_of client (Note.Believes file state) ∷ past) notes (tt, l)
+noted_none client past (Note.CachedRead file bytes ∷ notes) l =
+    noted_none client (fact_of client (Note.CachedRead file bytes) ∷ past) notes (tt, l)
+
+stepped_none : (world : World) (client : ℕ) (step : Step) → NoneLate world → NoneLate (stepped_in world client step)
+stepped_none world client step l = subst (EachFact NoLateWrite) (sym (stepped_past world client step))
+    (noted_none client world.past step.notes l)
+
+-- ---- all moves
+
+none_moves : IsMoved HasLate NoneLate
+unfolding requests_sent
+none_moves = record {
+  step = λ world step v next l. step_deed world NoneLate (deeds_none world v l) step next;
+  cut = λ world client v up l. (tt, l);
+  timer = λ world client file v on breaks l. (tt, l);
+  scavenge = λ world file_id v l. l;
+  connect = λ world client v down l.
+      stepped_none (come_back world client) client (connection_made (world.clients client)) (tt, l);
+  command = λ world client command v l. stepped_none world client (commanded (world.clients client) command) l;
+  take = λ world client reply queue v first l.
+      stepped_none (reply_gone world client queue) client (taken (world.clients client) reply) (tt, l);
+  notice = λ world client v cut l. stepped_none (record world { links = put world.links client Link.Down }) client
+      (noticed (world.clients client)) l;
+  stray = λ world client request v up l. (tt, l);
+}
+
+-- ---- runs
+
+starts_none : (first : ℕ) (files : List (List ℕ)) (past : List Fact) → EachFact NoLateWrite past
+    → EachFact NoLateWrite (reverse_aux (starts_from first files) past)
+unfolding starts_from
+starts_none first [] past l = l
+starts_none first (bytes ∷ files) past l = starts_none (first + 1) files (Fact.Start first bytes ∷ past) (tt, l)
+
+first_all : (setup : Setup) → is_allowed_setup setup ≡ true → Both HasLate NoneLate (first_world setup)
+unfolding first_world new_server new_client
+first_all setup allowed = (
+  (
+    ((first_reads setup allowed).0, λ c good up. absurd (true≢false (sym up))),
+    λ c good. record { entries = λ file. tt; up = λ up. absurd (true≢false (sym up)) },
+  ),
+  starts_none 1 setup.files [] tt,
+)
+
+pub run_late : (setup : Setup) (events : List Event) → is_allowed_setup setup ≡ true
+    → Both HasLate NoneLate (after (first_world setup) events)
+run_late setup events allowed = runs_have (Both HasLate NoneLate) (λ world v. ground_in world v.0.0)
+    (carried_both HasLate NoneLate late_carried none_moves) setup (first_all setup allowed) events
+
+pub no_write_is_late : InRuns NoLateWrite
+no_write_is_late setup events allowed = subst (EachFact NoLateWrite)
+    (sym (reverse-reverse (after (first_world setup) events).past)) (run_late setup events allowed).1
