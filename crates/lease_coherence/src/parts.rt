@@ -1,5 +1,9 @@
 ghost use Rattle.lease_coherence.specs.Parts.{
-    CachedReadsAreFresh, NoWriteIsLate, NothingIsFalselyDone, RunsAreWellFormed, RunsHaveOneWriteCache,
+  CachedReadsAreFresh,
+  NoWriteIsLate,
+  NothingIsFalselyDone,
+  RunsAreWellFormed,
+  RunsHaveOneWriteCache,
 };
 
 /// Where the setup is allowed, the record of every run is well formed: a file is started once and before any other fact

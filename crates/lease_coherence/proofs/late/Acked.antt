@@ -1,35 +1,33 @@
 -- An acknowledgment that is judged, and a request that is held, leave a client's writes safe.
-use Rattle.std.proofs.Common.{◌≡◌, ◌⊎◌, inl, inr, ⊎_elim, ℕ, ◌+◌, Bool, true, false, not, List, [], ◌∷◌, ◌++◌, Option, Some, None, refl, sym, ap, ap₂, ◌∙◌, subst, arith, true≢false, ◌==◌}
-use Rattle.std.specs.Prelude.{bytes_eq, is_some, ◌&&◌, ◌||◌, if◌then◌else◌}
-use Rattle.std.proofs.lemmas.Bool.{eqb-true, eq-eqb}
+use Rattle.std.proofs.Common.{◌≡◌, ◌⊎◌, inl, inr, ⊎_elim, ℕ, ◌+◌, true, List, [], ◌∷◌, ◌++◌, Some, None, refl, sym, ap, ◌∙◌, subst, arith, true≢false}
+use Rattle.std.specs.Prelude.{bytes_eq}
 use Rattle.std.proofs.lemmas.Slice.Eq.{bytes_eq-Decides}
-use Rattle.lease_state.specs.State.{State, granted_form_of}
+use Rattle.lease_state.specs.State.{granted_form_of}
 use Rattle.lease_state.specs.declared.status.Status.{Status}
-use Rattle.lease_model.specs.client.State.{Client, LiveEntry, Parted, Pending, Phase, knows_file, lease_key}
+use Rattle.lease_model.specs.client.State.{LiveEntry, Parted, Phase}
 use Rattle.lease_model.specs.messages.Replies.{Reply}
 use Rattle.lease_model.specs.messages.Requests.{FileRequest, Request, LeaseOf}
 use Rattle.lease_model.specs.records.Past.{has_buffered}
 use Rattle.lease_model.specs.server.Naming.{key_of}
-use Rattle.lease_model.specs.server.State.{Server, Open, Held, Lease, is_breaking}
+use Rattle.lease_model.specs.server.State.{Lease, is_breaking}
 use Rattle.lease_model.specs.values.Keys.{Key}
-use Rattle.lease_model.specs.values.Tables.{put, put_key}
 use Rattle.lease_model.specs.world.Events.{machine_key}
 use Rattle.lease_model.specs.world.World.{World}
 use Rattle.lease_laws.specs.client.Laws.{IsSoundPhase}
-use Rattle.lease_laws.specs.server.Laws.{Among, IsSound}
+use Rattle.lease_laws.specs.server.Laws.{IsSound}
 use Rattle.lease_laws.specs.world.Links.{is_up}
 use Rattle.lease_laws.proofs.client.Thin.{put_same}
 use Rattle.lease_laws.proofs.server.Keys.{put_key-cases}
-use Rattle.lease_laws.proofs.server.Lists.{if_cases, either, clash, not_true}
+use Rattle.lease_laws.proofs.server.Lists.{either, clash, not_true}
 use Rattle.lease_coherence.specs.Creates.{one_if}
-use Rattle.lease_coherence.specs.Names.{Each, IsNamedAt, IsNamedRequest, WasWrittenOn}
+use Rattle.lease_coherence.specs.Names.{Each, IsNamedAt, IsNamedRequest}
 use Rattle.lease_coherence.proofs.beliefs.Acked.{served_state}
 use Rattle.lease_coherence.proofs.beliefs.Trust.{file_key, HasTrust}
 use Rattle.lease_coherence.proofs.beliefs.Words.{AckKeeps, acks}
 use Rattle.lease_coherence.proofs.late.Likes.{sent_past, held_up, acks_like}
 use Rattle.lease_coherence.proofs.late.Moves.{told_late}
 use Rattle.lease_coherence.proofs.late.Servers.{EntryHolds, itself, entries_like, popped_safe, grants_more}
-use Rattle.lease_coherence.proofs.late.Words.{holds_write, WriteSafe, HeldPlain, NotBuffered, AcksKeep, IsSafeUp, IsNotLate, IsLike, KnowsIds, write_like}
+use Rattle.lease_coherence.proofs.late.Words.{holds_write, WriteSafe, HeldPlain, NotBuffered, AcksKeep, IsSafeUp, IsNotLate, IsLike, KnowsIds}
 use Rattle.lease_coherence.proofs.moves.Deeds.{told_to, leased_in, done_reply}
 use Rattle.lease_coherence.proofs.moves.Moves.{IsOldest, rest_of, popped}
 use Rattle.lease_coherence.proofs.names.Words.{each_rest}

@@ -1,16 +1,13 @@
 -- A command, and a reply that is taken, leave a client's writes safe.
-use Rattle.std.proofs.Common.{◌≡◌, ◌⊎◌, inl, inr, ⊎_elim, ℕ, ◌+◌, Bool, true, false, List, [], ◌∷◌, ◌++◌, Option, Some, None, refl, sym, ap, ◌∙◌, subst, true≢false, ◌==◌}
+use Rattle.std.proofs.Common.{◌≡◌, inl, inr, ⊎_elim, ℕ, ◌+◌, true, false, List, [], ◌∷◌, refl, sym, ap, ◌∙◌, subst}
 use Rattle.lease_model.specs.client.Calls.{ClientCall}
 use Rattle.lease_model.specs.client.Commanded.{commanded}
 use Rattle.lease_model.specs.client.Commands.{Command}
-use Rattle.lease_model.specs.client.State.{Client, LiveEntry, Parted, Pending, Phase, knows_file}
+use Rattle.lease_model.specs.client.State.{Client, LiveEntry, Parted, Phase, knows_file}
 use Rattle.lease_model.specs.client.Step.{Step}
 use Rattle.lease_model.specs.client.Taken.{taken}
-use Rattle.lease_model.specs.messages.Replies.{Reply, CreateAnswer}
-use Rattle.lease_model.specs.messages.Requests.{Request}
+use Rattle.lease_model.specs.messages.Replies.{Reply}
 use Rattle.lease_model.specs.records.Facts.{Fact}
-use Rattle.lease_model.specs.records.Past.{is_touched}
-use Rattle.lease_model.specs.server.State.{Open}
 use Rattle.lease_model.specs.world.Events.{stepped_in, machine_key}
 use Rattle.lease_model.specs.world.World.{World}
 use Rattle.lease_laws.specs.client.Laws.{IsSoundClient, TellNumbers}
@@ -19,12 +16,12 @@ use Rattle.lease_laws.specs.world.Links.{is_up}
 use Rattle.lease_laws.proofs.client.Forms.{commanded-stays, taken-stays}
 use Rattle.lease_laws.proofs.client.Notes.{called_tells}
 use Rattle.lease_laws.proofs.client.Thin.{put_same}
-use Rattle.lease_laws.proofs.server.Lists.{clash, not_true}
+use Rattle.lease_laws.proofs.server.Lists.{clash}
 use Rattle.lease_coherence.specs.Names.{Each, IsNamedAt, IsNamedRequest, IsNamedReply}
-use Rattle.lease_coherence.specs.Standing.{IsOpenFor, FitsPhase, GivenWell, PhaseStands, IsStandingAt}
+use Rattle.lease_coherence.specs.Standing.{IsOpenFor, GivenWell, PhaseStands, IsStandingAt}
 use Rattle.lease_coherence.proofs.beliefs.Anchors.{AnchorsOn, commands_anchor, takes_anchor}
 use Rattle.lease_coherence.proofs.beliefs.Trust.{file_key, HasTrust}
-use Rattle.lease_coherence.proofs.beliefs.Words.{HoldsWrites, OnGiven, AckKeeps, acks}
+use Rattle.lease_coherence.proofs.beliefs.Words.{HoldsWrites, OnGiven}
 use Rattle.lease_coherence.proofs.clients.Commands.{any_command}
 use Rattle.lease_coherence.proofs.clients.Takes.{any_reply}
 use Rattle.lease_coherence.proofs.late.Clients.{StepFrom, no_settles, commands_from, takes_from}

@@ -1,5 +1,5 @@
 -- No write is accepted late: each change in a record is of a write that nobody overtook.
-use Rattle.std.proofs.Common.{◌≡◌, ◌⊎◌, inl, inr, ⊎_elim, ℕ, ◌+◌, false, true, true≢false, List, [], ◌∷◌, Some, refl, sym, ap, ◌∙◌, subst, ◌==◌}
+use Rattle.std.proofs.Common.{◌≡◌, ℕ, ◌+◌, false, true, true≢false, List, [], ◌∷◌, Some, refl, sym, ap, ◌∙◌, subst}
 use Rattle.std.proofs.lemmas.List.{reverse-reverse}
 use mathlib.Core.List.{reverse_aux}
 use Rattle.lease_state.specs.declared.patch.Patch.{Patch}
@@ -20,17 +20,14 @@ use Rattle.lease_model.specs.world.Allowed.{is_allowed_setup}
 use Rattle.lease_model.specs.world.Events.{Event, stepped_in, after}
 use Rattle.lease_model.specs.world.World.{World, Setup, Link, first_world, starts_from, requests_sent, fact_of}
 use Rattle.lease_laws.specs.server.Laws.{Among}
-use Rattle.lease_laws.specs.server.SmallSteps.{SmallStep}
-use Rattle.lease_laws.specs.world.Links.{is_up}
 use Rattle.lease_laws.proofs.server.Lists.{find_has}
 use Rattle.lease_coherence.specs.Parts.{InRuns}
-use Rattle.lease_coherence.proofs.fresh.Reads.{run_reads, first_reads}
+use Rattle.lease_coherence.proofs.fresh.Reads.{first_reads}
 use Rattle.lease_coherence.proofs.late.Runs.{HasLate, ground_in, late_carried}
 use Rattle.lease_coherence.proofs.late.Words.{WriteSafe}
 use Rattle.lease_coherence.proofs.moves.Deeds.{HasDeeds, IsSource, step_deed}
-use Rattle.lease_coherence.proofs.moves.Events.{IsMoved, IsCarried, Both, carried_both, runs_have, come_back, reply_gone}
+use Rattle.lease_coherence.proofs.moves.Events.{IsMoved, Both, carried_both, runs_have, come_back, reply_gone}
 use Rattle.lease_coherence.proofs.moves.Frames.{from_source, stepped_past}
-use Rattle.lease_coherence.proofs.moves.Moves.{IsNext, moved}
 use Rattle.lease_coherence.proofs.names.Names.{open_parts}
 use Rattle.lease_coherence.proofs.records.Later.{past_noted}
 use Rattle.lease_coherence.proofs.standing.Words.{asked_off}

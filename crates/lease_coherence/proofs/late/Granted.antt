@@ -1,23 +1,16 @@
 -- Grants, reconnects, closed opens and timers leave a client's writes safe.
-use Rattle.std.proofs.Common.{◌≡◌, ◌⊎◌, inl, inr, ⊎_elim, ℕ, ◌+◌, ◌≤◌, Bool, true, false, not, List, [], ◌∷◌, ◌++◌, Option, Some, None, refl, sym, ap, ap₂, ◌∙◌, subst, arith, true≢false, ◌==◌}
-use Rattle.std.specs.Prelude.{◌&&◌, ◌||◌, if◌then◌else◌, map}
-use Rattle.lease_state.specs.State.{State}
+use Rattle.std.proofs.Common.{◌≡◌, ⊎_elim, ℕ, ◌+◌, ◌≤◌, Bool, true, false, not, [], ◌∷◌, ◌++◌, Some, refl, sym, ap, ◌∙◌, subst, arith, ◌==◌}
 use Rattle.lease_state.specs.declared.access.Access.{Access}
 use Rattle.lease_state.specs.declared.access.Share.{Share}
-use Rattle.lease_model.specs.client.State.{Client, Pending, knows_file, lease_key}
-use Rattle.lease_model.specs.client.Taken.{given_state}
+use Rattle.lease_model.specs.client.State.{Pending, knows_file, lease_key}
 use Rattle.lease_model.specs.messages.Replies.{Reply}
-use Rattle.lease_model.specs.messages.Requests.{FileRequest, Request, CreateAsk, LeaseOf}
-use Rattle.lease_model.specs.records.Facts.{Fact}
+use Rattle.lease_model.specs.messages.Requests.{FileRequest, CreateAsk, LeaseOf}
 use Rattle.lease_model.specs.records.Past.{is_touched}
 use Rattle.lease_model.specs.server.Calls.{key_expired}
 use Rattle.lease_model.specs.server.Grant.{lease_granted, lease_after, connected_again, new_open}
 use Rattle.lease_model.specs.server.Naming.{key_of, own_key}
 use Rattle.lease_model.specs.server.Progress.{opens_dropped, with_opens}
-use Rattle.lease_model.specs.server.State.{Server, Open, Held, Lease, has_key, is_breaking}
-use Rattle.lease_model.specs.values.Keys.{Key}
-use Rattle.lease_model.specs.values.Lists.{without}
-use Rattle.lease_model.specs.values.Tables.{put_key}
+use Rattle.lease_model.specs.server.State.{Open, Lease, has_key, is_breaking}
 use Rattle.lease_model.specs.world.Events.{machine_key}
 use Rattle.lease_model.specs.world.World.{World}
 use Rattle.lease_laws.specs.server.Laws.{Among, IsSound}
@@ -25,14 +18,14 @@ use Rattle.lease_laws.specs.server.SmallSteps.{IsFree}
 use Rattle.lease_laws.specs.world.Links.{is_up}
 use Rattle.lease_laws.proofs.client.Thin.{put_same}
 use Rattle.lease_laws.proofs.server.Keys.{put_key-cases}
-use Rattle.lease_laws.proofs.server.Lists.{if_cases, either, clash, not_parts, not_true, among_append, among_filter, among_map}
-use Rattle.lease_coherence.specs.Names.{IsNamedAt, IsOwnOpen}
+use Rattle.lease_laws.proofs.server.Lists.{if_cases, clash, not_parts, not_true, among_append, among_filter, among_map}
+use Rattle.lease_coherence.specs.Names.{IsNamedAt}
 use Rattle.lease_coherence.proofs.beliefs.Grants.{grant_keeps}
 use Rattle.lease_coherence.proofs.beliefs.Trust.{file_key}
 use Rattle.lease_coherence.proofs.late.Likes.{sent_past, opened_past, expired_past}
 use Rattle.lease_coherence.proofs.late.Moves.{replied_late, unsent_late}
 use Rattle.lease_coherence.proofs.late.Servers.{itself, closing_holds, own_has_key, expired_nothing, gives_timely, given_so}
-use Rattle.lease_coherence.proofs.late.Words.{holds_write, given_writes, IsNotLate, WasOpen, IsLike, StillHolds, KnowsIds}
+use Rattle.lease_coherence.proofs.late.Words.{holds_write, given_writes, IsNotLate, IsLike, KnowsIds}
 use Rattle.lease_coherence.proofs.moves.Deeds.{IsSource, told_to, granted_in, granted_reply, reconnected_in, reconnected_reply, without_opens}
 use Rattle.lease_coherence.proofs.moves.Events.{timed_out}
 use Rattle.lease_coherence.proofs.writes.Counts.{settling}

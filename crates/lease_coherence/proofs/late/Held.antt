@@ -1,6 +1,6 @@
 -- A request that is held was no buffered write: where a lease holds writes, nothing is in the way of its own requests.
-use Rattle.std.proofs.Common.{◌≡◌, ◌⊎◌, inl, inr, ⊎_elim, ℕ, Bool, true, false, List, [], ◌∷◌, ◌++◌, Option, Some, None, refl, sym, ap, ap₂, ◌∙◌, subst, true≢false, ◌==◌}
-use Rattle.std.specs.Prelude.{⊤, ◌&&◌, ◌||◌, Ok, Result, find, if◌then◌else◌}
+use Rattle.std.proofs.Common.{◌≡◌, ⊎_elim, ℕ, Bool, true, List, [], ◌∷◌, ◌++◌, Option, Some, None, refl, sym, ap, ap₂, ◌∙◌, subst, true≢false, ◌==◌}
+use Rattle.std.specs.Prelude.{⊤, Ok, Result, find}
 use Rattle.std.specs.List.{list_any}
 use Rattle.std.proofs.lemmas.Bool.{eqb-true}
 use Rattle.lease_state.specs.declared.status.Status.{Status}
@@ -10,20 +10,19 @@ use Rattle.lease_model.specs.records.Past.{has_buffered}
 use Rattle.lease_model.specs.server.Calls.{file_asked, file_of_open}
 use Rattle.lease_model.specs.server.Findings.{connected_open}
 use Rattle.lease_model.specs.server.Naming.{key_of, own_key, key_under, key_of_open}
-use Rattle.lease_model.specs.server.State.{Server, Open, Held, Lease, is_breaking}
+use Rattle.lease_model.specs.server.State.{Open, Held, is_breaking}
 use Rattle.lease_model.specs.server.Ready.{breaks_to_some}
 use Rattle.lease_model.specs.world.Events.{machine_key}
 use Rattle.lease_model.specs.world.World.{World}
 use Rattle.lease_laws.specs.server.Laws.{Among, IsSound, HasToWait}
 use Rattle.lease_laws.specs.server.SmallSteps.{SmallStep, MayHold, IsInTurn}
 use Rattle.lease_laws.specs.server.Waiting.{IsAbout}
-use Rattle.lease_laws.specs.world.Links.{is_up}
 use Rattle.lease_laws.proofs.server.Lists.{if_cases, clash, not_true, or_true, find_has, among_append}
-use Rattle.lease_coherence.specs.Names.{Each, IsNamedAt, IsNamedOnFile, IsNamedRequest, WasWrittenOn}
+use Rattle.lease_coherence.specs.Names.{IsNamedAt, IsNamedOnFile, IsNamedRequest, WasWrittenOn}
 use Rattle.lease_coherence.proofs.late.Acked.{popped_ids, popped_named}
 use Rattle.lease_coherence.proofs.late.Likes.{same_past, acks_like, grants_like}
 use Rattle.lease_coherence.proofs.late.Servers.{itself, popped_safe, own_has_key, none_in_the_way}
-use Rattle.lease_coherence.proofs.late.Words.{holds_write, WriteSafe, HeldPlain, IsSafeUp, IsNotLate, IsLike, KnowsIds}
+use Rattle.lease_coherence.proofs.late.Words.{holds_write, WriteSafe, HeldPlain, IsNotLate, IsLike, KnowsIds}
 use Rattle.lease_coherence.proofs.moves.Deeds.{held_in}
 use Rattle.lease_coherence.proofs.moves.Ground.{among_put}
 use Rattle.lease_coherence.proofs.moves.Moves.{IsOldest, popped}

@@ -1,31 +1,28 @@
 -- A connection that is lost, noticed or made leaves a client's writes safe.
-use Rattle.std.proofs.Common.{◌≡◌, ◌⊎◌, inl, inr, ⊎_elim, ℕ, ◌+◌, Bool, true, false, not, List, [], ◌∷◌, ◌++◌, Option, Some, None, refl, sym, ap, ap₂, ◌∙◌, subst, arith, true≢false, ◌==◌}
-use Rattle.std.specs.Prelude.{◌&&◌, ◌||◌, if◌then◌else◌, map}
+use Rattle.std.proofs.Common.{◌≡◌, ℕ, ◌+◌, false, not, List, [], ◌∷◌, refl, sym, ap, ◌∙◌, subst, arith, true≢false, ◌==◌}
 use Rattle.std.proofs.lemmas.Bool.{eq-eqb}
 use Rattle.lease_model.specs.client.Connection.{all_turned, noticed, connection_made}
-use Rattle.lease_model.specs.client.State.{Client, Pending, knows_file}
 use Rattle.lease_model.specs.messages.Replies.{Reply}
 use Rattle.lease_model.specs.messages.Requests.{FileRequest, Request}
 use Rattle.lease_model.specs.server.Calls.{joined, disconnected, is_lost, opens_disconnected, client_forgotten}
 use Rattle.lease_model.specs.server.Progress.{opens_dropped, with_opens}
-use Rattle.lease_model.specs.server.State.{Server, Open, Held, Lease}
+use Rattle.lease_model.specs.server.State.{Open, Held, Lease}
 use Rattle.lease_model.specs.values.Lists.{without}
 use Rattle.lease_model.specs.values.Tables.{put}
-use Rattle.lease_model.specs.world.Events.{stepped_in, machine_key}
+use Rattle.lease_model.specs.world.Events.{machine_key}
 use Rattle.lease_model.specs.world.World.{World, Link}
 use Rattle.lease_laws.specs.server.Laws.{Among}
 use Rattle.lease_laws.specs.world.Links.{is_up}
 use Rattle.lease_laws.proofs.client.Thin.{put_same}
 use Rattle.lease_laws.proofs.server.Lists.{if_cases, among_filter, among_filtered, among_map}
 use Rattle.lease_laws.proofs.world.Links.{stepped_links}
-use Rattle.lease_coherence.specs.Creates.{held_by}
 use Rattle.lease_coherence.specs.Names.{Each, IsNamedAt}
 use Rattle.lease_coherence.proofs.beliefs.Words.{acks}
 use Rattle.lease_coherence.proofs.late.Entries.{notice_safe, connect_safe}
 use Rattle.lease_coherence.proofs.late.Likes.{dropped_past, joined_past}
 use Rattle.lease_coherence.proofs.late.Servers.{all_hold, entries_like, itself, closing_holds}
 use Rattle.lease_coherence.proofs.late.Steps.{stepped_entries}
-use Rattle.lease_coherence.proofs.late.Words.{WriteSafe, HeldPlain, AcksKeep, GrantsSafe, IsSafeAt, IsSafeUp, IsNotLate, IsLike, StillHolds, KnowsIds}
+use Rattle.lease_coherence.proofs.late.Words.{WriteSafe, AcksKeep, GrantsSafe, IsSafeAt, IsNotLate, KnowsIds}
 use Rattle.lease_coherence.proofs.moves.Events.{Ground, cut_off, come_back, connected, noticed_by}
 use Rattle.lease_coherence.proofs.moves.Frames.{stepped_replies}
 use Rattle.lease_coherence.proofs.names.Words.{each_weaker}

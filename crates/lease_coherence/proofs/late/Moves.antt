@@ -1,39 +1,25 @@
 -- What the server does for a client leaves its writes safe: each move by itself.
-use Rattle.std.proofs.Common.{◌≡◌, ◌⊎◌, inl, inr, ⊎_elim, ℕ, ◌+◌, ◌≤◌, Bool, true, false, not, List, [], ◌∷◌, ◌++◌, Option, Some, None, refl, sym, ap, ap₂, ◌∙◌, subst, arith, true≢false, ◌==◌}
-use Rattle.std.specs.Prelude.{◌&&◌, ◌||◌, if◌then◌else◌, map}
-use Rattle.std.proofs.lemmas.Bool.{eqb-true, eq-eqb}
+use Rattle.std.proofs.Common.{◌≡◌, ⊎_elim, ℕ, Bool, true, false, not, [], ◌∷◌, ◌++◌, Some, None, refl, sym, ap, ◌∙◌, subst}
 use Rattle.lease_state.specs.State.{State, needs_acknowledgment}
-use Rattle.lease_state.specs.declared.access.Access.{Access}
-use Rattle.lease_state.specs.declared.access.Share.{Share}
 use Rattle.lease_state.specs.declared.patch.Patch.{Patch}
-use Rattle.lease_model.specs.client.State.{Client, Pending, knows_file, lease_key}
+use Rattle.lease_model.specs.client.State.{knows_file}
 use Rattle.lease_model.specs.messages.Replies.{Reply}
-use Rattle.lease_model.specs.messages.Requests.{FileRequest, Request, CreateAsk, LeaseOf}
-use Rattle.lease_model.specs.records.Facts.{Fact}
-use Rattle.lease_model.specs.server.Calls.{key_expired}
-use Rattle.lease_model.specs.server.Grant.{lease_granted, connected_again, new_open}
-use Rattle.lease_model.specs.server.Naming.{key_of, own_key}
-use Rattle.lease_model.specs.server.Progress.{opens_dropped, with_opens, break_notice}
-use Rattle.lease_model.specs.server.State.{Server, Open, Held, Lease, has_key, is_breaking}
-use Rattle.lease_model.specs.values.Keys.{Key, key_eq}
-use Rattle.lease_model.specs.values.Lists.{without}
-use Rattle.lease_model.specs.values.Tables.{put_key}
+use Rattle.lease_model.specs.messages.Requests.{FileRequest}
+use Rattle.lease_model.specs.server.Progress.{with_opens, break_notice}
+use Rattle.lease_model.specs.server.State.{Open, Lease}
+use Rattle.lease_model.specs.values.Keys.{Key}
 use Rattle.lease_model.specs.world.Events.{machine_key}
 use Rattle.lease_model.specs.world.World.{World}
-use Rattle.lease_laws.specs.server.Laws.{Among, IsSound}
-use Rattle.lease_laws.specs.server.SmallSteps.{IsFree, MayLower}
 use Rattle.lease_laws.specs.world.Links.{is_up}
 use Rattle.lease_laws.proofs.client.Thin.{put_same}
-use Rattle.lease_laws.proofs.server.Keys.{put_key-cases, key_eq-refl}
-use Rattle.lease_laws.proofs.server.Lists.{if_cases, either, clash, true_or, among_append, among_filter}
-use Rattle.lease_coherence.specs.Names.{Each, IsNamedAt, IsOwnOpen}
-use Rattle.lease_coherence.proofs.beliefs.Grants.{grant_keeps}
+use Rattle.lease_laws.proofs.server.Keys.{put_key-cases}
+use Rattle.lease_laws.proofs.server.Lists.{clash, true_or, among_filter}
+use Rattle.lease_coherence.specs.Names.{IsNamedAt}
 use Rattle.lease_coherence.proofs.beliefs.Sent.{is_bare}
-use Rattle.lease_coherence.proofs.late.Likes.{same_past, sent_past, opened_past, changed_past, expired_past, grants_like}
-use Rattle.lease_coherence.proofs.late.Servers.{all_hold, entries_like, itself, off_safe, up_like, grant_bare, closing_holds, own_has_key, grants_more}
-use Rattle.lease_coherence.proofs.late.Words.{holds_write, GrantSafe, GrantsSafe, IsSafeAt, IsSafeUp, IsNotLate, WasOpen, IsLike, StillHolds, KnowsIds}
-use Rattle.lease_coherence.proofs.moves.Deeds.{IsSource, told_to, granted_in, granted_reply, reconnected_in, changed_in, without_opens, leased_in}
-use Rattle.lease_coherence.proofs.moves.Events.{timed_out}
+use Rattle.lease_coherence.proofs.late.Likes.{same_past, sent_past, changed_past, grants_like}
+use Rattle.lease_coherence.proofs.late.Servers.{all_hold, entries_like, itself, off_safe, up_like, grant_bare, closing_holds, grants_more}
+use Rattle.lease_coherence.proofs.late.Words.{holds_write, GrantSafe, GrantsSafe, IsSafeAt, IsSafeUp, IsNotLate, IsLike, StillHolds, KnowsIds}
+use Rattle.lease_coherence.proofs.moves.Deeds.{IsSource, told_to, changed_in, without_opens, leased_in}
 use Rattle.lease_coherence.proofs.standing.Runs.{link_of}
 
 -- ---- a move that leaves all as it was

@@ -1,6 +1,5 @@
 -- What others do leaves a client's writes safe.
-use Rattle.std.proofs.Common.{◌≡◌, ◌⊎◌, inl, inr, ⊎_elim, ℕ, ◌+◌, Bool, true, false, not, List, [], ◌∷◌, ◌++◌, Option, Some, None, refl, sym, ap, ap₂, ◌∙◌, subst, ◌==◌}
-use Rattle.std.specs.Prelude.{◌&&◌, ◌||◌, if◌then◌else◌}
+use Rattle.std.proofs.Common.{◌≡◌, ◌⊎◌, inl, inr, ⊎_elim, ℕ, true, false, List, [], ◌∷◌, ◌++◌, Some, None, refl, sym, ap, ap₂, ◌∙◌, subst, ◌==◌}
 use Rattle.std.proofs.lemmas.Bool.{eq-eqb}
 use Rattle.lease_model.specs.client.State.{Client, LiveEntry, Parted, Pending, Phase, knows_file, lease_key}
 use Rattle.lease_model.specs.client.Taken.{given_state}
@@ -16,12 +15,11 @@ use Rattle.lease_laws.specs.world.FileIds.{was_opened}
 use Rattle.lease_laws.specs.world.Links.{is_up}
 use Rattle.lease_laws.proofs.server.Lists.{among_filter, among_filtered}
 use Rattle.lease_coherence.specs.Names.{Each, IsNamedAt, IsNamedReply}
-use Rattle.lease_coherence.specs.Standing.{AllAsked}
 use Rattle.lease_coherence.proofs.beliefs.Trust.{file_key}
 use Rattle.lease_coherence.proofs.beliefs.Words.{HoldsWrites, OnGiven, AckKeeps, acks}
 use Rattle.lease_coherence.proofs.late.Entries.{given_so}
 use Rattle.lease_coherence.proofs.late.Servers.{live_id, parted_id, own_has_key}
-use Rattle.lease_coherence.proofs.late.Words.{holds_write, IsClean, KeptWrite, WriteSafe, HeldPlain, NotBuffered, AcksKeep, PhaseSafe, IsSafeAt, given_writes, GrantSafe, GrantsSafe, IsSafeUp, IsNotLate, KnowsIds, same_key}
+use Rattle.lease_coherence.proofs.late.Words.{holds_write, IsClean, KeptWrite, WriteSafe, HeldPlain, NotBuffered, AcksKeep, PhaseSafe, given_writes, GrantSafe, GrantsSafe, IsSafeUp, IsNotLate, KnowsIds, same_key}
 use Rattle.lease_coherence.proofs.moves.Foreign.{IsUnmoved}
 use Rattle.lease_coherence.proofs.names.Words.{each_weaker}
 use Rattle.lease_coherence.proofs.standing.Words.{asked_unmoved, asked_weaker}

@@ -1,24 +1,20 @@
 -- Every move leaves a client's writes safe.
-use Rattle.std.proofs.Common.{◌≡◌, ◌⊎◌, inl, inr, ⊎_elim, ℕ, ◌+◌, Bool, true, false, not, List, [], ◌∷◌, ◌++◌, Option, Some, None, refl, sym, ap, ap₂, ◌∙◌, subst, true≢false, ◌==◌}
+use Rattle.std.proofs.Common.{◌≡◌, ℕ, true, false, not, List, [], ◌∷◌, Some, refl, sym, ap, ◌∙◌, true≢false}
 use Rattle.std.specs.Prelude.{is_some}
 use Rattle.lease_state.specs.declared.access.Access.{Access}
 use Rattle.lease_state.specs.declared.access.Share.{Share}
 use Rattle.lease_state.specs.declared.status.Status.{Status}
-use Rattle.lease_model.specs.client.State.{Client, Pending, knows_file}
 use Rattle.lease_model.specs.messages.Replies.{Reply}
 use Rattle.lease_model.specs.messages.Requests.{FileRequest, Request, CreateAsk}
-use Rattle.lease_model.specs.records.Facts.{Fact}
 use Rattle.lease_model.specs.records.Past.{has_strayed}
 use Rattle.lease_model.specs.server.Progress.{refusal_of}
-use Rattle.lease_model.specs.world.Events.{machine_key}
 use Rattle.lease_model.specs.world.World.{World, Link}
-use Rattle.lease_laws.specs.server.Laws.{Among, IsSound}
+use Rattle.lease_laws.specs.server.Laws.{IsSound}
 use Rattle.lease_laws.specs.world.Links.{is_up, is_down}
 use Rattle.lease_laws.proofs.server.Lists.{either}
-use Rattle.lease_coherence.specs.Names.{Each, IsNamedAt, IsOwnCreate}
+use Rattle.lease_coherence.specs.Names.{IsNamedAt, IsOwnCreate}
 use Rattle.lease_coherence.proofs.beliefs.Sent.{refusal_bare}
-use Rattle.lease_coherence.proofs.fresh.Runs.{HasFresh}
-use Rattle.lease_coherence.proofs.late.Acked.{popped_ids, popped_named, failed_late, done_late}
+use Rattle.lease_coherence.proofs.late.Acked.{failed_late, done_late}
 use Rattle.lease_coherence.proofs.late.Called.{IsKnownUp, command_late, take_late}
 use Rattle.lease_coherence.proofs.late.Granted.{SentClean, off_clean, granted_late, reconnected_late, closed_late, timer_late}
 use Rattle.lease_coherence.proofs.late.Held.{hold_late}
@@ -31,12 +27,10 @@ use Rattle.lease_coherence.proofs.late.Words.{IsSafeUp, IsNotLate, KnowsIds}
 use Rattle.lease_coherence.proofs.moves.Deeds.{IsSource}
 use Rattle.lease_coherence.proofs.moves.Events.{Ground, IsCarried, Both, carried_both}
 use Rattle.lease_coherence.proofs.moves.Foreign.{off_sound}
-use Rattle.lease_coherence.proofs.moves.Moves.{popped}
 use Rattle.lease_coherence.proofs.moves.Own.{IsOwnMoved, OfGood, own_moves}
-use Rattle.lease_coherence.proofs.names.Names.{IsCountedOff, off_named, off_counted}
+use Rattle.lease_coherence.proofs.names.Names.{off_named, off_counted}
 use Rattle.lease_coherence.proofs.order.Runs.{HasOrder, order_carried}
 use Rattle.lease_coherence.proofs.standing.Runs.{link_of}
-use Rattle.lease_coherence.proofs.writes.Counts.{settling}
 use Rattle.lease_coherence.proofs.writes.Runs.{ground_of, names_of, known_by}
 
 -- ---- what is known
