@@ -1,15 +1,33 @@
 //! A world of clients of SMB 2.1 leases round one server, the record of what happens in it, and the judge of
-//! such records.
+//! such records. [`run`] gives the record of a run; a [`Judge`] takes a record fact after fact, whoever wrote it, and tells its
+//! verdict at any time.
+//!
+//! ```
+//! let judge = Judge::new(alloc).take(&Fact::Joined(ClientNo(1)))?;
+//! assert!(judge.verdict() == Verdict::Safe);
+//!
+//! // Nothing was sent to it that it could take.
+//! let judge = judge.take(&Fact::Took(ClientNo(1)))?;
+//! assert!(judge.verdict() == Verdict::Malformed { place: 2 });
+//! ```
+//!
+//! Contracts speak of records, runs and verdicts of the rules in `lease_model`. That the record of a run is safe is no clause here.
 #![tactic(auto)]
 
+mod copies;
 mod fact;
 mod judging;
+mod running;
+mod setup;
 #[cfg(test)]
 mod tests;
 mod verdict;
 mod whole;
+mod world;
 
 pub use fact::Fact;
 pub use judging::Judge;
+pub use running::run;
+pub use setup::{Event, RunFault, Setup};
 pub use verdict::{Rule, Verdict};
 pub use whole::{judge, judge_each};

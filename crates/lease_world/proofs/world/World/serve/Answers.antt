@@ -1,0 +1,11 @@
+use Rattle.lease_world.specs.contracts.world.World.{the_view}
+use Rattle.lease_world.specs.world.Calls.{server_call}
+use Rattle.lease_world.proofs.worlds.Standing.{served_stands}
+use Rattle.lease_world.proofs.world.World.serve.Goals as goal
+
+pub returns-clause-becomes : goal.returns-clause-becomes
+returns-clause-becomes c = rw (← c.self.view_is) (λ keyed world s.
+    served_stands (the_view c.self.inside)
+    (record { server = c.in_ok-server.server; seats = c.deliver.new.seats.items; facts = c.deliver.new.facts.items })
+    (server_call c.args.serving) c.in_ok-server.outs.items c.in_ok-server.ensures
+    c.in_ok-deliver.ensures.replies c.in_ok-deliver.ensures.count c.in_ok-deliver.ensures.facts keyed world s)

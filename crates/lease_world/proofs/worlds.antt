@@ -1,0 +1,7 @@
+pub mod Delivered
+pub mod Events
+pub mod First
+pub mod Happening
+pub mod Keys
+pub mod Replies
+pub mod Standing

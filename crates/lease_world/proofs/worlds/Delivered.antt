@@ -1,0 +1,158 @@
+-- What becomes of a world when outs are delivered, notes are told, and requests are sent.
+use Rattle.std.proofs.Common.{◌≡◌, ℕ, Bool, true, false, List, [], ◌∷◌, ◌++◌, map, refl, sym, ap, ◌∙◌, arith}
+use Rattle.std.specs.Prelude.{◌==◌, if◌then◌else◌, reverse}
+use Rattle.std.proofs.lemmas.List.{append-nil, append_assoc, reverse-append}
+use Rattle.lease_laws.specs.messages.Written.{OutHasBytes, RepliesAreReadBack, RequestsAreReadBack, EachRequest}
+use Rattle.lease_laws.specs.server.Outs.{EachOut}
+use Rattle.lease_model.specs.client.Commands.{Note}
+use Rattle.lease_model.specs.messages.FromBytes.{request_of, reply_of}
+use Rattle.lease_model.specs.messages.Replies.{Reply, Out}
+use Rattle.lease_model.specs.messages.Requests.{Request}
+use Rattle.lease_model.specs.messages.ToBytes.{request_written, reply_written, HasRequestBytes}
+use Rattle.lease_model.specs.records.Facts.{Fact}
+use Rattle.lease_model.specs.values.Tables.{put}
+use Rattle.lease_model.specs.world.World.{World, delivered, all_delivered, noted, fact_of}
+use Rattle.lease_world.specs.world.Seats.{fact_given, replies_to}
+use Rattle.share_server.specs.Written.{out_written}
+
+-- ---- outs
+
+abbrev pub told : Out → Fact
+told (Out.Sent client reply) = Fact.Sent client
+told (Out.Opened file client) = Fact.Opened file client
+told (Out.Changed file client number patch) = Fact.Changed file client number patch
+
+abbrev pub told_to : ℕ → List Out → List Reply
+told_to client [] = []
+told_to client (Out.Sent other reply ∷ outs) = if other == client then reply ∷ told_to client outs else told_to client outs
+told_to client (_ ∷ outs) = told_to client outs
+
+-- the world after the outs is this one but for replies and facts
+pub record IsDelivered (world : World) (after : World) (outs : List Out) : Type 0 where
+  pub count : after.count ≡ world.count
+  pub clients : after.clients ≡ world.clients
+  pub server : after.server ≡ world.server
+  pub links : after.links ≡ world.links
+  pub requests : after.requests ≡ world.requests
+  pub replies : (c : ℕ) → after.replies c ≡ world.replies c ++ told_to c outs
+  pub past : reverse after.past ≡ reverse world.past ++ map told outs
+
+one_reply : (b : Bool) (xs rest : List Reply) (reply : Reply)
+    → (if b then xs ++ reply ∷ [] else xs) ++ rest ≡ xs ++ (if b then reply ∷ rest else rest)
+one_reply true xs rest reply = append_assoc xs (reply ∷ []) rest
+one_reply false xs rest reply = refl
+
+same_way : (n k : ℕ) (x y : List Reply) → (if n == k then x else y) ≡ (if k == n then x else y)
+same_way n k x y = grind arith
+
+at_client : (c other : ℕ) (table : ℕ → List Reply) (reply : Reply) (rest : List Reply)
+    → put table other (table other ++ reply ∷ []) c ++ rest ≡ table c ++ (if other == c then reply ∷ rest else rest)
+unfolding put
+at_client c other table reply rest = go (c == other) refl
+  where
+    go : (b : Bool) → (c == other) ≡ b
+        → (if b then table other ++ reply ∷ [] else table c) ++ rest ≡ table c ++ (if other == c then reply ∷ rest else rest)
+    go true e = let is : other ≡ c = grind arith in let same : (c == c) ≡ true = grind arith in
+        rw (is, same) (append_assoc (table c) (reply ∷ []) rest)
+    go false e = let off : (other == c) ≡ false = grind arith in rw off refl
+
+reverse_cons : (fact : Fact) (past rest : List Fact) → reverse (fact ∷ past) ++ rest ≡ reverse past ++ (fact ∷ rest)
+reverse_cons fact past rest =
+    ap (λ (xs : List Fact). xs ++ rest) (reverse-append (fact ∷ []) past) ∙ append_assoc (reverse past) (fact ∷ []) rest
+
+pub delivers : (world : World) (outs : List Out) → IsDelivered world (all_delivered world outs) outs
+unfolding all_delivered delivered
+delivers world [] = record {
+  count = refl;
+  clients = refl;
+  server = refl;
+  links = refl;
+  requests = refl;
+  replies = λ c. sym (append-nil (world.replies c));
+  past = sym (append-nil (reverse world.past));
+}
+delivers world (Out.Sent client reply ∷ outs) =
+    let next : World = delivered world (Out.Sent client reply) in
+    let rest : IsDelivered next (all_delivered next outs) outs = delivers next outs in
+    record {
+      count = rest.count;
+      clients = rest.clients;
+      server = rest.server;
+      links = rest.links;
+      requests = rest.requests;
+      replies = λ c. rest.replies c ∙ at_client c client world.replies reply (told_to c outs);
+      past = rest.past ∙ reverse_cons (Fact.Sent client) world.past (map told outs);
+    }
+delivers world (Out.Opened file client ∷ outs) =
+    let next : World = delivered world (Out.Opened file client) in
+    let rest : IsDelivered next (all_delivered next outs) outs = delivers next outs in
+    record {
+      count = rest.count;
+      clients = rest.clients;
+      server = rest.server;
+      links = rest.links;
+      requests = rest.requests;
+      replies = λ c. rest.replies c;
+      past = rest.past ∙ reverse_cons (Fact.Opened file client) world.past (map told outs);
+    }
+delivers world (Out.Changed file client number patch ∷ outs) =
+    let next : World = delivered world (Out.Changed file client number patch) in
+    let rest : IsDelivered next (all_delivered next outs) outs = delivers next outs in
+    record {
+      count = rest.count;
+      clients = rest.clients;
+      server = rest.server;
+      links = rest.links;
+      requests = rest.requests;
+      replies = λ c. rest.replies c;
+      past = rest.past ∙ reverse_cons (Fact.Changed file client number patch) world.past (map told outs);
+    }
+
+-- ---- outs as they are written
+
+pub given_told : (outs : List Out) → map fact_given (map out_written outs) ≡ map told outs
+given_told [] = refl
+given_told (Out.Sent client reply ∷ outs) = ap (λ (xs : List Fact). Fact.Sent client ∷ xs) (given_told outs)
+given_told (Out.Opened file client ∷ outs) = ap (λ (xs : List Fact). Fact.Opened file client ∷ xs) (given_told outs)
+given_told (Out.Changed file client number patch ∷ outs) =
+    ap (λ (xs : List Fact). Fact.Changed file client number patch ∷ xs) (given_told outs)
+
+pub given_replies : RepliesAreReadBack → (client : ℕ) (outs : List Out) → EachOut OutHasBytes outs
+    → map reply_of (replies_to client (map out_written outs)) ≡ told_to client outs
+given_replies back client [] each = refl
+given_replies back client (Out.Sent other reply ∷ outs) each =
+    go (other == client) (back reply each.0) (given_replies back client outs each.1)
+  where
+    go : (b : Bool) → reply_of (reply_written reply) ≡ reply
+        → map reply_of (replies_to client (map out_written outs)) ≡ told_to client outs
+        → map reply_of (if b then reply_written reply ∷ replies_to client (map out_written outs)
+        else replies_to client (map out_written outs))
+        ≡ (if b then reply ∷ told_to client outs else told_to client outs)
+    go true e rest = rw (e, rest) refl
+    go false e rest = rest
+given_replies back client (Out.Opened file other ∷ outs) each = given_replies back client outs each.1
+given_replies back client (Out.Changed file other number patch ∷ outs) each = given_replies back client outs each.1
+
+-- ---- notes
+
+pub record IsNoted (world : World) (after : World) (client : ℕ) (notes : List Note) : Type 0 where
+  pub same : after ≡ record world { past = after.past }
+  pub past : reverse after.past ≡ reverse world.past ++ map (fact_of client) notes
+
+pub notes_told : (world : World) (client : ℕ) (notes : List Note) → IsNoted world (noted world client notes) client notes
+unfolding noted
+notes_told world client [] = record { same = refl; past = sym (append-nil (reverse world.past)) }
+notes_told world client (note ∷ notes) =
+    let next : World = record world { past = fact_of client note ∷ world.past } in
+    let rest : IsNoted next (noted next client notes) client notes = notes_told next client notes in
+    record {
+      same = rest.same;
+      past = rest.past ∙ reverse_cons (fact_of client note) world.past (map (fact_of client) notes);
+    }
+
+-- ---- requests
+
+pub requests_back : RequestsAreReadBack → (requests : List Request) → EachRequest HasRequestBytes requests
+    → map request_of (map request_written requests) ≡ requests
+requests_back back [] each = refl
+requests_back back (request ∷ requests) each = rw (back request each.0, requests_back back requests each.1) refl

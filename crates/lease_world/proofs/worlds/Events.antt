@@ -1,0 +1,310 @@
+-- What a world of the code stands for after an event of a client that there is.
+use Rattle.std.proofs.Common.{◌≡◌, ℕ, Bool, true, false, List, length, map, Option, Some, None, refl, sym, ap, subst, ◌∙◌, arith}
+use Rattle.std.specs.Prelude.{◌&&◌, if◌then◌else◌, nat_le, is_some}
+use Rattle.lease_laws.specs.messages.Written.{CallHasFileId}
+use Rattle.lease_model.specs.client.Calls.{ClientCall, client_called}
+use Rattle.lease_model.specs.client.Commands.{Command}
+use Rattle.lease_model.specs.client.State.{Client, lease_key}
+use Rattle.lease_model.specs.messages.FromBytes.{request_of, reply_of}
+use Rattle.lease_model.specs.messages.Replies.{Reply}
+use Rattle.lease_model.specs.messages.Requests.{Request}
+use Rattle.lease_model.specs.records.Facts.{Fact}
+use Rattle.lease_model.specs.server.Calls.{Call, called}
+use Rattle.lease_model.specs.server.Naming.{key_of}
+use Rattle.lease_model.specs.server.Progress.{Progress}
+use Rattle.lease_model.specs.server.Queries.{breaking, kept, content}
+use Rattle.lease_model.specs.server.State.{Server, has_file}
+use Rattle.lease_model.specs.values.Keys.{Key}
+use Rattle.lease_model.specs.values.Tables.{put}
+use Rattle.lease_model.specs.world.Events.{Event, served, stepped_in, server_takes, client_takes, link_cut, cut_over, link_noticed, notice_over, link_connected, connect_over, machine_key, timer_expired, scavenged, strayed_over, applied, client_of, happens}
+use Rattle.lease_model.specs.world.World.{World, Link, happened}
+use Rattle.lease_state.specs.declared.request.Request as code_request
+use Rattle.lease_state.specs.declared.reply.Reply as code_reply
+use Rattle.lease_world.specs.Facts.{fact_of}
+use Rattle.lease_world.specs.declared.world.link.Link as code
+use Rattle.lease_world.specs.world.Seats.{Seat, seat_in, is_link, IsPresent, ChangesSeat, PopsRequest, PopsReply}
+use Rattle.lease_world.specs.world.Stands.{Seen, link_of, Stands}
+use Rattle.lease_world.specs.world.Worlds.{Happens, Tells, Serves, StepsIn, Links, CutsLink, Sends, Applies}
+use Rattle.lease_world.proofs.worlds.Delivered.{delivers}
+use Rattle.lease_world.proofs.worlds.Happening.{OnlySeats, no_request, popped_request, no_reply, popped_reply}
+use Rattle.lease_world.proofs.worlds.Keys.{request_keys}
+use Rattle.lease_world.proofs.worlds.Standing.{one_seat}
+use Rattle.share_server.specs.Table.{server_of}
+
+-- ---- queues
+
+same_seats : (old new : Seen) (number : ℕ) (Changes : Seat → Seat → Type 0) → OnlySeats old new
+    → ChangesSeat Changes number old.seats new.seats → seat_in new.seats number ≡ seat_in old.seats number
+    → (world : World) → Stands old world → Stands new world
+same_seats old new number Changes only seats same world s = record {
+  count = s.count ∙ sym seats.2;
+  server = ap server_of only.0 ∙ s.server;
+  seats = one_seat Changes old.seats new.seats number world world seats s.seats (λ p. rw same (s.seats number p))
+      (λ m ne. refl) (λ m ne. refl) (λ m ne. refl) (λ m ne. refl);
+  facts = ap (map fact_of) only.1 ∙ s.facts;
+  sound = s.sound;
+  waiting = s.waiting;
+  keys = s.keys;
+  writing = λ n p. s.writing n (p.0, omega (arith, p.1, seats.2));
+}
+
+pub server_took_nothing : (old new : Seen) (number : ℕ) → OnlySeats old new
+    → ChangesSeat (PopsRequest None) number old.seats new.seats → IsPresent number old.seats
+    → Applies (Event.ServerTakes number) old new
+unfolding applied
+server_took_nothing old new number only seats there world s =
+    subst (λ (rs : List Request). Stands new (server_takes world number rs)) (sym (no_request old new number seats there world s))
+    (same_seats old new number (PopsRequest None) only seats seats.0.0 world s)
+
+pub server_took : (old middle new : Seen) (number : ℕ) (request : code_request.Request) → OnlySeats old middle
+    → ChangesSeat (PopsRequest (Some request)) number old.seats middle.seats → IsPresent number old.seats
+    → Serves (Call.Receive number (request_of request)) middle new
+    → Applies (Event.ServerTakes number) old new
+unfolding applied
+server_took old middle new number request only seats there serves world s =
+    let p = popped_request old middle number request only seats there world s in
+    subst (λ (rs : List Request). Stands new (server_takes world number rs)) (sym p.0)
+    (serves (request_keys number request) _ p.1)
+
+pub client_took_nothing : (old new : Seen) (number : ℕ) → OnlySeats old new
+    → ChangesSeat (PopsReply None) number old.seats new.seats → IsPresent number old.seats
+    → Applies (Event.ClientTakes number) old new
+unfolding applied
+client_took_nothing old new number only seats there world s =
+    subst (λ (rs : List Reply). Stands new (client_takes world number rs)) (sym (no_reply old new number seats there world s))
+    (same_seats old new number (PopsReply None) only seats seats.0.0 world s)
+
+pub client_took : (old middle told new : Seen) (number : ℕ) (reply : code_reply.Reply) → OnlySeats old middle
+    → ChangesSeat (PopsReply (Some reply)) number old.seats middle.seats → IsPresent number old.seats
+    → CallHasFileId (ClientCall.Taken (reply_of reply))
+    → Tells (Fact.Took number) middle told → StepsIn number (ClientCall.Taken (reply_of reply)) told new
+    → Applies (Event.ClientTakes number) old new
+unfolding applied
+client_took old middle told new number reply only seats there fits tells steps world s =
+    let p = popped_reply old middle number reply only seats there world s in
+    subst (λ (rs : List Reply). Stands new (client_takes world number rs)) (sym p.0)
+    (steps fits _ (tells _ p.1))
+
+-- ---- links
+
+link_is : (one other : code.Link) → is_link one other ≡ true → one ≡ other
+link_is code.TheVariants.Down code.TheVariants.Down e = refl
+link_is code.TheVariants.Up code.TheVariants.Up e = refl
+link_is code.TheVariants.Cut code.TheVariants.Cut e = refl
+link_is code.TheVariants.Down code.TheVariants.Up e = let c : ⊥ = cc in absurd c
+link_is code.TheVariants.Down code.TheVariants.Cut e = let c : ⊥ = cc in absurd c
+link_is code.TheVariants.Up code.TheVariants.Down e = let c : ⊥ = cc in absurd c
+link_is code.TheVariants.Up code.TheVariants.Cut e = let c : ⊥ = cc in absurd c
+link_is code.TheVariants.Cut code.TheVariants.Down e = let c : ⊥ = cc in absurd c
+link_is code.TheVariants.Cut code.TheVariants.Up e = let c : ⊥ = cc in absurd c
+
+known_link : (old : Seen) (number : ℕ) (link : code.Link) → IsPresent number old.seats → (world : World) → Stands old world
+    → is_link (seat_in old.seats number).link link ≡ true → world.links number ≡ link_of link
+known_link old number link there world s e =
+    sym (s.seats number there).link ∙ ap link_of (link_is (seat_in old.seats number).link link e)
+
+not_cut : (old : Seen) (world : World) (number : ℕ) (l : code.Link) → is_link l code.TheVariants.Up ≡ false → Stands old world
+    → Stands old (cut_over world number (link_of l))
+not_cut old world number code.TheVariants.Down e s = s
+not_cut old world number code.TheVariants.Up e s = let c : ⊥ = cc in absurd c
+not_cut old world number code.TheVariants.Cut e s = s
+
+pub cut_nothing : (old : Seen) (number : ℕ) → IsPresent number old.seats
+    → is_link (seat_in old.seats number).link code.TheVariants.Up ≡ false → Applies (Event.Cut number) old old
+unfolding applied
+cut_nothing old number there e world s =
+    subst (λ (l : Link). Stands old (cut_over world number l)) (s.seats number there).link
+    (not_cut old world number (seat_in old.seats number).link e s)
+
+pub cut_one : (old middle told new : Seen) (number : ℕ) → IsPresent number old.seats
+    → is_link (seat_in old.seats number).link code.TheVariants.Up ≡ true
+    → CutsLink number old middle → Tells (Fact.Dropped number) middle told → Serves (Call.Cut number) told new
+    → Applies (Event.Cut number) old new
+unfolding applied link_cut
+cut_one old middle told new number there e cuts tells serves world s =
+    subst (λ (l : Link). Stands new (cut_over world number l)) (sym (known_link old number code.TheVariants.Up there world s e))
+    (serves tt _ (tells _ (cuts world s)))
+
+not_noticed : (old : Seen) (world : World) (number : ℕ) (l : code.Link) → is_link l code.TheVariants.Cut ≡ false → Stands old world
+    → Stands old (notice_over world number (link_of l))
+not_noticed old world number code.TheVariants.Down e s = s
+not_noticed old world number code.TheVariants.Up e s = s
+not_noticed old world number code.TheVariants.Cut e s = let c : ⊥ = cc in absurd c
+
+pub notice_nothing : (old : Seen) (number : ℕ) → IsPresent number old.seats
+    → is_link (seat_in old.seats number).link code.TheVariants.Cut ≡ false → Applies (Event.Notice number) old old
+unfolding applied
+notice_nothing old number there e world s =
+    subst (λ (l : Link). Stands old (notice_over world number l)) (s.seats number there).link
+    (not_noticed old world number (seat_in old.seats number).link e s)
+
+pub notice_one : (old middle new : Seen) (number : ℕ) → IsPresent number old.seats
+    → is_link (seat_in old.seats number).link code.TheVariants.Cut ≡ true
+    → Links number Link.Down old middle → StepsIn number ClientCall.Noticed middle new
+    → Applies (Event.Notice number) old new
+unfolding applied link_noticed
+notice_one old middle new number there e links steps world s =
+    subst (λ (l : Link). Stands new (notice_over world number l)) (sym (known_link old number code.TheVariants.Cut there world s e))
+    (steps tt _ (links world s))
+
+not_connected : (old : Seen) (world : World) (number : ℕ) (l : code.Link) → is_link l code.TheVariants.Down ≡ false → Stands old world
+    → Stands old (connect_over world number (link_of l))
+not_connected old world number code.TheVariants.Down e s = let c : ⊥ = cc in absurd c
+not_connected old world number code.TheVariants.Up e s = s
+not_connected old world number code.TheVariants.Cut e s = s
+
+pub connect_nothing : (old : Seen) (number : ℕ) → IsPresent number old.seats
+    → is_link (seat_in old.seats number).link code.TheVariants.Down ≡ false → Applies (Event.Connect number) old old
+unfolding applied
+connect_nothing old number there e world s =
+    subst (λ (l : Link). Stands old (connect_over world number l)) (s.seats number there).link
+    (not_connected old world number (seat_in old.seats number).link e s)
+
+-- a call of the server leaves the clients alone
+same_clients : (world : World) (progress : Progress) → (served world progress).clients ≡ world.clients
+unfolding served
+same_clients world progress =
+    (delivers (record world { server = progress.server }) progress.outs).clients
+
+pub connect_one : (old middle told joined new : Seen) (number : ℕ) → IsPresent number old.seats
+    → is_link (seat_in old.seats number).link code.TheVariants.Down ≡ true
+    → Links number Link.Up old middle → Tells (Fact.Joined number) middle told → Serves (Call.Join number) told joined
+    → StepsIn number ClientCall.Connected joined new
+    → Applies (Event.Connect number) old new
+unfolding applied link_connected
+connect_one old middle told joined new number there e links tells serves steps world s =
+    let up : World = happened (record world { links = put world.links number Link.Up }) (Fact.Joined number) in
+    let come : World = served up (called world.server (Call.Join number)) in
+    let same : come.clients number ≡ world.clients number =
+    ap (λ (t : ℕ → Client). t number) (same_clients up (called world.server (Call.Join number))) in
+    subst (λ (l : Link). Stands new (connect_over world number l)) (sym (known_link old number code.TheVariants.Down there world s e))
+    (subst (λ (c : Client). Stands new (stepped_in come number (client_called c ClientCall.Connected))) same
+    (steps tt come (serves tt up (tells _ (links world s)))))
+
+-- ---- strays
+
+not_strayed : (old : Seen) (world : World) (number : ℕ) (request : Request) (l : code.Link) → is_link l code.TheVariants.Up ≡ false
+    → Stands old world → Stands old (strayed_over world number request (link_of l))
+unfolding strayed_over
+not_strayed old world number request code.TheVariants.Down e s = s
+not_strayed old world number request code.TheVariants.Up e s = let c : ⊥ = cc in absurd c
+not_strayed old world number request code.TheVariants.Cut e s = s
+
+pub stray_nothing : (old : Seen) (number : ℕ) (request : Request) → IsPresent number old.seats
+    → is_link (seat_in old.seats number).link code.TheVariants.Up ≡ false → Applies (Event.Raw number request) old old
+unfolding applied
+stray_nothing old number request there e world s =
+    subst (λ (l : Link). Stands old (strayed_over world number request l)) (s.seats number there).link
+    (not_strayed old world number request (seat_in old.seats number).link e s)
+
+pub stray_one : (old told new : Seen) (number : ℕ) (request : Request) → IsPresent number old.seats
+    → is_link (seat_in old.seats number).link code.TheVariants.Up ≡ true
+    → Tells (Fact.Strayed number) old told → Sends number request told new
+    → Applies (Event.Raw number request) old new
+unfolding applied strayed_over
+stray_one old told new number request there e tells sends world s =
+    subst (λ (l : Link). Stands new (strayed_over world number request l)) (sym (known_link old number code.TheVariants.Up there world s e))
+    (sends _ (tells world s))
+
+-- ---- timers
+
+has_content : (server : Server) (file : ℕ) → is_some (content server file) ≡ has_file server file
+has_content server file = go (has_file server file)
+  where
+    go : (b : Bool) → is_some (if b then Some (server.contents file) else None) ≡ b
+    go true = refl
+    go false = refl
+
+both_so : (a b : Bool) → (a && b) ≡ true → (a ≡ true) × (b ≡ true)
+both_so true b e = (refl, e)
+both_so false b e = let c : ⊥ = cc in absurd c
+
+-- the key that was made is that of the client's machine
+same_key : (old : Seen) (number file : ℕ) (key : List ℕ) → IsPresent number old.seats
+    → key ≡ lease_key (seat_in old.seats number).guid file → (world : World) → Stands old world
+    → key_of number key ≡ machine_key world number file
+same_key old number file key there e world s =
+    ap (λ (k : List ℕ). key_of number k) (e ∙ ap (λ (g : List ℕ). lease_key g file) (s.seats number there).guid)
+
+nothing_expires : (world : World) (b c : Bool) (other : World) → (b && c) ≡ false → (if b then (if c then other else world) else world) ≡ world
+nothing_expires world true true other e = let c : ⊥ = cc in absurd c
+nothing_expires world true false other e = refl
+nothing_expires world false c other e = refl
+
+something_expires : (world : World) (b c : Bool) (other : World) → (b && c) ≡ true → (if b then (if c then other else world) else world) ≡ other
+something_expires world true true other e = refl
+something_expires world true false other e = let c : ⊥ = cc in absurd c
+something_expires world false c other e = let c : ⊥ = cc in absurd c
+
+waits : (old : Seen) (number file : ℕ) (key : List ℕ) (b : Bool) → IsPresent number old.seats
+    → key ≡ lease_key (seat_in old.seats number).guid file
+    → (is_some (content (server_of old.server) file) && breaking (server_of old.server) (key_of number key)) ≡ b
+    → (world : World) → Stands old world
+    → (has_file world.server file && breaking world.server (machine_key world number file)) ≡ b
+waits old number file key b there k e world s =
+    rw (← s.server, ← same_key old number file key there k world s, ← has_content (server_of old.server) file) e
+
+pub expire_nothing : (old : Seen) (number file : ℕ) (key : List ℕ) → IsPresent number old.seats
+    → key ≡ lease_key (seat_in old.seats number).guid file
+    → (is_some (content (server_of old.server) file) && breaking (server_of old.server) (key_of number key)) ≡ false
+    → Applies (Event.Expire number file) old old
+unfolding applied
+expire_nothing old number file key there k e world s =
+    subst (λ (w : World). Stands old w)
+    (sym (nothing_expires world (has_file world.server file) (breaking world.server (machine_key world number file))
+    (timer_expired world number file) (waits old number file key false there k e world s))) s
+
+pub expire_one : (old told new : Seen) (number file : ℕ) (key : List ℕ) → IsPresent number old.seats
+    → key ≡ lease_key (seat_in old.seats number).guid file
+    → (is_some (content (server_of old.server) file) && breaking (server_of old.server) (key_of number key)) ≡ true
+    → Tells (Fact.Expired number file) old told → Serves (Call.Expire (key_of number key)) told new
+    → Applies (Event.Expire number file) old new
+unfolding applied timer_expired
+expire_one old told new number file key there k e tells serves world s =
+    let told_world : World = happened world (Fact.Expired number file) in
+    subst (λ (w : World). Stands new w)
+    (sym (something_expires world (has_file world.server file) (breaking world.server (machine_key world number file))
+    (timer_expired world number file) (waits old number file key true there k e world s)))
+    (subst (λ (q : Key). Stands new (served told_world (called world.server (Call.Expire q))))
+    (same_key old number file key there k world s) (serves tt told_world (tells world s)))
+
+pub scavenge_nothing : (old : Seen) (number file : ℕ) → kept (server_of old.server) number file ≡ None
+    → Applies (Event.Scavenge number file) old old
+unfolding applied
+scavenge_nothing old number file e world s =
+    let none : kept world.server number file ≡ None = ap (λ (t : Server). kept t number file) (sym s.server) ∙ e in
+    subst (λ (o : Option ℕ). Stands old (scavenged world o)) (sym none) s
+
+pub scavenge_one : (old new : Seen) (number file fid : ℕ) → kept (server_of old.server) number file ≡ Some fid
+    → Serves (Call.Scavenge fid) old new → Applies (Event.Scavenge number file) old new
+unfolding applied
+scavenge_one old new number file fid e serves world s =
+    let some : kept world.server number file ≡ Some fid = ap (λ (t : Server). kept t number file) (sym s.server) ∙ e in
+    subst (λ (o : Option ℕ). Stands new (scavenged world o)) (sym some) (serves tt world s)
+
+-- ---- any event
+
+has_it : (old : Seen) (number : ℕ) (b : Bool) → (nat_le 1 number && nat_le number (length old.seats)) ≡ b
+    → (world : World) → Stands old world → (nat_le 1 number && nat_le number world.count) ≡ b
+has_it old number b e world s = rw s.count e
+
+pub nothing_happens : (old : Seen) (number : ℕ) (event : Event) → number ≡ client_of event
+    → (nat_le 1 number && nat_le number (length old.seats)) ≡ false → Happens event old old
+unfolding happens
+nothing_happens old number event n e world s =
+    let has : (nat_le 1 (client_of event) && nat_le (client_of event) world.count) ≡ false =
+    subst (λ (m : ℕ). (nat_le 1 m && nat_le m world.count) ≡ false) n (has_it old number false e world s) in
+    rw has s
+
+pub event_happens : (old new : Seen) (number : ℕ) (event : Event) → number ≡ client_of event
+    → (nat_le 1 number && nat_le number (length old.seats)) ≡ true → Applies event old new → Happens event old new
+unfolding happens
+event_happens old new number event n e applies world s =
+    let has : (nat_le 1 (client_of event) && nat_le (client_of event) world.count) ≡ true =
+    subst (λ (m : ℕ). (nat_le 1 m && nat_le m world.count) ≡ true) n (has_it old number true e world s) in
+    rw has (applies world s)
+
+pub command_applies : (old new : Seen) (number : ℕ) (command : Command) → StepsIn number (ClientCall.Commanded command) old new
+    → Applies (Event.App number command) old new
+unfolding applied
+command_applies old new number command steps world s = steps tt world s

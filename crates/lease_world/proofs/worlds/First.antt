@@ -1,0 +1,267 @@
+-- Where a run begins, and its events one after another.
+use Rattle.std.proofs.Common.{◌≡◌, ℕ, zero, suc, ◌+◌, ◌-◌, ◌<◌, ◌≤◌, Bool, true, false, List, [], ◌∷◌, ◌++◌, length, map, take, drop, get_or, refl, sym, ap, subst, ◌∙◌, arith}
+use Rattle.std.specs.Prelude.{◌&&◌, nat_le, nat_lt, bytes_eq, slice_get, unwrap_or}
+use Rattle.std.specs.List.{list_any, list_all}
+use Rattle.std.proofs.Math.Seq.{take-suc}
+use Rattle.std.proofs.lemmas.Bool.Decides.{nat_tests}
+use Rattle.std.proofs.lemmas.Bool.{le-leb, leb-true}
+use Rattle.std.proofs.lemmas.List.{length-drop, map-append, length-map}
+use Rattle.std.proofs.lemmas.List.{reverse-reverse}
+use Rattle.lease_laws.proofs.server.Calls.{new_server-sound}
+use Rattle.lease_laws.proofs.server.WaitCalls.{first-waits-well}
+use Rattle.lease_laws.specs.messages.Written.{HaveFullKeys}
+use Rattle.lease_model.specs.client.State.{new_client}
+use Rattle.lease_model.specs.messages.FromBytes.{request_of, reply_of}
+use Rattle.lease_model.specs.server.State.{new_server}
+use Rattle.lease_model.specs.values.Tables.{numbered}
+use Rattle.lease_state.specs.declared.content.TheConstants.{FILE_LIMIT}
+use Rattle.lease_model.specs.records.Facts.{Fact}
+use Rattle.lease_model.specs.world.Allowed.{is_content, are_apart, is_allowed_setup, are_too_many}
+use Rattle.lease_model.specs.values.Limits.{files_limit, clients_limit, events_limit}
+use Rattle.lease_model.specs.world.Events.{Event, after, happens}
+use Rattle.lease_model.specs.world.World.{World, Setup, starts_from, first_world}
+use Rattle.lease_world.specs.world.First.{IsNew, AreNew}
+use Rattle.lease_world.specs.Facts.{fact_of}
+use Rattle.lease_world.specs.Setups.{event_of}
+use Rattle.lease_world.specs.declared.setup.Event as code_event
+use Rattle.lease_world.specs.world.Seats.{Seat, seat_in, no_seat, IsPresent}
+use Rattle.lease_world.specs.world.Stands.{Seen, link_of, Stands}
+use Rattle.lease_world.specs.world.Worlds.{Happens}
+use Rattle.share_server.specs.Table.{server_of}
+
+-- one more of a list
+pub take_next : {X : Type 0} (xs : List X) (n : ℕ) (d : X) → n < length xs → take (n + 1) xs ≡ take n xs ++ get_or xs n d ∷ []
+take_next xs n d lt =
+    let e : suc n ≡ n + 1 = omega arith in
+    subst (λ (m : ℕ). take m xs ≡ take n xs ++ get_or xs n d ∷ []) e (take-suc xs n d lt)
+
+drop_next : {X : Type 0} (xs : List X) (n : ℕ) (d : X) → n < length xs → drop n xs ≡ get_or xs n d ∷ drop (suc n) xs
+drop_next [] n d lt = absurd (omega arith)
+drop_next (x ∷ xs) zero d lt = refl
+drop_next (x ∷ xs) (suc n) d lt = drop_next xs n d (omega arith)
+
+pub drop_rest : {X : Type 0} (xs : List X) (n : ℕ) (d : X) → n < length xs → drop n xs ≡ get_or xs n d ∷ drop (n + 1) xs
+drop_rest xs n d lt =
+    let e : suc n ≡ n + 1 = omega arith in
+    subst (λ (m : ℕ). drop n xs ≡ get_or xs n d ∷ drop m xs) e (drop_next xs n d lt)
+
+drop_all : {X : Type 0} (xs : List X) (n : ℕ) → length xs ≤ n → drop n xs ≡ []
+drop_all [] zero le = refl
+drop_all [] (suc n) le = refl
+drop_all (x ∷ xs) zero le = absurd (omega arith)
+drop_all (x ∷ xs) (suc n) le = drop_all xs n (omega arith)
+
+take_all : {X : Type 0} (xs : List X) (n : ℕ) → length xs ≤ n → take n xs ≡ xs
+take_all [] zero le = refl
+take_all [] (suc n) le = refl
+take_all (x ∷ xs) zero le = absurd (omega arith)
+take_all (x ∷ xs) (suc n) le = ap (λ ys. x ∷ ys) (take_all xs n (omega arith))
+
+-- ---- setups
+
+both_so : (a b : Bool) → a ≡ true → b ≡ true → (a && b) ≡ true
+both_so true b refl e = e
+both_so false b e f = let c : ⊥ = cc in absurd c
+
+-- what holds of a head and, where it does, of the rest with one more
+head_and_rest : (a b c : Bool) → (b ≡ true → c ≡ true) → (a && b) ≡ true → (a && c) ≡ true
+head_and_rest true b c f e = f e
+head_and_rest false b c f e = let d : ⊥ = cc in absurd d
+
+all_and_one : {X : Type 0} (p : X → Bool) (xs : List X) (x : X) → p x ≡ true → list_all p xs ≡ true
+    → list_all p (xs ++ x ∷ []) ≡ true
+all_and_one p [] x f e = both_so (p x) true f refl
+all_and_one p (y ∷ xs) x f e =
+    head_and_rest (p y) (list_all p xs) (list_all p (xs ++ x ∷ [])) (all_and_one p xs x f) e
+
+pub fit_one_more : (files : List (List ℕ)) (n : ℕ) (d : List ℕ) → n < length files → list_all is_content (take n files) ≡ true
+    → length (get_or files n d) ≤ FILE_LIMIT → list_all is_content (take (n + 1) files) ≡ true
+fit_one_more files n d lt all le =
+    rw (take_next files n d lt) (all_and_one is_content (take n files) (get_or files n d) (le-leb (length (get_or files n d)) FILE_LIMIT le) all)
+
+pub all_fit : (files : List (List ℕ)) (n : ℕ) → length files ≤ n → list_all is_content (take n files) ≡ true
+    → list_all is_content files ≡ true
+all_fit files n le all = rw (take_all files n le) at all
+
+-- what a slice to the end has
+pub to_the_end : {X : Type 0} (xs : List X) (m : ℕ) → take (length xs - m) (drop m xs) ≡ drop m xs
+to_the_end xs m = take_all (drop m xs) (length xs - m) (omega (arith, length-drop m xs))
+
+pub not_apart : (guids : List (List ℕ)) (n : ℕ) (d : List ℕ) → n < length guids → are_apart guids ≡ are_apart (drop n guids)
+    → list_any (bytes_eq (get_or guids n d)) (drop (n + 1) guids) ≡ true → false ≡ are_apart guids
+unfolding are_apart
+not_apart guids n d lt same any = sym (same ∙ (rw (drop_rest guids n d lt, any) refl))
+
+pub still_apart : (guids : List (List ℕ)) (n : ℕ) (d : List ℕ) → n < length guids → are_apart guids ≡ are_apart (drop n guids)
+    → list_any (bytes_eq (get_or guids n d)) (drop (n + 1) guids) ≡ false → are_apart guids ≡ are_apart (drop (n + 1) guids)
+unfolding are_apart
+still_apart guids n d lt same any = same ∙ (rw (drop_rest guids n d lt, any) refl)
+
+pub all_apart : (guids : List (List ℕ)) (n : ℕ) → length guids ≤ n → are_apart guids ≡ are_apart (drop n guids)
+    → true ≡ are_apart guids
+unfolding are_apart
+all_apart guids n le same = sym (same ∙ ap are_apart (drop_all guids n le))
+
+beyond : (m n : ℕ) → n < m → nat_le m n ≡ false
+beyond m n h = grind (arith, nat_tests)
+
+pub is_allowed_by : (setup : Setup) (b : Bool) → length setup.files ≤ 8 → list_all is_content setup.files ≡ true
+    → length setup.clients ≤ 16 → b ≡ are_apart setup.clients → b ≡ is_allowed_setup setup
+unfolding is_allowed_setup files_limit clients_limit
+is_allowed_by setup b files fit clients e =
+    rw (le-leb (length setup.files) 8 files, fit, le-leb (length setup.clients) 16 clients) e
+
+pub has_many_clients : (setup : Setup) → 16 < length setup.clients → false ≡ is_allowed_setup setup
+unfolding is_allowed_setup clients_limit
+has_many_clients setup many =
+    rw (beyond (length setup.clients) 16 many) (sym (no_end (nat_le (length setup.files) files_limit) (list_all is_content setup.files) (are_apart setup.clients)))
+  where
+    no_end : (a b c : Bool) → (a && b && false && c) ≡ false
+    no_end true true c = refl
+    no_end true false c = refl
+    no_end false b c = refl
+
+pub has_many_files : (setup : Setup) → 8 < length setup.files → false ≡ is_allowed_setup setup
+unfolding is_allowed_setup files_limit
+has_many_files setup many = rw (beyond (length setup.files) 8 many) refl
+
+pub as_many : (events : List code_event.Event) → nat_lt 10000 (length events) ≡ are_too_many (map event_of events)
+unfolding are_too_many events_limit
+as_many events = ap (λ (n : ℕ). nat_lt 10000 n) (sym (length-map events event_of))
+
+pub has_few_files : (setup : Setup) → is_allowed_setup setup ≡ true → length setup.files ≤ 255
+unfolding is_allowed_setup files_limit
+has_few_files setup allowed =
+    fewer (nat_le (length setup.files) 8) (list_all is_content setup.files)
+    (nat_le (length setup.clients) clients_limit) (are_apart setup.clients) refl allowed
+  where
+    fewer : (a b c d : Bool) → nat_le (length setup.files) 8 ≡ a → (a && b && c && d) ≡ true → length setup.files ≤ 255
+    fewer true b c d e f = omega (arith, leb-true (length setup.files) 8 e)
+    fewer false b c d e f = let g : ⊥ = cc in absurd g
+
+-- ---- files
+
+start_at : (files : List (List ℕ)) (first n : ℕ) (d : List ℕ) → n < length files
+    → take (suc n) (starts_from first files) ≡ take n (starts_from first files) ++ Fact.Start (n + first) (get_or files n d) ∷ []
+unfolding starts_from
+start_at [] first n d lt = absurd (omega arith)
+start_at (file ∷ files) first zero d lt =
+    let e : first ≡ 0 + first = omega arith in
+    ap (λ (m : ℕ). Fact.Start m file ∷ []) e
+start_at (file ∷ files) first (suc n) d lt =
+    let e : n + (first + 1) ≡ suc n + first = omega arith in
+    ap (λ fs. Fact.Start first file ∷ fs)
+    (subst (λ (m : ℕ). take (suc n) (starts_from (first + 1) files)
+    ≡ take n (starts_from (first + 1) files) ++ Fact.Start m (get_or files n d) ∷ []) e (start_at files (first + 1) n d (omega arith)))
+
+pub one_more_start : (files : List (List ℕ)) (n : ℕ) (d : List ℕ) → n < length files
+    → take (n + 1) (starts_from 1 files) ≡ take n (starts_from 1 files) ++ Fact.Start (n + 1) (get_or files n d) ∷ []
+one_more_start files n d lt =
+    let e : suc n ≡ n + 1 = omega arith in
+    subst (λ (m : ℕ). take m (starts_from 1 files) ≡ take n (starts_from 1 files) ++ Fact.Start (n + 1) (get_or files n d) ∷ [])
+    e (start_at files 1 n d lt)
+
+count_starts : (files : List (List ℕ)) (first : ℕ) → length (starts_from first files) ≡ length files
+unfolding starts_from
+count_starts [] first = refl
+count_starts (file ∷ files) first = ap suc (count_starts files (first + 1))
+
+pub all_starts : (files : List (List ℕ)) (n : ℕ) → length files ≤ n → take n (starts_from 1 files) ≡ starts_from 1 files
+all_starts files n le = take_all (starts_from 1 files) n (omega (arith, le, count_starts files 1))
+
+-- ---- clients
+
+new_and_one : (files : ℕ) (guids : List (List ℕ)) (seats : List Seat) (guid : List ℕ) (seat : Seat)
+    → AreNew files guids seats → IsNew files guid seat → AreNew files (guids ++ guid ∷ []) (seats ++ seat ∷ [])
+new_and_one files [] [] guid seat all one = (one, tt)
+new_and_one files [] (s ∷ seats) guid seat all one = absurd all
+new_and_one files (g ∷ guids) [] guid seat all one = absurd all
+new_and_one files (g ∷ guids) (s ∷ seats) guid seat all one = (all.0, new_and_one files guids seats guid seat all.1 one)
+
+pub one_more_new : (files : ℕ) (guids : List (List ℕ)) (n : ℕ) (d : List ℕ) (seats : List Seat) (seat : Seat)
+    → n < length guids → AreNew files (take n guids) seats → IsNew files (get_or guids n d) seat
+    → AreNew files (take (n + 1) guids) (seats ++ seat ∷ [])
+one_more_new files guids n d seats seat lt all one =
+    rw (take_next guids n d lt) (new_and_one files (take n guids) seats (get_or guids n d) seat all one)
+
+pub all_new : (files : ℕ) (guids : List (List ℕ)) (n : ℕ) (seats : List Seat) → length guids ≤ n
+    → AreNew files (take n guids) seats → AreNew files guids seats
+all_new files guids n seats le all = subst (λ (gs : List (List ℕ)). AreNew files gs seats) (take_all guids n le) all
+
+new_there : (files : ℕ) (guids : List (List ℕ)) (seats : List Seat) → AreNew files guids seats → (k : ℕ) → k < length seats
+    → IsNew files (unwrap_or (slice_get guids k) []) (unwrap_or (slice_get seats k) no_seat)
+new_there files [] [] all k lt = absurd (omega arith)
+new_there files [] (s ∷ seats) all k lt = absurd all
+new_there files (g ∷ guids) [] all k lt = absurd (omega arith)
+new_there files (g ∷ guids) (s ∷ seats) all zero lt = all.0
+new_there files (g ∷ guids) (s ∷ seats) all (suc k) lt = new_there files guids seats all.1 k (omega arith)
+
+new_seat : (files : ℕ) (guids : List (List ℕ)) (seats : List Seat) → AreNew files guids seats → (n : ℕ) → IsPresent n seats
+    → IsNew files (numbered [] guids n) (seat_in seats n)
+unfolding numbered
+new_seat files guids seats all zero p = absurd (omega (arith, p.0))
+new_seat files guids seats all (suc n) p = new_there files guids seats all n (omega (arith, p.1))
+
+new_count : (files : ℕ) (guids : List (List ℕ)) (seats : List Seat) → AreNew files guids seats → length guids ≡ length seats
+new_count files [] [] all = refl
+new_count files [] (s ∷ seats) all = absurd all
+new_count files (g ∷ guids) [] all = absurd all
+new_count files (g ∷ guids) (s ∷ seats) all = ap suc (new_count files guids seats all.1)
+
+new_keys : (contents : List (List ℕ)) → HaveFullKeys (new_server contents)
+unfolding new_server
+new_keys contents = record { opens = λ one bytes a e. absurd a; held = λ file one a. absurd a }
+
+pub first_stands : (new : Seen) (setup : Setup) → server_of new.server ≡ new_server setup.files
+    → AreNew (length setup.files) setup.clients new.seats → map fact_of new.facts ≡ starts_from 1 setup.files
+    → Stands new (first_world setup)
+unfolding first_world new_client
+first_stands new setup server all facts =
+    let is_new : (n : ℕ) → IsPresent n new.seats → IsNew (length setup.files) (numbered [] setup.clients n) (seat_in new.seats n) =
+    λ n p. new_seat (length setup.files) setup.clients new.seats all n p in
+    record {
+      count = new_count (length setup.files) setup.clients new.seats all;
+      server = server;
+      seats = λ n p. let one = is_new n p in record {
+        guid = one.guid;
+        client = one.client;
+        link = ap link_of one.link;
+        requests = ap (map request_of) one.requests;
+        replies = ap (map reply_of) one.replies;
+      };
+      facts = facts ∙ sym (reverse-reverse (starts_from 1 setup.files));
+      sound = new_server-sound setup.files;
+      waiting = first-waits-well setup.files;
+      keys = new_keys setup.files;
+      writing = λ n p. record { guid = (is_new n p).full; file_ids = λ file. tt };
+    }
+
+-- ---- events
+
+after_one_more : (world : World) (events : List Event) (event : Event)
+    → after world (events ++ event ∷ []) ≡ happens (after world events) event
+unfolding after
+after_one_more world [] event = refl
+after_one_more world (e ∷ events) event = after_one_more (happens world e) events event
+
+take_map : {X Y : Type 0} (f : X → Y) (xs : List X) (n : ℕ) → take n (map f xs) ≡ map f (take n xs)
+take_map f [] zero = refl
+take_map f [] (suc n) = refl
+take_map f (x ∷ xs) zero = refl
+take_map f (x ∷ xs) (suc n) = ap (λ ys. f x ∷ ys) (take_map f xs n)
+
+pub no_event : (old : Seen) (first : World) (events : List Event) → Stands old first → Stands old (after first (take 0 events))
+unfolding after
+no_event old first events s = s
+
+pub one_more_event : (old new : Seen) (first : World) (events : List code_event.Event) (n : ℕ) (d : code_event.Event)
+    → n < length events → Stands old (after first (take n (map event_of events)))
+    → Happens (event_of (get_or events n d)) old new → Stands new (after first (take (n + 1) (map event_of events)))
+one_more_event old new first events n d lt s happens =
+    let next : take (n + 1) (map event_of events) ≡ take n (map event_of events) ++ event_of (get_or events n d) ∷ [] =
+    take_map event_of events (n + 1) ∙ ap (map event_of) (take_next events n d lt)
+    ∙ map-append event_of (take n events) (get_or events n d ∷ [])
+    ∙ ap (λ es. es ++ event_of (get_or events n d) ∷ []) (sym (take_map event_of events n)) in
+    subst (λ (es : List Event). Stands new (after first es)) (sym next)
+    (subst (λ (w : World). Stands new w) (sym (after_one_more first (take n (map event_of events)) (event_of (get_or events n d))))
+    (happens (after first (take n (map event_of events))) s))

@@ -1,0 +1,125 @@
+-- What is found in the bytes of a request names a key of 16 bytes, or none.
+use Rattle.std.proofs.Common.{◌≡◌, ℕ, Bool, true, false, List, [], ◌∷◌, length, Option, Some, None, Result, Ok, Err, refl, arith}
+use Rattle.std.specs.Prelude.{⊤, ◌==◌, if◌then◌else◌, IfSome, bytes_eq}
+use Rattle.std.specs.Option.{option_map}
+use Rattle.lease_laws.specs.messages.Written.{HasFullKey, CallHasFullKey}
+use Rattle.lease_model.specs.messages.FromBytes.{ask_found, lease_wanted, request_of}
+use Rattle.lease_model.specs.server.Calls.{Call}
+use Rattle.std.proofs.lemmas.List.{length-take-le}
+use Rattle.lease_model.specs.messages.Requests.{FileRequest}
+use Rattle.lease_state.specs.declared.access.Access.{Access}
+use Rattle.lease_state.specs.declared.access.Share.{Share}
+use Rattle.lease_state.specs.declared.request.Request as real
+use Rattle.lease_wire.specs.Field.{bytes_at}
+use Rattle.lease_wire.specs.Gathering.{no_values, with_lease, with_durable, with_reconnect, with_meaning, carried, gathered, value_of}
+use Rattle.lease_wire.specs.Chain.{ContextView}
+use Rattle.lease_wire.specs.Names.{Meaning, LeaseView, CreateView, meaning_of, durable_meaning, reconnect_meaning, lease_view, lease_name, durable_name, reconnect_name}
+use Rattle.lease_wire.specs.Reading.{Item, items_of}
+use Rattle.lease_wire.specs.declared.create.Direction.{Direction}
+use Rattle.lease_wire.specs.declared.fault.WireFault.{WireFault}
+
+abbrev IsFull : LeaseView → Type 0
+IsFull lease = length lease.key ≡ 16
+
+abbrev MeansFull : Meaning → Type 0
+MeansFull (Meaning.Lease lease) = IsFull lease
+MeansFull _ = ⊤
+
+abbrev ViewIsFull : CreateView → Type 0
+ViewIsFull v = IfSome v.lease IsFull
+
+abbrev ResultIsFull : Result CreateView WireFault → Type 0
+ResultIsFull (Ok v) = ViewIsFull v
+ResultIsFull (Err fault) = ⊤
+
+first_sixteen : (body : List ℕ) → length body ≡ 32 → length (bytes_at 0 16 body) ≡ 16
+first_sixteen body e = grind (arith, length-take-le)
+
+lease_full : (direction : Direction) (body : List ℕ) (b : Bool) → (length body == 32) ≡ b
+    → MeansFull (if b then Meaning.Lease (lease_view direction body) else Meaning.Unknown)
+lease_full Direction.Request body true e = let l : length body ≡ 32 = grind arith in first_sixteen body l
+lease_full Direction.Reply body true e = let l : length body ≡ 32 = grind arith in first_sixteen body l
+lease_full direction body false e = tt
+
+durable_full : (direction : Direction) (body : List ℕ) → MeansFull (durable_meaning direction body)
+durable_full Direction.Request body = go (length body == 16)
+  where
+    go : (b : Bool) → MeansFull (if b then Meaning.Durable else Meaning.WrongLength)
+    go true = tt
+    go false = tt
+durable_full Direction.Reply body = go (length body == 8)
+  where
+    go : (b : Bool) → MeansFull (if b then Meaning.Durable else Meaning.WrongLength)
+    go true = tt
+    go false = tt
+
+reconnect_full : (direction : Direction) (body : List ℕ) → MeansFull (reconnect_meaning direction body)
+reconnect_full Direction.Request body = go (length body == 16) _
+  where
+    go : (b : Bool) (n : ℕ) → MeansFull (if b then Meaning.Reconnect n else Meaning.WrongLength)
+    go true n = tt
+    go false n = tt
+reconnect_full Direction.Reply body = tt
+
+one_of : (b : Bool) (x y : Meaning) → MeansFull x → MeansFull y → MeansFull (if b then x else y)
+one_of true x y f g = f
+one_of false x y f g = g
+
+meaning_full : (direction : Direction) (context : ContextView) → MeansFull (meaning_of direction context)
+unfolding meaning_of
+meaning_full direction context =
+    one_of (bytes_eq context.name lease_name) _ _ (lease_full direction context.body (length context.body == 32) refl)
+    (one_of (bytes_eq context.name durable_name) _ _ (durable_full direction context.body)
+    (one_of (bytes_eq context.name reconnect_name) _ _ (reconnect_full direction context.body) tt))
+
+with_full : (v : CreateView) (place : ℕ) (meaning : Meaning) → ViewIsFull v → MeansFull meaning
+    → ResultIsFull (with_meaning v place meaning)
+with_full v place Meaning.Unknown h m = h
+with_full v place Meaning.WrongLength h m = tt
+with_full v place (Meaning.Lease lease) h m = go v.lease
+  where
+    go : (o : Option LeaseView) → ResultIsFull (with_lease v place lease o)
+    go None = m
+    go (Some other) = tt
+with_full v place Meaning.Durable h m = go v.durable
+  where
+    go : (b : Bool) → ResultIsFull (with_durable v place b)
+    go false = h
+    go true = tt
+with_full v place (Meaning.Reconnect file_id) h m = go v.reconnect
+  where
+    go : (o : Option ℕ) → ResultIsFull (with_reconnect v place file_id o)
+    go None = h
+    go (Some other) = tt
+
+carried_full : (r : Result CreateView WireFault) (further : CreateView → Result CreateView WireFault) → ResultIsFull r
+    → ((v : CreateView) → ViewIsFull v → ResultIsFull (further v)) → ResultIsFull (carried r further)
+carried_full (Ok v) further h f = f v h
+carried_full (Err fault) further h f = tt
+
+gathered_full : (direction : Direction) (v : CreateView) (items : List Item) → ViewIsFull v → ResultIsFull (gathered direction v items)
+unfolding gathered
+gathered_full direction v [] h = h
+gathered_full direction v (Err fault ∷ items) h = tt
+gathered_full direction v (Ok context ∷ items) h =
+    carried_full (with_meaning v context.place (meaning_of direction context)) (λ further. gathered direction further items)
+    (with_full v context.place (meaning_of direction context) h (meaning_full direction context))
+    (λ w k. gathered_full direction w items k)
+
+lease_kept : (o : Option LeaseView) → IfSome o IsFull → IfSome (option_map lease_wanted o) (λ lease. length lease.key ≡ 16)
+lease_kept None h = tt
+lease_kept (Some lease) h = h
+
+ask_full : (file : ℕ) (access : Access) (share : Share) (r : Result CreateView WireFault) → ResultIsFull r
+    → HasFullKey (FileRequest.Create file access share (ask_found r))
+ask_full file access share (Ok v) h = lease_kept v.lease h
+ask_full file access share (Err fault) h = tt
+
+pub request_keys : (client : ℕ) (request : real.Request) → CallHasFullKey (Call.Receive client (request_of request))
+request_keys client (real.TheVariants.Create file access share contexts) =
+    ask_full file.0 access share (value_of Direction.Request contexts)
+    (gathered_full Direction.Request no_values (items_of contexts) tt)
+request_keys client (real.TheVariants.Read fid) = tt
+request_keys client (real.TheVariants.Write fid number patch) = tt
+request_keys client (real.TheVariants.Close fid) = tt
+request_keys client (real.TheVariants.Ack bytes) = tt

@@ -1,0 +1,39 @@
+-- Replies to clients, one after another.
+use Rattle.std.proofs.Common.{◌≡◌, ℕ, Bool, true, false, List, [], ◌∷◌, ◌++◌, Option, Some, None, refl, sym, ap, ◌∙◌}
+use Rattle.std.specs.Prelude.{◌==◌, if◌then◌else◌}
+use Rattle.std.specs.Option.{option_map}
+use Rattle.std.proofs.lemmas.List.{append-nil, append_assoc}
+use Rattle.lease_state.specs.declared.reply.Reply.{Reply}
+use Rattle.lease_world.specs.world.Seats.{Seat, seat_at, replies_to, with_replies, HasReplies}
+use Rattle.share_server.specs.declared.out.Out as out
+
+replies_append : (client : ℕ) (xs ys : List out.Out) → replies_to client (xs ++ ys) ≡ replies_to client xs ++ replies_to client ys
+replies_append client [] ys = refl
+replies_append client (out.TheVariants.Sent other reply ∷ xs) ys = go (other.0 == client) (replies_append client xs ys)
+  where
+    go : (b : Bool) → replies_to client (xs ++ ys) ≡ replies_to client xs ++ replies_to client ys
+        → (if b then reply ∷ replies_to client (xs ++ ys) else replies_to client (xs ++ ys))
+        ≡ (if b then reply ∷ replies_to client xs else replies_to client xs) ++ replies_to client ys
+    go true e = ap (λ (rs : List Reply). reply ∷ rs) e
+    go false e = e
+replies_append client (out.TheVariants.Opened file other ∷ xs) ys = replies_append client xs ys
+replies_append client (out.TheVariants.Changed file other number patch ∷ xs) ys = replies_append client xs ys
+
+with_none : (o : Option Seat) → o ≡ option_map (with_replies []) o
+with_none None = refl
+with_none (Some seat) = ap (λ (rs : List Reply). Some (record seat { replies = rs })) (sym (append-nil seat.replies))
+
+pub no_replies : (seats : List Seat) → HasReplies seats seats []
+no_replies seats n = with_none (seat_at seats n)
+
+with_both : (o : Option Seat) (xs ys : List Reply)
+    → option_map (with_replies ys) (option_map (with_replies xs) o) ≡ option_map (with_replies (xs ++ ys)) o
+with_both None xs ys = refl
+with_both (Some seat) xs ys = ap (λ (rs : List Reply). Some (record seat { replies = rs })) (append_assoc seat.replies xs ys)
+
+pub more_replies : (first middle last : List Seat) (xs ys : List out.Out) → HasReplies first middle xs → HasReplies middle last ys
+    → HasReplies first last (xs ++ ys)
+more_replies first middle last xs ys a b n =
+    b n ∙ (ap (λ (o : Option Seat). option_map (with_replies (replies_to n ys)) o) (a n)
+    ∙ (with_both (seat_at first n) (replies_to n xs) (replies_to n ys)
+    ∙ ap (λ (rs : List Reply). option_map (with_replies rs) (seat_at first n)) (sym (replies_append n xs ys))))

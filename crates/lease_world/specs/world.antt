@@ -1,0 +1,5 @@
+pub mod Calls
+pub mod First
+pub mod Seats
+pub mod Stands
+pub mod Worlds

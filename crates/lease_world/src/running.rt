@@ -1,0 +1,60 @@
+ghost use Rattle.std.specs.Prelude.{◌≡◌, ◌≢◌, ◌↔◌, ◌≤◌, Ok, Err, true, false, map, length, IfOk};
+ghost use Rattle.lease_model.specs.world.Allowed.{is_allowed_setup, are_too_many};
+ghost use Rattle.lease_model.specs.world.Events.{after, recorded};
+ghost use Rattle.lease_model.specs.world.World.{first_world};
+ghost use Rattle.lease_world.specs.Facts.{fact_of};
+ghost use Rattle.lease_world.specs.Setups.{setup_of, event_of};
+ghost use Rattle.lease_world.specs.world.Stands.{Stands};
+
+use crate::fact::Fact;
+use crate::setup::{Event, RunFault, Setup};
+use crate::world::World;
+use lease_state::Memory;
+use std::alloc::Global;
+
+// The most events of a run.
+const EVENTS_LIMIT: usize = 10_000;
+
+/// The record of a run: what happens in a world of this setup by these events, in order. An event that doesn't apply
+/// does nothing.
+///
+/// # Errors
+///
+/// `BadSetup` exactly where the setup breaks its limits, else `TooMany` exactly where there are too many events, else
+/// `Memory` where there is none left.
+pub fn run(alloc: Global, setup: &Setup, events: &[Event]) -> Result<Vec<Fact>, RunFault>
+    ensures bad_setup { (result ≡ Err RunFault.BadSetup) ↔ (is_allowed_setup (setup_of setup.now) ≡ false) }
+    ensures too_many { (result ≡ Err RunFault.TooMany)
+        ↔ ((is_allowed_setup (setup_of setup.now) ≡ true) × (are_too_many (map event_of events.now) ≡ true)) }
+    ensures record { IfOk result (λ facts. map fact_of facts.items
+        ≡ recorded (setup_of setup.now) (map event_of events.now)) }
+{
+    if !setup.is_allowed() {
+        return Err(RunFault::BadSetup);
+    }
+    if are_too_many(events) {
+        return Err(RunFault::TooMany);
+    }
+    match play(alloc, setup, events) {
+        Ok(facts) => Ok(facts),
+        Err(Memory) => Err(RunFault::Memory),
+    }
+}
+
+fn are_too_many(events: &[Event]) -> bool
+    ensures { result ≡ are_too_many (map event_of events.now) }
+{
+    events.len() > EVENTS_LIMIT
+}
+
+// The record of a run whose setup has few files.
+fn play(alloc: Global, setup: &Setup, events: &[Event]) -> Result<Vec<Fact>, Memory>
+    requires { length setup.now.files.items ≤ 255 }
+    ensures { IfOk result (λ facts. map fact_of facts.items ≡ recorded (setup_of setup.now) (map event_of events.now)) }
+{
+    let mut world = World::new(alloc, setup)?;
+    for place in 0..events.len() {
+        world = world.happen(&events[place])?;
+    }
+    Ok(world.into_facts())
+}

@@ -1,0 +1,8 @@
+/// How a client is connected (own).
+#[derive(Clone, Copy, Debug, PartialEq, Eq)]
+pub enum Link {
+    Down,
+    Up,
+    /// The server has lost the connection, and the client hasn't noticed yet.
+    Cut,
+}
