@@ -1,4 +1,5 @@
 ghost use Rattle.std.specs.Prelude.{◌≡◌, ◌≢◌, ◌↔◌, ◌≤◌, Ok, Err, true, false, map, length, IfOk};
+ghost use Rattle.lease_model.specs.records.Safe.{Safe};
 ghost use Rattle.lease_model.specs.world.Allowed.{is_allowed_setup, are_too_many};
 ghost use Rattle.lease_model.specs.world.Events.{after, recorded};
 ghost use Rattle.lease_model.specs.world.World.{first_world};
@@ -9,6 +10,7 @@ ghost use Rattle.lease_world.specs.world.Stands.{Stands};
 use crate::fact::Fact;
 use crate::setup::{Event, RunFault, Setup};
 use crate::world::World;
+use lease_coherence::coherent;
 use lease_state::Memory;
 use std::alloc::Global;
 
@@ -17,6 +19,12 @@ const EVENTS_LIMIT: usize = 10_000;
 
 /// The record of a run: what happens in a world of this setup by these events, in order. An event that doesn't apply
 /// does nothing.
+///
+/// The record is safe, whatever the events. Among clients whose connection the server has, that never strayed and let no break
+/// timer run out since they connected, none caches writes of a file that another caches, and a cached read gives the file
+/// as it stood when the message that the client took last was sent, with its unanswered writes. And of clients that never
+/// strayed no write is told as done that wasn't accepted, nor a buffered one accepted after another client opened or
+/// changed the file.
 ///
 /// # Errors
 ///
@@ -28,7 +36,9 @@ pub fn run(alloc: Global, setup: &Setup, events: &[Event]) -> Result<Vec<Fact>, 
         ↔ ((is_allowed_setup (setup_of setup.now) ≡ true) × (are_too_many (map event_of events.now) ≡ true)) }
     ensures record { IfOk result (λ facts. map fact_of facts.items
         ≡ recorded (setup_of setup.now) (map event_of events.now)) }
+    ensures safe { IfOk result (λ facts. Safe (map fact_of facts.items)) }
 {
+    coherent();
     if !setup.is_allowed() {
         return Err(RunFault::BadSetup);
     }

@@ -87,7 +87,11 @@ fn events_have_a_limit(rt: HostRuntime) -> Result<(), Fail> {
 #[test]
 fn a_run_without_events_has_its_starts(rt: HostRuntime) -> Result<(), Fail> {
     let alloc = rt.alloc();
-    let facts = match run(alloc, &setup(alloc, 2, 1)?, &[Event::ServerTakes(ClientNo(9))]) {
+    let facts = match run(
+        alloc,
+        &setup(alloc, 2, 1)?,
+        &[Event::ServerTakes(ClientNo(9))],
+    ) {
         Ok(facts) => facts,
         Err(_) => Vec::new(alloc),
     };
