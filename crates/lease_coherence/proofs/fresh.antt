@@ -1,5 +1,6 @@
 pub mod Clients
 pub mod Contents
+pub mod Moves
 pub mod Reads
 pub mod Runs
 pub mod Sent
