@@ -33,6 +33,7 @@ use Rattle.lease_laws.proofs.world.Kept.{served-clients}
 use Rattle.lease_laws.proofs.world.Links.{by_client}
 use Rattle.lease_laws.proofs.world.Runs.{stepped_clients}
 use Rattle.lease_coherence.specs.Parts.{RunsHaveOneWriteCache}
+use Rattle.lease_coherence.proofs.moves.Shift.{append_none}
 use Rattle.lease_coherence.proofs.beliefs.WriteCaches.{after_one_write_cache, run_beliefs}
 use Rattle.lease_coherence.proofs.moves.Frames.{stepped_past}
 use Rattle.lease_coherence.proofs.records.Later.{past_noted}
@@ -421,14 +422,10 @@ pub append_last : {X : Type 0} (xs : List X) (x : X) (ys : List X) → (xs ++ x 
 append_last [] x ys = refl
 append_last (y ∷ xs) x ys = ap (λ l. y ∷ l) (append_last xs x ys)
 
-pub append_nothing : {X : Type 0} (xs : List X) → xs ++ [] ≡ xs
-append_nothing [] = refl
-append_nothing (x ∷ xs) = ap (λ l. x ∷ l) (append_nothing xs)
-
 run_always : (setup : Setup) (before events : List Event) → Always (after (first_world setup) before).past
     → Always (after (first_world setup) (before ++ events)).past
 run_always setup before [] a =
-    subst (λ l. Always (after (first_world setup) l).past) (sym (append_nothing before)) a
+    subst (λ l. Always (after (first_world setup) l).past) (sym (append_none before)) a
 run_always setup before (event ∷ events) a =
     subst (λ l. Always (after (first_world setup) l).past) (append_last before event events)
     (run_always setup (before ++ event ∷ []) events

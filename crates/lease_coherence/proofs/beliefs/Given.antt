@@ -27,7 +27,7 @@ use Rattle.lease_coherence.proofs.beliefs.Trust.{file_key, HasTrust}
 use Rattle.lease_coherence.proofs.beliefs.Words.{HoldsWrites, IsBelieved}
 
 -- the key that a create of the file names
-own_named : (off : World) (c file at : ℕ) (asked : LeaseOf) → asked.key ≡ lease_key (off.clients c).guid file
+pub own_named : (off : World) (c file at : ℕ) (asked : LeaseOf) → asked.key ≡ lease_key (off.clients c).guid file
     → file ≡ at → machine_key off c at ≡ key_of c asked.key
 own_named off c file at asked named same = ap (λ f. key_of c (lease_key (off.clients c).guid f)) (sym same)
     ∙ ap (λ bytes. key_of c bytes) (sym named)

@@ -34,10 +34,11 @@ use Rattle.lease_laws.proofs.world.InStep.{contents_are_told}
 use Rattle.lease_laws.proofs.world.Kept.{served-clients}
 use Rattle.lease_laws.proofs.world.Timers.{timers_are_told}
 use Rattle.lease_coherence.specs.Parts.{InRuns}
-use Rattle.lease_coherence.proofs.beliefs.Between.{after_last, append_last, append_nothing}
+use Rattle.lease_coherence.proofs.beliefs.Between.{after_last, append_last}
 use Rattle.lease_coherence.proofs.beliefs.WriteCaches.{first_beliefs}
 use Rattle.lease_coherence.proofs.clients.Commands.{IsEntry, sent_of}
 use Rattle.lease_coherence.proofs.fresh.Runs.{HasFresh, fresh_carried}
+use Rattle.lease_coherence.proofs.moves.Shift.{append_none}
 use Rattle.lease_coherence.proofs.moves.Events.{Ground, IsCarried, Both, carried_both, runs_have}
 use Rattle.lease_coherence.proofs.moves.Frames.{stepped_past}
 use Rattle.lease_coherence.proofs.records.Later.{past_noted}
@@ -289,7 +290,7 @@ happens_fresh world event s reads a = if_cases (λ (w : World). AllFresh w.past)
 run_fresh : (setup : Setup) → is_allowed_setup setup ≡ true → (before events : List Event)
     → AllFresh (after (first_world setup) before).past → AllFresh (after (first_world setup) (before ++ events)).past
 run_fresh setup allowed before [] a =
-    subst (λ l. AllFresh (after (first_world setup) l).past) (sym (append_nothing before)) a
+    subst (λ l. AllFresh (after (first_world setup) l).past) (sym (append_none before)) a
 run_fresh setup allowed before (event ∷ events) a =
     subst (λ l. AllFresh (after (first_world setup) l).past) (append_last before event events)
     (run_fresh setup allowed (before ++ event ∷ []) events

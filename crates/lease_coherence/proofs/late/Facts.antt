@@ -29,6 +29,7 @@ use Rattle.lease_coherence.proofs.moves.Deeds.{HasDeeds, IsSource, step_deed}
 use Rattle.lease_coherence.proofs.moves.Events.{IsMoved, Both, carried_both, runs_have, come_back, reply_gone}
 use Rattle.lease_coherence.proofs.moves.Frames.{from_source, stepped_past}
 use Rattle.lease_coherence.proofs.names.Names.{open_parts}
+use Rattle.lease_coherence.proofs.order.Sends.{off_past}
 use Rattle.lease_coherence.proofs.records.Later.{past_noted}
 use Rattle.lease_coherence.proofs.standing.Words.{asked_off}
 
@@ -36,10 +37,6 @@ abbrev NoneLate : World → Type 0
 NoneLate world = EachFact NoLateWrite world.past
 
 -- ---- a change
-
-off_past : (world off : World) (c : ℕ) (request : FileRequest) → IsSource world off c request → off.past ≡ world.past
-off_past world off c request source =
-    from_source world off c request (λ o. o.past ≡ world.past) source refl (λ file left. refl)
 
 off_opens : (world off : World) (c : ℕ) (request : FileRequest) → IsSource world off c request
     → off.server.opens ≡ world.server.opens

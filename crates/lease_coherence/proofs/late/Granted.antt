@@ -20,6 +20,7 @@ use Rattle.lease_laws.proofs.client.Thin.{put_same}
 use Rattle.lease_laws.proofs.server.Keys.{put_key-cases}
 use Rattle.lease_laws.proofs.server.Lists.{if_cases, clash, not_parts, not_true, among_append, among_filter, among_map}
 use Rattle.lease_coherence.specs.Names.{IsNamedAt}
+use Rattle.lease_coherence.proofs.beliefs.Given.{own_named}
 use Rattle.lease_coherence.proofs.beliefs.Grants.{grant_keeps}
 use Rattle.lease_coherence.proofs.beliefs.Trust.{file_key}
 use Rattle.lease_coherence.proofs.late.Likes.{sent_past, opened_past, expired_past}
@@ -41,11 +42,6 @@ pub off_clean : (world off : World) (c : ℕ) (request : FileRequest) → IsSour
     → SentClean off c
 off_clean world off c request source s = ⊎_elim (λ a. subst (λ o. SentClean o c) (sym a.is_off) s)
     (λ h. subst (λ o. SentClean o c) (sym h.is_off) s) source.from
-
-own_named : (off : World) (c file at : ℕ) (asked : LeaseOf) → asked.key ≡ lease_key (off.clients c).guid file
-    → file ≡ at → machine_key off c at ≡ key_of c asked.key
-own_named off c file at asked named same = ap (λ f. key_of c (lease_key (off.clients c).guid f)) (sym same)
-    ∙ ap (λ bytes. key_of c bytes) (sym named)
 
 -- ---- a new open
 

@@ -1,6 +1,6 @@
 -- A request that is held was no buffered write: where a lease holds writes, nothing is in the way of its own requests.
 use Rattle.std.proofs.Common.{◌≡◌, ⊎_elim, ℕ, Bool, true, List, [], ◌∷◌, ◌++◌, Option, Some, None, refl, sym, ap, ap₂, ◌∙◌, subst, true≢false, ◌==◌}
-use Rattle.std.specs.Prelude.{⊤, Ok, Result, find}
+use Rattle.std.specs.Prelude.{⊤, Ok, find}
 use Rattle.std.specs.List.{list_any}
 use Rattle.std.proofs.lemmas.Bool.{eqb-true}
 use Rattle.lease_state.specs.declared.status.Status.{Status}
@@ -28,6 +28,7 @@ use Rattle.lease_coherence.proofs.moves.Ground.{among_put}
 use Rattle.lease_coherence.proofs.moves.Moves.{IsOldest, popped}
 use Rattle.lease_coherence.proofs.names.Names.{open_parts}
 use Rattle.lease_coherence.proofs.standing.Words.{asked_held, head_of}
+use Rattle.lease_coherence.proofs.writes.Runs.{no_file, same_file}
 
 -- the file that a request asks for
 abbrev AsksOn : World → ℕ → FileRequest → Type 0
@@ -72,12 +73,6 @@ first_of test [] e = absurd (true≢false (sym e))
 first_of test (x ∷ held) e = if_cases (λ o. (y : Held) × (o ≡ Some y)) (test x) (Some x) (find test held)
     (λ yes. (x, refl))
     (λ no. first_of test held (⊎_elim (λ yes. clash (test x) yes no) (λ later. later) (or_true (test x) (list_any test held) e)))
-
-no_file : (asked : Result ℕ Status) (status : Status) (at : ℕ) → asked ≡ Result.Err status → asked ≡ Ok at → ⊥
-no_file asked status at e f = cc
-
-same_file : (asked : Result ℕ Status) (file at : ℕ) → asked ≡ Ok file → asked ≡ Ok at → file ≡ at
-same_file asked file at e f = cc
 
 -- the open of a write that is held stands on the file
 held_on : (world : World) (c file_id : ℕ) (at : ℕ) (x : Open)

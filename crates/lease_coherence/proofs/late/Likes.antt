@@ -18,8 +18,10 @@ use Rattle.lease_coherence.specs.Names.{Each, IsNamedAt, IsNamedRequest, IsNamed
 use Rattle.lease_coherence.specs.Standing.{AllAsked}
 use Rattle.lease_coherence.proofs.beliefs.Words.{AckKeeps}
 use Rattle.lease_coherence.proofs.late.Words.{WriteSafe, HeldPlain, NotBuffered, AcksKeep, given_writes, GrantSafe, GrantsSafe, SamePast, IsLike, StillHolds, KnowsIds, same_key, write_like, plain_like}
+use Rattle.lease_coherence.proofs.moves.Shift.{append_none}
 use Rattle.lease_coherence.proofs.names.Names.{IsCountedOff}
 use Rattle.lease_coherence.proofs.names.Words.{opened_within, opened_once, opened_by}
+use Rattle.lease_coherence.proofs.order.Words.{append_three}
 use Rattle.lease_coherence.proofs.records.Later.{past_noted}
 
 -- ---- FileIds
@@ -225,20 +227,12 @@ grants_like world new c file like ids sent front (reply ∷ queue) n g = (
   grants_like world new c file like ids sent (front ++ reply ∷ []) queue n.1 g.1,
 )
 
-append_three : {X : Type 0} (xs ys zs : List X) → (xs ++ ys) ++ zs ≡ xs ++ (ys ++ zs)
-append_three [] ys zs = refl
-append_three (x ∷ xs) ys zs = ap (λ l. x ∷ l) (append_three xs ys zs)
-
-append_nothing : {X : Type 0} (xs : List X) → xs ++ [] ≡ xs
-append_nothing [] = refl
-append_nothing (x ∷ xs) = ap (λ l. x ∷ l) (append_nothing xs)
-
 -- one more reply
 pub grants_last : (world : World) (c file : ℕ) (sent : List Pending) (front queue : List Reply) (reply : Reply)
     → GrantsSafe world c file sent front queue → GrantSafe world c file sent (front ++ queue) reply
     → GrantsSafe world c file sent front (queue ++ reply ∷ [])
 grants_last world c file sent front [] reply g last =
-    (subst (λ f. GrantSafe world c file sent f reply) (append_nothing front) last, tt)
+    (subst (λ f. GrantSafe world c file sent f reply) (append_none front) last, tt)
 grants_last world c file sent front (x ∷ queue) reply g last = (
   g.0,
   grants_last world c file sent (front ++ x ∷ []) queue reply g.1

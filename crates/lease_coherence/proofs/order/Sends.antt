@@ -16,6 +16,7 @@ use Rattle.lease_laws.proofs.server.Lists.{if_cases}
 use Rattle.lease_coherence.specs.Creates.{held_by}
 use Rattle.lease_coherence.specs.Names.{Each}
 use Rattle.lease_coherence.specs.Standing.{Stands}
+use Rattle.lease_coherence.proofs.moves.Shift.{append_none}
 use Rattle.lease_coherence.proofs.clients.Commands.{HasCommands, sent_of}
 use Rattle.lease_coherence.proofs.clients.Takes.{HasTakes}
 use Rattle.lease_coherence.proofs.moves.Deeds.{IsSource, with_held}
@@ -55,10 +56,6 @@ writes_under client file live is [] more each = each
 writes_under client file live is (write ∷ writes) more each =
     (record { file = file; live = live; is = is; id = refl }, writes_under client file live is writes more each)
 
-pub append_nothing : {X : Type 0} (xs : List X) → xs ++ [] ≡ xs
-append_nothing [] = refl
-append_nothing (x ∷ xs) = ap (λ l. x ∷ l) (append_nothing xs)
-
 -- what is sent, whatever else a turn does
 pub sends : (client : Client) (step : Step) (requests : List Request) → step.requests ≡ requests → AreOrdered requests
     → Each (UnderLive client) requests → SendsInOrder client step
@@ -90,7 +87,7 @@ commands_send client = record {
     under = (record { file = file; live = live; is = is.is_so; id = refl }, tt);
   };
   flushed = λ file live is. sends client _ (write_requests live.file_id live.unsent ++ [])
-      (sym (append_nothing (write_requests live.file_id live.unsent)))
+      (sym (append_none (write_requests live.file_id live.unsent)))
       (writes_ordered live.file_id live.unsent [] tt) (writes_under client file live is.is_so live.unsent [] tt);
 }
 

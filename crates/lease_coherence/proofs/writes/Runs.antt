@@ -294,10 +294,10 @@ ack_off world c given oldest number =
 
 -- ---- a request is held
 
-no_file : (asked : Result ℕ Status) (status : Status) (at : ℕ) → asked ≡ Err status → asked ≡ Ok at → ⊥
+pub no_file : (asked : Result ℕ Status) (status : Status) (at : ℕ) → asked ≡ Err status → asked ≡ Ok at → ⊥
 no_file asked status at e f = cc
 
-same_file : (asked : Result ℕ Status) (file at : ℕ) → asked ≡ Ok file → asked ≡ Ok at → file ≡ at
+pub same_file : (asked : Result ℕ Status) (file at : ℕ) → asked ≡ Ok file → asked ≡ Ok at → file ≡ at
 same_file asked file at e f = cc
 
 -- a write that comes is one of the file that it asks for
