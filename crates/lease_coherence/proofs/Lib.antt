@@ -9,4 +9,5 @@ pub mod order
 pub mod records
 pub mod standing
 pub mod wellformed
+pub mod within
 pub mod writes

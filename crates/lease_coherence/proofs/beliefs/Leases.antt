@@ -17,7 +17,7 @@ use Rattle.lease_coherence.proofs.beliefs.Words.{acks, is_created, is_ack_break,
 each_last : {X : Type 0} (P : X → Type 0) (xs : List X) (x : X) → Each P xs → P x → Each P (xs ++ x ∷ [])
 each_last P xs x each last = each_append P xs (x ∷ []) each (last, tt)
 
-given_all : (T U : State → Type 0) (key : List ℕ) (file : ℕ) → ((s : State) → T s → U s) → (reply : Reply)
+pub given_all : (T U : State → Type 0) (key : List ℕ) (file : ℕ) → ((s : State) → T s → U s) → (reply : Reply)
     → OnGiven T key file reply → OnGiven U key file reply
 given_all T U key file f (Reply.Created other id None) g = tt
 given_all T U key file f (Reply.Created other id (Some answer)) g = λ e. f _ (g e)

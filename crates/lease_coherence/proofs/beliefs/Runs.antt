@@ -96,7 +96,7 @@ unmoved_trusted world new c u t = record {
 
 -- ---- a create, by what its client names
 
-own_create : (world off : World) (c file : ℕ) (access : Access) (share : Share) (ask : CreateAsk)
+pub own_create : (world off : World) (c file : ℕ) (access : Access) (share : Share) (ask : CreateAsk)
     → IsSource world off c (FileRequest.Create file access share (Some ask)) → IsNamedAt world c
     → IsOwnCreate c (off.clients c).guid off.past file ask
 own_create world off c file access share ask source n =

@@ -149,10 +149,15 @@ step_trusted world c step before up guid on believes lowered files s = record {
 
 -- ---- a client connects
 
-pub connect_trusted : (world : World) (c : ℕ) → Ground world → world.links c ≡ Link.Down
-    → HasTrust (connected world c) c
+-- nothing is on its way to it, no acknowledgment from it, and no entry is live
+pub record IsIdle (world : World) (c : ℕ) : Type 0 where
+  pub replies : world.replies c ≡ []
+  pub acks : (key : List ℕ) → acks key (world.requests c) ≡ 0
+  pub phases : (file : ℕ) → is_live ((world.clients c).entries file).phase ≡ false
+
+pub connect_idle : (world : World) (c : ℕ) → Ground world → world.links c ≡ Link.Down → IsIdle (connected world c) c
 unfolding joined connection_made all_turned
-connect_trusted world c g down =
+connect_idle world c g down =
     let machine = world.clients c in
     let back = come_back world c in
     let step = connection_made machine in
@@ -165,24 +170,14 @@ connect_trusted world c g down =
     ap (λ (q : ℕ → List Request). q c) (stepped_requests back c step) ∙ put_same back.requests c _
     ∙ ap (λ link. sent_over link (world.requests c) step.requests) (put_same world.links c Link.Up)
     ∙ ap (λ (q : List Request). q ++ flat_map turn (numbers_to machine.files)) ((g.tied c).requests is_off) in
-    let replies : new.replies c ≡ [] =
-    ap (λ (r : ℕ → List Reply). r c) (stepped_replies back c step) ∙ (g.tied c).replies is_off in
-    let mine = stepped_machine back c step in
-    let zero : (key : List ℕ) → acks key (new.requests c) ≡ 0 = λ key. ap (acks key) queued
-    ∙ file_no_acks key (flat_map turn (numbers_to machine.files))
-    (each_flat IsAboutFile turn (numbers_to machine.files)
-    (λ file. about file (machine.entries file).sent (machine.entries file).phase)) in record {
-      lowered = subst (Each LowersWell) (sym replies) tt;
-      files = λ file fresh. record {
-        believed = subst (λ r. IsBelieved (file_key new c file) file (new.server.leases (machine_key new c file))
-            ((new.clients c).entries file).phase (new.requests c) r) (sym replies)
-            (lease_gone (file_key new c file) file (new.server.leases (machine_key new c file))
-            ((new.clients c).entries file).phase (new.requests c) []
-            (ap (λ (m : Client). is_live (m.entries file).phase) mine
-            ∙ idle file online (machine.entries file).phase ((g.clients c).entries file))
-            tt (zero (file_key new c file)));
-        anchor = inl (zero (file_key new c file));
-      };
+    let mine = stepped_machine back c step in record {
+      replies = ap (λ (r : ℕ → List Reply). r c) (stepped_replies back c step) ∙ (g.tied c).replies is_off;
+      acks = λ key. ap (acks key) queued
+          ∙ file_no_acks key (flat_map turn (numbers_to machine.files))
+          (each_flat IsAboutFile turn (numbers_to machine.files)
+          (λ file. about file (machine.entries file).sent (machine.entries file).phase));
+      phases = λ file. ap (λ (m : Client). is_live (m.entries file).phase) mine
+          ∙ idle file online (machine.entries file).phase ((g.clients c).entries file);
     }
   where
     about : (file : ℕ) (sent : List Pending) (phase : Phase)
@@ -201,3 +196,19 @@ connect_trusted world c g down =
     idle file off (Phase.Live live) sound = clash (world.clients c).is_online sound.0 off
     idle file off (Phase.Offline parted) sound = refl
     idle file off (Phase.Reconnecting parted) sound = clash (world.clients c).is_online sound.0 off
+
+pub connect_trusted : (world : World) (c : ℕ) → Ground world → world.links c ≡ Link.Down
+    → HasTrust (connected world c) c
+connect_trusted world c g down =
+    let new = connected world c in
+    let idle = connect_idle world c g down in record {
+      lowered = subst (Each LowersWell) (sym idle.replies) tt;
+      files = λ file fresh. record {
+        believed = subst (λ r. IsBelieved (file_key new c file) file (new.server.leases (machine_key new c file))
+            ((new.clients c).entries file).phase (new.requests c) r) (sym idle.replies)
+            (lease_gone (file_key new c file) file (new.server.leases (machine_key new c file))
+            ((new.clients c).entries file).phase (new.requests c) [] (idle.phases file) tt
+            (idle.acks (file_key new c file)));
+        anchor = inl (idle.acks (file_key new c file));
+      };
+    }

@@ -313,6 +313,22 @@ written_elsewhere c machine past k at file_id number has file ne = record {
       (λ p. absurd (number_elsewhere c machine past k at number has file ne p.patch p.written)) (λ x. x.is) f;
 }
 
+-- a break is passed over by no live entry of its key
+pub never_passed : (machine : Client) (notice : BreakNotice) → IsSoundClient machine
+    → PassesOver machine (Reply.Break (Some notice)) → (file : ℕ) (live : LiveEntry)
+    → (machine.entries file).phase ≡ Phase.Live live → bytes_eq (lease_key machine.guid file) notice.key ≡ true → ⊥
+never_passed machine notice s why file live is own = ⊎_elim
+    (λ absent. clash (is_key_of machine notice.key file) own
+    (never_found machine (is_key_of machine notice.key) file (live_known machine file live s is) absent))
+    (λ other. either (file == other.0)
+    (λ same. clash (is_live (machine.entries file).phase) (ap is_live is)
+    (ap (λ f. is_live (machine.entries f).phase) (eqb-true file other.0 same) ∙ other.2))
+    (λ apart. clash (bytes_eq (lease_key machine.guid file) (lease_key machine.guid other.0))
+    (ap (bytes_eq (lease_key machine.guid file))
+    ((bytes_eq-Decides (lease_key machine.guid other.0) notice.key).0 (found_so machine (is_key_of machine notice.key) other.0 other.1))
+    ∙ own)
+    (keys_apart machine.guid file other.0 (λ same. clash (file == other.0) (eq-eqb file other.0 same) apart)))) why
+
 -- a reply that is passed over
 pub passed_plain : (c : ℕ) (machine : Client) (past : List Fact) (reply : Reply) → IsSoundClient machine
     → PassesOver machine reply → IsDueTo c machine past reply → (file : ℕ) → IsPlainFor c machine past reply file
@@ -357,23 +373,10 @@ passed_plain c machine past (Reply.CloseFailed file_id status) s why due file =
 passed_plain c machine past (Reply.Break None) s why due file = record { reads = λ e. refl; same = λ e old new f. f }
 passed_plain c machine past (Reply.Break (Some notice)) s why due file = record {
   reads = λ e. let l = live_read (machine.entries file).phase e in
-      rw (not_true (bytes_eq (lease_key machine.guid file) notice.key) (λ own. never l.0 l.1 own)) refl;
+      rw (not_true (bytes_eq (lease_key machine.guid file) notice.key) (λ own. never_passed machine notice s why file l.0 l.1 own))
+      refl;
   same = λ e old new f. f;
 }
-  where
-    never : (live : LiveEntry) → (machine.entries file).phase ≡ Phase.Live live
-        → bytes_eq (lease_key machine.guid file) notice.key ≡ true → ⊥
-    never live is own = ⊎_elim
-        (λ absent. clash (is_key_of machine notice.key file) own
-        (never_found machine (is_key_of machine notice.key) file (live_known machine file live s is) absent))
-        (λ other. either (file == other.0)
-        (λ same. clash (is_live (machine.entries file).phase) (ap is_live is)
-        (ap (λ f. is_live (machine.entries f).phase) (eqb-true file other.0 same) ∙ other.2))
-        (λ apart. clash (bytes_eq (lease_key machine.guid file) (lease_key machine.guid other.0))
-        (ap (bytes_eq (lease_key machine.guid file))
-        ((bytes_eq-Decides (lease_key machine.guid other.0) notice.key).0 (found_so machine (is_key_of machine notice.key) other.0 other.1))
-        ∙ own)
-        (keys_apart machine.guid file other.0 (λ same. clash (file == other.0) (eq-eqb file other.0 same) apart)))) why
 passed_plain c machine past (Reply.AckDone response) s why due file =
     record { reads = λ e. refl; same = λ e old new f. f }
 passed_plain c machine past (Reply.AckFailed status) s why due file =
