@@ -165,7 +165,7 @@ trust_moves = record {
       (λ x there by. (off_named world off c (FileRequest.Close file_id) c source (v.0.0.1.0 c good)).0.opens x
       (left_there off (λ other. other.file_id == file_id) x there) by)
       (a (link_of world off c _ source up));
-  ack_failed = λ world c given status v good oldest a up. failed_trusted world c given status oldest (a up);
+  ack_failed = λ world c given status v good oldest why a up. failed_trusted world c given status oldest (a up);
   ack_done = λ world c given lowered v good oldest there breaks within a up.
       done_trusted world c given oldest (a up);
   hold = λ world file one v good oldest may turn a up. held_trusted world file one oldest (a up);

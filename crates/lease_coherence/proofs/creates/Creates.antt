@@ -470,7 +470,7 @@ creates_move = record {
       replied_at world off (told_to (without_opens off (λ other. other.file_id == file_id)) c (Reply.Closed file_id)) c
       (FileRequest.Close file_id) (Reply.Closed file_id) v.0 source refl refl refl refl refl
       (λ f. refl) a;
-  ack_failed = λ world c given status v good oldest a. told_at world (told_to (popped world c) c (Reply.AckFailed status)) c
+  ack_failed = λ world c given status v good oldest why a. told_at world (told_to (popped world c) c (Reply.AckFailed status)) c
       (Reply.AckFailed status) refl refl
       (ack_off world c given oldest) refl refl (λ f. refl) a;
   ack_done = λ world c given lowered v good oldest there breaks within a. told_at world

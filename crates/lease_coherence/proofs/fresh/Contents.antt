@@ -63,7 +63,7 @@ deeds_contents world h = record {
       changed_contents off.server.contents off.past one.file client number patch
       (off_contents world off client _ source h);
   closed = λ off client file_id one source found. off_contents world off client _ source h;
-  ack_failed = λ client given status oldest up. h;
+  ack_failed = λ client given status oldest up why. h;
   ack_done = λ client given lowered oldest up there breaks within. h;
   hold = λ file one oldest may turn. h;
   drop = λ key. h;

@@ -523,7 +523,7 @@ fresh_moves = record {
       (left_there off (λ other. other.file_id == file_id) x there) by)
       fresh (off_low world off c _ source (low_of world (ground_of world v.0.0) c was))
       (off_fresh_in world off c file _ source (a was file (off_fresh world off c file _ source fresh)));
-  ack_failed = λ world c given status v good oldest a up file fresh.
+  ack_failed = λ world c given status v good oldest why a up file fresh.
       told_fresh (popped world c) c (Reply.AckFailed status) file tt tt (low_of world (ground_of world v.0.0) c up)
       (popped_fresh world c file (a up file fresh));
   ack_done = λ world c given lowered v good oldest there breaks within a up file fresh.

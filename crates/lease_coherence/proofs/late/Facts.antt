@@ -76,7 +76,7 @@ deeds_none world v l = record {
     (change_clean world off client file_id number patch one v source found, off_none world off client _ source l),
   );
   closed = λ off client file_id one source found. (tt, off_none world off client _ source l);
-  ack_failed = λ client given status oldest up. (tt, l);
+  ack_failed = λ client given status oldest up why. (tt, l);
   ack_done = λ client given lowered oldest up there breaks within. (tt, l);
   hold = λ file one oldest may turn. l;
   drop = λ key. l;

@@ -145,7 +145,7 @@ late_moves = record {
       let request = FileRequest.Close file_id in
       closed_late off c file_id (off_ids world off v c request source) (off_names world off v c request good source)
       (off_in world off v c request good source a);
-  ack_failed = λ world c given status v good oldest a.
+  ack_failed = λ world c given status v good oldest why a.
       failed_late world c status (ids_in world v c) (names_in world v c good) a;
   ack_done = λ world c given lowered v good oldest there breaks within a.
       let g = ground_in world v in

@@ -1,7 +1,7 @@
 -- What a step of the server does in a world: each of its forms, with what is known of it. Whatever holds after each
 -- form holds after every step.
-use Rattle.std.proofs.Common.{◌≡◌, ◌⊎◌, inl, inr, ℕ, ◌+◌, Bool, true, false, List, [], ◌∷◌, ◌++◌, Option, Some, None, refl, sym, subst}
-use Rattle.std.specs.Prelude.{if◌then◌else◌, ◌==◌, ◌&&◌, Ok, map}
+use Rattle.std.proofs.Common.{◌≡◌, ◌⊎◌, inl, inr, ℕ, ◌+◌, Bool, true, false, List, [], ◌∷◌, ◌++◌, Option, Some, None, refl, sym, ◌∙◌, subst}
+use Rattle.std.specs.Prelude.{⊤, if◌then◌else◌, ◌==◌, ◌&&◌, Ok, map}
 use Rattle.lease_state.specs.Content.{patch as patched}
 use Rattle.lease_state.specs.State.{State, granted_form_of, is_state_within, needs_acknowledgment}
 use Rattle.lease_state.specs.declared.access.Access.{Access}
@@ -29,6 +29,7 @@ use Rattle.lease_model.specs.values.Tables.{put}
 use Rattle.lease_model.specs.world.Events.{served}
 use Rattle.lease_model.specs.world.World.{World, delivered, all_delivered}
 use Rattle.lease_laws.specs.server.SmallSteps.{SmallStep, IsFree, IsAwaitedAt, MayCreate, MayChange, MayServe, MayRefuse, MayEnd, MayLower, MayHold, IsInTurn}
+use Rattle.lease_laws.proofs.server.Lists.{clash}
 use Rattle.lease_coherence.proofs.moves.Moves.{IsNext, IsOldest, popped, moved}
 
 -- ---- where a request that is answered comes from
@@ -133,6 +134,12 @@ leased_in world key lease reply =
 abbrev pub held_in : World → ℕ → Held → World
 held_in world file one = with_held world file (world.server.held file ++ one ∷ [])
 
+-- why an acknowledgment is refused: no lease of its key is breaking to a state that it lies within
+abbrev pub IsRefusedAck : Server → ℕ → Option LeaseOf → Type 0
+IsRefusedAck server client None = ⊤
+IsRefusedAck server client (Some given) = has_lease server (key_of client given.key) ≡ true → (lowered : State)
+    → (server.leases (key_of client given.key)).broken_to ≡ Some lowered → is_state_within given.state lowered ≡ false
+
 -- ---- forms
 
 pub record HasDeeds (world : World) (P : World → Type 0) : Type 0 where
@@ -163,6 +170,7 @@ pub record HasDeeds (world : World) (P : World → Type 0) : Type 0 where
       → P (told_to (without_opens off (λ other. other.file_id == file_id)) client (Reply.Closed file_id))
   pub ack_failed : (client : ℕ) (given : Option LeaseOf) (status : Status)
       → IsOldest world client (Request.Acknowledge given) → world.server.present client ≡ true
+      → IsRefusedAck world.server client given
       → P (told_to (popped world client) client (Reply.AckFailed status))
   pub ack_done : (client : ℕ) (given : LeaseOf) (lowered : State)
       → IsOldest world client (Request.Acknowledge (Some given)) → world.server.present client ≡ true
@@ -249,31 +257,40 @@ judged_deed : (world : World) (P : World → Type 0) → HasDeeds world P → (c
     → (world.server.leases (key_of client given.key)).broken_to ≡ lowered
     → P (served (popped world client) (judged (key_of client given.key) given.state lowered (begun world.server)))
 unfolding break_ended served all_delivered delivered
-judged_deed world P h client given None oldest up there e = h.ack_failed client (Some given) Status.Unsuccessful oldest up
+judged_deed world P h client given None oldest up there e =
+    h.ack_failed client (Some given) Status.Unsuccessful oldest up (λ is lowered to. absurd (never lowered (sym e ∙ to)))
+  where
+    never : (lowered : State) → None ≡ Some lowered → ⊥
+    never lowered e = cc
 judged_deed world P h client given (Some lowered) oldest up there e = either_way (is_state_within given.state lowered) _ _
     (λ w. h.ack_done client given lowered oldest up there e w)
-    (h.ack_failed client (Some given) Status.RequestNotAccepted oldest up)
+    (λ w. h.ack_failed client (Some given) Status.RequestNotAccepted oldest up
+    (λ is to same. subst (λ s. is_state_within given.state s ≡ false) (one_state lowered to (sym e ∙ same)) w))
   where
     either_way : (b : Bool) (x y : Progress) → (b ≡ true → P (served (popped world client) x))
-        → P (served (popped world client) y) → P (served (popped world client) (if b then x else y))
+        → (b ≡ false → P (served (popped world client) y)) → P (served (popped world client) (if b then x else y))
     either_way true x y p q = p refl
-    either_way false x y p q = q
+    either_way false x y p q = q refl
+
+    one_state : (x y : State) → Some x ≡ Some y → x ≡ y
+    one_state x y e = cc
 
 acknowledged_deed : (world : World) (P : World → Type 0) → HasDeeds world P → (client : ℕ) (given : Option LeaseOf)
     → IsOldest world client (Request.Acknowledge given) → world.server.present client ≡ true
     → P (served (popped world client) (acknowledged client given (begun world.server)))
 unfolding acknowledged served all_delivered delivered
-acknowledged_deed world P h client None oldest up = h.ack_failed client None Status.InvalidParameter oldest up
+acknowledged_deed world P h client None oldest up = h.ack_failed client None Status.InvalidParameter oldest up tt
 acknowledged_deed world P h client (Some given) oldest up =
     either_way (has_lease world.server (key_of client given.key)) _ _
     (λ there. judged_deed world P h client given (world.server.leases (key_of client given.key)).broken_to oldest up
     there refl)
-    (h.ack_failed client (Some given) Status.ObjectNameNotFound oldest up)
+    (λ none. h.ack_failed client (Some given) Status.ObjectNameNotFound oldest up
+    (λ there. clash (has_lease world.server (key_of client given.key)) there none))
   where
     either_way : (b : Bool) (x y : Progress) → (b ≡ true → P (served (popped world client) x))
-        → P (served (popped world client) y) → P (served (popped world client) (if b then x else y))
+        → (b ≡ false → P (served (popped world client) y)) → P (served (popped world client) (if b then x else y))
     either_way true x y p q = p refl
-    either_way false x y p q = q
+    either_way false x y p q = q refl
 
 -- any step
 pub step_deed : (world : World) (P : World → Type 0) → HasDeeds world P → (step : SmallStep) → IsNext world step

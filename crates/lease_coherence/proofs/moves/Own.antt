@@ -36,7 +36,7 @@ use Rattle.lease_laws.proofs.server.Lists.{if_cases, either, clash, and_parts, n
 use Rattle.lease_laws.proofs.world.Links.{by_client, stepped_links}
 use Rattle.lease_laws.proofs.world.Runs.{stepped_server, stepped_clients}
 use Rattle.lease_coherence.specs.Creates.{held_by}
-use Rattle.lease_coherence.proofs.moves.Deeds.{HasDeeds, IsSource, step_deed, told_to, granted_in, reconnected_in, changed_in, without_opens, leased_in, held_in}
+use Rattle.lease_coherence.proofs.moves.Deeds.{IsRefusedAck, HasDeeds, IsSource, step_deed, told_to, granted_in, reconnected_in, changed_in, without_opens, leased_in, held_in}
 use Rattle.lease_coherence.proofs.moves.Events.{Ground, IsMoved, cut_off, timed_out, come_back, connected, reply_gone, reply_taken, noticed_by, strayed}
 use Rattle.lease_coherence.proofs.moves.Foreign.{free_no_writer, change_no_writer, change_no_reader, off_sound, false_not, IsUnmoved, unmoved_same, unmoved_then, apart, key_client, filter_last, filter_twice, unmoved_off, off_ground, unmoved_told, unmoved_popped, unmoved_held, unmoved_without, unmoved_leased, unmoved_granted, unmoved_mapped, unmoved_content}
 use Rattle.lease_coherence.proofs.moves.Frames.{stepped_past, stepped_requests, stepped_replies}
@@ -84,8 +84,8 @@ pub record IsOwnMoved (V : World → Type 0) (A : World → ℕ → Type 0) : Ty
       → IsSource world off c (FileRequest.Close file_id) → connected_open off.server c file_id ≡ Some one → A world c
       → A (told_to (without_opens off (λ other. other.file_id == file_id)) c (Reply.Closed file_id)) c
   pub ack_failed : (world : World) (c : ℕ) (given : Option LeaseOf) (status : Status) → V world
-      → has_strayed c world.past ≡ false → IsOldest world c (Request.Acknowledge given) → A world c
-      → A (told_to (popped world c) c (Reply.AckFailed status)) c
+      → has_strayed c world.past ≡ false → IsOldest world c (Request.Acknowledge given)
+      → IsRefusedAck world.server c given → A world c → A (told_to (popped world c) c (Reply.AckFailed status)) c
   pub ack_done : (world : World) (c : ℕ) (given : LeaseOf) (lowered : State) → V world
       → has_strayed c world.past ≡ false → IsOldest world c (Request.Acknowledge (Some given))
       → has_lease world.server (key_of c given.key) ≡ true
@@ -219,8 +219,8 @@ deeds_all V A ground k world v a = record {
       (λ other own x. others_apart world off client _ source (ground world v) file_id one there.0 parts.0 parts.1.0
       c ne other own x))
       (unmoved_told _ client _ c ne)));
-  ack_failed = λ client given status oldest up. for_all V A k world _ client v a
-      (λ g x. k.ack_failed world client given status v g oldest x)
+  ack_failed = λ client given status oldest up why. for_all V A k world _ client v a
+      (λ g x. k.ack_failed world client given status v g oldest why x)
       (λ c ne. unmoved_then world (popped world client) _ c (unmoved_popped world client c ne)
       (unmoved_told (popped world client) client _ c ne));
   ack_done = λ client given lowered oldest up there breaks within. for_all V A k world _ client v a

@@ -272,7 +272,7 @@ deeds_named world g named = record {
       (λ at x a. a)
       (λ x a mine. n.0.opens x (among_filter (λ o. not (o.file_id == file_id)) x off.server.opens a).0 mine) refl
       (λ same. tt) n.0;
-  ack_failed = λ client given status oldest up c good.
+  ack_failed = λ client given status oldest up why c good.
       reply_named (popped world client) client (Reply.AckFailed status) c tt (popped_named world client c (named c good));
   ack_done = λ client given lowered oldest up there breaks within c good.
       let n = popped_named world client c (named c good) in

@@ -453,7 +453,7 @@ order_moves = record {
   closed = λ world off c file_id one v good source found a up.
       closed_order world off c file_id one source (ground_of world v.0.0.0) found
       (a (link_of world off c _ source up));
-  ack_failed = λ world c given status v good oldest a up.
+  ack_failed = λ world c given status v good oldest why a up.
       replied_order (popped world c) (told_to (popped world c) c (Reply.AckFailed status)) c refl refl refl refl
       (later_fact world.past (Fact.Sent c)) (λ one own y x. x) (popped_order world c _ oldest (a up));
   ack_done = λ world c given lowered v good oldest there breaks within a up.

@@ -427,7 +427,7 @@ standing_moves = record {
       (off_standing world off c _ source (a (link_of world off c _ source up)));
   closed = λ world off c file_id one v good source found a up.
       closed_standing world off c file_id source (a (link_of world off c _ source up));
-  ack_failed = λ world c given status v good oldest a up.
+  ack_failed = λ world c given status v good oldest why a up.
       told_standing (popped world c) c (Reply.AckFailed status) tt (popped_standing world c (a up));
   ack_done = λ world c given lowered v good oldest there breaks within a up.
       leased_standing (popped world c) (key_of c given.key) _ (done_reply given) tt (popped_standing world c (a up));

@@ -145,7 +145,7 @@ deeds_well world g w = record {
       may.fits (off_well world off client _ source w));
   closed = λ off client file_id one source found.
       sent_well off.past client off.clients off.links off.server _ refl (off_well world off client _ source w);
-  ack_failed = λ client given status oldest up.
+  ack_failed = λ client given status oldest up why.
       sent_well world.past client world.clients world.links world.server world.server refl w;
   ack_done = λ client given lowered oldest up there breaks within.
       sent_well world.past client world.clients world.links world.server _ refl w;

@@ -354,7 +354,7 @@ within_moves = record {
       (left_there off (λ other. other.file_id == file_id) x there) by)
       (trust_moves.closed world off c file_id one v.0 good source found (v.1 c good) up)
       (off_within world off c request source (a was));
-  ack_failed = λ world c given status v good oldest a up.
+  ack_failed = λ world c given status v good oldest why a up.
       told_within (popped world c) c (Reply.AckFailed status) tt
       (popped_trust world c given oldest (v.1 c good up)) (popped_within world c (a up));
   ack_done = λ world c given lowered v good oldest there breaks within a up.

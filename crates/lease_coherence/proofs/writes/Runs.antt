@@ -599,7 +599,7 @@ once_moves = record {
       answered_once world off (told_to (without_opens off (λ other. other.file_id == file_id)) c (Reply.Closed file_id)) c
       (FileRequest.Close file_id) (Reply.Closed file_id) source (known_by world v c good) refl refl refl refl
       (λ f n p. refl) (λ n. refl) (a (link_of world off c _ source up));
-  ack_failed = λ world c given status v good oldest a up. told_once world
+  ack_failed = λ world c given status v good oldest why a up. told_once world
       (told_to (popped world c) c (Reply.AckFailed status)) c (Reply.AckFailed status) refl
       (ack_off world c given oldest) refl refl (λ f n p. refl) (λ n. refl) (a up);
   ack_done = λ world c given lowered v good oldest there breaks within a up. told_once world

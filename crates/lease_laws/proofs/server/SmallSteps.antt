@@ -311,6 +311,12 @@ gone_by server client file_id found status never None e same closed = e
 gone_by server client file_id found status never (Some one) e same closed =
     absurd (never one (same ∙ ap (λ s. Finding.Fails s) closed))
 
+close_refused : (server : Server) (client file_id : ℕ) (status : Status) (one : Option Open)
+    → connected_open server client file_id ≡ one → by_open one (λ x. Finding.Needs []) ≡ Finding.Fails status
+    → connected_open server client file_id ≡ None
+close_refused server client file_id status None e same = e
+close_refused server client file_id status (Some one) e never = absurd (cc)
+
 -- a refused request
 finding-refuses : (server : Server) (client : ℕ) (request : FileRequest) (status : Status)
     → finding server client request ≡ Finding.Fails status → MayRefuse server client request status
@@ -328,8 +334,7 @@ finding-refuses server client (FileRequest.Write file_id number patch) status sa
     (λ i never. absurd (cc)) (λ i never. absurd (cc))) (λ e never. absurd (cc)))
     (connected_open server client file_id) refl same
 finding-refuses server client (FileRequest.Close file_id) status same =
-    gone_by server client file_id (λ one. Finding.Needs []) status (λ x never. absurd (cc))
-    (connected_open server client file_id) refl same
+    close_refused server client file_id status (connected_open server client file_id) refl same
 
 -- a request by an open that is found
 open_by : (server : Server) (client file_id : ℕ) (found : Open → Finding) (may : Open → Type 0) (wants : List Want)

@@ -123,6 +123,12 @@ closed_asked : (server : Server) (client file_id : ℕ) (status : Status) (one :
 closed_asked server client file_id status None e same closed = e
 closed_asked server client file_id status (Some one) e never closed = absurd (cc)
 
+close_unasked : (server : Server) (client file_id : ℕ) (status : Status) (one : Option Open)
+    → connected_open server client file_id ≡ one → file_of_open one ≡ Err status
+    → connected_open server client file_id ≡ None
+close_unasked server client file_id status None e same = e
+close_unasked server client file_id status (Some one) e never = absurd (cc)
+
 -- whatever it asks
 asked-refuses : (server : Server) (client : ℕ) (request : FileRequest) (status : Status)
     → file_asked server client request ≡ Err status → MayRefuse server client request status
@@ -133,7 +139,7 @@ asked-refuses server client (FileRequest.Read file_id) status e =
 asked-refuses server client (FileRequest.Write file_id number patch) status e =
     closed_asked server client file_id status (connected_open server client file_id) refl e
 asked-refuses server client (FileRequest.Close file_id) status e =
-    closed_asked server client file_id status (connected_open server client file_id) refl e
+    close_unasked server client file_id status (connected_open server client file_id) refl e
 
 -- a request stays about its file while it is tried
 asked_open : (before after : Server) (client file_id file : ℕ) (one : Option Open) → Keeps Anywhere before after

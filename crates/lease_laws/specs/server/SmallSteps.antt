@@ -101,11 +101,12 @@ MayServe server client (FileRequest.Close file_id) = HasOpen server client file_
 abbrev pub IsGone : Server → ℕ → ℕ → Status → Type 0
 IsGone server client file_id status = status ≡ Status.FileClosed → connected_open server client file_id ≡ None
 
+-- A Close is refused only there.
 abbrev pub MayRefuse : Server → ℕ → FileRequest → Status → Type 0
 MayRefuse server client (FileRequest.Create file access share contexts) status = ⊤
 MayRefuse server client (FileRequest.Read file_id) status = IsGone server client file_id status
 MayRefuse server client (FileRequest.Write file_id number patch) status = IsGone server client file_id status
-MayRefuse server client (FileRequest.Close file_id) status = IsGone server client file_id status
+MayRefuse server client (FileRequest.Close file_id) status = connected_open server client file_id ≡ None
 
 -- A request of a connected client is refused or served.
 abbrev pub MayEnd : Server → ℕ → FileRequest → Outcome → Type 0
