@@ -1,5 +1,6 @@
 pub mod beliefs
 pub mod clients
+pub mod covered
 pub mod creates
 pub mod fresh
 pub mod late

@@ -160,7 +160,7 @@ TakesFresh c machine past reply step = IsDueTo c machine past reply → (place :
 
 -- ---- words
 
-sound_live : (machine : Client) (file : ℕ) (live : LiveEntry) → IsSoundClient machine
+pub sound_live : (machine : Client) (file : ℕ) (live : LiveEntry) → IsSoundClient machine
     → (machine.entries file).phase ≡ Phase.Live live → IsSoundLive live
 sound_live machine file live s is =
     (subst (IsSoundPhase machine.is_online (machine.entries file).sent) is (s.entries file)).1

@@ -1,0 +1,418 @@
+-- Every step of a client keeps its opens covered, and reads and writes under the open of a live entry.
+use Rattle.std.proofs.Common.{◌≡◌, ◌≢◌, ◌⊎◌, inl, inr, ⊎_elim, ℕ, ◌+◌, ◌≤◌, Bool, true, false, not, List, [], ◌∷◌, ◌++◌, Option, Some, None, refl, sym, ap, ◌∙◌, subst, arith, true≢false, ◌==◌}
+use Rattle.std.specs.Prelude.{⊤, ◌&&◌, is_some, if◌then◌else◌}
+use Rattle.std.proofs.lemmas.Bool.{eqb-true, eq-eqb}
+use Rattle.lease_state.specs.State.{State}
+use Rattle.lease_state.specs.declared.status.Status.{Status}
+use Rattle.lease_model.specs.client.Commanded.{create_request, next_write, cached_read, opened_anew, write_buffered, write_sent, flush_on_live, wrote_step, is_asking}
+use Rattle.lease_model.specs.client.Commands.{Answer}
+use Rattle.lease_model.specs.client.State.{Client, Entry, LiveEntry, Asked, Pending, Phase, lease_key}
+use Rattle.lease_model.specs.client.Step.{Step, Turn, turned, quiet_step, write_requests}
+use Rattle.lease_model.specs.client.Taken.{is_key_of, break_turn, parked_closed, belief_lowered, acknowledgment, unflushed, flushed, opened_turn, reconnected_turn, promoted_turn, promoted_belief, read_turn, read_failed_turn, is_file_closed, closed_by_server, phase_with, write_done_turn, write_failed_in}
+use Rattle.lease_model.specs.messages.Replies.{Reply, BreakNotice, CreateAnswer}
+use Rattle.lease_model.specs.messages.Requests.{FileRequest, Request}
+use Rattle.lease_model.specs.values.LeaseStates.{meet}
+use Rattle.lease_model.specs.values.Tables.{put}
+use Rattle.lease_laws.specs.client.Laws.{IsSoundClient}
+use Rattle.lease_laws.proofs.client.Thin.{put_same, put_other}
+use Rattle.lease_laws.proofs.server.Lists.{if_cases, either, clash, and_parts}
+use Rattle.lease_laws.proofs.world.Links.{by_client}
+use Rattle.lease_coherence.specs.Creates.{answer_of, answers, creates, asked_by, has_asked, one_if}
+use Rattle.lease_coherence.specs.Names.{Each}
+use Rattle.lease_coherence.specs.Standing.{FitsPhase}
+use Rattle.lease_coherence.proofs.clients.Commands.{HasCommands, sent_of}
+use Rattle.lease_coherence.proofs.clients.Takes.{HasTakes, PassesOver}
+use Rattle.lease_coherence.proofs.fresh.Clients.{sound_live}
+use Rattle.lease_coherence.proofs.names.Words.{each_append}
+use Rattle.lease_coherence.proofs.standing.Clients.{FitsGiven}
+use Rattle.lease_coherence.proofs.covered.Words.{ClosedBefore, closed_more, closed_behind, closed_behind_writes, IsGrantOf, HasGrant, grant_answers, IsLiveUnder, IsCovered, cover_by, NotFailed}
+
+-- ---- commands
+
+-- where no create of the file is asked, none stands among the requests
+abbrev pub IsQuiet : Phase → ℕ → List Request → Type 0
+IsQuiet phase file asked = has_asked phase ≡ false → creates file asked ≡ 0
+
+abbrev pub StepCovers : Client → Step → Type 0
+StepCovers machine step = (file file_id : ℕ) (asked : List Request) (queue : List Reply)
+    → IsQuiet (machine.entries file).phase file asked
+    → IsCovered (machine.entries file).phase file file_id asked queue
+    → IsCovered (step.client.entries file).phase file file_id (asked ++ step.requests) queue
+
+-- an entry, with the requests of a turn, covers what the entry before did
+abbrev pub TurnCovers : ℕ → Phase → Phase → List Request → Type 0
+TurnCovers file old new more = (file_id : ℕ) (asked : List Request) (queue : List Reply) → IsQuiet old file asked
+    → IsLiveUnder old file_id → IsCovered new file file_id (asked ++ more) queue
+
+same_turn : (file : ℕ) (old : Phase) (live next : LiveEntry) (more : List Request) → old ≡ Phase.Live live
+    → next.file_id ≡ live.file_id → TurnCovers file old (Phase.Live next) more
+same_turn file old live next more is same file_id asked queue quiet u = inl (record {
+  live = next;
+  is = refl;
+  id = same ∙ ap (λ (l : LiveEntry). l.file_id) (one_live live u.live (sym is ∙ u.is)) ∙ u.id;
+})
+  where
+    one_live : (x y : LiveEntry) → Phase.Live x ≡ Phase.Live y → x ≡ y
+    one_live x y e = cc
+
+-- the entry closes its open
+closing_turn : (file : ℕ) (old new : Phase) (live : LiveEntry) (writes : List Pending) (more : List Request)
+    → old ≡ Phase.Live live → is_asking live ≡ false
+    → TurnCovers file old new (write_requests live.file_id writes ++ Request.OnFile (FileRequest.Close live.file_id) ∷ more)
+closing_turn file old new live writes more is idle file_id asked queue quiet u =
+    let same : live.file_id ≡ file_id = ap (λ (l : LiveEntry). l.file_id) (one_live live u.live (sym is ∙ u.is)) ∙ u.id in
+    inr (inl (closed_behind file file_id asked _ (quiet (ap has_asked is ∙ idle))
+    (subst (λ i. ClosedBefore file i
+    (write_requests live.file_id writes ++ Request.OnFile (FileRequest.Close live.file_id) ∷ more)) same
+    (closed_behind_writes file live.file_id writes more))))
+  where
+    one_live : (x y : LiveEntry) → Phase.Live x ≡ Phase.Live y → x ≡ y
+    one_live x y e = cc
+
+-- it wasn't live
+idle_turn : (file : ℕ) (old new : Phase) (more : List Request) → ((live : LiveEntry) → old ≡ Phase.Live live → ⊥)
+    → TurnCovers file old new more
+idle_turn file old new more never file_id asked queue quiet u = absurd (never u.live u.is)
+
+still_covers : (phase : Phase) (file file_id : ℕ) (asked more : List Request) (queue : List Reply)
+    → IsCovered phase file file_id asked queue → IsCovered phase file file_id (asked ++ more) queue
+still_covers phase file file_id asked more queue c = cover_by phase phase file file_id asked (asked ++ more) queue queue
+    (λ u. inl u) (λ x. closed_more file file_id asked more x) (λ g. inr (inr g)) c
+
+put_covers : (machine : Client) (at : ℕ) (entry : Entry) (more : List Request)
+    → TurnCovers at (machine.entries at).phase entry.phase more
+    → (file file_id : ℕ) (asked : List Request) (queue : List Reply)
+    → IsQuiet (machine.entries file).phase file asked
+    → IsCovered (machine.entries file).phase file file_id asked queue
+    → IsCovered (put machine.entries at entry file).phase file file_id (asked ++ more) queue
+put_covers machine at entry more covers file file_id asked queue quiet c = by_client
+    (λ f. IsQuiet (machine.entries f).phase f asked → IsCovered (machine.entries f).phase f file_id asked queue
+    → IsCovered (put machine.entries at entry f).phase f file_id (asked ++ more) queue) at file
+    (λ q own. subst (λ (e : Entry). IsCovered e.phase at file_id (asked ++ more) queue) (sym (put_same machine.entries at entry))
+    (cover_by (machine.entries at).phase entry.phase at file_id asked (asked ++ more) queue queue
+    (λ u. covers file_id asked queue q u) (λ x. closed_more at file_id asked more x) (λ g. inr (inr g)) own))
+    (λ ne off q own. subst (λ (e : Entry). IsCovered e.phase file file_id (asked ++ more) queue)
+    (sym (put_other machine.entries at entry file ne))
+    (still_covers (machine.entries file).phase file file_id asked more queue own)) quiet c
+
+turned_covers : (machine : Client) (at : ℕ) (turn : Turn)
+    → TurnCovers at (machine.entries at).phase turn.entry.phase turn.requests → StepCovers machine (turned machine at turn)
+unfolding turned
+turned_covers machine at turn covers = put_covers machine at turn.entry turn.requests covers
+
+wrote_covers : (machine : Client) (at : ℕ) (entry : Entry) (answer : Answer) (requests : List Request) (write : Pending)
+    → TurnCovers at (machine.entries at).phase entry.phase requests
+    → StepCovers machine (wrote_step machine at entry answer requests write)
+wrote_covers machine at entry answer requests write covers = put_covers machine at entry requests covers
+
+idle_covers : (machine : Client) (answer : Answer) → StepCovers machine
+    (record { client = machine; answer = answer; requests = []; notes = [] })
+idle_covers machine answer file file_id asked queue quiet c =
+    still_covers (machine.entries file).phase file file_id asked [] queue c
+
+not_live : (phase : Phase) (live : LiveEntry) → phase ≡ Phase.Closed → phase ≡ Phase.Live live → ⊥
+not_live phase live closed is = cc
+
+pub commands_cover : (machine : Client) → HasCommands machine (StepCovers machine)
+unfolding cached_read opened_anew write_buffered write_sent flush_on_live
+commands_cover machine = record {
+  refused = λ refusal. idle_covers machine (Answer.Refused refusal);
+  opening = λ file terms is on. turned_covers machine file _
+      (idle_turn file (machine.entries file).phase _ _ (λ live e. not_live _ live is.is_so e));
+  added = λ file live is. turned_covers machine file _ (same_turn file _ live _ _ is.is_so refl);
+  asked = λ file live terms is idle some. turned_covers machine file _ (same_turn file _ live _ _ is.is_so refl);
+  anew = λ file live terms is idle none. turned_covers machine file _
+      (closing_turn file _ _ live live.unsent (create_request machine file terms ∷ []) is.is_so idle);
+  fewer = λ file live is more. turned_covers machine file _ (same_turn file _ live _ _ is.is_so refl);
+  parked = λ file live is idle done stays. turned_covers machine file _ (same_turn file _ live _ _ is.is_so refl);
+  closed = λ file live is idle done goes. turned_covers machine file _
+      (closing_turn file _ _ live live.unsent [] is.is_so idle);
+  cached = λ file live base is reads has f id asked queue quiet c.
+      still_covers (machine.entries f).phase f id asked [] queue c;
+  read = λ file live is idle. turned_covers machine file _ (same_turn file _ live _ _ is.is_so refl);
+  buffered = λ file live patch is fits caches. wrote_covers machine file _ Answer.Done [] (next_write machine patch true)
+      (same_turn file _ live _ [] is.is_so refl);
+  written = λ file live patch is fits sends. wrote_covers machine file _ Answer.Waiting
+      (Request.OnFile (FileRequest.Write live.file_id (machine.last_number + 1) patch) ∷ [])
+      (next_write machine patch false) (same_turn file _ live _ _ is.is_so refl);
+  flushed = λ file live is. turned_covers machine file _ (same_turn file _ live _ _ is.is_so refl);
+}
+
+-- ---- replies
+
+-- so many creates are asked, or answered on their way
+abbrev pub IsCounted : Client → ℕ → List Request → List Reply → Type 0
+IsCounted machine file asked queue = creates file asked + answers file queue ≡ asked_by machine file
+
+pub record IsMetWith (machine : Client) (reply : Reply) (queue : List Reply) (file file_id : ℕ) (asked : List Request) : Type 0
+  where
+    pub counted : IsCounted machine file asked (reply ∷ queue)
+    pub fits : FitsGiven file (machine.entries file).phase reply
+    pub not_failed : NotFailed file_id reply
+
+abbrev pub TakeCovers : Client → Reply → Step → Type 0
+TakeCovers machine reply step = (queue : List Reply) (file file_id : ℕ) (asked : List Request)
+    → IsMetWith machine reply queue file file_id asked
+    → IsCovered (machine.entries file).phase file file_id asked (reply ∷ queue)
+    → IsCovered (step.client.entries file).phase file file_id (asked ++ step.requests) queue
+
+-- a reply that grants nothing leaves its queue
+abbrev IsNoGrant : Reply → Type 0
+IsNoGrant reply = (file file_id : ℕ) → IsGrantOf file file_id reply → ⊥
+
+rest_covers : (phase : Phase) (reply : Reply) (queue : List Reply) (file file_id : ℕ) (asked : List Request)
+    → (IsGrantOf file file_id reply → ⊥) → IsCovered phase file file_id asked (reply ∷ queue)
+    → IsCovered phase file file_id asked queue
+rest_covers phase reply queue file file_id asked none c = cover_by phase phase file file_id asked asked (reply ∷ queue) queue
+    (λ u. inl u) (λ x. x) (λ g. inr (inr (⊎_elim (λ x. absurd (none x)) (λ x. x) g))) c
+
+quiet_of : (machine : Client) (reply : Reply) (queue : List Reply) (file file_id : ℕ) (asked : List Request)
+    → IsMetWith machine reply queue file file_id asked → IsQuiet (machine.entries file).phase file asked
+quiet_of machine reply queue file file_id asked m idle =
+    left (creates file asked) (answers file (reply ∷ queue)) (m.counted ∙ ap one_if idle)
+  where
+    left : (a b : ℕ) → a + b ≡ 0 → a ≡ 0
+    left a b e = omega (arith, e)
+
+-- a step that covers as commands do
+plain_covers : (machine : Client) (reply : Reply) (step : Step) → IsNoGrant reply → StepCovers machine step
+    → TakeCovers machine reply step
+plain_covers machine reply step none covers queue file file_id asked m c =
+    covers file file_id asked queue (quiet_of machine reply queue file file_id asked m)
+    (rest_covers (machine.entries file).phase reply queue file file_id asked (none file file_id) c)
+
+-- a turn, by what becomes of the file's open, and of a grant
+turn_takes : (machine : Client) (reply : Reply) (at : ℕ) (turn : Turn)
+    → ((file file_id : ℕ) → file ≢ at → IsGrantOf file file_id reply → ⊥)
+    → ((queue : List Reply) (file_id : ℕ) (asked : List Request) → IsMetWith machine reply queue at file_id asked
+    → IsLiveUnder (machine.entries at).phase file_id
+    → IsCovered turn.entry.phase at file_id (asked ++ turn.requests) queue)
+    → ((queue : List Reply) (file_id : ℕ) (asked : List Request) → IsMetWith machine reply queue at file_id asked
+    → IsGrantOf at file_id reply → IsCovered turn.entry.phase at file_id (asked ++ turn.requests) queue)
+    → TakeCovers machine reply (turned machine at turn)
+unfolding turned
+turn_takes machine reply at turn others live granted queue file file_id asked m c = by_client
+    (λ f. IsMetWith machine reply queue f file_id asked → IsCovered (machine.entries f).phase f file_id asked (reply ∷ queue)
+    → IsCovered (put machine.entries at turn.entry f).phase f file_id (asked ++ turn.requests) queue) at file
+    (λ k own. subst (λ (e : Entry). IsCovered e.phase at file_id (asked ++ turn.requests) queue)
+    (sym (put_same machine.entries at turn.entry))
+    (cover_by (machine.entries at).phase turn.entry.phase at file_id asked (asked ++ turn.requests) (reply ∷ queue) queue
+    (λ u. live queue file_id asked k u) (λ x. closed_more at file_id asked turn.requests x)
+    (λ g. ⊎_elim (λ x. granted queue file_id asked k x) (λ x. inr (inr x)) g) own))
+    (λ ne off k own. subst (λ (e : Entry). IsCovered e.phase file file_id (asked ++ turn.requests) queue)
+    (sym (put_other machine.entries at turn.entry file ne))
+    (still_covers (machine.entries file).phase file file_id asked turn.requests queue
+    (rest_covers (machine.entries file).phase reply queue file file_id asked (others file file_id ne) own))) m c
+
+-- a turn of a reply that grants nothing
+plain_turn : (machine : Client) (reply : Reply) (at : ℕ) (turn : Turn) → IsNoGrant reply
+    → TurnCovers at (machine.entries at).phase turn.entry.phase turn.requests
+    → TakeCovers machine reply (turned machine at turn)
+plain_turn machine reply at turn none covers =
+    plain_covers machine reply (turned machine at turn) none (turned_covers machine at turn covers)
+
+created_elsewhere : (at given : ℕ) (answer : CreateAnswer) (file file_id : ℕ) → file ≢ at
+    → IsGrantOf file file_id (Reply.Created at given (Some answer)) → ⊥
+created_elsewhere at given answer file file_id ne g = ne (sym g.0)
+
+-- an entry that becomes live by a grant
+granted_takes : (machine : Client) (at file_id : ℕ) (answer : CreateAnswer) (turn : Turn) (next : LiveEntry)
+    → turn.entry.phase ≡ Phase.Live next
+    → ((queue : List Reply) (id : ℕ) (asked : List Request)
+    → IsMetWith machine (Reply.Created at file_id (Some answer)) queue at id asked
+    → IsLiveUnder (machine.entries at).phase id → IsCovered turn.entry.phase at id (asked ++ turn.requests) queue)
+    → (FitsPhase (machine.entries at).phase file_id → next.file_id ≡ file_id)
+    → TakeCovers machine (Reply.Created at file_id (Some answer)) (turned machine at turn)
+granted_takes machine at file_id answer turn next is live under =
+    turn_takes machine (Reply.Created at file_id (Some answer)) at turn
+    (λ file id ne g. created_elsewhere at file_id answer file id ne g) live
+    (λ queue id asked m g. inl (record { live = next; is = is; id = under (m.fits refl) ∙ g.1 }))
+
+-- it asked for more, and closes its old open
+promoted_live : (machine : Client) (at file_id : ℕ) (answer : CreateAnswer) (live : LiveEntry) (asked_more : Asked)
+    (new : Phase) → (machine.entries at).phase ≡ Phase.Live live → live.asking ≡ Some asked_more
+    → (queue : List Reply) (id : ℕ) (asked : List Request)
+    → IsMetWith machine (Reply.Created at file_id (Some answer)) queue at id asked
+    → IsLiveUnder (machine.entries at).phase id
+    → IsCovered new at id (asked ++ Request.OnFile (FileRequest.Close live.file_id) ∷ []) queue
+promoted_live machine at file_id answer live asked_more new is asks queue id asked m u =
+    inr (inl (closed_behind at id asked _ none (inl same)))
+  where
+    one_live : (x y : LiveEntry) → Phase.Live x ≡ Phase.Live y → x ≡ y
+    one_live x y e = cc
+
+    same : live.file_id ≡ id
+    same = ap (λ (l : LiveEntry). l.file_id) (one_live live u.live (sym is ∙ u.is)) ∙ u.id
+
+    so : is_asking live ≡ true
+    so = ap (λ (o : Option Asked). is_some o) asks
+
+    left : (a b n : ℕ) → a + (1 + b) ≡ n → n ≡ 1 → a ≡ 0
+    left a b n e f = omega (arith, e, f)
+
+    none : creates at asked ≡ 0
+    none = left (creates at asked) (answers at queue) (asked_by machine at)
+        (ap (λ n. creates at asked + (n + answers at queue)) (sym (ap one_if (eq-eqb at at refl))) ∙ m.counted)
+        (ap one_if (ap has_asked is ∙ so))
+
+-- ---- replies that fail
+
+closed_status : (status : Status) → is_file_closed status ≡ true → status ≡ Status.FileClosed
+closed_status Status.FileClosed e = refl
+closed_status Status.AccessDenied e = absurd (true≢false (sym e))
+closed_status (_) e = cc
+
+read_failed_takes : (machine : Client) (at file_id : ℕ) (status : Status) (live : LiveEntry)
+    → (machine.entries at).phase ≡ Phase.Live live → live.file_id ≡ file_id
+    → TakeCovers machine (Reply.ReadFailed file_id status)
+    (turned machine at (read_failed_turn live (sent_of machine at) status))
+unfolding read_failed_turn closed_by_server
+read_failed_takes machine at file_id status live is id = if_cases
+    (λ (turn : Turn). TakeCovers machine (Reply.ReadFailed file_id status) (turned machine at turn)) (is_file_closed status) _ _
+    (λ gone. turn_takes machine (Reply.ReadFailed file_id status) at _ (λ file i ne g. g)
+    (λ queue i asked m u. absurd (m.not_failed (closed_status status gone)
+    (sym id ∙ ap (λ (l : LiveEntry). l.file_id) (one_live live u.live (sym is ∙ u.is)) ∙ u.id)))
+    (λ queue i asked m g. absurd g))
+    (λ there. plain_turn machine (Reply.ReadFailed file_id status) at _ (λ file i g. g) (same_turn at _ live _ _ is refl))
+  where
+    one_live : (x y : LiveEntry) → Phase.Live x ≡ Phase.Live y → x ≡ y
+    one_live x y e = cc
+
+write_failed_takes : (machine : Client) (at file_id number : ℕ) (status : Status) (sent : List Pending) (phase : Phase)
+    → (machine.entries at).phase ≡ phase
+    → TakeCovers machine (Reply.WriteFailed file_id number status)
+    (turned machine at (write_failed_in file_id number status sent phase))
+unfolding closed_by_server
+write_failed_takes machine at file_id number status sent Phase.Closed is =
+    plain_turn machine (Reply.WriteFailed file_id number status) at _ (λ file i g. g)
+    (idle_turn at _ _ _ (λ live e. not_live _ live is e))
+write_failed_takes machine at file_id number status sent (Phase.Opening access share) is =
+    plain_turn machine (Reply.WriteFailed file_id number status) at _ (λ file i g. g)
+    (idle_turn at _ _ _ (λ live e. never live (sym is ∙ e)))
+  where
+    never : (live : LiveEntry) → Phase.Opening access share ≡ Phase.Live live → ⊥
+    never live e = cc
+write_failed_takes machine at file_id number status sent (Phase.Live live) is = if_cases
+    (λ (turn : Turn). TakeCovers machine (Reply.WriteFailed file_id number status) (turned machine at turn))
+    (is_file_closed status && live.file_id == file_id) _ _
+    (λ gone. let parts = and_parts (is_file_closed status) (live.file_id == file_id) gone in
+    turn_takes machine (Reply.WriteFailed file_id number status) at _ (λ file i ne g. g)
+    (λ queue i asked m u. absurd (m.not_failed (closed_status status parts.0)
+    (sym (eqb-true live.file_id file_id parts.1)
+    ∙ ap (λ (l : LiveEntry). l.file_id) (one_live live u.live (sym is ∙ u.is)) ∙ u.id)))
+    (λ queue i asked m g. absurd g))
+    (λ there. plain_turn machine (Reply.WriteFailed file_id number status) at _ (λ file i g. g)
+    (same_turn at _ live live _ is refl))
+  where
+    one_live : (x y : LiveEntry) → Phase.Live x ≡ Phase.Live y → x ≡ y
+    one_live x y e = cc
+write_failed_takes machine at file_id number status sent (Phase.Offline parted) is =
+    plain_turn machine (Reply.WriteFailed file_id number status) at _ (λ file i g. g)
+    (idle_turn at _ _ _ (λ live e. never live (sym is ∙ e)))
+  where
+    never : (live : LiveEntry) → Phase.Offline parted ≡ Phase.Live live → ⊥
+    never live e = cc
+write_failed_takes machine at file_id number status sent (Phase.Reconnecting parted) is =
+    plain_turn machine (Reply.WriteFailed file_id number status) at _ (λ file i g. g)
+    (idle_turn at _ _ _ (λ live e. never live (sym is ∙ e)))
+  where
+    never : (live : LiveEntry) → Phase.Reconnecting parted ≡ Phase.Live live → ⊥
+    never live e = cc
+
+with_covers : (at : ℕ) (old : Phase) (write : Option Pending) (phase : Phase) → old ≡ phase
+    → TurnCovers at old (phase_with write phase) []
+with_covers at old write Phase.Closed is = idle_turn at old _ [] (λ live e. not_live old live is e)
+with_covers at old write (Phase.Opening access share) is = idle_turn at old _ [] (λ live e. never live (sym is ∙ e))
+  where
+    never : (live : LiveEntry) → Phase.Opening access share ≡ Phase.Live live → ⊥
+    never live e = cc
+with_covers at old write (Phase.Live live) is = same_turn at old live _ [] is refl
+with_covers at old write (Phase.Offline parted) is = idle_turn at old _ [] (λ live e. never live (sym is ∙ e))
+  where
+    never : (live : LiveEntry) → Phase.Offline parted ≡ Phase.Live live → ⊥
+    never live e = cc
+with_covers at old write (Phase.Reconnecting parted) is = idle_turn at old _ [] (λ live e. never live (sym is ∙ e))
+  where
+    never : (live : LiveEntry) → Phase.Reconnecting parted ≡ Phase.Live live → ⊥
+    never live e = cc
+
+-- ---- breaks
+
+-- an entry that is parked asks for nothing
+parked_idle : (live : LiveEntry) → (live.handles == 0) ≡ true → (is_asking live ≡ true → 1 ≤ live.handles)
+    → is_asking live ≡ false
+parked_idle live parked some = either (is_asking live)
+    (λ asks. absurd (none live.handles (eqb-true live.handles 0 parked) (some asks))) (λ idle. idle)
+  where
+    none : (n : ℕ) → n ≡ 0 → 1 ≤ n → ⊥
+    none n e f = omega (arith, e, f)
+
+break_takes : (machine : Client) → IsSoundClient machine → (at : ℕ) (notice : BreakNotice) (live : LiveEntry)
+    → (machine.entries at).phase ≡ Phase.Live live
+    → TakeCovers machine (Reply.Break (Some notice))
+    (turned machine at (break_turn live (sent_of machine at) notice (meet live.belief notice.lowered)))
+unfolding break_turn parked_closed belief_lowered
+break_takes machine s at notice live is = if_cases
+    (λ (turn : Turn). TakeCovers machine (Reply.Break (Some notice)) (turned machine at turn))
+    (live.handles == 0 && (live.belief.handle && not (meet live.belief notice.lowered).handle)) _ _
+    (λ parked. plain_turn machine (Reply.Break (Some notice)) at _ (λ file i g. g)
+    (closing_turn at _ _ live live.unsent [] is
+    (parked_idle live (and_parts _ _ parked).0 (sound_live machine at live s is).asking_with_handles)))
+    (λ stays. plain_turn machine (Reply.Break (Some notice)) at _ (λ file i g. g) (same_turn at _ live _ _ is refl))
+
+-- a grant that is passed over isn't due
+passed_covers : (machine : Client) (reply : Reply) → PassesOver machine reply → TakeCovers machine reply (quiet_step machine)
+passed_covers machine (Reply.Created other id (Some answer)) why = unasked
+  where
+    none : (a b n k : ℕ) → a + (n + b) ≡ k → n ≡ 1 → k ≡ 0 → ⊥
+    none a b n k e f h = omega (arith, e, f, h)
+
+    unasked : TakeCovers machine (Reply.Created other id (Some answer)) (quiet_step machine)
+    unasked queue file file_id asked m c = still_covers (machine.entries file).phase file file_id asked [] queue
+        (rest_covers (machine.entries file).phase (Reply.Created other id (Some answer)) queue file file_id asked
+        (λ g. none (creates file asked) (answers file queue) (one_if (other == file)) (asked_by machine file) m.counted
+        (ap one_if (eq-eqb other file g.0)) (ap one_if (ap (λ f. has_asked (machine.entries f).phase) (sym g.0) ∙ why))) c)
+passed_covers machine (Reply.Created other id None) why = plain_covers machine _ (quiet_step machine) (λ f i g. g) (idle_covers machine Answer.Quiet)
+passed_covers machine (Reply.CreateFailed other status) why = plain_covers machine _ (quiet_step machine) (λ f i g. g) (idle_covers machine Answer.Quiet)
+passed_covers machine (Reply.ReadDone id bytes) why = plain_covers machine _ (quiet_step machine) (λ f i g. g) (idle_covers machine Answer.Quiet)
+passed_covers machine (Reply.ReadFailed id status) why = plain_covers machine _ (quiet_step machine) (λ f i g. g) (idle_covers machine Answer.Quiet)
+passed_covers machine (Reply.WriteDone id number) why = plain_covers machine _ (quiet_step machine) (λ f i g. g) (idle_covers machine Answer.Quiet)
+passed_covers machine (Reply.WriteFailed id number status) why = plain_covers machine _ (quiet_step machine) (λ f i g. g) (idle_covers machine Answer.Quiet)
+passed_covers machine (Reply.Closed id) why = plain_covers machine _ (quiet_step machine) (λ f i g. g) (idle_covers machine Answer.Quiet)
+passed_covers machine (Reply.CloseFailed id status) why = plain_covers machine _ (quiet_step machine) (λ f i g. g) (idle_covers machine Answer.Quiet)
+passed_covers machine (Reply.Break notice) why = plain_covers machine _ (quiet_step machine) (λ f i g. g) (idle_covers machine Answer.Quiet)
+passed_covers machine (Reply.AckDone response) why = plain_covers machine _ (quiet_step machine) (λ f i g. g) (idle_covers machine Answer.Quiet)
+passed_covers machine (Reply.AckFailed status) why = plain_covers machine _ (quiet_step machine) (λ f i g. g) (idle_covers machine Answer.Quiet)
+
+pub takes_cover : (machine : Client) → IsSoundClient machine → HasTakes machine (TakeCovers machine)
+unfolding opened_turn reconnected_turn promoted_turn read_turn write_done_turn
+takes_cover machine s = record {
+  passed = λ reply why. passed_covers machine reply why;
+  broken = λ at notice live found is. break_takes machine s at notice live is;
+  opened = λ at file_id answer access share is. granted_takes machine at file_id answer _ _ refl
+      (λ queue id asked m u. absurd (opening u.live (sym is ∙ u.is))) (λ fits. refl);
+  reconnected = λ at file_id answer parted is. granted_takes machine at file_id answer _ _ refl
+      (λ queue id asked m u. absurd (parting u.live (sym is ∙ u.is)))
+      (λ fits. sym (subst (λ p. FitsPhase p file_id) is fits));
+  promoted = λ at file_id answer live asked is asks. granted_takes machine at file_id answer _ _ refl
+      (promoted_live machine at file_id answer live asked _ is asks) (λ fits. refl);
+  not_opened = λ at status access share is. plain_turn machine (Reply.CreateFailed at status) at _ (λ file i g. g)
+      (idle_turn at _ _ _ (λ live e. opening live (sym is ∙ e)));
+  not_reconnected = λ at status parted is. plain_turn machine (Reply.CreateFailed at status) at _ (λ file i g. g)
+      (idle_turn at _ _ _ (λ live e. parting live (sym is ∙ e)));
+  not_promoted = λ at status live asked is asks. plain_turn machine (Reply.CreateFailed at status) at _ (λ file i g. g)
+      (same_turn at _ live _ _ is refl);
+  read = λ at file_id bytes live is id some. plain_turn machine (Reply.ReadDone file_id bytes) at _ (λ file i g. g)
+      (same_turn at _ live _ _ is refl);
+  not_read = λ at file_id status live is id some. read_failed_takes machine at file_id status live is id;
+  written = λ at file_id number has known. plain_turn machine (Reply.WriteDone file_id number) at _ (λ file i g. g)
+      (with_covers at (machine.entries at).phase _ (machine.entries at).phase refl);
+  not_written = λ at file_id number status has known.
+      write_failed_takes machine at file_id number status _ (machine.entries at).phase refl;
+}
+  where
+    opening : {access : _} {share : _} (live : LiveEntry) → Phase.Opening access share ≡ Phase.Live live → ⊥
+    opening live e = cc
+
+    parting : {parted : _} (live : LiveEntry) → Phase.Reconnecting parted ≡ Phase.Live live → ⊥
+    parting live e = cc
