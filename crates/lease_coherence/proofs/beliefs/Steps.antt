@@ -1,10 +1,11 @@
 -- What a client does keeps its trust.
 use Rattle.std.proofs.Common.{◌≡◌, ◌⊎◌, inl, inr, ⊎_elim, ℕ, ◌+◌, true, false, not, List, [], ◌++◌, flat_map, refl, sym, ap, ap₂, ◌∙◌, subst, arith}
+use Rattle.std.specs.Prelude.{⊤}
 use Rattle.lease_model.specs.client.Connection.{connection_made, all_turned, connect_turn}
 use Rattle.lease_model.specs.client.State.{Client, LiveEntry, Pending, Phase, lease_key}
 use Rattle.lease_model.specs.client.Step.{Step}
 use Rattle.lease_model.specs.messages.Replies.{Reply}
-use Rattle.lease_model.specs.messages.Requests.{Request}
+use Rattle.lease_model.specs.messages.Requests.{FileRequest, Request}
 use Rattle.lease_model.specs.server.Calls.{joined}
 use Rattle.lease_model.specs.server.Naming.{key_of}
 use Rattle.lease_model.specs.server.State.{Server, Held}
@@ -16,10 +17,12 @@ use Rattle.lease_laws.specs.server.Laws.{Among}
 use Rattle.lease_laws.specs.world.Links.{is_up, is_down}
 use Rattle.lease_laws.proofs.client.Thin.{put_same}
 use Rattle.lease_laws.proofs.server.Lists.{clash}
+use Rattle.lease_laws.proofs.world.Runs.{stepped_server}
+use Rattle.lease_coherence.specs.Creates.{held_by}
 use Rattle.lease_coherence.specs.Names.{Each}
 use Rattle.lease_coherence.specs.Standing.{IsNoClose, IsOpenFor, IsStandingAt, PhaseStands}
 use Rattle.lease_coherence.proofs.clients.Takes.{is_live}
-use Rattle.lease_coherence.proofs.creates.Creates.{stepped_machine}
+use Rattle.lease_coherence.proofs.creates.Creates.{stepped_machine, none_held}
 use Rattle.lease_coherence.proofs.moves.Events.{Ground, come_back, connected}
 use Rattle.lease_coherence.proofs.moves.Frames.{stepped_requests, stepped_replies}
 use Rattle.lease_coherence.proofs.standing.Runs.{each_flat}
@@ -149,11 +152,17 @@ step_trusted world c step before up guid on believes lowered files s = record {
 
 -- ---- a client connects
 
--- nothing is on its way to it, no acknowledgment from it, and no entry is live
+abbrev pub AsksCreate : Request → Type 0
+AsksCreate (Request.OnFile (FileRequest.Create file access share contexts)) = ⊤
+AsksCreate request = ⊥
+
+-- nothing is on its way to it or held, it asks for nothing but creates, and no entry is live
 pub record IsIdle (world : World) (c : ℕ) : Type 0 where
   pub replies : world.replies c ≡ []
   pub acks : (key : List ℕ) → acks key (world.requests c) ≡ 0
   pub phases : (file : ℕ) → is_live ((world.clients c).entries file).phase ≡ false
+  pub asks : Each AsksCreate (world.requests c)
+  pub held : (at : ℕ) → held_by c (world.server.held at) ≡ []
 
 pub connect_idle : (world : World) (c : ℕ) → Ground world → world.links c ≡ Link.Down → IsIdle (connected world c) c
 unfolding joined connection_made all_turned
@@ -178,6 +187,9 @@ connect_idle world c g down =
           (λ file. about file (machine.entries file).sent (machine.entries file).phase));
       phases = λ file. ap (λ (m : Client). is_live (m.entries file).phase) mine
           ∙ idle file online (machine.entries file).phase ((g.clients c).entries file);
+      asks = subst (Each AsksCreate) (sym queued) (each_flat AsksCreate turn (numbers_to machine.files)
+          (λ file. creates_alone file (machine.entries file).sent (machine.entries file).phase));
+      held = λ at. ap (λ (x : Server). held_by c (x.held at)) (stepped_server back c step) ∙ none_held world c g is_off at;
     }
   where
     about : (file : ℕ) (sent : List Pending) (phase : Phase)
@@ -187,6 +199,14 @@ connect_idle world c g down =
     about file sent (Phase.Live live) = tt
     about file sent (Phase.Offline parted) = (tt, tt)
     about file sent (Phase.Reconnecting parted) = tt
+
+    creates_alone : (file : ℕ) (sent : List Pending) (phase : Phase)
+        → Each AsksCreate (connect_turn (world.clients c) file sent phase).requests
+    creates_alone file sent Phase.Closed = tt
+    creates_alone file sent (Phase.Opening access share) = tt
+    creates_alone file sent (Phase.Live live) = tt
+    creates_alone file sent (Phase.Offline parted) = (tt, tt)
+    creates_alone file sent (Phase.Reconnecting parted) = tt
 
     idle : (file : ℕ) → (world.clients c).is_online ≡ false → (phase : Phase)
         → IsSoundPhase (world.clients c).is_online ((world.clients c).entries file).sent phase

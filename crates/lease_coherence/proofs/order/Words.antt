@@ -138,7 +138,7 @@ asked_among c before behind one queue own =
     ∙ ap (λ l. l ++ queue) (as_append (held_by c before) (one ∷ held_by c behind))
     ∙ append_three (as_requests (held_by c before)) (Request.OnFile one.request ∷ as_requests (held_by c behind)) queue
 
-asked_left : (c : ℕ) (before behind : List Held) (queue : List Request)
+pub asked_left : (c : ℕ) (before behind : List Held) (queue : List Request)
     → as_requests (held_by c (before ++ behind)) ++ queue
     ≡ as_requests (held_by c before) ++ (as_requests (held_by c behind) ++ queue)
 asked_left c before behind queue = ap (λ l. as_requests l ++ queue) (held_append c before behind)

@@ -187,7 +187,7 @@ answers_last world c (Reply.AckFailed status) queue g up counted first = tt
 
 -- ---- steps of the client
 
-fits_of : (world : World) (c file : ℕ) (reply : Reply) → GivenWell world c reply
+pub fits_of : (world : World) (c file : ℕ) (reply : Reply) → GivenWell world c reply
     → FitsGiven file ((world.clients c).entries file).phase reply
 fits_of world c file (Reply.Created other id contexts) w =
     λ same. subst (λ f. FitsPhase ((world.clients c).entries f).phase id) same w.fits
