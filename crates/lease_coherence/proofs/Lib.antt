@@ -9,6 +9,7 @@ pub mod names
 pub mod order
 pub mod records
 pub mod standing
+pub mod told
 pub mod wellformed
 pub mod within
 pub mod writes

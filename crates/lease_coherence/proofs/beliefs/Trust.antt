@@ -106,7 +106,7 @@ nothing_stands world c file s own fresh none = (
 
 -- ---- what leaves the queue
 
-file_acks : (key : List ℕ) (queue rest : List Request) (request : FileRequest) → queue ≡ Request.OnFile request ∷ rest
+pub file_acks : (key : List ℕ) (queue rest : List Request) (request : FileRequest) → queue ≡ Request.OnFile request ∷ rest
     → acks key (rest_of queue) ≡ acks key queue
 file_acks key queue rest request e = subst (λ q. acks key (rest_of q) ≡ acks key q) (sym e) (plus (acks key rest))
   where

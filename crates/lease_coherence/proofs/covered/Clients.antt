@@ -257,7 +257,7 @@ promoted_live machine at file_id answer live asked_more new is asks queue id ask
 
 -- ---- replies that fail
 
-closed_status : (status : Status) → is_file_closed status ≡ true → status ≡ Status.FileClosed
+pub closed_status : (status : Status) → is_file_closed status ≡ true → status ≡ Status.FileClosed
 closed_status Status.FileClosed e = refl
 closed_status Status.AccessDenied e = absurd (true≢false (sym e))
 closed_status (_) e = cc
@@ -339,7 +339,7 @@ with_covers at old write (Phase.Reconnecting parted) is = idle_turn at old _ [] 
 -- ---- breaks
 
 -- an entry that is parked asks for nothing
-parked_idle : (live : LiveEntry) → (live.handles == 0) ≡ true → (is_asking live ≡ true → 1 ≤ live.handles)
+pub parked_idle : (live : LiveEntry) → (live.handles == 0) ≡ true → (is_asking live ≡ true → 1 ≤ live.handles)
     → is_asking live ≡ false
 parked_idle live parked some = either (is_asking live)
     (λ asks. absurd (none live.handles (eqb-true live.handles 0 parked) (some asks))) (λ idle. idle)

@@ -22,7 +22,7 @@ use Rattle.lease_model.specs.values.Keys.{Key}
 use Rattle.lease_model.specs.values.Lists.{without}
 use Rattle.lease_model.specs.values.Tables.{put, put_key}
 use Rattle.lease_model.specs.world.Events.{machine_key, stepped_in}
-use Rattle.lease_model.specs.world.World.{World, Link}
+use Rattle.lease_model.specs.world.World.{World, Link, Setup, first_world}
 use Rattle.lease_laws.specs.client.Laws.{IsSoundClient}
 use Rattle.lease_laws.specs.server.Laws.{Among}
 use Rattle.lease_laws.specs.server.SmallSteps.{SmallStep, IsInTurn}
@@ -40,7 +40,7 @@ use Rattle.lease_coherence.specs.Names.{Each, IsNamedAt, IsNamedPhase, WasOpened
 use Rattle.lease_coherence.specs.Standing.{AllAsked, IsNoClose, IsOpenFor, IsStandingAt, GivenWell, PhaseStands}
 use Rattle.lease_coherence.proofs.beliefs.Closed.{left_there}
 use Rattle.lease_coherence.proofs.beliefs.Steps.{AsksCreate, IsIdle, connect_idle}
-use Rattle.lease_coherence.proofs.beliefs.WriteCaches.{HasBeliefs, beliefs_carried, first_beliefs}
+use Rattle.lease_coherence.proofs.beliefs.WriteCaches.{HasBeliefs}
 use Rattle.lease_coherence.proofs.clients.Commands.{any_command}
 use Rattle.lease_coherence.proofs.clients.Takes.{any_reply}
 use Rattle.lease_coherence.proofs.covered.Asked.{popped_closed, held_closed}
@@ -66,6 +66,7 @@ use Rattle.lease_coherence.proofs.standing.Clients.{FitsGiven}
 use Rattle.lease_coherence.proofs.standing.Runs.{link_of, fits_of, was_up}
 use Rattle.lease_coherence.proofs.standing.Standing.{IsStepped, step_of}
 use Rattle.lease_coherence.proofs.standing.Words.{asked_weaker, asked_popped, asked_held, asked_unmoved}
+use Rattle.lease_coherence.proofs.within.Runs.{HasWhole, whole_carried, first_whole}
 
 -- ---- what others do
 
@@ -150,7 +151,7 @@ leased_covered off key lease request reply none fails h =
 -- ---- a request is held
 
 -- a Close that is held stands on the file of its open
-own_place : (server : Server) (c at : ℕ) (request : FileRequest) (x : Open) → (g : (one other : Open)
+pub own_place : (server : Server) (c at : ℕ) (request : FileRequest) (x : Open) → (g : (one other : Open)
     → Among one server.opens → Among other server.opens → one.file_id ≡ other.file_id → one ≡ other)
     → Among x server.opens → file_asked server c request ≡ Ok at → x.file ≢ at
     → IsNoClose x.file_id (Request.OnFile request)
@@ -407,7 +408,7 @@ quiet_of world c file e idle = left (creates file (asked_of world c file)) (answ
     left a b e = omega (arith, e)
 
 -- a reply that fails is of no open that is there
-not_failed : (world : World) (c : ℕ) (reply : Reply) (x : Open) → Among x world.server.opens → x.client ≡ c
+pub not_failed : (world : World) (c : ℕ) (reply : Reply) (x : Open) → Among x world.server.opens → x.client ≡ c
     → world.server.expired (machine_key world c x.file) ≡ false → FailsGone world c reply → NotFailed x.file_id reply
 not_failed world c (Reply.ReadFailed id status) x there by fresh f = λ closed same. (f closed).gone x there by (sym same) fresh
 not_failed world c (Reply.WriteFailed id number status) x there by fresh f =
@@ -459,7 +460,7 @@ take_covered world c reply queue first up counted k h =
 
 -- ---- all moves
 
-known_for : (world : World) → HasBeliefs world → (c : ℕ) → has_strayed c world.past ≡ false
+pub known_for : (world : World) → HasBeliefs world → (c : ℕ) → has_strayed c world.past ≡ false
     → is_up (world.links c) ≡ true → IsKnownFor world c
 known_for world v c good up = record {
   ground = v.0.0.0.0;
@@ -477,42 +478,42 @@ off_known : (world off : World) → HasBeliefs world → (c : ℕ) (request : Fi
     → KnowsIds off c
 off_known world off v c request source = ids_of off c (off_counted world off c request source v.0.0.0.0)
 
-pub covered_moves : IsOwnMoved HasBeliefs IsUpCovered
+pub covered_moves : IsOwnMoved HasWhole IsUpCovered
 covered_moves = record {
   unmoved = λ world new c v good u a up. unmoved_covered world new c u (a (ap is_up (sym u.link) ∙ up));
-  refused = λ world off c request status v good source may a up. let h = off_left world off v c request source a up in
+  refused = λ world off c request status v good source may a up. let h = off_left world off v.0 c request source a up in
       told_covered off c (Request.OnFile request) (refusal_of request status)
       (refusal_gone off c request status may h.used) (refusal_closes off c request status may) h;
   full = λ world off c file access share ask v good source a up.
       let request = FileRequest.Create file access share (Some ask) in
       told_covered off c (Request.OnFile request) (Reply.CreateFailed file Status.InsufficientResources) tt
-      (λ x there by on. tt) (off_left world off v c request source a up);
+      (λ x there by on. tt) (off_left world off v.0 c request source a up);
   granted = λ world off c file access share ask v good source none on free a up.
       let request = FileRequest.Create file access share (Some ask) in
-      granted_covered off c file access share ask _ (off_known world off v c request source)
-      (off_left world off v c request source a up);
+      granted_covered off c file access share ask _ (off_known world off v.0 c request source)
+      (off_left world off v.0 c request source a up);
   reconnected = λ world off c file access share ask file_id v good source again on waits a up.
       let request = FileRequest.Create file access share (Some ask) in
-      let own = (off_named world off c request c source (v.0.0.0.1.0 c good)).1 refl in
-      reconnected_covered off c file access share ask file_id (off_known world off v c request source)
-      (own.again file_id again) (off_left world off v c request source a up);
+      let own = (off_named world off c request c source (v.0.0.0.0.1.0 c good)).1 refl in
+      reconnected_covered off c file access share ask file_id (off_known world off v.0 c request source)
+      (own.again file_id again) (off_left world off v.0 c request source a up);
   read = λ world off c file_id one v good source found may a up.
       let request = FileRequest.Read file_id in
       told_covered off c (Request.OnFile request) (Reply.ReadDone file_id (off.server.contents one.file)) tt
-      (λ x there by on. tt) (off_left world off v c request source a up);
+      (λ x there by on. tt) (off_left world off v.0 c request source a up);
   changed = λ world off c file_id number patch one v good source found may a up.
       let request = FileRequest.Write file_id number patch in
-      changed_covered off c one.file file_id number patch (off_left world off v c request source a up);
+      changed_covered off c one.file file_id number patch (off_left world off v.0 c request source a up);
   closed = λ world off c file_id one v good source found a up.
       let request = FileRequest.Close file_id in
-      closed_covered off c file_id (off_left world off v c request source a up);
+      closed_covered off c file_id (off_left world off v.0 c request source a up);
   ack_failed = λ world c given status v good oldest why a up.
       told_covered (popped world c) c (Request.Acknowledge given) (Reply.AckFailed status) tt (λ x there by on. tt)
       (ack_left world c given oldest (a up));
   ack_done = λ world c given lowered v good oldest there breaks within a up.
       leased_covered (popped world c) (key_of c given.key) _ (Request.Acknowledge (Some given)) (done_reply given)
       (λ x. tt) tt (ack_left world c (Some given) oldest (a up));
-  hold = λ world file one v good oldest may turn a up. held_covered world file one oldest turn v.0.0.0.0 (a up);
+  hold = λ world file one v good oldest may turn a up. held_covered world file one oldest turn v.0.0.0.0.0 (a up);
   dropped = λ world c test v good away a up. dropped_covered world c test (a up);
   lower = λ world key lowered v good may light a up. leased_covered world key _ (Request.Acknowledge None)
       (break_notice key (world.server.leases key).state lowered) (λ x. tt) tt (all_left world key.client (a up));
@@ -520,23 +521,36 @@ covered_moves = record {
       (break_notice key (world.server.leases key).state lowered) (λ x. tt) tt (all_left world key.client (a up));
   cut = λ world c v good up a on. absurd (true≢false (sym on ∙ ap is_up (put_same world.links c Link.Cut)));
   timer = λ world c file v good on breaks a up. timer_covered world c file (a up);
-  connect = λ world c v good down a up. connect_covered world c v.0.0.0.0 down;
+  connect = λ world c v good down a up. connect_covered world c v.0.0.0.0.0 down;
   command = λ world c command v good a up.
       let machine = world.clients c in
       let was = was_up world c (commanded machine command) up in
       let h = a was in
       step_covered world world c (commanded machine command) was (commanded-stays machine command).guid refl refl refl
       (later_same world.past) (any_command machine (StepUses machine) (commands_use machine) command)
-      (known_for world v c good was) h.uses h.fails
+      (known_for world v.0 c good was) h.uses h.fails
       (λ x there by on fresh. any_command machine (StepCovers machine) (commands_cover machine) command x.file x.file_id
-      (asked_of world c x.file) (world.replies c) (quiet_of world c x.file (v.0.0.1 c good was x.file))
+      (asked_of world c x.file) (world.replies c) (quiet_of world c x.file (v.0.0.0.1 c good was x.file))
       (h.covers x there by on fresh));
   take = λ world c reply queue v good first a up.
       let was : is_up (world.links c) ≡ true =
       was_up (reply_gone world c queue) c (taken (world.clients c) reply) up in
-      take_covered world c reply queue first was (v.0.0.1 c good was) (known_for world v c good was) (a was);
+      take_covered world c reply queue first was (v.0.0.0.1 c good was) (known_for world v.0 c good was) (a was);
   notice = λ world c v good cut a on. absurd (true≢false (sym on
       ∙ ap (λ (l : ℕ → Link). is_up (l c)) (stepped_links (record world { links = put world.links c Link.Down }) c
       (noticed (world.clients c)))
       ∙ ap is_up (put_same world.links c Link.Down)));
 }
+
+-- ---- all runs
+
+abbrev pub HasCover : World → Type 0
+HasCover = Both HasWhole (OfGood IsUpCovered)
+
+pub cover_carried : IsCarried HasCover
+cover_carried = carried_both HasWhole (OfGood IsUpCovered) whole_carried
+    (own_moves HasWhole IsUpCovered (λ world all. all.0.0.0.0.0) covered_moves)
+
+pub first_cover : (setup : Setup) → HasCover (first_world setup)
+unfolding first_world
+first_cover setup = (first_whole setup, λ client good up. absurd (true≢false (sym up)))

@@ -1,0 +1,4 @@
+pub mod Clients
+pub mod Moves
+pub mod Servers
+pub mod Words
