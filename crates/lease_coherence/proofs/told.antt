@@ -1,4 +1,5 @@
 pub mod Clients
 pub mod Moves
+pub mod Runs
 pub mod Servers
 pub mod Words
