@@ -15,6 +15,7 @@ use Rattle.lease_model.specs.world.World.{fact_of}
 use Rattle.lease_laws.specs.records.Runs.{content_of}
 use Rattle.lease_laws.specs.server.Laws.{Among}
 use Rattle.lease_laws.proofs.server.Lists.{either, clash, not_true}
+use Rattle.lease_coherence.specs.Agreement.{touched_since_lost}
 use Rattle.lease_coherence.proofs.records.Later.{past_noted}
 
 -- what a lease is, or is broken to
@@ -57,6 +58,9 @@ pub record IsSpared (c : ℕ) (opens : List Open) (leases : Key → Lease) (past
       → is_touched c one.file number past ≡ false → is_touched c one.file number new ≡ false
   pub content : (key : Key) (one : Open) → one.client ≡ c → Among one opens → has_key key one ≡ true
       → (ends_as (leases key)).read ≡ true → content_of one.file new ≡ content_of one.file past
+  pub alone : (key : Key) (one : Open) → one.client ≡ c → Among one opens → has_key key one ≡ true
+      → (leases key).state.write ≡ true → touched_since_lost c one.file past ≡ false
+      → touched_since_lost c one.file new ≡ false
 
 pub spared_same : (c : ℕ) (opens : List Open) (leases : Key → Lease) (past : List Fact)
     → IsSpared c opens leases past past
@@ -67,6 +71,7 @@ spared_same c opens leases past = record {
   buffered = λ file number. refl;
   clean = λ key one own there has number writes e. e;
   content = λ key one own there has reads. refl;
+  alone = λ key one own there has writes e. e;
 }
 
 pub spared_then : (c : ℕ) (opens next : List Open) (leases after : Key → Lease) (past middle new : List Fact)
@@ -84,6 +89,8 @@ spared_then c opens next leases after past middle new kept same h k = record {
   content = λ key one own there has reads.
       k.content key one own (kept one own there) has (ap (λ (l : Lease). (ends_as l).read) (same key one own has) ∙ reads)
       ∙ h.content key one own there has reads;
+  alone = λ key one own there has writes e. k.alone key one own (kept one own there) has
+      (ap (λ (l : Lease). l.state.write) (same key one own has) ∙ writes) (h.alone key one own there has writes e);
 }
 
 -- ---- one fact
@@ -111,9 +118,18 @@ opened_clean c opens leases past file client none key one own there has number w
     clash (leases key).state.write (writes was)
     (none key one own there (sym (eqb-true file one.file here)) has)
 
+since : (a b : Bool) → b ≡ false → (a && b) ≡ false
+since true b e = e
+since false b e = refl
+
+untouched_since : (here apart : Bool) (touched : Bool) → (here ≡ true → ⊥) → touched ≡ false
+    → ((here && apart) || touched) ≡ false
+untouched_since true apart touched never e = absurd (never refl)
+untouched_since false apart touched never e = e
+
 pub spared_fact : (c : ℕ) (opens : List Open) (leases : Key → Lease) (fact : Fact) (past : List Fact)
     → Spares c opens leases fact → IsSpared c opens leases past (fact ∷ past)
-unfolding sendings takings has_buffered has_written is_touched content_of
+unfolding sendings takings has_buffered has_written is_touched content_of touched_since_lost
 spared_fact c opens leases (Fact.Start file bytes) past s = absurd s
 spared_fact c opens leases (Fact.Joined client) past s = let was = spared_same c opens leases past in record {
   sent = rw (no client s) refl;
@@ -122,6 +138,7 @@ spared_fact c opens leases (Fact.Joined client) past s = let was = spared_same c
   buffered = was.buffered;
   clean = was.clean;
   content = was.content;
+  alone = was.alone;
 }
   where
     no : (d : ℕ) → d ≢ c → (d == c) ≡ false
@@ -133,6 +150,7 @@ spared_fact c opens leases (Fact.Dropped client) past s = record {
   buffered = λ f n. refl;
   clean = λ key one own there has number writes e. e;
   content = λ key one own there has reads. refl;
+  alone = λ key one own there has writes e. since (not (client == c)) (touched_since_lost c one.file past) e;
 }
 spared_fact c opens leases (Fact.Expired client file) past s = record {
   sent = refl;
@@ -141,6 +159,7 @@ spared_fact c opens leases (Fact.Expired client file) past s = record {
   buffered = λ f n. refl;
   clean = λ key one own there has number writes e. e;
   content = λ key one own there has reads. refl;
+  alone = λ key one own there has writes e. e;
 }
 spared_fact c opens leases (Fact.Sent client) past s = record {
   sent = rw (no client s) refl;
@@ -149,6 +168,7 @@ spared_fact c opens leases (Fact.Sent client) past s = record {
   buffered = λ f n. refl;
   clean = λ key one own there has number writes e. e;
   content = λ key one own there has reads. refl;
+  alone = λ key one own there has writes e. e;
 }
   where
     no : (d : ℕ) → d ≢ c → (d == c) ≡ false
@@ -160,6 +180,7 @@ spared_fact c opens leases (Fact.Took client) past s = record {
   buffered = λ f n. refl;
   clean = λ key one own there has number writes e. e;
   content = λ key one own there has reads. refl;
+  alone = λ key one own there has writes e. e;
 }
   where
     no : (d : ℕ) → d ≢ c → (d == c) ≡ false
@@ -174,6 +195,9 @@ spared_fact c opens leases (Fact.Opened file client) past s = record {
       (is_touched c one.file number past)
       (opened_clean c opens leases past file client s key one own there has number writes) e;
   content = λ key one own there has reads. refl;
+  alone = λ key one own there has writes e. untouched_since (file == one.file) (not (client == c))
+      (touched_since_lost c one.file past)
+      (λ here. clash (leases key).state.write writes (s key one own there (sym (eqb-true file one.file here)) has)) e;
 }
 spared_fact c opens leases (Fact.Changed file client number patch) past s = record {
   sent = refl;
@@ -188,6 +212,9 @@ spared_fact c opens leases (Fact.Changed file client number patch) past s = reco
       (λ here. clash (ends_as (leases key)).read reads
       (s.1 key one own there (sym (eqb-true file one.file here)) has))
       (λ away. rw (away) refl);
+  alone = λ key one own there has writes e. untouched_since (file == one.file) (not (client == c))
+      (touched_since_lost c one.file past)
+      (λ here. clash (leases key).state.write writes (s.0 key one own there (sym (eqb-true file one.file here)) has)) e;
 }
 spared_fact c opens leases (Fact.Wrote client file number patch buffered) past s = record {
   sent = refl;
@@ -196,6 +223,7 @@ spared_fact c opens leases (Fact.Wrote client file number patch buffered) past s
   buffered = λ f n. no client f n s;
   clean = λ key one own there has n writes e. e;
   content = λ key one own there has reads. refl;
+  alone = λ key one own there has writes e. e;
 }
   where
     no : (d f n : ℕ) → d ≢ c → ((d == c && file == f && number == n && buffered) || has_buffered c f n past)
@@ -213,6 +241,7 @@ spared_fact c opens leases (Fact.Settled client number outcome) past s = record 
   buffered = λ f n. refl;
   clean = λ key one own there has n writes e. e;
   content = λ key one own there has reads. refl;
+  alone = λ key one own there has writes e. e;
 }
 spared_fact c opens leases (Fact.Believes client file state) past s = record {
   sent = refl;
@@ -221,6 +250,7 @@ spared_fact c opens leases (Fact.Believes client file state) past s = record {
   buffered = λ f n. refl;
   clean = λ key one own there has n writes e. e;
   content = λ key one own there has reads. refl;
+  alone = λ key one own there has writes e. e;
 }
 spared_fact c opens leases (Fact.CachedRead client file bytes) past s = record {
   sent = refl;
@@ -229,6 +259,7 @@ spared_fact c opens leases (Fact.CachedRead client file bytes) past s = record {
   buffered = λ f n. refl;
   clean = λ key one own there has n writes e. e;
   content = λ key one own there has reads. refl;
+  alone = λ key one own there has writes e. e;
 }
 spared_fact c opens leases (Fact.Strayed client) past s = record {
   sent = refl;
@@ -237,6 +268,7 @@ spared_fact c opens leases (Fact.Strayed client) past s = record {
   buffered = λ f n. refl;
   clean = λ key one own there has n writes e. e;
   content = λ key one own there has reads. refl;
+  alone = λ key one own there has writes e. e;
 }
 
 pub spared_two : (c : ℕ) (opens : List Open) (leases : Key → Lease) (fact other : Fact) (past : List Fact)
