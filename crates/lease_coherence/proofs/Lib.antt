@@ -7,6 +7,7 @@ pub mod late
 pub mod moves
 pub mod names
 pub mod order
+pub mod parted
 pub mod records
 pub mod standing
 pub mod told

@@ -78,14 +78,14 @@ create_here server at file (FileRequest.Read file_id) about ne = refl
 create_here server at file (FileRequest.Write file_id number patch) about ne = refl
 create_here server at file (FileRequest.Close file_id) about ne = refl
 
-abbrev left_over : World → ℕ → ℕ → ℕ
+abbrev pub left_over : World → ℕ → ℕ → ℕ
 left_over world c file = creates file (world.requests c) + held_creates file (held_by c (world.server.held file))
 
 first_off : (file : ℕ) (queue rest : List Request) (request : FileRequest) → queue ≡ Request.OnFile request ∷ rest
     → creates file queue ≡ create_of file request + creates file (rest_of queue)
 first_off file queue rest request e = subst (λ q. creates file q ≡ create_of file request + creates file (rest_of q)) (sym e) refl
 
-source_counts : (world off : World) (c : ℕ) (request : FileRequest) → Ground world → IsSource world off c request
+pub source_counts : (world off : World) (c : ℕ) (request : FileRequest) → Ground world → IsSource world off c request
     → (file : ℕ) → left_over world c file ≡ create_of file request + left_over off c file
 source_counts world off c request g source file = ⊎_elim
     (λ a. subst (λ (o : World). left_over world c file ≡ create_of file request + left_over o c file) (sym a.is_off)
