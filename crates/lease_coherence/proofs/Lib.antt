@@ -1,3 +1,4 @@
+pub mod agreed
 pub mod beliefs
 pub mod clients
 pub mod covered

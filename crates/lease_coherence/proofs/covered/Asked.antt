@@ -18,7 +18,8 @@ use Rattle.lease_coherence.proofs.clients.Files.{find_absent}
 use Rattle.lease_coherence.proofs.covered.Words.{ClosedBefore, closed_less}
 use Rattle.lease_coherence.proofs.moves.Deeds.{IsSource, HasArrived, WasHeld, with_held, held_in}
 use Rattle.lease_coherence.proofs.moves.Moves.{IsOldest, rest_of, popped}
-use Rattle.lease_coherence.proofs.order.Words.{as_requests, asked_of, asked_among, asked_left, none_behind, append_three, as_append, held_append}
+use Rattle.lease_coherence.specs.Agreement.{as_requests, asked_of}
+use Rattle.lease_coherence.proofs.order.Words.{asked_among, asked_left, none_behind, append_three, as_append, held_append}
 
 -- ---- one that leaves
 

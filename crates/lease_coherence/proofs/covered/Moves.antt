@@ -39,7 +39,7 @@ use Rattle.lease_coherence.proofs.moves.Frames.{from_source, lease_put_rest}
 use Rattle.lease_coherence.proofs.moves.Moves.{IsOldest, popped}
 use Rattle.lease_coherence.proofs.names.Names.{awaits_parts, open_parts}
 use Rattle.lease_coherence.proofs.names.Words.{each_append, each_weaker}
-use Rattle.lease_coherence.proofs.order.Words.{as_requests, asked_of}
+use Rattle.lease_coherence.specs.Agreement.{as_requests, asked_of}
 use Rattle.lease_coherence.proofs.records.Later.{IsLater, later_same, later_fact, later_two}
 use Rattle.lease_coherence.proofs.standing.Words.{asked_weaker, asked_off, asked_popped, asked_held}
 

@@ -60,7 +60,8 @@ use Rattle.lease_coherence.proofs.moves.Own.{IsOwnMoved, OfGood, own_moves}
 use Rattle.lease_coherence.proofs.names.Names.{off_named, off_counted, open_parts}
 use Rattle.lease_coherence.proofs.names.Words.{each_append, each_weaker}
 use Rattle.lease_coherence.proofs.order.Sends.{IsUnderLive}
-use Rattle.lease_coherence.proofs.order.Words.{as_requests, asked_of, append_three}
+use Rattle.lease_coherence.specs.Agreement.{as_requests, asked_of}
+use Rattle.lease_coherence.proofs.order.Words.{append_three}
 use Rattle.lease_coherence.proofs.records.Later.{IsLater, later_same, later_then, later_fact, later_noted}
 use Rattle.lease_coherence.proofs.standing.Clients.{FitsGiven}
 use Rattle.lease_coherence.proofs.standing.Runs.{link_of, fits_of, was_up}

@@ -11,7 +11,7 @@ use Rattle.lease_model.specs.messages.Requests.{FileRequest, Request}
 use Rattle.lease_model.specs.server.State.{Held}
 use Rattle.lease_coherence.specs.Creates.{answer_of, answers, create_of, creates, held_creates, one_if}
 use Rattle.lease_coherence.specs.Standing.{IsNoClose}
-use Rattle.lease_coherence.proofs.order.Words.{as_requests}
+use Rattle.lease_coherence.specs.Agreement.{as_requests}
 
 -- ---- closes
 

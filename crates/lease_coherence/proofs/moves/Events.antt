@@ -334,7 +334,8 @@ unfolding happens
 happens_moves V ground k world event at = if_either V (has_client world (client_of event)) (applied world event) world
     (applied_moves V ground k world event at) at.holds
 
-after_moves : (V : World → Type 0) → ((world : World) → V world → Ground world) → IsCarried V
+-- from any point of a run
+pub after_moves : (V : World → Type 0) → ((world : World) → V world → Ground world) → IsCarried V
     → (world : World) (events : List Event) → IsCountedWorld world → V world → V (after world events)
 unfolding after
 after_moves V ground k world [] c v = v

@@ -47,7 +47,8 @@ use Rattle.lease_coherence.proofs.moves.Moves.{IsOldest, rest_of, popped}
 use Rattle.lease_coherence.proofs.moves.Own.{IsOwnMoved, OfGood, own_moves}
 use Rattle.lease_coherence.proofs.names.Names.{open_parts}
 use Rattle.lease_coherence.proofs.names.Words.{each_append, each_weaker}
-use Rattle.lease_coherence.proofs.order.Words.{IsNoWrite, AreOrdered, as_requests, asked_of, IsOpenIn, ordered_behind, ordered_more, append_three, asked_among, popped_ordered, none_behind, held_ordered, WriteStands, IsInOrder, IsUpInOrder}
+use Rattle.lease_coherence.specs.Agreement.{as_requests, asked_of}
+use Rattle.lease_coherence.proofs.order.Words.{IsNoWrite, AreOrdered, IsOpenIn, ordered_behind, ordered_more, append_three, asked_among, popped_ordered, none_behind, held_ordered, WriteStands, IsInOrder, IsUpInOrder}
 use Rattle.lease_coherence.proofs.records.Later.{IsLater, later_same, later_fact, later_two, later_noted}
 use Rattle.lease_coherence.proofs.standing.Runs.{link_of, was_up, each_flat, gone_standing}
 use Rattle.lease_coherence.proofs.standing.Servers.{stands_by, again_up, timer_stands}

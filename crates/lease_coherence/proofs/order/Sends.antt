@@ -22,7 +22,8 @@ use Rattle.lease_coherence.proofs.clients.Takes.{HasTakes}
 use Rattle.lease_coherence.proofs.moves.Deeds.{IsSource, with_held}
 use Rattle.lease_coherence.proofs.moves.Moves.{popped}
 use Rattle.lease_coherence.proofs.names.Words.{each_weaker}
-use Rattle.lease_coherence.proofs.order.Words.{AreOrdered, as_requests, off_ordered, WriteStands, IsInOrder}
+use Rattle.lease_coherence.specs.Agreement.{as_requests}
+use Rattle.lease_coherence.proofs.order.Words.{AreOrdered, off_ordered, WriteStands, IsInOrder}
 use Rattle.lease_coherence.proofs.records.Later.{IsLater, later_same}
 use Rattle.lease_coherence.proofs.standing.Servers.{stands_by}
 use Rattle.lease_coherence.proofs.standing.Words.{asked_weaker, asked_off}

@@ -13,6 +13,7 @@ use Rattle.lease_laws.specs.world.FileIds.{was_opened}
 use Rattle.lease_laws.specs.world.Links.{is_up}
 use Rattle.lease_laws.proofs.client.Thin.{put_same, put_other}
 use Rattle.lease_laws.proofs.server.Lists.{either, clash}
+use Rattle.lease_coherence.specs.Agreement.{as_requests, asked_of}
 use Rattle.lease_coherence.specs.Creates.{held_by}
 use Rattle.lease_coherence.specs.Names.{Each}
 use Rattle.lease_coherence.specs.Standing.{AllAsked, IsNoClose, Stands}
@@ -35,14 +36,6 @@ Allows request behind = ⊤
 abbrev pub AreOrdered : List Request → Type 0
 AreOrdered [] = ⊤
 AreOrdered (request ∷ behind) = Allows request behind × AreOrdered behind
-
-abbrev pub as_requests : List Held → List Request
-as_requests [] = []
-as_requests (one ∷ held) = Request.OnFile one.request ∷ as_requests held
-
--- all that a client asks about a file, and what it asks of others behind
-abbrev pub asked_of : World → ℕ → ℕ → List Request
-asked_of world c file = as_requests (held_by c (world.server.held file)) ++ world.requests c
 
 each_part : {X : Type 0} (P : X → Type 0) (xs ys : List X) → Each P (xs ++ ys) → Each P xs × Each P ys
 each_part P [] ys e = (tt, e)

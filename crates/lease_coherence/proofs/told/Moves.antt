@@ -45,7 +45,7 @@ use Rattle.lease_coherence.proofs.creates.Creates.{off_rest}
 use Rattle.lease_coherence.proofs.moves.Deeds.{IsSource, WasHeld, with_held, told_to, held_in, granted_in, reconnected_in, changed_in, leased_in, without_opens}
 use Rattle.lease_coherence.proofs.moves.Frames.{from_source}
 use Rattle.lease_coherence.proofs.moves.Moves.{IsOldest, rest_of, popped}
-use Rattle.lease_coherence.proofs.order.Words.{as_requests, asked_of}
+use Rattle.lease_coherence.specs.Agreement.{as_requests, asked_of}
 use Rattle.lease_coherence.proofs.told.Words.{HasMet, met_behind, met_last, is_granted, met_granted}
 
 -- ---- one file

@@ -40,7 +40,8 @@ use Rattle.lease_coherence.proofs.moves.Foreign.{IsUnmoved, key_client, off_soun
 use Rattle.lease_coherence.proofs.moves.Frames.{from_source, stepped_replies}
 use Rattle.lease_coherence.proofs.moves.Own.{IsOwnMoved, OfGood, own_moves}
 use Rattle.lease_coherence.proofs.names.Names.{off_named}
-use Rattle.lease_coherence.proofs.order.Words.{as_requests, asked_of, append_three}
+use Rattle.lease_coherence.specs.Agreement.{as_requests, asked_of}
+use Rattle.lease_coherence.proofs.order.Words.{append_three}
 use Rattle.lease_coherence.proofs.standing.Runs.{link_of, was_up}
 use Rattle.lease_coherence.proofs.standing.Standing.{IsStepped, step_of}
 use Rattle.lease_coherence.proofs.told.Clients.{StaysOrCloses, StepTold, commands_told, IsToldStill, IsMetAt, whole_of, TakeTold, takes_told}

@@ -48,7 +48,7 @@ use Rattle.lease_coherence.proofs.moves.Deeds.{IsRefusedAck, IsSource, WasHeld, 
 use Rattle.lease_coherence.proofs.moves.Events.{Ground, timed_out}
 use Rattle.lease_coherence.proofs.moves.Frames.{from_source, lease_put_rest}
 use Rattle.lease_coherence.proofs.moves.Moves.{IsOldest, rest_of, popped}
-use Rattle.lease_coherence.proofs.order.Words.{as_requests, asked_of}
+use Rattle.lease_coherence.specs.Agreement.{as_requests, asked_of}
 use Rattle.lease_coherence.proofs.told.Moves.{ClosedIn, ToldBy, HasTold, told_map, kept_told, breaking_open, breaking_up, open_place, off_server, IsAnswered, answered_told, plain_answered}
 use Rattle.lease_coherence.proofs.told.Words.{HasMet, met_behind, met_last, is_granted, met_granted}
 use Rattle.lease_coherence.proofs.within.Moves.{HasWithin}

@@ -1,0 +1,4 @@
+pub mod Breaks
+pub mod Flushed
+pub mod Gone
+pub mod Grants

@@ -1,0 +1,154 @@
+-- An open that is gone never comes back: FileIds are never given again.
+use Rattle.std.proofs.Common.{◌≡◌, ◌≢◌, inl, inr, ⊎_elim, ℕ, ◌+◌, ◌≤◌, Bool, true, false, not, List, [], ◌∷◌, ◌++◌, map, Option, Some, None, refl, sym, ap, ◌∙◌, subst, arith, ◌==◌}
+use Rattle.std.specs.Prelude.{◌&&◌, find}
+use Rattle.lease_model.specs.client.Commanded.{commanded}
+use Rattle.lease_model.specs.client.Connection.{noticed, connection_made}
+use Rattle.lease_model.specs.client.Step.{Step}
+use Rattle.lease_model.specs.client.Taken.{taken}
+use Rattle.lease_model.specs.server.Calls.{disconnected, is_lost, joined, key_expired, opens_disconnected, client_forgotten, is_left_behind}
+use Rattle.lease_model.specs.server.Findings.{connected_open}
+use Rattle.lease_model.specs.server.Grant.{connected_again, lease_after, lease_put, new_open}
+use Rattle.lease_model.specs.server.Progress.{begun, opens_dropped, with_opens}
+use Rattle.lease_model.specs.server.State.{Server, Open, has_key}
+use Rattle.lease_model.specs.values.Lists.{without}
+use Rattle.lease_model.specs.world.Events.{Event, after, stepped_in, machine_key}
+use Rattle.lease_model.specs.world.World.{World, Setup, first_world, requests_sent}
+use Rattle.lease_laws.specs.server.Laws.{Among}
+use Rattle.lease_laws.proofs.server.Lists.{if_cases, among_append, among_filter, among_map, find_has}
+use Rattle.lease_laws.proofs.world.FileIds.{run_counted}
+use Rattle.lease_laws.proofs.world.Runs.{stepped_server}
+use Rattle.lease_coherence.specs.Agreement.{ClosedOpensStayClosed}
+use Rattle.lease_coherence.proofs.beliefs.WriteCaches.{HasBeliefs, beliefs_carried, run_beliefs}
+use Rattle.lease_coherence.proofs.moves.Deeds.{HasDeeds, IsSource, step_deed}
+use Rattle.lease_coherence.proofs.moves.Events.{IsMoved, Both, IsCarried, carried_both, after_moves, come_back, reply_gone}
+use Rattle.lease_coherence.proofs.moves.Frames.{from_source, lease_put_rest}
+use Rattle.lease_coherence.proofs.names.Names.{open_parts}
+
+-- no open has a FileId that was given
+pub record IsGoneFrom (id : ℕ) (server : Server) : Type 0 where
+  pub given : id ≤ server.last_id
+  pub none : (one : Open) → Among one server.opens → one.file_id ≢ id
+
+abbrev IsGone : ℕ → World → Type 0
+IsGone id world = IsGoneFrom id world.server
+
+same_gone : (id : ℕ) (server new : Server) → server.last_id ≤ new.last_id
+    → ((one : Open) → Among one new.opens → (y : Open) × (Among y server.opens) × (y.file_id ≡ one.file_id))
+    → IsGoneFrom id server → IsGoneFrom id new
+same_gone id server new low from g = record {
+  given = both id server.last_id new.last_id g.given low;
+  none = λ one there e. let y = from one there in g.none y.0 y.1 (y.2 ∙ e);
+}
+  where
+    both : (a b c : ℕ) → a ≤ b → b ≤ c → a ≤ c
+    both a b c e f = omega (arith, e, f)
+
+itself : (n : ℕ) → n ≤ n
+itself n = omega arith
+
+fewer_gone : (id : ℕ) (server : Server) (test : Open → Bool) → IsGoneFrom id server
+    → IsGoneFrom id (with_opens server (without test server.opens))
+unfolding with_opens
+fewer_gone id server test g = same_gone id server (with_opens server (without test server.opens)) (itself server.last_id)
+    (λ one there. (one, (among_filter (λ o. not (test o)) one server.opens there).0, refl)) g
+
+off_gone : (id : ℕ) (world off : World) (c : ℕ) (request : _) → IsSource world off c request → IsGone id world
+    → IsGone id off
+off_gone id world off c request source g = from_source world off c request (λ o. IsGone id o) source g
+    (λ file left. record { given = g.given; none = g.none })
+
+changed_by : (f : Open → Open) → ((x : Open) → (f x).file_id ≡ x.file_id) → (opens : List Open) (one : Open)
+    → Among one (map f opens) → (y : Open) × (Among y opens) × (y.file_id ≡ one.file_id)
+changed_by f same opens one there = let m = among_map f one opens there in
+    (m.0, m.1, sym (same m.0) ∙ ap (λ (o : Open). o.file_id) (sym m.2))
+
+again_same : (id : ℕ) (x : Open) → (connected_again id x).file_id ≡ x.file_id
+again_same id x = if_cases (λ (o : Open). o.file_id ≡ x.file_id) (x.file_id == id) (record x { connected = true }) x
+    (λ here. refl) (λ there. refl)
+
+lost_same : (c : ℕ) (x : Open) → (disconnected c x).file_id ≡ x.file_id
+lost_same c x = if_cases (λ (o : Open). o.file_id ≡ x.file_id) (x.client == c) (record x { connected = false }) x
+    (λ here. refl) (λ there. refl)
+
+deeds_gone : (id : ℕ) (world : World) → IsGone id world → HasDeeds world (IsGone id)
+deeds_gone id world g = record {
+  refused = λ off c request status source may. off_gone id world off c request source g;
+  full = λ off c file access share ask source. off_gone id world off c _ source g;
+  granted = λ off c file access share ask source none on free.
+      let was = off_gone id world off c _ source g in
+      let lease = lease_after off.server c file ask.lease in
+      lease_put_rest off.server c ask.lease lease
+      (λ s. IsGoneFrom id (record s {
+        opens = off.server.opens ++ new_open off.server c file access share ask.lease ask.durable lease ∷ [];
+        last_id = off.server.last_id + 1;
+      }))
+      (λ leases. record {
+        given = more id off.server.last_id was.given;
+        none = λ one there e. ⊎_elim (λ old. was.none one old e)
+            (λ last. ⊎_elim (λ new. above id off.server.last_id was.given
+            (sym e ∙ ap (λ (o : Open). o.file_id) new)) (λ none. none) last)
+            (among_append one off.server.opens (new_open off.server c file access share ask.lease ask.durable lease ∷ []) there);
+      });
+  reconnected = λ off c file access share ask file_id source again on waits.
+      let was = off_gone id world off c _ source g in
+      same_gone id off.server (record off.server { opens = map (connected_again file_id) off.server.opens })
+      (itself off.server.last_id) (λ one there. changed_by (connected_again file_id) (again_same file_id) off.server.opens one there)
+      was;
+  read = λ off c file_id one source found may. off_gone id world off c _ source g;
+  changed = λ off c file_id number patch one source found may. let was = off_gone id world off c _ source g in
+      record { given = was.given; none = was.none };
+  closed = λ off c file_id one source found.
+      fewer_gone id off.server (λ other. other.file_id == file_id) (off_gone id world off c _ source g);
+  ack_failed = λ c given status oldest up why. g;
+  ack_done = λ c given lowered oldest up there breaks within. record { given = g.given; none = g.none };
+  hold = λ file one oldest may turn. record { given = g.given; none = g.none };
+  drop = λ key. fewer_gone id world.server _ g;
+  lower = λ key lowered may light. record { given = g.given; none = g.none };
+  begin = λ key lowered may heavy. record { given = g.given; none = g.none };
+}
+  where
+    more : (a b : ℕ) → a ≤ b → a ≤ b + 1
+    more a b e = omega (arith, e)
+
+    above : (a b : ℕ) → a ≤ b → a ≡ b + 1 → ⊥
+    above a b e f = omega (arith, e, f)
+
+stepped_gone : (id : ℕ) (world : World) (c : ℕ) (step : Step) → IsGone id world → IsGone id (stepped_in world c step)
+stepped_gone id world c step g = subst (IsGoneFrom id) (sym (stepped_server world c step)) g
+
+gone_moves : (id : ℕ) → IsMoved HasBeliefs (IsGone id)
+unfolding opens_dropped opens_disconnected client_forgotten key_expired joined requests_sent with_opens
+gone_moves id = record {
+  step = λ world step v next g. step_deed world (IsGone id) (deeds_gone id world g) step next;
+  cut = λ world c v up g.
+      let left = fewer_gone id world.server (is_lost world.server c) g in
+      same_gone id (with_opens world.server (without (is_lost world.server c) world.server.opens)) _
+      (itself world.server.last_id)
+      (λ one there. changed_by (disconnected c) (lost_same c) (without (is_lost world.server c) world.server.opens) one there)
+      left;
+  timer = λ world c file v on breaks g.
+      let left = fewer_gone id world.server (has_key (machine_key world c file)) g in
+      record { given = left.given; none = left.none };
+  scavenge = λ world file_id v g. fewer_gone id world.server (is_left_behind file_id) g;
+  connect = λ world c v down g. stepped_gone id (come_back world c) c (connection_made (world.clients c))
+      (record { given = g.given; none = g.none });
+  command = λ world c command v g. stepped_gone id world c (commanded (world.clients c) command) g;
+  take = λ world c reply queue v first g.
+      stepped_gone id (reply_gone world c queue) c (taken (world.clients c) reply) g;
+  notice = λ world c v cut g. stepped_gone id _ c (noticed (world.clients c)) g;
+  stray = λ world c request v up g. g;
+}
+
+pub closed_opens_stay_closed : ClosedOpensStayClosed
+closed_opens_stay_closed setup events more client id given none =
+    let world = after (first_world setup) events in
+    let g = (after_moves (Both HasBeliefs (IsGone id)) (λ w v. v.0.0.0.0.0)
+    (carried_both HasBeliefs (IsGone id) beliefs_carried (gone_moves id)) world more (run_counted setup events)
+    (run_beliefs setup events, record { given = given; none = none })).1 in
+    by_found (after world more).server g (connected_open (after world more).server client id) refl
+  where
+    by_found : (server : Server) → IsGoneFrom id server → (found : Option Open) → connected_open server client id ≡ found
+        → found ≡ None
+    by_found server g None e = refl
+    by_found server g (Some one) e = let has = find_has _ one server.opens e in
+        absurd (g.none one has.0 (open_parts client id one has.1).0)

@@ -1,0 +1,225 @@
+-- A client's belief rises by a grant alone, while no break is in progress.
+use Rattle.std.proofs.Common.{◌≡◌, ◌≢◌, ◌⊎◌, inl, inr, ℕ, Bool, true, false, not, List, [], ◌∷◌, ◌++◌, Option, Some, None, refl, sym, ap, ◌∙◌, subst, true≢false, ◌==◌}
+use Rattle.std.specs.Prelude.{◌&&◌, ◌||◌, bytes_eq}
+use Rattle.lease_state.specs.State.{State, nothing_cached, is_state_within}
+use Rattle.lease_state.specs.declared.status.Status.{Status}
+use Rattle.lease_model.specs.client.Calls.{ClientCall, client_called}
+use Rattle.lease_model.specs.client.Commanded.{cached_read, opened_anew, write_buffered, write_sent, flush_on_live}
+use Rattle.lease_model.specs.client.Connection.{noticed, connection_made, all_turned, notice_turn, connect_turn, live_noticed, live_parted}
+use Rattle.lease_model.specs.client.State.{Client, Entry, LiveEntry, Asked, Pending, Phase, belief, belief_in, lease_key}
+use Rattle.lease_model.specs.client.Step.{Step, Turn, turned}
+use Rattle.lease_model.specs.client.Taken.{break_turn, parked_closed, belief_lowered, given_state, opened_turn, reconnected_turn, promoted_turn, promoted_belief, read_turn, read_failed_turn, is_file_closed, closed_by_server, without_open, phase_with, write_done_turn, write_failed_in}
+use Rattle.lease_model.specs.messages.Replies.{Reply, BreakNotice, CreateAnswer, LeaseGiven}
+use Rattle.lease_model.specs.values.LeaseStates.{meet}
+use Rattle.lease_model.specs.values.Tables.{put}
+use Rattle.lease_laws.proofs.client.Thin.{put_same, put_other}
+use Rattle.lease_laws.proofs.server.Lists.{if_cases, either, clash, and_parts, not_parts}
+use Rattle.lease_laws.proofs.world.Links.{by_client}
+use Rattle.lease_coherence.specs.Agreement.{IsGranted, BeliefsRiseByGrants}
+use Rattle.lease_coherence.proofs.clients.Commands.{HasCommands, any_command, sent_of}
+use Rattle.lease_coherence.proofs.clients.Takes.{HasTakes, any_reply}
+
+-- ---- states
+
+abbrev Within : State → State → Type 0
+Within one other = is_state_within one other ≡ true
+
+each_part : (p q r : Bool) → p ≡ true → q ≡ true → r ≡ true → (p && q && r) ≡ true
+each_part true true true a b c = refl
+each_part true true false a b c = c
+each_part true false r a b c = b
+each_part false q r a b c = a
+
+same_within : (state : State) → Within state state
+same_within state = each_part _ _ _ (self state.read) (self state.write) (self state.handle)
+  where
+    self : (p : Bool) → (not p || p) ≡ true
+    self true = refl
+    self false = refl
+
+meet_within : (one other : State) → Within (meet one other) one
+meet_within one other = each_part _ _ _ (less one.read other.read) (less one.write other.write) (less one.handle other.handle)
+  where
+    less : (p q : Bool) → (not (p && q) || p) ≡ true
+    less true true = refl
+    less true false = refl
+    less false q = refl
+
+-- ---- steps
+
+-- no belief rises
+abbrev StaysLow : Client → Step → Type 0
+StaysLow client step = (file : ℕ) → Within (belief step.client file) (belief client file)
+
+put_low : (client : Client) (at : ℕ) (entry : Entry) → Within (belief_in entry.phase) (belief client at) → (file : ℕ)
+    → Within (belief_in (put client.entries at entry file).phase) (belief client file)
+put_low client at entry here file = by_client
+    (λ f. Within (belief_in (put client.entries at entry f).phase) (belief client f)) at file
+    (subst (λ (e : Entry). Within (belief_in e.phase) (belief client at)) (sym (put_same client.entries at entry)) here)
+    (λ ne off. subst (λ (e : Entry). Within (belief_in e.phase) (belief client file))
+    (sym (put_other client.entries at entry file ne)) (same_within (belief client file)))
+
+-- an entry that believes what it did
+as_was : (client : Client) (file : ℕ) (live : LiveEntry) → (client.entries file).phase ≡ Phase.Live live
+    → Within live.belief (belief client file)
+as_was client file live is = subst (λ p. Within live.belief (belief_in p)) (sym is) (same_within live.belief)
+
+commands_low : (client : Client) → HasCommands client (StaysLow client)
+unfolding cached_read opened_anew write_buffered write_sent flush_on_live turned
+commands_low client = record {
+  refused = λ refusal file. same_within (belief client file);
+  opening = λ file terms is on. put_low client file _ refl;
+  added = λ file live is. put_low client file _ (as_was client file live is.is_so);
+  asked = λ file live terms is idle some. put_low client file _ (as_was client file live is.is_so);
+  anew = λ file live terms is idle none. put_low client file _ refl;
+  fewer = λ file live is more. put_low client file _ (as_was client file live is.is_so);
+  parked = λ file live is idle done stays. put_low client file _ (as_was client file live is.is_so);
+  closed = λ file live is idle done goes. put_low client file _ refl;
+  cached = λ file live base is reads has f. same_within (belief client f);
+  read = λ file live is idle. put_low client file _ (as_was client file live is.is_so);
+  buffered = λ file live patch is fits caches. put_low client file _ (as_was client file live is.is_so);
+  written = λ file live patch is fits sends. put_low client file _ (as_was client file live is.is_so);
+  flushed = λ file live is. put_low client file _ (as_was client file live is.is_so);
+}
+
+-- ---- replies
+
+-- no belief rises, or by a grant
+abbrev LowOrGranted : Client → Reply → Step → Type 0
+LowOrGranted client reply step = (file : ℕ)
+    → Within (belief step.client file) (belief client file) ⊎ IsGranted client (ClientCall.Taken reply) file
+
+-- an entry that a reply to a create makes live, believing this
+granted_low : (client : Client) (at file_id : ℕ) (answer : CreateAnswer) (entry : Entry)
+    → Within (belief_in entry.phase) (belief client at)
+    ⊎ IsGranted client (ClientCall.Taken (Reply.Created at file_id (Some answer))) at
+    → (file : ℕ) → Within (belief_in (put client.entries at entry file).phase) (belief client file)
+    ⊎ IsGranted client (ClientCall.Taken (Reply.Created at file_id (Some answer))) file
+granted_low client at file_id answer entry here file = by_client
+    (λ f. Within (belief_in (put client.entries at entry f).phase) (belief client f)
+    ⊎ IsGranted client (ClientCall.Taken (Reply.Created at file_id (Some answer))) f) at file
+    (subst (λ (e : Entry). Within (belief_in e.phase) (belief client at)
+    ⊎ IsGranted client (ClientCall.Taken (Reply.Created at file_id (Some answer))) at)
+    (sym (put_same client.entries at entry)) here)
+    (λ ne off. inl (subst (λ (e : Entry). Within (belief_in e.phase) (belief client file))
+    (sym (put_other client.entries at entry file ne)) (same_within (belief client file))))
+
+-- what a reply gives is nothing, or a grant
+given_or_none : (client : Client) (at file_id : ℕ) (answer : CreateAnswer) (lease : Option LeaseGiven)
+    → answer.lease ≡ lease → (old : State)
+    → Within (given_state (lease_key client.guid at) lease) old
+    ⊎ IsGranted client (ClientCall.Taken (Reply.Created at file_id (Some answer))) at
+given_or_none client at file_id answer None is old = inl refl
+given_or_none client at file_id answer (Some given) is old = either given.in_progress
+    (λ busy. inl (if_cases (λ s. Within s old) (bytes_eq given.key (lease_key client.guid at) && not given.in_progress)
+    given.state nothing_cached
+    (λ told. clash given.in_progress busy (not_parts given.in_progress
+    (and_parts (bytes_eq given.key (lease_key client.guid at)) (not given.in_progress) told).1)) (λ none. refl)))
+    (λ done. inr (record { file_id = file_id; answer = answer; given = given; taken = refl; gives = is; settled = done }))
+
+promoted_or_none : (client : Client) (at file_id : ℕ) (answer : CreateAnswer) (lease : Option LeaseGiven)
+    → answer.lease ≡ lease → (old : State)
+    → Within (promoted_belief (lease_key client.guid at) old lease) old
+    ⊎ IsGranted client (ClientCall.Taken (Reply.Created at file_id (Some answer))) at
+promoted_or_none client at file_id answer None is old = inl refl
+promoted_or_none client at file_id answer (Some given) is old = either given.in_progress
+    (λ busy. inl (subst (λ s. Within s old) (sym (rw (busy) refl)) (same_within old)))
+    (λ done. inr (record { file_id = file_id; answer = answer; given = given; taken = refl; gives = is; settled = done }))
+
+break_low : (client : Client) (file : ℕ) (notice : BreakNotice) (live : LiveEntry)
+    → (client.entries file).phase ≡ Phase.Live live
+    → StaysLow client (turned client file (break_turn live (sent_of client file) notice (meet live.belief notice.lowered)))
+unfolding break_turn parked_closed belief_lowered turned
+break_low client file notice live is = if_cases (λ (t : Turn). StaysLow client (turned client file t))
+    (live.handles == 0 && (live.belief.handle && not (meet live.belief notice.lowered).handle)) _ _
+    (λ parked. put_low client file _ refl)
+    (λ stays. put_low client file _ (subst (λ p. Within (meet live.belief notice.lowered) (belief_in p)) (sym is)
+    (meet_within live.belief notice.lowered)))
+
+without_low : (asking : Option Asked) (sent : List Pending) (old : State)
+    → Within (belief_in (without_open asking sent).phase) old
+without_low None sent old = refl
+without_low (Some asked) sent old = refl
+
+read_failed_low : (client : Client) (file : ℕ) (live : LiveEntry) (status : Status)
+    → (client.entries file).phase ≡ Phase.Live live
+    → StaysLow client (turned client file (read_failed_turn live (sent_of client file) status))
+unfolding read_failed_turn closed_by_server turned
+read_failed_low client file live status is = if_cases (λ (t : Turn). StaysLow client (turned client file t))
+    (is_file_closed status) _ _
+    (λ gone. put_low client file _ (without_low live.asking (sent_of client file) (belief client file)))
+    (λ there. put_low client file _ (as_was client file live is))
+
+write_failed_low : (client : Client) (file id number : ℕ) (status : Status) (sent : List Pending) (phase : Phase)
+    → (client.entries file).phase ≡ phase
+    → StaysLow client (turned client file (write_failed_in id number status sent phase))
+unfolding closed_by_server turned
+write_failed_low client file id number status sent Phase.Closed is = put_low client file _ refl
+write_failed_low client file id number status sent (Phase.Opening access share) is = put_low client file _ refl
+write_failed_low client file id number status sent (Phase.Live live) is =
+    if_cases (λ (t : Turn). StaysLow client (turned client file t)) (is_file_closed status && live.file_id == id) _ _
+    (λ gone. put_low client file _ (without_low live.asking sent (belief client file)))
+    (λ there. put_low client file _ (as_was client file live is))
+write_failed_low client file id number status sent (Phase.Offline parted) is = put_low client file _ refl
+write_failed_low client file id number status sent (Phase.Reconnecting parted) is = put_low client file _ refl
+
+with_same : (write : Option Pending) (phase : Phase) → Within (belief_in (phase_with write phase)) (belief_in phase)
+with_same write Phase.Closed = refl
+with_same write (Phase.Opening access share) = refl
+with_same write (Phase.Live live) = same_within live.belief
+with_same write (Phase.Offline parted) = refl
+with_same write (Phase.Reconnecting parted) = refl
+
+takes_low : (client : Client) → HasTakes client (LowOrGranted client)
+unfolding opened_turn reconnected_turn promoted_turn read_turn write_done_turn turned
+takes_low client = record {
+  passed = λ reply why file. inl (same_within (belief client file));
+  broken = λ file notice live at is f. inl (break_low client file notice live is f);
+  opened = λ at id answer access share is. granted_low client at id answer _
+      (given_or_none client at id answer answer.lease refl (belief client at));
+  reconnected = λ at id answer parted is. granted_low client at id answer _
+      (given_or_none client at id answer answer.lease refl (belief client at));
+  promoted = λ at id answer live asked is asks. granted_low client at id answer _
+      (subst (λ p. Within (promoted_belief (lease_key client.guid at) live.belief answer.lease) (belief_in p)
+      ⊎ IsGranted client (ClientCall.Taken (Reply.Created at id (Some answer))) at) (sym is)
+      (promoted_or_none client at id answer answer.lease refl live.belief));
+  not_opened = λ file status access share is f. inl (put_low client file _ refl f);
+  not_reconnected = λ file status parted is f. inl (put_low client file _ refl f);
+  not_promoted = λ file status live asked is asks f. inl (put_low client file _ (as_was client file live is) f);
+  read = λ file id bytes live is same some f. inl (put_low client file _ (as_was client file live is) f);
+  not_read = λ file id status live is same some f. inl (read_failed_low client file live status is f);
+  written = λ file id number has known f. inl (put_low client file _ (with_same _ (client.entries file).phase) f);
+  not_written = λ file id number status has known f.
+      inl (write_failed_low client file id number status _ (client.entries file).phase refl f);
+}
+
+-- ---- connections
+
+notice_low : (sent : List Pending) (phase : Phase) (old : State) → Within (belief_in (notice_turn sent phase).entry.phase) old
+unfolding live_noticed live_parted
+notice_low sent Phase.Closed old = refl
+notice_low sent (Phase.Opening access share) old = refl
+notice_low sent (Phase.Live live) old = if_cases (λ (t : Turn). Within (belief_in t.entry.phase) old) live.durable _ _
+    (λ lasts. if_cases (λ (t : Turn). Within (belief_in t.entry.phase) old) live.belief.write _ _
+    (λ caches. refl) (λ plain. refl)) (λ ends. refl)
+notice_low sent (Phase.Offline parted) old = refl
+notice_low sent (Phase.Reconnecting parted) old = refl
+
+connect_low : (client : Client) (file : ℕ) (sent : List Pending) (phase : Phase)
+    → Within (belief_in (connect_turn client file sent phase).entry.phase) (belief_in phase)
+connect_low client file sent Phase.Closed = refl
+connect_low client file sent (Phase.Opening access share) = refl
+connect_low client file sent (Phase.Live live) = same_within live.belief
+connect_low client file sent (Phase.Offline parted) = refl
+connect_low client file sent (Phase.Reconnecting parted) = refl
+
+pub beliefs_rise_by_grants : BeliefsRiseByGrants
+unfolding noticed connection_made all_turned
+beliefs_rise_by_grants client (ClientCall.Commanded command) file =
+    inl (any_command client (StaysLow client) (commands_low client) command file)
+beliefs_rise_by_grants client (ClientCall.Taken reply) file =
+    any_reply client (LowOrGranted client) (takes_low client) reply file
+beliefs_rise_by_grants client ClientCall.Noticed file =
+    inl (notice_low (client.entries file).sent (client.entries file).phase (belief client file))
+beliefs_rise_by_grants client ClientCall.Connected file =
+    inl (connect_low client file (client.entries file).sent (client.entries file).phase)
