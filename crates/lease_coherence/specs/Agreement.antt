@@ -1,5 +1,5 @@
 -- What a client that never strayed and the server know of each other in every run, beyond that the run is safe (own).
-use Rattle.std.specs.Prelude.{◌≡◌, ◌≢◌, ◌⊎◌, ℕ, ◌≤◌, Bool, true, false, not, Option, Some, None, List, [], ◌∷◌, ◌++◌, ◌==◌, ◌&&◌, ◌||◌}
+use Rattle.std.specs.Prelude.{◌≡◌, ◌≢◌, ◌⊎◌, ℕ, ◌≤◌, Bool, true, false, not, Some, None, List, [], ◌∷◌, ◌++◌, ◌==◌, ◌&&◌, ◌||◌}
 use Rattle.lease_state.specs.State.{State, nothing_cached, is_state_within}
 use Rattle.lease_state.specs.declared.patch.Patch.{Patch}
 use Rattle.lease_model.specs.client.Calls.{ClientCall, client_called}
@@ -8,7 +8,6 @@ use Rattle.lease_model.specs.messages.Replies.{Reply, BreakNotice, CreateAnswer,
 use Rattle.lease_model.specs.messages.Requests.{FileRequest, Request}
 use Rattle.lease_model.specs.records.Facts.{Fact}
 use Rattle.lease_model.specs.records.Past.{has_buffered, has_strayed, is_good}
-use Rattle.lease_model.specs.server.Calls.{held_of}
 use Rattle.lease_model.specs.server.Findings.{connected_open}
 use Rattle.lease_model.specs.server.State.{Open, Held, Lease, is_breaking, has_key}
 use Rattle.lease_model.specs.world.Allowed.{is_allowed_setup}
@@ -17,7 +16,6 @@ use Rattle.lease_model.specs.world.World.{World, Setup, first_world}
 use Rattle.lease_laws.specs.server.Laws.{Among}
 use Rattle.lease_laws.specs.world.Links.{is_up}
 use Rattle.lease_coherence.specs.Creates.{held_by}
-use Rattle.lease_coherence.specs.Parts.{OfRuns}
 
 -- ---- of whom it is said
 

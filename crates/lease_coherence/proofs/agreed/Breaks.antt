@@ -1,19 +1,16 @@
 -- What is on its way while a lease is breaking, and what beliefs are held.
-use Rattle.std.proofs.Common.{◌≡◌, ◌⊎◌, inl, inr, ⊎_elim, ℕ, ◌+◌, Bool, true, false, not, List, [], ◌∷◌, ◌++◌, Option, Some, None, refl, sym, ap, ◌∙◌, subst, arith, ◌==◌}
-use Rattle.std.specs.Prelude.{◌&&◌, ◌||◌, bytes_eq}
+use Rattle.std.proofs.Common.{◌≡◌, inl, inr, ⊎_elim, ℕ, ◌+◌, Bool, true, false, not, List, [], ◌∷◌, Some, None, refl, sym, ap, subst, arith}
+use Rattle.std.specs.Prelude.{◌||◌, bytes_eq}
 use Rattle.std.proofs.lemmas.Slice.Eq.{bytes_eq-Decides}
 use Rattle.lease_state.specs.State.{State, is_state_within}
-use Rattle.lease_model.specs.client.State.{LiveEntry, Phase}
 use Rattle.lease_model.specs.messages.Replies.{Reply, BreakNotice}
-use Rattle.lease_model.specs.messages.Requests.{FileRequest, Request, LeaseOf}
+use Rattle.lease_model.specs.messages.Requests.{FileRequest, Request}
 use Rattle.lease_model.specs.records.Past.{has_strayed, is_good, is_served}
-use Rattle.lease_model.specs.server.State.{Lease, is_breaking}
-use Rattle.lease_model.specs.world.Events.{Event, after, machine_key}
-use Rattle.lease_model.specs.world.World.{World, Setup, first_world}
+use Rattle.lease_model.specs.world.Events.{after, machine_key}
+use Rattle.lease_model.specs.world.World.{World, first_world}
 use Rattle.lease_laws.specs.server.Laws.{Among}
-use Rattle.lease_laws.specs.world.Links.{is_up}
 use Rattle.lease_laws.proofs.server.Lists.{either, clash, and_parts, and_both, not_parts}
-use Rattle.lease_coherence.specs.Agreement.{Timely, IsTimely, GoodClientsAreTimely, lease_of, key_of_file, IsLive, acknowledgment_of, asked_of, IsTold, IsAnswered, IsGivenUp, BreakingIsAnswered, IsDue, AcknowledgmentsAreDue, lone_break, BeliefsAreHeld}
+use Rattle.lease_coherence.specs.Agreement.{Timely, GoodClientsAreTimely, lease_of, acknowledgment_of, asked_of, BreakingIsAnswered, IsDue, AcknowledgmentsAreDue, BeliefsAreHeld}
 use Rattle.lease_coherence.specs.Creates.{one_if}
 use Rattle.lease_coherence.specs.Names.{Each}
 use Rattle.lease_coherence.specs.Parts.{OfRuns}
@@ -21,10 +18,10 @@ use Rattle.lease_coherence.proofs.beliefs.Trust.{file_key}
 use Rattle.lease_coherence.proofs.beliefs.Words.{acks, is_created, is_ack_break}
 use Rattle.lease_coherence.proofs.covered.Words.{ClosedBefore}
 use Rattle.lease_coherence.proofs.fresh.Reads.{timely}
-use Rattle.lease_coherence.proofs.told.Moves.{ClosedIn, ToldBy, breaking_open}
-use Rattle.lease_coherence.proofs.told.Runs.{HasAnswers, run_answers}
+use Rattle.lease_coherence.proofs.told.Moves.{breaking_open}
+use Rattle.lease_coherence.proofs.told.Runs.{run_answers}
 use Rattle.lease_coherence.proofs.told.Words.{HasMet}
-use Rattle.lease_coherence.proofs.within.Words.{AckFit, IsAckFit, IsWithinFor}
+use Rattle.lease_coherence.proofs.within.Words.{AckFit, IsAckFit}
 
 -- ---- what counts say stands in the queue
 
@@ -42,8 +39,11 @@ acked key (Request.Acknowledge None ∷ queue) some =
     plus : (n : ℕ) → n ≡ 0 → 0 + n ≡ 0
     plus n e = omega (arith, e)
 acked key (Request.Acknowledge (Some lease) ∷ queue) some = either (bytes_eq key lease.key)
-    (λ own. (lease.state, inl (ap (λ bytes. acknowledgment_of bytes lease.state)
-    ((bytes_eq-Decides key lease.key).0 own))))
+    (λ own. (
+      lease.state,
+      inl (ap (λ bytes. acknowledgment_of bytes lease.state)
+          ((bytes_eq-Decides key lease.key).0 own)),
+    ))
     (λ other. let rest = acked key queue (λ none. some (plus (one_if (bytes_eq key lease.key)) (acks key queue)
     (ap one_if other) none)) in (rest.0, inr rest.1))
   where

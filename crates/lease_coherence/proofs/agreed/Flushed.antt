@@ -1,27 +1,26 @@
 -- Buffered writes go before what gives them up, bases are current, and what was kept is untouched.
-use Rattle.std.proofs.Common.{◌≡◌, ◌≢◌, ◌⊎◌, inl, inr, ⊎_elim, ℕ, ◌+◌, Bool, true, false, List, [], ◌∷◌, ◌++◌, Option, Some, None, refl, sym, ap, ◌∙◌, subst, arith, true≢false, ◌==◌}
-use Rattle.std.specs.Prelude.{⊤, bytes_eq}
-use Rattle.std.proofs.lemmas.Bool.{eq-eqb, eqb-true}
+use Rattle.std.proofs.Common.{◌≡◌, ◌⊎◌, inl, inr, ⊎_elim, ℕ, ◌+◌, Bool, true, false, List, [], ◌∷◌, ◌++◌, Some, None, refl, sym, ap, ◌∙◌, subst, arith, ◌==◌}
+use Rattle.std.specs.Prelude.{bytes_eq}
+use Rattle.std.proofs.lemmas.Bool.{eqb-true}
 use Rattle.std.proofs.lemmas.Slice.Eq.{bytes_eq-Decides}
 use Rattle.lease_state.specs.State.{State}
 use Rattle.lease_state.specs.declared.patch.Patch.{Patch}
-use Rattle.lease_model.specs.client.State.{LiveEntry, Parted, Phase, belief_in}
-use Rattle.lease_model.specs.messages.Replies.{Reply}
+use Rattle.lease_model.specs.client.State.{LiveEntry, Phase, belief_in}
 use Rattle.lease_model.specs.messages.Requests.{FileRequest, Request}
 use Rattle.lease_model.specs.records.Facts.{Fact}
 use Rattle.lease_model.specs.records.Past.{has_buffered}
-use Rattle.lease_model.specs.server.State.{Open, Held}
-use Rattle.lease_model.specs.world.Events.{Event, after}
-use Rattle.lease_model.specs.world.World.{World, Setup, first_world}
+use Rattle.lease_model.specs.server.State.{Held}
+use Rattle.lease_model.specs.world.Events.{after}
+use Rattle.lease_model.specs.world.World.{World, first_world}
 use Rattle.lease_laws.specs.records.Runs.{content_of}
 use Rattle.lease_laws.specs.server.Laws.{Among}
 use Rattle.lease_laws.proofs.server.Lists.{clash, among_append, among_behind, among_filter, either, not_false}
 use Rattle.lease_laws.proofs.world.InStep.{contents_are_told}
-use Rattle.lease_coherence.specs.Agreement.{OfAllowedRuns, Timely, IsLive, acknowledgment_of, as_requests, asked_of, NoneBuffered, FlushedBeforeAcknowledgments, FlushedBeforeCloses, BasesAreCurrent, touched_since_lost, KeptIsUntouched}
+use Rattle.lease_coherence.specs.Agreement.{OfAllowedRuns, Timely, acknowledgment_of, as_requests, asked_of, NoneBuffered, FlushedBeforeAcknowledgments, FlushedBeforeCloses, BasesAreCurrent, touched_since_lost, KeptIsUntouched}
 use Rattle.lease_coherence.specs.Creates.{held_by, one_if}
 use Rattle.lease_coherence.specs.Names.{Each}
 use Rattle.lease_coherence.specs.Parts.{OfRuns}
-use Rattle.lease_coherence.specs.Standing.{AllAsked, IsNoClose, NotClosed, PhaseStands}
+use Rattle.lease_coherence.specs.Standing.{IsNoClose, NotClosed, PhaseStands}
 use Rattle.lease_coherence.proofs.agreed.Breaks.{each_one}
 use Rattle.lease_coherence.proofs.beliefs.Trust.{file_key}
 use Rattle.lease_coherence.proofs.beliefs.Words.{AckKeeps, acks}

@@ -1,18 +1,17 @@
 -- An open that is gone never comes back: FileIds are never given again.
-use Rattle.std.proofs.Common.{◌≡◌, ◌≢◌, inl, inr, ⊎_elim, ℕ, ◌+◌, ◌≤◌, Bool, true, false, not, List, [], ◌∷◌, ◌++◌, map, Option, Some, None, refl, sym, ap, ◌∙◌, subst, arith, ◌==◌}
-use Rattle.std.specs.Prelude.{◌&&◌, find}
+use Rattle.std.proofs.Common.{◌≡◌, ◌≢◌, ⊎_elim, ℕ, ◌+◌, ◌≤◌, Bool, true, false, not, List, [], ◌∷◌, ◌++◌, map, Option, Some, None, refl, sym, ap, ◌∙◌, subst, arith, ◌==◌}
 use Rattle.lease_model.specs.client.Commanded.{commanded}
 use Rattle.lease_model.specs.client.Connection.{noticed, connection_made}
 use Rattle.lease_model.specs.client.Step.{Step}
 use Rattle.lease_model.specs.client.Taken.{taken}
 use Rattle.lease_model.specs.server.Calls.{disconnected, is_lost, joined, key_expired, opens_disconnected, client_forgotten, is_left_behind}
 use Rattle.lease_model.specs.server.Findings.{connected_open}
-use Rattle.lease_model.specs.server.Grant.{connected_again, lease_after, lease_put, new_open}
-use Rattle.lease_model.specs.server.Progress.{begun, opens_dropped, with_opens}
+use Rattle.lease_model.specs.server.Grant.{connected_again, lease_after, new_open}
+use Rattle.lease_model.specs.server.Progress.{opens_dropped, with_opens}
 use Rattle.lease_model.specs.server.State.{Server, Open, has_key}
 use Rattle.lease_model.specs.values.Lists.{without}
-use Rattle.lease_model.specs.world.Events.{Event, after, stepped_in, machine_key}
-use Rattle.lease_model.specs.world.World.{World, Setup, first_world, requests_sent}
+use Rattle.lease_model.specs.world.Events.{after, stepped_in, machine_key}
+use Rattle.lease_model.specs.world.World.{World, first_world, requests_sent}
 use Rattle.lease_laws.specs.server.Laws.{Among}
 use Rattle.lease_laws.proofs.server.Lists.{if_cases, among_append, among_filter, among_map, find_has}
 use Rattle.lease_laws.proofs.world.FileIds.{run_counted}
@@ -20,7 +19,7 @@ use Rattle.lease_laws.proofs.world.Runs.{stepped_server}
 use Rattle.lease_coherence.specs.Agreement.{ClosedOpensStayClosed}
 use Rattle.lease_coherence.proofs.beliefs.WriteCaches.{HasBeliefs, beliefs_carried, run_beliefs}
 use Rattle.lease_coherence.proofs.moves.Deeds.{HasDeeds, IsSource, step_deed}
-use Rattle.lease_coherence.proofs.moves.Events.{IsMoved, Both, IsCarried, carried_both, after_moves, come_back, reply_gone}
+use Rattle.lease_coherence.proofs.moves.Events.{IsMoved, Both, carried_both, after_moves, come_back, reply_gone}
 use Rattle.lease_coherence.proofs.moves.Frames.{from_source, lease_put_rest}
 use Rattle.lease_coherence.proofs.names.Names.{open_parts}
 

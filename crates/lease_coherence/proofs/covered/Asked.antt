@@ -1,25 +1,24 @@
 -- What a client asks about a file, where one of its requests leaves its place.
-use Rattle.std.proofs.Common.{◌≡◌, ◌≢◌, ◌⊎◌, inl, inr, ⊎_elim, ℕ, Bool, true, false, not, List, [], ◌∷◌, ◌++◌, find, Option, Some, None, refl, sym, ap, ap₂, ◌∙◌, subst, true≢false, ◌==◌}
-use Rattle.std.specs.Prelude.{◌&&◌, ◌||◌, Ok}
+use Rattle.std.proofs.Common.{◌≡◌, ◌≢◌, ⊎_elim, ℕ, true, List, [], ◌∷◌, ◌++◌, None, refl, sym, ap, ap₂, ◌∙◌, subst, ◌==◌}
+use Rattle.std.specs.Prelude.{◌&&◌, Ok}
 use Rattle.std.proofs.lemmas.Bool.{eqb-true, eq-eqb}
 use Rattle.lease_model.specs.messages.Requests.{FileRequest, Request}
-use Rattle.lease_model.specs.server.Calls.{held_of, file_asked, file_of_open}
+use Rattle.lease_model.specs.server.Calls.{held_of, file_asked}
 use Rattle.lease_model.specs.server.Findings.{connected_open}
-use Rattle.lease_model.specs.server.Passes.{is_behind}
 use Rattle.lease_model.specs.server.State.{Server, Open, Held}
 use Rattle.lease_model.specs.values.Tables.{put}
 use Rattle.lease_model.specs.world.World.{World}
-use Rattle.lease_laws.specs.server.Laws.{Among, IsSound}
+use Rattle.lease_laws.specs.server.Laws.{Among}
 use Rattle.lease_laws.proofs.client.Thin.{put_same, put_other}
-use Rattle.lease_laws.proofs.server.Lists.{either, clash, and_parts, and_both, find_has}
+use Rattle.lease_laws.proofs.server.Lists.{either, clash, and_both}
 use Rattle.lease_coherence.specs.Creates.{held_by}
 use Rattle.lease_coherence.specs.Standing.{IsNoClose}
 use Rattle.lease_coherence.proofs.clients.Files.{find_absent}
 use Rattle.lease_coherence.proofs.covered.Words.{ClosedBefore, closed_less}
-use Rattle.lease_coherence.proofs.moves.Deeds.{IsSource, HasArrived, WasHeld, with_held, held_in}
+use Rattle.lease_coherence.proofs.moves.Deeds.{IsSource, WasHeld, with_held, held_in}
 use Rattle.lease_coherence.proofs.moves.Moves.{IsOldest, rest_of, popped}
 use Rattle.lease_coherence.specs.Agreement.{as_requests, asked_of}
-use Rattle.lease_coherence.proofs.order.Words.{asked_among, asked_left, none_behind, append_three, as_append, held_append}
+use Rattle.lease_coherence.proofs.order.Words.{asked_among, asked_left, none_behind}
 
 -- ---- one that leaves
 
@@ -92,14 +91,19 @@ pub first_asked : (world off : World) (c file : ℕ) (request : FileRequest) →
     → ((h : WasHeld world off c request) → h.file ≡ file)
     → (rest : List Request) × (asked_of world c file ≡ Request.OnFile request ∷ rest)
 first_asked world off c file request source asked on_file = ⊎_elim
-    (λ a. (a.oldest.queue, ap₂ (λ (h : List Held) q. as_requests h ++ q)
-    (none_behind c (world.server.held file) (a.in_turn file asked)) a.oldest.is_first))
-    (λ h. (as_requests (held_by c h.behind) ++ world.requests c,
-    ap (λ n. as_requests (held_by c (world.server.held n)) ++ world.requests c) (sym (on_file h))
-    ∙ ap (λ l. as_requests (held_by c l) ++ world.requests c) h.held
-    ∙ asked_among c h.before h.behind (held_of c request) (world.requests c) (eq-eqb c c refl)
-    ∙ ap (λ (l : List Held). as_requests l ++ Request.OnFile request ∷ (as_requests (held_by c h.behind) ++ world.requests c))
-    (none_behind c h.before h.in_turn)))
+    (λ a. (
+      a.oldest.queue,
+      ap₂ (λ (h : List Held) q. as_requests h ++ q)
+          (none_behind c (world.server.held file) (a.in_turn file asked)) a.oldest.is_first,
+    ))
+    (λ h. (
+      as_requests (held_by c h.behind) ++ world.requests c,
+      ap (λ n. as_requests (held_by c (world.server.held n)) ++ world.requests c) (sym (on_file h))
+          ∙ ap (λ l. as_requests (held_by c l) ++ world.requests c) h.held
+          ∙ asked_among c h.before h.behind (held_of c request) (world.requests c) (eq-eqb c c refl)
+          ∙ ap (λ (l : List Held). as_requests l ++ Request.OnFile request ∷ (as_requests (held_by c h.behind) ++ world.requests c))
+          (none_behind c h.before h.in_turn),
+    ))
     source.from
 
 -- ---- opens that are found

@@ -1,47 +1,41 @@
 -- What the server does leaves each connected open of a client covered, what it uses connected, and what fails gone.
-use Rattle.std.proofs.Common.{◌≡◌, ◌≢◌, ◌⊎◌, inl, inr, ⊎_elim, ℕ, ◌+◌, ◌≤◌, Bool, true, false, not, List, [], ◌∷◌, ◌++◌, map, Option, Some, None, refl, sym, ap, ◌∙◌, subst, arith, true≢false, ◌==◌}
-use Rattle.std.specs.Prelude.{⊤, ◌&&◌, Ok}
-use Rattle.std.proofs.lemmas.Bool.{eq-eqb, eqb-true}
+use Rattle.std.proofs.Common.{◌≡◌, inl, inr, ⊎_elim, ℕ, ◌+◌, ◌≤◌, true, false, List, [], ◌∷◌, ◌++◌, Some, None, refl, sym, ap, ◌∙◌, subst, arith, ◌==◌}
+use Rattle.std.specs.Prelude.{⊤}
+use Rattle.std.proofs.lemmas.Bool.{eqb-true}
 use Rattle.lease_state.specs.declared.access.Access.{Access}
 use Rattle.lease_state.specs.declared.access.Share.{Share}
 use Rattle.lease_state.specs.declared.patch.Patch.{Patch}
 use Rattle.lease_state.specs.declared.status.Status.{Status}
-use Rattle.lease_model.specs.client.State.{Client, Phase, lease_key}
+use Rattle.lease_model.specs.client.State.{Client}
 use Rattle.lease_model.specs.messages.Replies.{Reply}
 use Rattle.lease_model.specs.messages.Requests.{FileRequest, Request, CreateAsk}
 use Rattle.lease_model.specs.records.Facts.{Fact}
-use Rattle.lease_model.specs.server.Calls.{file_of_open, file_asked}
 use Rattle.lease_model.specs.server.Findings.{connected_open}
-use Rattle.lease_model.specs.server.Grant.{connected_again, lease_after, new_open}
-use Rattle.lease_model.specs.server.Naming.{key_of, own_key}
+use Rattle.lease_model.specs.server.Grant.{connected_again, new_open}
 use Rattle.lease_model.specs.server.Progress.{refusal_of}
-use Rattle.lease_model.specs.server.State.{Server, Open, Held, Lease}
+use Rattle.lease_model.specs.server.State.{Open, Lease}
 use Rattle.lease_model.specs.values.Keys.{Key}
 use Rattle.lease_model.specs.values.Tables.{put}
 use Rattle.lease_model.specs.world.Events.{machine_key}
 use Rattle.lease_model.specs.world.World.{World}
 use Rattle.lease_laws.specs.server.Laws.{Among}
-use Rattle.lease_laws.specs.server.SmallSteps.{SmallStep, IsAwaitedAt, MayRefuse, IsInTurn}
+use Rattle.lease_laws.specs.server.SmallSteps.{MayRefuse}
 use Rattle.lease_laws.specs.world.FileIds.{was_opened}
 use Rattle.lease_laws.specs.world.Links.{is_up}
 use Rattle.lease_laws.proofs.client.Thin.{put_same}
-use Rattle.lease_laws.proofs.server.Goes.{one_id}
-use Rattle.lease_laws.proofs.server.Lists.{if_cases, either, clash, among_append, among_map, find_has}
-use Rattle.lease_coherence.specs.Creates.{held_by}
-use Rattle.lease_coherence.specs.Names.{Each, IsNamedAt, IsNamedRequest, WasOpenedOn}
+use Rattle.lease_laws.proofs.server.Lists.{if_cases, either, among_append, among_map}
+use Rattle.lease_coherence.specs.Names.{Each, WasOpenedOn}
 use Rattle.lease_coherence.specs.Standing.{AllAsked, IsNoClose}
-use Rattle.lease_coherence.proofs.covered.Asked.{off_closed, popped_closed, held_closed, never_lost}
-use Rattle.lease_coherence.proofs.covered.Words.{ClosedBefore, HasGrant, grant_more, grant_last, IsLiveUnder, IsCovered, cover_by, NotFailed}
+use Rattle.lease_coherence.proofs.covered.Asked.{off_closed, never_lost}
+use Rattle.lease_coherence.proofs.covered.Words.{ClosedBefore, HasGrant, grant_more, grant_last, IsCovered, cover_by}
 use Rattle.lease_coherence.proofs.creates.Creates.{off_rest}
 use Rattle.lease_coherence.proofs.late.Words.{KnowsIds}
-use Rattle.lease_coherence.proofs.moves.Deeds.{IsSource, with_held, told_to, held_in, granted_in, granted_reply, reconnected_in, reconnected_reply, changed_in, leased_in, without_opens}
+use Rattle.lease_coherence.proofs.moves.Deeds.{IsSource, told_to, granted_in, granted_reply, reconnected_in, reconnected_reply, changed_in}
 use Rattle.lease_coherence.proofs.moves.Frames.{from_source, lease_put_rest}
-use Rattle.lease_coherence.proofs.moves.Moves.{IsOldest, popped}
-use Rattle.lease_coherence.proofs.names.Names.{awaits_parts, open_parts}
 use Rattle.lease_coherence.proofs.names.Words.{each_append, each_weaker}
-use Rattle.lease_coherence.specs.Agreement.{as_requests, asked_of}
+use Rattle.lease_coherence.specs.Agreement.{asked_of}
 use Rattle.lease_coherence.proofs.records.Later.{IsLater, later_same, later_fact, later_two}
-use Rattle.lease_coherence.proofs.standing.Words.{asked_weaker, asked_off, asked_popped, asked_held}
+use Rattle.lease_coherence.proofs.standing.Words.{asked_weaker, asked_off}
 
 -- ---- opens in another world
 

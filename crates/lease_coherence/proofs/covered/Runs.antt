@@ -1,29 +1,26 @@
 -- Every move leaves the connected opens of each client that hasn't strayed covered, while its link is up.
-use Rattle.std.proofs.Common.{◌≡◌, ◌≢◌, inl, inr, ⊎_elim, ℕ, ◌+◌, true, false, not, List, [], ◌∷◌, ◌++◌, Option, Some, None, refl, sym, ap, ap₂, ◌∙◌, subst, arith, true≢false, ◌==◌}
-use Rattle.std.specs.Prelude.{⊤, Ok}
-use Rattle.std.proofs.lemmas.Bool.{eq-eqb, eqb-true}
-use Rattle.lease_state.specs.State.{State, granted_form_of}
+use Rattle.std.proofs.Common.{◌≡◌, ◌≢◌, ⊎_elim, ℕ, ◌+◌, true, false, not, List, [], ◌∷◌, ◌++◌, Option, Some, None, refl, sym, ap, ap₂, ◌∙◌, subst, arith, true≢false, ◌==◌}
+use Rattle.std.specs.Prelude.{Ok}
+use Rattle.std.proofs.lemmas.Bool.{eq-eqb}
 use Rattle.lease_state.specs.declared.status.Status.{Status}
 use Rattle.lease_model.specs.client.Commanded.{commanded}
 use Rattle.lease_model.specs.client.Connection.{noticed, connection_made}
-use Rattle.lease_model.specs.client.State.{Client, LiveEntry, Phase, lease_key}
+use Rattle.lease_model.specs.client.State.{Client, Phase, lease_key}
 use Rattle.lease_model.specs.client.Step.{Step}
 use Rattle.lease_model.specs.client.Taken.{taken}
 use Rattle.lease_model.specs.messages.Replies.{Reply}
-use Rattle.lease_model.specs.messages.Requests.{FileRequest, Request, CreateAsk, LeaseOf}
+use Rattle.lease_model.specs.messages.Requests.{FileRequest, Request, LeaseOf}
 use Rattle.lease_model.specs.records.Facts.{Fact}
 use Rattle.lease_model.specs.records.Past.{has_strayed}
 use Rattle.lease_model.specs.server.Calls.{file_asked, file_of_open, joined, key_expired}
 use Rattle.lease_model.specs.server.Findings.{connected_open}
-use Rattle.lease_model.specs.server.Naming.{key_of, own_key}
+use Rattle.lease_model.specs.server.Naming.{key_of}
 use Rattle.lease_model.specs.server.Progress.{opens_dropped, with_opens, break_notice, refusal_of}
 use Rattle.lease_model.specs.server.State.{Server, Open, Held, Lease, has_key}
 use Rattle.lease_model.specs.values.Keys.{Key}
-use Rattle.lease_model.specs.values.Lists.{without}
-use Rattle.lease_model.specs.values.Tables.{put, put_key}
+use Rattle.lease_model.specs.values.Tables.{put}
 use Rattle.lease_model.specs.world.Events.{machine_key, stepped_in}
 use Rattle.lease_model.specs.world.World.{World, Link, Setup, first_world}
-use Rattle.lease_laws.specs.client.Laws.{IsSoundClient}
 use Rattle.lease_laws.specs.server.Laws.{Among}
 use Rattle.lease_laws.specs.server.SmallSteps.{SmallStep, IsInTurn}
 use Rattle.lease_laws.specs.world.FileIds.{was_opened}
@@ -32,20 +29,20 @@ use Rattle.lease_laws.proofs.client.Forms.{commanded-stays, taken-stays}
 use Rattle.lease_laws.proofs.client.Thin.{put_same}
 use Rattle.lease_laws.proofs.server.Goes.{one_id}
 use Rattle.lease_laws.proofs.server.Keys.{put_key-cases}
-use Rattle.lease_laws.proofs.server.Lists.{either, clash, among_filter, among_filtered, find_has, not_parts}
+use Rattle.lease_laws.proofs.server.Lists.{clash, among_filter, among_filtered, find_has, not_parts}
 use Rattle.lease_laws.proofs.world.Links.{stepped_links}
 use Rattle.lease_laws.proofs.world.Runs.{stepped_server}
-use Rattle.lease_coherence.specs.Creates.{answer_of, answers, asked_by, creates, held_by, held_creates, has_asked, one_if, under_way}
-use Rattle.lease_coherence.specs.Names.{Each, IsNamedAt, IsNamedPhase, WasOpenedOn}
-use Rattle.lease_coherence.specs.Standing.{AllAsked, IsNoClose, IsOpenFor, IsStandingAt, GivenWell, PhaseStands}
+use Rattle.lease_coherence.specs.Creates.{answers, asked_by, creates, held_by, held_creates, one_if, under_way}
+use Rattle.lease_coherence.specs.Names.{Each, IsNamedAt, IsNamedPhase}
+use Rattle.lease_coherence.specs.Standing.{AllAsked, IsNoClose, IsStandingAt, GivenWell, PhaseStands}
 use Rattle.lease_coherence.proofs.beliefs.Closed.{left_there}
-use Rattle.lease_coherence.proofs.beliefs.Steps.{AsksCreate, IsIdle, connect_idle}
+use Rattle.lease_coherence.proofs.beliefs.Steps.{AsksCreate, connect_idle}
 use Rattle.lease_coherence.proofs.beliefs.WriteCaches.{HasBeliefs}
 use Rattle.lease_coherence.proofs.clients.Commands.{any_command}
 use Rattle.lease_coherence.proofs.clients.Takes.{any_reply}
 use Rattle.lease_coherence.proofs.covered.Asked.{popped_closed, held_closed}
-use Rattle.lease_coherence.proofs.covered.Clients.{IsQuiet, StepCovers, commands_cover, IsCounted, IsMetWith, TakeCovers, takes_cover}
-use Rattle.lease_coherence.proofs.covered.Moves.{IsFrom, itself, KeepsOpens, IsUsed, UsesUp, uses_in, IsLost, FailsGone, fails_in, OpenCovered, HasCovered, IsUpCovered, covered_in, IsLeftCovered, off_covered, told_covered, refusal_gone, refusal_closes, changed_covered, granted_covered, reconnected_covered}
+use Rattle.lease_coherence.proofs.covered.Clients.{IsQuiet, StepCovers, commands_cover, IsMetWith, TakeCovers, takes_cover}
+use Rattle.lease_coherence.proofs.covered.Moves.{itself, KeepsOpens, IsUsed, UsesUp, uses_in, FailsGone, fails_in, HasCovered, IsUpCovered, covered_in, IsLeftCovered, off_covered, told_covered, refusal_gone, refusal_closes, changed_covered, granted_covered, reconnected_covered}
 use Rattle.lease_coherence.proofs.covered.Uses.{UsesLive, StepUses, commands_use, takes_use}
 use Rattle.lease_coherence.proofs.covered.Words.{ClosedBefore, creates_asked, HasGrant, grant_more, IsCovered, NotFailed}
 use Rattle.lease_coherence.proofs.creates.Counts.{creates_append}
@@ -63,7 +60,6 @@ use Rattle.lease_coherence.proofs.order.Sends.{IsUnderLive}
 use Rattle.lease_coherence.specs.Agreement.{as_requests, asked_of}
 use Rattle.lease_coherence.proofs.order.Words.{append_three}
 use Rattle.lease_coherence.proofs.records.Later.{IsLater, later_same, later_then, later_fact, later_noted}
-use Rattle.lease_coherence.proofs.standing.Clients.{FitsGiven}
 use Rattle.lease_coherence.proofs.standing.Runs.{link_of, fits_of, was_up}
 use Rattle.lease_coherence.proofs.standing.Standing.{IsStepped, step_of}
 use Rattle.lease_coherence.proofs.standing.Words.{asked_weaker, asked_popped, asked_held, asked_unmoved}
@@ -244,7 +240,7 @@ timer_covered world c file h =
     let there_before : (x : Open) → Among x new.server.opens → Among x world.server.opens =
     λ x there. (among_filter (λ o. not (has_key key o)) x world.server.opens there).0 in
     let was_fresh : (at : ℕ) → new.server.expired (machine_key world c at) ≡ false
-        → world.server.expired (machine_key world c at) ≡ false = λ at. put_key-cases
+    → world.server.expired (machine_key world c at) ≡ false = λ at. put_key-cases
     (λ b. b ≡ false → world.server.expired (machine_key world c at) ≡ false)
     world.server.expired key true (machine_key world c at) (λ same e. absurd (true≢false e)) (λ other e. e) in
     let k : KeepsOpens world new c = record {

@@ -1,5 +1,5 @@
 -- Reads and writes are sent under the open of a live entry.
-use Rattle.std.proofs.Common.{◌≡◌, ℕ, ◌++◌, List, [], ◌∷◌, Option, Some, refl, ◌==◌, not}
+use Rattle.std.proofs.Common.{◌≡◌, ℕ, ◌++◌, List, [], ◌∷◌, refl, ◌==◌, not}
 use Rattle.std.specs.Prelude.{⊤, ◌&&◌}
 use Rattle.lease_state.specs.State.{State}
 use Rattle.lease_state.specs.declared.status.Status.{Status}

@@ -1,8 +1,8 @@
 -- Each connected open of a client is its entry's, or a Close of it is asked, or it is granted by a reply on its way: in
 -- words of one file, its entry and its queues.
-use Rattle.std.proofs.Common.{◌≡◌, ◌≢◌, ◌⊎◌, inl, inr, ⊎_elim, ℕ, ◌+◌, Bool, true, false, List, [], ◌∷◌, ◌++◌, Option, Some, None, refl, sym, ap, ◌∙◌, arith, ◌==◌}
+use Rattle.std.proofs.Common.{◌≡◌, ◌≢◌, ◌⊎◌, inl, inr, ⊎_elim, ℕ, ◌+◌, List, [], ◌∷◌, ◌++◌, Some, None, refl, ap, arith, ◌==◌}
 use Rattle.std.specs.Prelude.{⊤}
-use Rattle.std.proofs.lemmas.Bool.{eq-eqb, eqb-true}
+use Rattle.std.proofs.lemmas.Bool.{eq-eqb}
 use Rattle.lease_state.specs.declared.status.Status.{Status}
 use Rattle.lease_model.specs.client.State.{LiveEntry, Pending, Phase}
 use Rattle.lease_model.specs.client.Step.{write_requests}

@@ -1,6 +1,6 @@
 -- Every move leaves what entries keep untouched, of each client that hasn't strayed, over any link.
-use Rattle.std.proofs.Common.{◌≡◌, ◌≢◌, ◌⊎◌, inl, inr, ⊎_elim, ℕ, ◌+◌, ◌≤◌, Bool, true, false, not, List, [], ◌∷◌, ◌++◌, map, Option, Some, None, refl, sym, ap, ap₂, ◌∙◌, subst, arith, true≢false, ◌==◌}
-use Rattle.std.specs.Prelude.{⊤, ◌&&◌, ◌||◌, bytes_eq}
+use Rattle.std.proofs.Common.{◌≡◌, ◌⊎◌, inl, inr, ⊎_elim, ℕ, ◌+◌, ◌≤◌, Bool, true, false, not, List, [], ◌∷◌, Some, None, refl, sym, ap, ◌∙◌, subst, arith, true≢false, ◌==◌}
+use Rattle.std.specs.Prelude.{◌||◌, bytes_eq}
 use Rattle.std.specs.List.{list_any}
 use Rattle.std.proofs.lemmas.Bool.{eq-eqb, eqb-true}
 use Rattle.std.proofs.lemmas.Slice.Eq.{bytes_eq-Decides}
@@ -15,23 +15,22 @@ use Rattle.lease_model.specs.client.State.{Client, LiveEntry, Parted, Pending, P
 use Rattle.lease_model.specs.client.Step.{Step, Turn}
 use Rattle.lease_model.specs.client.Taken.{taken}
 use Rattle.lease_model.specs.messages.Replies.{Reply}
-use Rattle.lease_model.specs.messages.Requests.{FileRequest, Request, CreateAsk, LeaseOf}
+use Rattle.lease_model.specs.messages.Requests.{FileRequest, CreateAsk, LeaseOf}
 use Rattle.lease_model.specs.records.Facts.{Fact}
 use Rattle.lease_model.specs.records.Past.{has_strayed}
-use Rattle.lease_model.specs.server.Calls.{disconnected, joined, key_expired}
-use Rattle.lease_model.specs.server.Grant.{connected_again, lease_after, lease_put, new_open}
+use Rattle.lease_model.specs.server.Calls.{joined, key_expired}
+use Rattle.lease_model.specs.server.Grant.{connected_again, lease_after, new_open}
 use Rattle.lease_model.specs.server.Naming.{key_of}
 use Rattle.lease_model.specs.server.Progress.{opens_dropped, with_opens, break_notice, refusal_of}
-use Rattle.lease_model.specs.server.State.{Server, Open, Held, Lease, no_lease, has_key}
+use Rattle.lease_model.specs.server.State.{Server, Open, Lease, no_lease, has_key}
 use Rattle.lease_model.specs.values.Keys.{Key}
 use Rattle.lease_model.specs.values.Lists.{without}
-use Rattle.lease_model.specs.values.Tables.{put, put_key}
+use Rattle.lease_model.specs.values.Tables.{put}
 use Rattle.lease_model.specs.world.Events.{Event, machine_key, stepped_in, after}
 use Rattle.lease_model.specs.world.World.{World, Link, Setup, first_world}
-use Rattle.lease_laws.specs.client.Laws.{IsSoundPhase}
-use Rattle.lease_laws.specs.server.Laws.{Among, IsSound}
+use Rattle.lease_laws.specs.server.Laws.{Among}
 use Rattle.lease_laws.specs.world.FileIds.{was_opened}
-use Rattle.lease_laws.specs.world.Links.{is_up, is_down}
+use Rattle.lease_laws.specs.world.Links.{is_up}
 use Rattle.lease_laws.proofs.client.Forms.{commanded-stays, taken-stays}
 use Rattle.lease_laws.proofs.client.Thin.{put_same}
 use Rattle.lease_laws.proofs.server.Keys.{put_key-cases}
@@ -47,22 +46,20 @@ use Rattle.lease_coherence.proofs.beliefs.Closed.{left_there}
 use Rattle.lease_coherence.proofs.beliefs.Runs.{own_create}
 use Rattle.lease_coherence.proofs.clients.Commands.{any_command}
 use Rattle.lease_coherence.proofs.clients.Takes.{any_reply}
-use Rattle.lease_coherence.proofs.covered.Words.{IsLiveUnder}
 use Rattle.lease_coherence.proofs.creates.Creates.{left_over, source_counts, stepped_machine}
 use Rattle.lease_coherence.proofs.late.Likes.{ids_of}
 use Rattle.lease_coherence.proofs.late.Servers.{live_id, parted_id, own_has_key}
 use Rattle.lease_coherence.proofs.late.Words.{holds_write, KnowsIds}
 use Rattle.lease_coherence.proofs.moves.Deeds.{IsSource, done_reply, told_to, granted_in, reconnected_in, changed_in, leased_in, without_opens}
-use Rattle.lease_coherence.proofs.moves.Events.{Ground, Both, IsCarried, carried_both, runs_have, cut_off, timed_out, come_back, connected, noticed_by, reply_gone, reply_taken}
+use Rattle.lease_coherence.proofs.moves.Events.{Ground, Both, carried_both, runs_have, cut_off, timed_out, come_back, connected, noticed_by, reply_gone}
 use Rattle.lease_coherence.proofs.moves.Foreign.{IsUnmoved}
-use Rattle.lease_coherence.proofs.moves.Frames.{from_source, lease_put_rest, stepped_past}
+use Rattle.lease_coherence.proofs.moves.Frames.{from_source, stepped_past}
 use Rattle.lease_coherence.proofs.moves.Moves.{rest_of, popped}
 use Rattle.lease_coherence.proofs.moves.Own.{IsOwnMoved, OfGood, own_moves}
 use Rattle.lease_coherence.proofs.names.Names.{off_named, off_counted}
 use Rattle.lease_coherence.proofs.names.Words.{each_rest}
 use Rattle.lease_coherence.proofs.parted.Words.{UntouchedUnder, PhaseUntouched, IsUntouched, own_changed, own_opened, sent_touched, expired_touched, joined_touched, took_touched, just_lost, noted_touched, under_by, phase_by, PartedBy, StepParts, commands_part, takes_part}
 use Rattle.lease_coherence.proofs.standing.AllRuns.{HasStructure, structure_carried, first_structure}
-use Rattle.lease_coherence.proofs.standing.Runs.{link_of, was_up}
 use Rattle.lease_coherence.proofs.standing.Words.{asked_off}
 
 -- ---- the same client and link
@@ -164,9 +161,12 @@ reconnected_untouched : (off : World) (c file : ℕ) (ask : CreateAsk) (id : ℕ
 reconnected_untouched off c file ask id n a = kept_untouched off (reconnected_in off c file ask id) c refl refl n
     (λ at i named u. under_by off (reconnected_in off c file ask id) c at i
     (λ x there by same. let m = among_map (connected_again id) x off.server.opens there in
-    let eq = again_parts m.0 in
-    (m.0, m.1, sym eq.0 ∙ ap (λ (o : Open). o.client) (sym m.2) ∙ by,
-    sym eq.1 ∙ ap (λ (o : Open). o.file_id) (sym m.2) ∙ same))
+    let eq = again_parts m.0 in (
+      m.0,
+      m.1,
+      sym eq.0 ∙ ap (λ (o : Open). o.client) (sym m.2) ∙ by,
+      sym eq.1 ∙ ap (λ (o : Open). o.file_id) (sym m.2) ∙ same,
+    ))
     (λ w. w) (λ y there by same w e. sent_touched c c at off.past ∙ e) u) a
   where
     again_parts : (y : Open) → ((connected_again id y).client ≡ y.client) × ((connected_again id y).file_id ≡ y.file_id)

@@ -1,8 +1,8 @@
 -- What an entry keeps over a lost connection: where the lease of its open still holds writes, no other client opened or changed
 -- the file since.
-use Rattle.std.proofs.Common.{◌≡◌, ◌≢◌, ◌⊎◌, inl, inr, ⊎_elim, ℕ, Bool, true, false, not, List, [], ◌∷◌, Option, Some, None, refl, sym, ap, ◌∙◌, subst, true≢false, ◌==◌}
+use Rattle.std.proofs.Common.{◌≡◌, ◌⊎◌, inl, inr, ℕ, Bool, true, false, not, List, [], ◌∷◌, Option, Some, None, refl, sym, subst, true≢false, ◌==◌}
 use Rattle.std.specs.Prelude.{⊤, ◌&&◌, ◌||◌}
-use Rattle.std.proofs.lemmas.Bool.{eq-eqb, eqb-true}
+use Rattle.std.proofs.lemmas.Bool.{eq-eqb}
 use Rattle.lease_state.specs.declared.patch.Patch.{Patch}
 use Rattle.lease_state.specs.declared.status.Status.{Status}
 use Rattle.lease_model.specs.client.Commanded.{cached_read, opened_anew, write_buffered, write_sent, flush_on_live}
@@ -10,7 +10,7 @@ use Rattle.lease_model.specs.client.Commands.{Note}
 use Rattle.lease_model.specs.client.State.{Client, Entry, LiveEntry, Asked, Parted, Pending, Phase}
 use Rattle.lease_model.specs.client.Step.{Step, Turn, turned}
 use Rattle.lease_model.specs.client.Taken.{break_turn, parked_closed, belief_lowered, opened_turn, reconnected_turn, promoted_turn, read_turn, read_failed_turn, is_file_closed, closed_by_server, without_open, phase_with, write_done_turn, write_failed_in}
-use Rattle.lease_model.specs.messages.Replies.{Reply, BreakNotice}
+use Rattle.lease_model.specs.messages.Replies.{BreakNotice}
 use Rattle.lease_model.specs.records.Facts.{Fact}
 use Rattle.lease_model.specs.server.State.{Open}
 use Rattle.lease_model.specs.values.LeaseStates.{meet}

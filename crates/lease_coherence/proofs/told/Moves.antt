@@ -1,52 +1,37 @@
 -- While a lease is breaking, its acknowledgment is on its way, or its break to an entry that is or will be live, or each of its
 -- opens is being closed; and what the server does leaves it so.
-use Rattle.std.proofs.Common.{◌≡◌, ◌≢◌, ◌⊎◌, inl, inr, ⊎_elim, ℕ, ◌+◌, Bool, true, false, not, List, [], ◌∷◌, ◌++◌, map, Option, Some, None, refl, sym, ap, ap₂, ◌∙◌, subst, arith, true≢false, ◌==◌}
-use Rattle.std.specs.Prelude.{◌&&◌, ◌||◌, Ok, bytes_eq}
+use Rattle.std.proofs.Common.{◌≡◌, ◌⊎◌, inl, inr, ⊎_elim, ℕ, Bool, true, false, List, [], ◌∷◌, ◌++◌, Option, Some, None, refl, sym, ap, ◌∙◌, subst, true≢false, ◌==◌}
+use Rattle.std.specs.Prelude.{bytes_eq}
 use Rattle.std.specs.List.{list_any}
 use Rattle.std.proofs.lemmas.Bool.{eqb-true, eq-eqb}
-use Rattle.std.proofs.lemmas.Slice.Eq.{bytes_eq-Decides}
-use Rattle.lease_state.specs.State.{State, granted_form_of, is_state_within, needs_acknowledgment}
-use Rattle.lease_state.specs.declared.access.Access.{Access}
-use Rattle.lease_state.specs.declared.access.Share.{Share}
 use Rattle.lease_model.specs.client.State.{Client, Phase, lease_key}
 use Rattle.lease_model.specs.messages.Replies.{Reply}
-use Rattle.lease_model.specs.messages.Requests.{FileRequest, Request, CreateAsk, LeaseOf}
-use Rattle.lease_model.specs.server.Calls.{file_asked, held_of, key_expired}
-use Rattle.lease_model.specs.server.Grant.{connected_again, lease_after, lease_granted, new_open}
+use Rattle.lease_model.specs.messages.Requests.{FileRequest, Request}
 use Rattle.lease_model.specs.server.Naming.{key_of}
-use Rattle.lease_model.specs.server.Progress.{opens_dropped, with_opens, break_notice}
-use Rattle.lease_model.specs.server.State.{Server, Open, Held, Lease, no_lease, is_breaking, has_file, has_key, has_lease, is_key}
-use Rattle.lease_model.specs.values.Keys.{Key, key_eq}
-use Rattle.lease_model.specs.values.Lists.{without}
-use Rattle.lease_model.specs.values.Tables.{put, put_key}
+use Rattle.lease_model.specs.server.State.{Server, Open, Held, Lease, is_breaking, has_key, is_key}
+use Rattle.lease_model.specs.values.Keys.{Key}
 use Rattle.lease_model.specs.world.Events.{machine_key}
 use Rattle.lease_model.specs.world.World.{World}
 use Rattle.lease_laws.specs.server.Laws.{Among, IsSound}
-use Rattle.lease_laws.specs.server.SmallSteps.{SmallStep, MayLower, IsInTurn}
-use Rattle.lease_laws.specs.server.Waiting.{IsAbout}
 use Rattle.lease_laws.specs.world.Links.{is_up}
 use Rattle.lease_laws.proofs.client.Thin.{put_same}
-use Rattle.lease_laws.proofs.server.Goes.{one_id}
-use Rattle.lease_laws.proofs.server.Keys.{put_key-cases, is_key-one}
-use Rattle.lease_laws.proofs.server.Lists.{if_cases, either, clash, among_append, among_filter, among_map, among_behind, and_parts, and_both, any_has, has_any, not_parts, not_true, not_false}
-use Rattle.lease_coherence.specs.Creates.{creates, answers, held_by}
-use Rattle.lease_coherence.specs.Names.{Each, IsOwnOpen}
+use Rattle.lease_laws.proofs.server.Keys.{is_key-one}
+use Rattle.lease_laws.proofs.server.Lists.{either, clash, and_parts, any_has, not_false}
+use Rattle.lease_coherence.specs.Creates.{held_by}
+use Rattle.lease_coherence.specs.Names.{IsOwnOpen}
 use Rattle.lease_coherence.specs.Standing.{IsNoClose}
 use Rattle.lease_coherence.proofs.beliefs.Clients.{keys_apart}
-use Rattle.lease_coherence.proofs.beliefs.Grants.{grant_settled}
 use Rattle.lease_coherence.proofs.beliefs.Trust.{file_key, file_acks}
-use Rattle.lease_coherence.proofs.beliefs.Words.{acks, is_created, is_ack_break}
+use Rattle.lease_coherence.proofs.beliefs.Words.{acks}
 use Rattle.lease_coherence.proofs.clients.Takes.{is_live}
-use Rattle.lease_coherence.proofs.covered.Asked.{popped_closed, off_closed, held_closed, first_asked}
-use Rattle.lease_coherence.proofs.covered.Moves.{HasCovered, refusal_closes}
-use Rattle.lease_coherence.proofs.covered.Runs.{own_place}
-use Rattle.lease_coherence.proofs.covered.Words.{ClosedBefore, HasGrant, IsGrantOf, IsLiveUnder}
+use Rattle.lease_coherence.proofs.covered.Asked.{off_closed}
+use Rattle.lease_coherence.proofs.covered.Words.{ClosedBefore}
 use Rattle.lease_coherence.proofs.creates.Creates.{off_rest}
-use Rattle.lease_coherence.proofs.moves.Deeds.{IsSource, WasHeld, with_held, told_to, held_in, granted_in, reconnected_in, changed_in, leased_in, without_opens}
+use Rattle.lease_coherence.proofs.moves.Deeds.{IsSource}
 use Rattle.lease_coherence.proofs.moves.Frames.{from_source}
-use Rattle.lease_coherence.proofs.moves.Moves.{IsOldest, rest_of, popped}
+use Rattle.lease_coherence.proofs.moves.Moves.{rest_of}
 use Rattle.lease_coherence.specs.Agreement.{as_requests, asked_of}
-use Rattle.lease_coherence.proofs.told.Words.{HasMet, met_behind, met_last, is_granted, met_granted}
+use Rattle.lease_coherence.proofs.told.Words.{HasMet, met_behind}
 
 -- ---- one file
 

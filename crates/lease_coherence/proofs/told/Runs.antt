@@ -1,18 +1,17 @@
 -- Every move leaves each break told, of each client that hasn't strayed, while its link is up.
-use Rattle.std.proofs.Common.{◌≡◌, ◌≢◌, ◌⊎◌, inl, inr, ⊎_elim, ℕ, ◌+◌, Bool, true, false, not, List, [], ◌∷◌, ◌++◌, Option, Some, None, refl, sym, ap, ap₂, ◌∙◌, subst, arith, true≢false, ◌==◌}
+use Rattle.std.proofs.Common.{◌≡◌, inl, inr, ⊎_elim, ℕ, ◌+◌, true, false, List, ◌∷◌, ◌++◌, Some, refl, sym, ap, ◌∙◌, subst, arith, true≢false}
 use Rattle.lease_state.specs.declared.status.Status.{Status}
-use Rattle.lease_model.specs.client.Commanded.{commanded, is_asking}
+use Rattle.lease_model.specs.client.Commanded.{commanded}
 use Rattle.lease_model.specs.client.Connection.{noticed, connection_made}
 use Rattle.lease_model.specs.client.State.{Client, LiveEntry, Phase, lease_key}
 use Rattle.lease_model.specs.client.Step.{Step}
 use Rattle.lease_model.specs.client.Taken.{taken}
 use Rattle.lease_model.specs.messages.Replies.{Reply}
-use Rattle.lease_model.specs.messages.Requests.{FileRequest, Request, CreateAsk}
+use Rattle.lease_model.specs.messages.Requests.{FileRequest, Request}
 use Rattle.lease_model.specs.records.Past.{has_strayed}
 use Rattle.lease_model.specs.server.Calls.{joined}
 use Rattle.lease_model.specs.server.Naming.{key_of}
-use Rattle.lease_model.specs.server.Progress.{refusal_of}
-use Rattle.lease_model.specs.server.State.{Server, Open, Held, Lease, is_breaking, has_file, has_key}
+use Rattle.lease_model.specs.server.State.{Server, Open, is_breaking, has_file, has_key}
 use Rattle.lease_model.specs.values.Tables.{put}
 use Rattle.lease_model.specs.world.Events.{Event, machine_key, stepped_in, after}
 use Rattle.lease_model.specs.world.World.{World, Link, Setup, first_world}
@@ -34,17 +33,16 @@ use Rattle.lease_coherence.proofs.clients.Takes.{any_reply, is_live}
 use Rattle.lease_coherence.proofs.covered.Moves.{FailsGone, HasCovered}
 use Rattle.lease_coherence.proofs.covered.Runs.{HasCover, cover_carried, first_cover, counted_of, quiet_of, not_failed}
 use Rattle.lease_coherence.proofs.covered.Words.{ClosedBefore, closed_more, never_granted, NotFailed}
-use Rattle.lease_coherence.proofs.moves.Deeds.{IsSource, told_to}
-use Rattle.lease_coherence.proofs.moves.Events.{Ground, Both, IsCarried, carried_both, runs_have, come_back, connected, reply_gone, reply_taken}
+use Rattle.lease_coherence.proofs.moves.Deeds.{IsSource}
+use Rattle.lease_coherence.proofs.moves.Events.{Ground, Both, carried_both, runs_have, come_back, connected, reply_gone, reply_taken}
 use Rattle.lease_coherence.proofs.moves.Foreign.{IsUnmoved, key_client, off_sound}
 use Rattle.lease_coherence.proofs.moves.Frames.{from_source, stepped_replies}
 use Rattle.lease_coherence.proofs.moves.Own.{IsOwnMoved, OfGood, own_moves}
-use Rattle.lease_coherence.proofs.names.Names.{off_named}
 use Rattle.lease_coherence.specs.Agreement.{as_requests, asked_of}
 use Rattle.lease_coherence.proofs.order.Words.{append_three}
 use Rattle.lease_coherence.proofs.standing.Runs.{link_of, was_up}
 use Rattle.lease_coherence.proofs.standing.Standing.{IsStepped, step_of}
-use Rattle.lease_coherence.proofs.told.Clients.{StaysOrCloses, StepTold, commands_told, IsToldStill, IsMetAt, whole_of, TakeTold, takes_told}
+use Rattle.lease_coherence.proofs.told.Clients.{StepTold, commands_told, whole_of, TakeTold, takes_told}
 use Rattle.lease_coherence.proofs.told.Moves.{ClosedIn, ToldBy, HasTold, IsUpTold, told_map, kept_told, breaking_open, breaking_up, open_place, off_server}
 use Rattle.lease_coherence.proofs.told.Servers.{replied_told, refused_told, changed_told, closed_told, dropped_told, timer_told, granted_told, reconnected_told, lower_told, begin_told, failed_told, done_told, held_told}
 use Rattle.lease_coherence.proofs.told.Words.{HasMet, met_more, IsClosing}

@@ -2,7 +2,7 @@
 use Rattle.std.proofs.Common.{◌≡◌, ◌≢◌, ◌⊎◌, inl, inr, ℕ, ◌+◌, true, false, not, List, [], ◌∷◌, ◌++◌, Option, Some, None, refl, sym, ap, ap₂, ◌∙◌, subst, arith, ◌==◌}
 use Rattle.std.specs.Prelude.{◌&&◌, bytes_eq, if◌then◌else◌}
 use Rattle.std.proofs.lemmas.Slice.Eq.{bytes_eq-Decides}
-use Rattle.lease_state.specs.State.{State, nothing_cached}
+use Rattle.lease_state.specs.State.{nothing_cached}
 use Rattle.lease_state.specs.declared.status.Status.{Status}
 use Rattle.lease_model.specs.client.Commanded.{create_request, next_write, cached_read, opened_anew, write_buffered, write_sent, flush_on_live, wrote_step}
 use Rattle.lease_model.specs.client.Commands.{Answer}
@@ -26,7 +26,7 @@ use Rattle.lease_coherence.proofs.names.Words.{each_append}
 use Rattle.lease_coherence.proofs.beliefs.Clients.{IsAboutFile, file_no_acks, writes_about, writes_close_about, keys_apart, ack_elsewhere}
 use Rattle.lease_coherence.proofs.beliefs.Words.{acks, acks_append, IsBelieved}
 use Rattle.lease_coherence.proofs.fresh.Clients.{never_passed}
-use Rattle.lease_coherence.proofs.within.Entries.{IsLess, step_within, reply_within, created_within, less_meet, quiet_within, break_within}
+use Rattle.lease_coherence.proofs.within.Entries.{IsLess, step_within, reply_within, created_within, quiet_within, break_within}
 use Rattle.lease_coherence.proofs.within.Words.{LowersFormed, IsWithinFor}
 
 -- ---- steps

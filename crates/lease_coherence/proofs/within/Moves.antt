@@ -1,5 +1,5 @@
 -- What the server does keeps the beliefs of a client within its leases.
-use Rattle.std.proofs.Common.{◌≡◌, ◌≢◌, ◌⊎◌, inl, inr, ⊎_elim, ℕ, ◌+◌, Bool, true, false, not, List, [], ◌∷◌, ◌++◌, Option, Some, None, refl, sym, ap, ◌∙◌, subst, arith, true≢false, ◌==◌}
+use Rattle.std.proofs.Common.{◌≡◌, inl, ⊎_elim, ℕ, ◌+◌, Bool, true, false, not, List, [], ◌∷◌, ◌++◌, Option, Some, None, refl, sym, ap, ◌∙◌, subst, arith, true≢false, ◌==◌}
 use Rattle.std.specs.Prelude.{◌&&◌, ◌||◌, bytes_eq}
 use Rattle.std.specs.List.{list_any}
 use Rattle.std.proofs.lemmas.Bool.{eq-eqb}
@@ -8,46 +8,42 @@ use Rattle.lease_state.specs.State.{State, nothing_cached, granted_form_of, is_s
 use Rattle.lease_state.specs.declared.access.Access.{Access}
 use Rattle.lease_state.specs.declared.access.Share.{Share}
 use Rattle.lease_state.specs.declared.patch.Patch.{Patch}
-use Rattle.lease_state.specs.declared.status.Status.{Status}
 use Rattle.lease_model.specs.client.State.{Client, Phase, lease_key}
 use Rattle.lease_model.specs.client.Taken.{given_state}
 use Rattle.lease_model.specs.messages.Replies.{Reply}
 use Rattle.lease_model.specs.messages.Requests.{FileRequest, Request, CreateAsk, LeaseOf}
 use Rattle.lease_model.specs.server.Grant.{connected_again, lease_after, lease_granted, new_open, offered}
 use Rattle.lease_model.specs.server.Allowed.{allowed, is_other_on}
-use Rattle.lease_model.specs.server.Naming.{key_of, own_key}
-use Rattle.lease_model.specs.server.Progress.{with_opens, break_notice}
-use Rattle.lease_model.specs.server.State.{Server, Open, Held, Lease, is_breaking, has_key}
+use Rattle.lease_model.specs.server.Naming.{key_of}
+use Rattle.lease_model.specs.server.Progress.{break_notice}
+use Rattle.lease_model.specs.server.State.{Server, Held, Lease, is_breaking}
 use Rattle.lease_model.specs.values.Keys.{Key, key_eq}
 use Rattle.lease_model.specs.values.LeaseStates.{same_state}
-use Rattle.lease_model.specs.values.Lists.{without}
-use Rattle.lease_model.specs.values.Tables.{put, put_key}
+use Rattle.lease_model.specs.values.Tables.{put_key}
 use Rattle.lease_model.specs.world.Events.{machine_key}
 use Rattle.lease_model.specs.world.World.{World}
-use Rattle.lease_laws.specs.server.Laws.{Among, IsSound}
-use Rattle.lease_laws.specs.server.SmallSteps.{IsFree, IsLowered, MayLower}
+use Rattle.lease_laws.specs.server.Laws.{IsSound}
+use Rattle.lease_laws.specs.server.SmallSteps.{IsLowered, MayLower}
 use Rattle.lease_laws.specs.world.Links.{is_up}
 use Rattle.lease_laws.proofs.client.Thin.{put_same}
 use Rattle.lease_laws.proofs.server.Keys.{put_key-cases, key_eq-refl}
-use Rattle.lease_laws.proofs.server.Lists.{if_cases, either, clash, and_parts, and_both, not_parts, not_true, true_or, or_of_true, among_before}
+use Rattle.lease_laws.proofs.server.Lists.{if_cases, either, clash, and_parts, and_both, among_before}
 use Rattle.lease_coherence.specs.Agreement.{lone_break, reads_alone}
 use Rattle.lease_coherence.specs.Creates.{one_if}
 use Rattle.lease_coherence.specs.Names.{Each}
 use Rattle.lease_coherence.proofs.beliefs.Acked.{acked_trusted}
-use Rattle.lease_coherence.proofs.beliefs.Grants.{given_none, grant_settled, grant_breaking}
+use Rattle.lease_coherence.proofs.beliefs.Grants.{grant_breaking}
 use Rattle.lease_coherence.proofs.beliefs.Given.{own_named}
-use Rattle.lease_coherence.proofs.beliefs.Leases.{settled_none}
-use Rattle.lease_coherence.proofs.beliefs.Sent.{IsSentTo, is_bare, off_fresh, off_trust}
+use Rattle.lease_coherence.proofs.beliefs.Sent.{IsSentTo, is_bare}
 use Rattle.lease_coherence.proofs.beliefs.Trust.{file_key, HasTrust}
-use Rattle.lease_coherence.proofs.beliefs.Words.{acks, is_created, OnGiven, IsAnswering, IsBelieved}
-use Rattle.lease_coherence.proofs.creates.Creates.{off_rest}
-use Rattle.lease_coherence.proofs.moves.Deeds.{IsSource, with_held, told_to, granted_in, granted_reply, reconnected_in, reconnected_reply, changed_in, leased_in, held_in, done_reply}
+use Rattle.lease_coherence.proofs.beliefs.Words.{acks, OnGiven, IsAnswering, IsBelieved}
+use Rattle.lease_coherence.proofs.moves.Deeds.{IsSource, with_held, told_to, granted_in, granted_reply, reconnected_in, reconnected_reply, changed_in, leased_in, done_reply}
 use Rattle.lease_coherence.proofs.moves.Foreign.{map_kept}
 use Rattle.lease_coherence.proofs.moves.Moves.{IsOldest, rest_of, popped}
 use Rattle.lease_coherence.proofs.names.Words.{each_append, each_rest}
 use Rattle.lease_coherence.proofs.standing.Servers.{again_up}
 use Rattle.lease_coherence.proofs.within.Leases.{plain_more, settled_more, lone_sent, break_more, less_asked, ack_more}
-use Rattle.lease_coherence.proofs.within.Words.{IsWithin, AreGiven, TellsState, LowersFormed, AckFit, IsWithinFor}
+use Rattle.lease_coherence.proofs.within.Words.{IsWithin, TellsState, LowersFormed, AckFit, IsWithinFor}
 
 pub record HasWithin (world : World) (client : ℕ) : Type 0 where
   pub formed : Each LowersFormed (world.replies client)

@@ -1,8 +1,6 @@
 -- Every move keeps the beliefs of each client that hasn't strayed within its leases.
-use Rattle.std.proofs.Common.{◌≡◌, inl, inr, ⊎_elim, ℕ, true, false, not, Bool, List, [], ◌∷◌, ◌++◌, flat_map, Option, Some, refl, sym, ap, ap₂, ◌∙◌, subst, true≢false, ◌==◌}
+use Rattle.std.proofs.Common.{◌≡◌, ℕ, true, false, not, Bool, List, [], ◌∷◌, ◌++◌, Option, Some, refl, sym, ap, ap₂, ◌∙◌, subst, true≢false, ◌==◌}
 use Rattle.std.specs.List.{list_any}
-use Rattle.lease_state.specs.declared.access.Access.{Access}
-use Rattle.lease_state.specs.declared.access.Share.{Share}
 use Rattle.lease_state.specs.declared.status.Status.{Status}
 use Rattle.lease_model.specs.client.Commanded.{commanded}
 use Rattle.lease_model.specs.client.Connection.{noticed}
@@ -10,7 +8,7 @@ use Rattle.lease_model.specs.client.State.{Client, lease_key}
 use Rattle.lease_model.specs.client.Step.{Step}
 use Rattle.lease_model.specs.client.Taken.{taken}
 use Rattle.lease_model.specs.messages.Replies.{Reply}
-use Rattle.lease_model.specs.messages.Requests.{FileRequest, Request, CreateAsk, LeaseOf}
+use Rattle.lease_model.specs.messages.Requests.{FileRequest, Request, LeaseOf}
 use Rattle.lease_model.specs.server.Calls.{key_expired}
 use Rattle.lease_model.specs.server.Naming.{key_of}
 use Rattle.lease_model.specs.server.Progress.{opens_dropped, with_opens, refusal_of}
@@ -18,7 +16,7 @@ use Rattle.lease_model.specs.server.State.{Server, Open, Held, Lease, no_lease, 
 use Rattle.lease_model.specs.values.Keys.{Key}
 use Rattle.lease_model.specs.values.Lists.{without}
 use Rattle.lease_model.specs.values.Tables.{put, put_key}
-use Rattle.lease_model.specs.world.Events.{machine_key, stepped_in, after}
+use Rattle.lease_model.specs.world.Events.{machine_key, stepped_in}
 use Rattle.lease_model.specs.world.World.{World, Link, Setup, first_world}
 use Rattle.lease_model.specs.records.Past.{has_strayed}
 use Rattle.lease_laws.specs.server.Laws.{Among}
@@ -37,12 +35,12 @@ use Rattle.lease_coherence.proofs.beliefs.Runs.{own_create, trust_moves}
 use Rattle.lease_coherence.proofs.beliefs.Sent.{refusal_bare, off_trust}
 use Rattle.lease_coherence.proofs.beliefs.Steps.{IsIdle, connect_idle}
 use Rattle.lease_coherence.proofs.beliefs.Trust.{file_key, HasTrust, nothing_stands}
-use Rattle.lease_coherence.proofs.beliefs.Words.{acks, IsBelieved}
+use Rattle.lease_coherence.proofs.beliefs.Words.{IsBelieved}
 use Rattle.lease_coherence.proofs.beliefs.WriteCaches.{HasBeliefs, beliefs_carried, first_beliefs}
 use Rattle.lease_coherence.proofs.clients.Commands.{any_command}
 use Rattle.lease_coherence.proofs.clients.Takes.{any_reply}
 use Rattle.lease_coherence.proofs.moves.Deeds.{told_to, held_in, without_opens}
-use Rattle.lease_coherence.proofs.moves.Events.{Both, IsCarried, carried_both, runs_have, timed_out, connected, reply_gone, reply_taken}
+use Rattle.lease_coherence.proofs.moves.Events.{Both, IsCarried, carried_both, timed_out, connected, reply_gone, reply_taken}
 use Rattle.lease_coherence.proofs.moves.Foreign.{IsUnmoved, off_sound}
 use Rattle.lease_coherence.proofs.moves.Frames.{stepped_replies}
 use Rattle.lease_coherence.proofs.moves.Moves.{IsOldest, popped}
@@ -50,7 +48,7 @@ use Rattle.lease_coherence.proofs.moves.Own.{IsOwnMoved, OfGood, own_moves}
 use Rattle.lease_coherence.proofs.names.Names.{off_named}
 use Rattle.lease_coherence.proofs.names.Words.{each_append}
 use Rattle.lease_coherence.proofs.standing.Runs.{link_of, standing_moves, was_up}
-use Rattle.lease_coherence.proofs.standing.Standing.{IsStepped, step_of}
+use Rattle.lease_coherence.proofs.standing.Standing.{step_of}
 use Rattle.lease_coherence.proofs.within.Clients.{StaysWithin, commands_stay, TakesWithin, takes_stay}
 use Rattle.lease_coherence.proofs.within.Leases.{plain_more, gone_more}
 use Rattle.lease_coherence.proofs.within.Moves.{HasWithin, IsUpWithin, told_within, changed_within, popped_within, off_within, granted_within, reconnected_within, lower_within, begin_within, done_within}
@@ -280,7 +278,6 @@ take_within world c reply queue v good first up w =
     ((world.clients c).entries file).phase (world.requests c)) first (w.files file fresh))))
 
 -- ---- a client connects
-
 
 connect_within : (world : World) (c : ℕ) → HasTrust (connected world c) c → IsIdle (connected world c) c
     → HasWithin (connected world c) c
