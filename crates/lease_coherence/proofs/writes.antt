@@ -1,4 +1,6 @@
+pub mod Answered
 pub mod Counts
+pub mod Noted
 pub mod Runs
 pub mod Settled
 pub mod Steps

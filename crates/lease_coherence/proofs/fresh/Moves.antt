@@ -46,7 +46,8 @@ use Rattle.lease_coherence.proofs.moves.Spared.{ends_by, ends_as}
 use Rattle.lease_coherence.proofs.names.Names.{off_named, off_counted, open_parts}
 use Rattle.lease_coherence.proofs.names.Words.{each_rest, opened_once}
 use Rattle.lease_coherence.proofs.records.Later.{later_same, later_fact}
-use Rattle.lease_coherence.proofs.writes.Runs.{HasOnce, once_carried, ground_of, names_of, moved_under}
+use Rattle.lease_coherence.proofs.writes.Answered.{ground_of, names_of, moved_under}
+use Rattle.lease_coherence.proofs.writes.Runs.{HasOnce, once_carried}
 
 -- ---- what is known so far
 

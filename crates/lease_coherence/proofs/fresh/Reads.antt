@@ -44,8 +44,9 @@ use Rattle.lease_coherence.proofs.moves.Frames.{stepped_past}
 use Rattle.lease_coherence.proofs.records.Later.{past_noted}
 use Rattle.lease_coherence.proofs.wellformed.Notes.{EachNote}
 use Rattle.lease_coherence.proofs.wellformed.WellFormed.{first_well}
-use Rattle.lease_coherence.proofs.writes.Runs.{ground_of, moved_under}
-use Rattle.lease_coherence.proofs.writes.Unanswered.{IsPlainNote, LeavesWrites, TellsWrites, call_tells_writes, HasWrites, writes_moves}
+use Rattle.lease_coherence.proofs.writes.Answered.{ground_of, moved_under}
+use Rattle.lease_coherence.proofs.writes.Noted.{IsPlainNote, LeavesWrites, TellsWrites}
+use Rattle.lease_coherence.proofs.writes.Unanswered.{call_tells_writes, HasWrites, writes_moves}
 
 -- ---- all that is known along a run
 

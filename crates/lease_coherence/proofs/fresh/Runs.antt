@@ -59,7 +59,7 @@ use Rattle.lease_coherence.proofs.records.Later.{later_then, later_fact, later_n
 use Rattle.lease_coherence.proofs.standing.Runs.{link_of, was_up, each_flat, standing_moves}
 use Rattle.lease_coherence.proofs.standing.Standing.{step_of}
 use Rattle.lease_coherence.proofs.writes.Counts.{settling}
-use Rattle.lease_coherence.proofs.writes.Runs.{ground_of, names_of, known_by}
+use Rattle.lease_coherence.proofs.writes.Answered.{ground_of, names_of, known_by}
 use Rattle.lease_coherence.proofs.fresh.Moves.{HasSeen, seen_carried, own_of, low_of, popped_fresh, off_fresh_in, off_low, plain_told, told_fresh, refusal_still, read_fresh, changed_fresh, granted_was, granted_fresh, reconnected_fresh, acked_fresh, broken_fresh}
 
 -- ---- opens that close

@@ -31,7 +31,7 @@ use Rattle.lease_coherence.proofs.moves.Own.{IsOwnMoved, OfGood, own_moves}
 use Rattle.lease_coherence.proofs.names.Names.{off_named, off_counted}
 use Rattle.lease_coherence.proofs.order.Runs.{HasOrder, order_carried}
 use Rattle.lease_coherence.proofs.standing.Runs.{link_of}
-use Rattle.lease_coherence.proofs.writes.Runs.{ground_of, names_of, known_by}
+use Rattle.lease_coherence.proofs.writes.Answered.{ground_of, names_of, known_by}
 
 -- ---- what is known
 

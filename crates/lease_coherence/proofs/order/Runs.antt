@@ -54,7 +54,7 @@ use Rattle.lease_coherence.proofs.standing.Runs.{link_of, was_up, each_flat, gon
 use Rattle.lease_coherence.proofs.standing.Servers.{stands_by, again_up, timer_stands}
 use Rattle.lease_coherence.proofs.standing.Standing.{IsStepped, step_of, stands_after}
 use Rattle.lease_coherence.proofs.standing.Words.{asked_weaker, asked_popped, asked_held, asked_unmoved}
-use Rattle.lease_coherence.proofs.writes.Runs.{ground_of, names_of}
+use Rattle.lease_coherence.proofs.writes.Answered.{ground_of, names_of}
 use Rattle.lease_coherence.proofs.order.Sends.{UnderLive, SendsInOrder, sends, commands_send, takes_send, stands_later, same_order, off_order}
 
 -- ---- an open that is closed

@@ -1,5 +1,5 @@
 -- While a client's link is up, each write that it has sent is under way once: asked, held, or answered and not yet taken.
-use Rattle.std.proofs.Common.{◌≡◌, ◌≢◌, inl, inr, ⊎_elim, ℕ, ◌+◌, ◌≤◌, ◌<◌, Bool, true, false, not, List, [], ◌∷◌, ◌++◌, flat_map, Option, Some, None, refl, sym, ap, ap₂, ◌∙◌, subst, arith, true≢false, ◌==◌}
+use Rattle.std.proofs.Common.{◌≡◌, ◌≢◌, ⊎_elim, ℕ, ◌+◌, ◌≤◌, Bool, true, false, not, List, [], ◌∷◌, ◌++◌, flat_map, Option, Some, None, refl, sym, ap, ap₂, ◌∙◌, subst, arith, true≢false, ◌==◌}
 use Rattle.std.specs.Prelude.{Result, Ok, Err}
 use Rattle.std.proofs.lemmas.Bool.{eq-eqb, eqb-true}
 use Rattle.lease_state.specs.State.{granted_form_of}
@@ -13,10 +13,10 @@ use Rattle.lease_model.specs.client.State.{Client, Entry, Pending, Phase, knows_
 use Rattle.lease_model.specs.client.Step.{Step}
 use Rattle.lease_model.specs.client.Taken.{taken}
 use Rattle.lease_model.specs.messages.Replies.{Reply}
-use Rattle.lease_model.specs.messages.Requests.{FileRequest, Request, LeaseOf}
+use Rattle.lease_model.specs.messages.Requests.{FileRequest, Request}
 use Rattle.lease_model.specs.records.Facts.{Fact}
-use Rattle.lease_model.specs.records.Past.{has_number, has_strayed, has_written}
-use Rattle.lease_model.specs.server.Calls.{held_of, file_asked, file_of_open, joined, key_expired}
+use Rattle.lease_model.specs.records.Past.{has_number, has_written}
+use Rattle.lease_model.specs.server.Calls.{file_asked, file_of_open, joined, key_expired}
 use Rattle.lease_model.specs.server.Findings.{connected_open}
 use Rattle.lease_model.specs.server.Grant.{lease_after}
 use Rattle.lease_model.specs.server.Naming.{key_of}
@@ -33,18 +33,16 @@ use Rattle.lease_laws.specs.world.Links.{is_up, is_down}
 use Rattle.lease_laws.proofs.client.Forms.{commanded-stays, taken-stays}
 use Rattle.lease_laws.proofs.client.Notes.{called_tells}
 use Rattle.lease_laws.proofs.client.Thin.{put_same, put_other}
-use Rattle.lease_laws.proofs.server.Lists.{either, clash, not_true, among_append, among_behind, among_filter, among_filtered, find_has}
-use Rattle.lease_laws.proofs.server.PassWaits.{among_more}
+use Rattle.lease_laws.proofs.server.Lists.{either, clash, among_append, among_filter, among_filtered, find_has}
 use Rattle.lease_laws.proofs.world.Links.{stepped_links}
 use Rattle.lease_laws.proofs.world.Runs.{stepped_server}
-use Rattle.lease_coherence.specs.Creates.{held_by, one_if}
-use Rattle.lease_coherence.specs.Names.{IsNamedAt, IsNamedOnFile, IsNamedRequest, WasWrittenOn}
-use Rattle.lease_coherence.proofs.beliefs.WriteCaches.{HasBeliefs, beliefs_carried}
+use Rattle.lease_coherence.specs.Creates.{held_by}
+use Rattle.lease_coherence.specs.Names.{IsNamedOnFile, IsNamedRequest, WasWrittenOn}
 use Rattle.lease_coherence.proofs.clients.Commands.{any_command}
 use Rattle.lease_coherence.proofs.clients.Takes.{any_reply}
-use Rattle.lease_coherence.proofs.creates.Creates.{up_link, stepped_machine, none_held, off_rest}
-use Rattle.lease_coherence.proofs.moves.Deeds.{IsSource, HasArrived, WasHeld, with_held, told_to, held_in, granted_in, reconnected_in, changed_in, without_opens, leased_in, granted_reply, reconnected_reply, done_reply}
-use Rattle.lease_coherence.proofs.moves.Events.{Ground, IsMoved, IsCarried, Both, carried_both, timed_out, come_back, connected, reply_gone, reply_taken}
+use Rattle.lease_coherence.proofs.creates.Creates.{up_link, stepped_machine, none_held}
+use Rattle.lease_coherence.proofs.moves.Deeds.{told_to, held_in, granted_in, reconnected_in, changed_in, without_opens, leased_in, granted_reply, reconnected_reply, done_reply}
+use Rattle.lease_coherence.proofs.moves.Events.{Ground, IsCarried, Both, carried_both, timed_out, come_back, connected, reply_gone, reply_taken}
 use Rattle.lease_coherence.proofs.moves.Foreign.{IsUnmoved}
 use Rattle.lease_coherence.proofs.moves.Frames.{lease_put_rest, stepped_past, stepped_requests, stepped_replies}
 use Rattle.lease_coherence.proofs.moves.Ground.{among_put}
@@ -54,243 +52,11 @@ use Rattle.lease_coherence.proofs.moves.Shift.{append_none}
 use Rattle.lease_coherence.proofs.names.Names.{open_parts}
 use Rattle.lease_coherence.proofs.names.Words.{entry_later, opened_once}
 use Rattle.lease_coherence.proofs.records.Later.{later_fact, later_noted, past_noted}
-use Rattle.lease_coherence.proofs.records.Once.{written_once, written_number}
 use Rattle.lease_coherence.proofs.standing.Runs.{link_of, was_up}
 use Rattle.lease_coherence.proofs.standing.Words.{head_of}
-use Rattle.lease_coherence.proofs.wellformed.WellFormed.{IsWell, well_moves}
-use Rattle.lease_coherence.proofs.writes.Counts.{write_of, writes, held_writes, settles_of, settling, numbered_in, writes_left, writes_under_way, writes_append, settling_last, held_writes_among, refusal_settles}
+use Rattle.lease_coherence.proofs.writes.Counts.{write_of, writes, held_writes, settles_of, settling, numbered_in, writes_under_way, writes_append, held_writes_among, refusal_settles}
 use Rattle.lease_coherence.proofs.writes.Steps.{IsKnownBy, IsOwnNumber, AddsUpWell, AddsUpTaken, no_answers, own_before, commands_add, takes_add}
-
--- ---- what is known so far, with records that are well formed
-
-abbrev pub HasRecords : World → Type 0
-HasRecords = Both HasBeliefs IsWell
-
-pub ground_of : (world : World) → HasRecords world → Ground world
-ground_of world v = v.0.0.0.0.0
-
-pub names_of : (world : World) → HasRecords world → (c : ℕ)
-    → has_strayed c world.past ≡ false → IsNamedAt world c
-names_of world v c good = v.0.0.0.0.1.0 c good
-
--- a client by the record
-pub known_by : (world : World) → HasRecords world → (c : ℕ)
-    → has_strayed c world.past ≡ false → IsKnownBy c (world.clients c) world.past
-known_by world v c good = record {
-  once = λ file other number patch bytes. written_once c file other number patch bytes world.past v.1.facts;
-  names = (names_of world v c good).entries;
-  low = v.1.numbers c;
-}
-
--- what is kept where less is known is kept where more is
-pub moved_under : (V W P : World → Type 0) → ((world : World) → V world → W world) → IsMoved W P → IsMoved V P
-moved_under V W P weaker m = record {
-  step = λ world step v next p. m.step world step (weaker world v) next p;
-  cut = λ world client v up p. m.cut world client (weaker world v) up p;
-  timer = λ world client file v on breaks p. m.timer world client file (weaker world v) on breaks p;
-  scavenge = λ world file_id v p. m.scavenge world file_id (weaker world v) p;
-  connect = λ world client v down p. m.connect world client (weaker world v) down p;
-  command = λ world client command v p. m.command world client command (weaker world v) p;
-  take = λ world client reply queue v first p. m.take world client reply queue (weaker world v) first p;
-  notice = λ world client v cut p. m.notice world client (weaker world v) cut p;
-  stray = λ world client request v up p. m.stray world client request (weaker world v) up p;
-}
-
-pub records_carried : IsCarried HasRecords
-records_carried = carried_both HasBeliefs IsWell beliefs_carried
-    (moved_under HasBeliefs Ground IsWell (λ world v. v.0.0.0.0) well_moves)
-
--- ---- the layer
-
-pub record IsSentOnce (world : World) (c : ℕ) : Type 0 where
-  pub counts : (file number : ℕ) → knows_file (world.clients c) file ≡ true
-      → IsOwnNumber c (world.clients c).last_number world.past file number
-      → writes_under_way world c file number ≡ numbered_in number ((world.clients c).entries file).sent
-  pub held_on : (at : ℕ) (one : Held) → Among one (world.server.held at) → one.client ≡ c
-      → (file_id number : ℕ) (patch : Patch) → one.request ≡ FileRequest.Write file_id number patch
-      → has_written c at number patch world.past ≡ true
-
-abbrev pub IsUpSentOnce : World → ℕ → Type 0
-IsUpSentOnce world c = is_up (world.links c) ≡ true → IsSentOnce world c
-
--- ---- requests that are answered
-
--- a write of another file doesn't count
-abbrev CountsOf : World → ℕ → ℕ → ℕ → FileRequest → Type 0
-CountsOf world c file number request = (at : ℕ) (file_id used : ℕ) (patch : Patch)
-    → request ≡ FileRequest.Write file_id used patch → has_written c at used patch world.past ≡ true
-    → at ≢ file → (used == number) ≡ false
-
-own_counts : (world : World) (c : ℕ) → IsKnownBy c (world.clients c) world.past → (file number : ℕ)
-    → IsOwnNumber c (world.clients c).last_number world.past file number → (request : FileRequest)
-    → CountsOf world c file number request
-own_counts world c k file number own request at file_id used patch is written ne =
-    not_true (used == number) (λ same. never (eqb-true used number same))
-  where
-    never : used ≡ number → ⊥
-    never same =
-        let mine = subst (λ n. has_written c at n patch world.past ≡ true) same written in ⊎_elim
-        (λ w. ne (k.once at file number patch w.0 mine w.1).file_is)
-        (λ more. above (k.low number (written_number c at number patch world.past mine)) more) own
-      where
-        above : {a b : ℕ} → a ≤ b → b < a → ⊥
-        above h l = omega (arith, h, l)
-
-first_off : (number : ℕ) (queue rest : List Request) (request : FileRequest) → queue ≡ Request.OnFile request ∷ rest
-    → writes number queue ≡ write_of number request + writes number (rest_of queue)
-first_off number queue rest request e =
-    subst (λ q. writes number q ≡ write_of number request + writes number (rest_of q)) (sym e) refl
-
--- a request that counts nothing for the file
-not_counted : (world : World) (c file number : ℕ) (request : FileRequest) → CountsOf world c file number request
-    → (at : ℕ) → at ≢ file
-    → ((file_id used : ℕ) (patch : Patch) → request ≡ FileRequest.Write file_id used patch
-    → has_written c at used patch world.past ≡ true) → write_of number request ≡ 0
-not_counted world c file number (FileRequest.Create f access share contexts) counts at ne written = refl
-not_counted world c file number (FileRequest.Read file_id) counts at ne written = refl
-not_counted world c file number (FileRequest.Write file_id used patch) counts at ne written =
-    ap one_if (counts at file_id used patch refl (written file_id used patch refl) ne)
-not_counted world c file number (FileRequest.Close file_id) counts at ne written = refl
-
-source_left : (world off : World) (c : ℕ) (request : FileRequest) → IsSource world off c request → IsSentOnce world c
-    → (file number : ℕ) → CountsOf world c file number request
-    → writes_left world c file number ≡ write_of number request + writes_left off c file number
-source_left world off c request source s file number counts = ⊎_elim
-    (λ a. subst (λ (o : World). writes_left world c file number ≡ write_of number request + writes_left o c file number)
-    (sym a.is_off) (arrived_left a))
-    (λ h. subst (λ (o : World). writes_left world c file number ≡ write_of number request + writes_left o c file number)
-    (sym h.is_off) (held_left_over h))
-    source.from
-  where
-    plus_held : (a b n h : ℕ) → a ≡ n + b → a + h ≡ n + (b + h)
-    plus_held a b n h e = omega (arith, e)
-
-    plus_queue : (a b n q : ℕ) → a ≡ n + b → q + a ≡ n + (q + b)
-    plus_queue a b n q e = omega (arith, e)
-
-    arrived_left : HasArrived world off c request
-        → writes_left world c file number ≡ write_of number request + writes_left (popped world c) c file number
-    arrived_left a = plus_held _ _ _ _ (first_off number (world.requests c) a.oldest.queue request a.oldest.is_first
-        ∙ ap (λ (q : List Request). write_of number request + writes number q)
-        (sym (put_same world.requests c (rest_of (world.requests c)))))
-
-    none_here : (n a b : ℕ) → n ≡ 0 → a ≡ b → a ≡ n + b
-    none_here n a b e f = omega (arith, e, f)
-
-    held_left_over : (h : WasHeld world off c request) → writes_left world c file number
-        ≡ write_of number request + writes_left (with_held world h.file (h.before ++ h.behind)) c file number
-    held_left_over h = either (file == h.file)
-        (λ here. let same = eqb-true file h.file here in
-        plus_queue _ _ _ _ (ap (λ n. held_writes number (held_by c (world.server.held n))) same
-        ∙ ap (λ (l : List Held). held_writes number (held_by c l)) h.held
-        ∙ held_writes_among number c h.before h.behind (held_of c request) (eq-eqb c c refl)
-        ∙ ap (λ (l : List Held). write_of number request + held_writes number (held_by c l))
-        (sym (put_same world.server.held h.file (h.before ++ h.behind)))
-        ∙ ap (λ n. write_of number request
-        + held_writes number (held_by c (put world.server.held h.file (h.before ++ h.behind) n))) (sym same)))
-        (λ there. let ne : file ≢ h.file = λ e. clash (file == h.file) (eq-eqb file h.file e) there in
-        none_here _ _ _ (not_counted world c file number request counts h.file (λ e. ne (sym e))
-        (λ file_id used patch is. s.held_on h.file (held_of c request)
-        (subst (λ (l : List Held). Among (held_of c request) l) (sym h.held)
-        (among_behind (held_of c request) h.before (held_of c request ∷ h.behind) (inl refl))) refl file_id used patch is))
-        (ap (λ (l : List Held). writes number (world.requests c) + held_writes number (held_by c l))
-        (sym (put_other world.server.held h.file (h.before ++ h.behind) file ne))))
-
--- what was held on files, of the part from which a request was taken off
-off_held_on : (world off : World) (c : ℕ) (request : FileRequest) → IsSource world off c request → IsSentOnce world c
-    → (at : ℕ) (one : Held) → Among one (off.server.held at) → one.client ≡ c
-    → (file_id number : ℕ) (patch : Patch) → one.request ≡ FileRequest.Write file_id number patch
-    → has_written c at number patch world.past ≡ true
-off_held_on world off c request source s at one a own file_id number patch is = ⊎_elim
-    (λ x. s.held_on at one (subst (λ (o : World). Among one (o.server.held at)) x.is_off a) own file_id number patch is)
-    (λ h. ⊎_elim (λ old. s.held_on at one old own file_id number patch is)
-    (λ left. subst (λ n. has_written c n number patch world.past ≡ true) (sym left.0)
-    (s.held_on h.file one (subst (λ (l : List Held). Among one l) (sym h.held)
-    (among_more one (held_of c request) h.before h.behind left.1)) own
-    file_id number patch is))
-    (among_put world.server.held h.file (h.before ++ h.behind) at one
-    (subst (λ (o : World). Among one (o.server.held at)) h.is_off a)))
-    source.from
-
--- the same queues, with these writes given so far
-same_once : (world new : World) (c : ℕ) → new.clients c ≡ world.clients c
-    → ((file number : ℕ) (patch : Patch) → has_written c file number patch new.past
-    ≡ has_written c file number patch world.past)
-    → ((file number : ℕ) → IsOwnNumber c (world.clients c).last_number world.past file number
-    → writes_under_way new c file number ≡ writes_under_way world c file number)
-    → ((at : ℕ) (one : Held) → Among one (new.server.held at) → one.client ≡ c
-    → (file_id number : ℕ) (patch : Patch) → one.request ≡ FileRequest.Write file_id number patch
-    → has_written c at number patch world.past ≡ true)
-    → IsSentOnce world c → IsSentOnce new c
-same_once world new c machine written same held s = record {
-  counts = λ file number known own.
-      let was = own_was file number (subst (λ (m : Client). IsOwnNumber c m.last_number new.past file number) machine own) in
-      same file number was
-      ∙ s.counts file number (subst (λ (m : Client). knows_file m file ≡ true) machine known) was
-      ∙ ap (λ (m : Client). numbered_in number (m.entries file).sent) (sym machine);
-  held_on = λ at one a own file_id number patch is. written at number patch ∙ held at one a own file_id number patch is;
-}
-  where
-    own_was : (file number : ℕ) → IsOwnNumber c (world.clients c).last_number new.past file number
-        → IsOwnNumber c (world.clients c).last_number world.past file number
-    own_was file number own = ⊎_elim (λ w. inl (w.0, sym (written file number w.0) ∙ w.1)) (λ more. inr more) own
-
--- a request is answered
-answered_once : (world off new : World) (c : ℕ) (request : FileRequest) (reply : Reply) → IsSource world off c request
-    → IsKnownBy c (world.clients c) world.past → new.clients ≡ off.clients → new.requests c ≡ off.requests c
-    → new.server.held ≡ off.server.held → new.replies ≡ put off.replies c (off.replies c ++ reply ∷ [])
-    → ((file number : ℕ) (patch : Patch) → has_written c file number patch new.past
-    ≡ has_written c file number patch off.past)
-    → ((number : ℕ) → settles_of number reply ≡ write_of number request) → IsSentOnce world c → IsSentOnce new c
-answered_once world off new c request reply source k clients requests held replies written answers s =
-    let rest = off_rest world off c request source in
-    same_once world new c (ap (λ (t : ℕ → Client). t c) (clients ∙ rest.0))
-    (λ file number patch. written file number patch
-    ∙ ap (λ past. has_written c file number patch past) (off_past world off c request source))
-    (λ file number own. whole _ _ _ _ _ _ _ _ _ _ (ap (λ (q : List Request). writes number q) requests)
-    (ap (λ (h : ℕ → List Held). held_writes number (held_by c (h file))) held)
-    (ap (λ (q : List Reply). settling number q) (ap (λ (r : ℕ → List Reply). r c) replies
-    ∙ put_same off.replies c (off.replies c ++ reply ∷ []) ∙ ap (λ (r : ℕ → List Reply). r c ++ reply ∷ []) rest.1.1)
-    ∙ settling_last number (world.replies c) reply)
-    (answers number)
-    (source_left world off c request source s file number (own_counts world c k file number own request)))
-    (λ at one a own file_id number patch is. off_held_on world off c request source s at one
-    (subst (λ (h : ℕ → List Held). Among one (h at)) held a) own file_id number patch is) s
-  where
-    whole : (q0 q h0 h a0 a1 n w1 w2 t : ℕ) → q ≡ q0 → h ≡ h0 → a1 ≡ t + a0 → a0 ≡ n → w1 + w2 ≡ n + (q0 + h0)
-        → q + h + a1 ≡ w1 + w2 + t
-    whole q0 q h0 h a0 a1 n w1 w2 t e f i j k = omega (arith, e, f, i, j, k)
-
-    off_past : (world off : World) (c : ℕ) (request : FileRequest) → IsSource world off c request → off.past ≡ world.past
-    off_past world off c request source = ⊎_elim (λ a. ap (λ (o : World). o.past) a.is_off)
-        (λ h. ap (λ (o : World). o.past) h.is_off) source.from
-
--- a reply that settles no write
-told_once : (world new : World) (c : ℕ) (reply : Reply) → new.clients ≡ world.clients
-    → ((number : ℕ) → writes number (new.requests c) ≡ writes number (world.requests c))
-    → new.server.held ≡ world.server.held → new.replies ≡ put world.replies c (world.replies c ++ reply ∷ [])
-    → ((file number : ℕ) (patch : Patch) → has_written c file number patch new.past
-    ≡ has_written c file number patch world.past)
-    → ((number : ℕ) → settles_of number reply ≡ 0) → IsSentOnce world c → IsSentOnce new c
-told_once world new c reply clients requests held replies written none s =
-    same_once world new c (ap (λ (t : ℕ → Client). t c) clients) written
-    (λ file number own. whole _ _ _ _ _ _ _ (requests number)
-    (ap (λ (h : ℕ → List Held). held_writes number (held_by c (h file))) held)
-    (ap (λ (r : ℕ → List Reply). settling number (r c)) replies
-    ∙ ap (λ (q : List Reply). settling number q) (put_same world.replies c (world.replies c ++ reply ∷ []))
-    ∙ settling_last number (world.replies c) reply) (none number))
-    (λ at one a own file_id number patch is. s.held_on at one (subst (λ (h : ℕ → List Held). Among one (h at)) held a) own
-    file_id number patch is) s
-  where
-    whole : (q q0 h h0 a1 t n : ℕ) → q ≡ q0 → h ≡ h0 → a1 ≡ t + n → n ≡ 0 → q + h + a1 ≡ q0 + h0 + t
-    whole q q0 h h0 a1 t n e f i j = omega (arith, e, f, i, j)
-
--- an acknowledgment that leaves its queue is no write
-ack_off : (world : World) (c : ℕ) (given : Option LeaseOf) → IsOldest world c (Request.Acknowledge given)
-    → (number : ℕ) → writes number ((popped world c).requests c) ≡ writes number (world.requests c)
-ack_off world c given oldest number =
-    ap (λ (q : List Request). writes number q) (put_same world.requests c (rest_of (world.requests c)))
-    ∙ subst (λ q. writes number (rest_of q) ≡ writes number q) (sym oldest.is_first) refl
+use Rattle.lease_coherence.proofs.writes.Answered.{HasRecords, ground_of, names_of, known_by, records_carried, IsSentOnce, IsUpSentOnce, own_counts, first_off, not_counted, same_once, answered_once, told_once, ack_off}
 
 -- ---- a request is held
 

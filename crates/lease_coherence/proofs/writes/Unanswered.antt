@@ -1,22 +1,21 @@
 -- The record has the unanswered writes of each client, in the order in which its entries have them.
 use Rattle.std.proofs.Common.{◌≡◌, ◌≢◌, ⊎_elim, ℕ, Bool, true, false, not, List, [], ◌∷◌, ◌++◌, flat_map, Option, Some, None, refl, sym, ap, ap₂, ◌∙◌, subst, true≢false, ◌==◌}
-use Rattle.std.specs.Prelude.{⊤, ◌&&◌, ◌||◌, if◌then◌else◌}
+use Rattle.std.specs.Prelude.{◌&&◌, ◌||◌, if◌then◌else◌}
 use Rattle.std.proofs.lemmas.Bool.{eqb-true, eq-eqb}
 use Rattle.lease_state.specs.State.{State}
-use Rattle.lease_state.specs.declared.patch.Patch.{Patch}
 use Rattle.lease_state.specs.declared.status.Status.{Status}
 use Rattle.lease_model.specs.client.Calls.{ClientCall, client_called}
 use Rattle.lease_model.specs.client.Commanded.{next_write, cached_read, opened_anew, write_buffered, write_sent, flush_on_live, wrote_step}
 use Rattle.lease_model.specs.client.Commands.{Answer, Note, Settlement}
 use Rattle.lease_model.specs.client.Connection.{all_turned, noticed, connection_made, notice_turn, connect_turn, live_noticed, live_parted}
-use Rattle.lease_model.specs.client.State.{Client, Entry, LiveEntry, Asked, Pending, Phase, belief_of, knows_file, lease_key, view}
-use Rattle.lease_model.specs.client.Step.{Step, Turn, turned, believes_noted, settled_as}
-use Rattle.lease_model.specs.client.Taken.{is_numbered, sent_without, break_turn, parked_closed, belief_lowered, gives_up, opened_turn, reconnected_turn, promoted_turn, promoted_belief, first_belief, read_turn, read_failed_turn, is_file_closed, closed_by_server, without_open, write_done_turn, phase_with, write_failed_in}
+use Rattle.lease_model.specs.client.State.{Client, Entry, LiveEntry, Asked, Pending, Phase, belief_of, knows_file, lease_key}
+use Rattle.lease_model.specs.client.Step.{Step, Turn, settled_as}
+use Rattle.lease_model.specs.client.Taken.{sent_without, break_turn, parked_closed, belief_lowered, gives_up, opened_turn, reconnected_turn, promoted_turn, promoted_belief, first_belief, read_turn, read_failed_turn, is_file_closed, closed_by_server, without_open, write_done_turn, phase_with, write_failed_in}
 use Rattle.lease_model.specs.messages.Replies.{Out, BreakNotice}
 use Rattle.lease_model.specs.records.Facts.{Fact}
 use Rattle.lease_model.specs.server.Calls.{joined}
 use Rattle.lease_model.specs.server.Progress.{begun}
-use Rattle.lease_model.specs.values.LeaseStates.{meet, same_state}
+use Rattle.lease_model.specs.values.LeaseStates.{meet}
 use Rattle.lease_model.specs.values.Lists.{numbers_to, without}
 use Rattle.lease_model.specs.values.Tables.{put}
 use Rattle.lease_model.specs.world.Events.{stepped_in}
@@ -31,7 +30,7 @@ use Rattle.lease_laws.proofs.server.Lists.{if_cases, either, clash, or_true, tru
 use Rattle.lease_laws.proofs.world.FileIds.{told}
 use Rattle.lease_laws.proofs.world.Links.{by_client}
 use Rattle.lease_laws.proofs.world.Runs.{stepped_clients}
-use Rattle.lease_coherence.proofs.clients.Commands.{HasCommands, IsEntry, any_command, sent_of}
+use Rattle.lease_coherence.proofs.clients.Commands.{HasCommands, any_command, sent_of}
 use Rattle.lease_coherence.proofs.clients.Files.{among_numbers}
 use Rattle.lease_coherence.proofs.clients.Takes.{HasTakes, any_reply}
 use Rattle.lease_coherence.proofs.moves.Events.{Ground, IsMoved, come_back, reply_gone}
@@ -40,157 +39,8 @@ use Rattle.lease_coherence.proofs.moves.Ground.{moved_clients, moved_past}
 use Rattle.lease_coherence.proofs.moves.Shift.{append_none}
 use Rattle.lease_coherence.proofs.records.Later.{past_noted}
 use Rattle.lease_coherence.proofs.wellformed.Notes.{EachNote, notes_append, IsSettling, settles}
-use Rattle.lease_coherence.proofs.writes.Settled.{same_bool, or_later, filter_same, filter_alike, filter_again, number_there, number_append, settles_in, settles_append, settles_these, left_of, left_all, left_front, left_one, left_one_front, left_buffered}
-
--- ---- notes in the record
-
--- a note that settles a write, or tells a belief
-abbrev pub IsPlainNote : Note → Type 0
-IsPlainNote (Note.Wrote file number patch buffered) = ⊥
-IsPlainNote (Note.CachedRead file bytes) = ⊥
-IsPlainNote note = ⊤
-
-pub noted_left : (c file : ℕ) (past : List Fact) (notes : List Note) → EachNote IsPlainNote notes
-    → open_writes c file (past_noted c past notes) ≡ left_of notes (open_writes c file past)
-unfolding open_writes
-noted_left c file past [] each = sym (left_all (open_writes c file past))
-noted_left c file past (Note.Settled number outcome ∷ notes) each =
-    noted_left c file (Fact.Settled c number outcome ∷ past) notes each.1
-    ∙ ap (λ l. left_of notes l) (own (c == c) (eq-eqb c c refl))
-    ∙ filter_again (λ w. not (settles_in notes w.number)) (λ w. not (w.number == number)) (open_writes c file past)
-    ∙ filter_alike (λ w. not (w.number == number) && not (settles_in notes w.number))
-    (λ w. not (w.number == number || settles_in notes w.number)) (open_writes c file past)
-    (λ w a. both (w.number == number) (settles_in notes w.number))
-  where
-    own : (b : Bool) → b ≡ true
-        → (if b then without (is_numbered number) (open_writes c file past) else open_writes c file past)
-        ≡ without (is_numbered number) (open_writes c file past)
-    own true e = refl
-    own false e = absurd (true≢false (sym e))
-
-    both : (a b : Bool) → (not a && not b) ≡ not (a || b)
-    both true b = refl
-    both false b = refl
-noted_left c file past (Note.Wrote f number patch buffered ∷ notes) each = absurd each.0
-noted_left c file past (Note.Believes f state ∷ notes) each =
-    noted_left c file (Fact.Believes c f state ∷ past) notes each.1
-noted_left c file past (Note.CachedRead f bytes ∷ notes) each = absurd each.0
-
--- ---- a client's steps
-
--- the entries' writes after a step are those before it that weren't settled,
-pub record LeavesWrites (client : Client) (step : Step) : Type 0 where
-  pub none : EachNote IsPlainNote step.notes
-  pub left : (file : ℕ) → knows_file client file ≡ true
-      → left_of step.notes (unanswered_in (client.entries file)) ≡ unanswered_in (step.client.entries file)
-
--- or a command adds one, or reads from the cache
-pub data TellsWrites (client : Client) (step : Step) : Type 0 where
-  Leaves : (leaves : LeavesWrites client step) → TellsWrites client step
-  Adds : (at number : ℕ) (patch : Patch) (buffered : Bool)
-      → (notes : step.notes ≡ Note.Wrote at number patch buffered ∷ [])
-      → (more : (file : ℕ) → unanswered_in (step.client.entries file) ≡ (if at == file
-      then unanswered_in (client.entries file) ++ record { number = number; patch = patch; buffered = buffered } ∷ []
-      else unanswered_in (client.entries file)))
-      → TellsWrites client step
-  Reads : (at : ℕ) (live : LiveEntry) (base : List ℕ) → (is : IsEntry client at (Phase.Live live))
-      → (has : live.base ≡ Some base) → (reads : live.belief.read ≡ true) → (same : step.client ≡ client)
-      → (notes : step.notes ≡ Note.CachedRead at (view base (sent_of client at) live.unsent) ∷ [])
-      → TellsWrites client step
-
--- what a turn settles
-record TurnLeaves (old : Entry) (turn : Turn) : Type 0 where
-  each : EachNote IsSettling turn.settled
-  left : left_of turn.settled (unanswered_in old) ≡ unanswered_in turn.entry
-  own : (number : ℕ) → settles_in turn.settled number ≡ true → has_number number (unanswered_in old) ≡ true
-
-settling_none : (notes : List Note) → EachNote IsSettling notes → EachNote IsPlainNote notes
-settling_none [] each = tt
-settling_none (Note.Settled number outcome ∷ notes) each = (tt, settling_none notes each.1)
-settling_none (Note.Wrote file number patch buffered ∷ notes) each = absurd each.0
-settling_none (Note.Believes file state ∷ notes) each = absurd each.0
-settling_none (Note.CachedRead file bytes ∷ notes) each = absurd each.0
-
-believed_none : (file : ℕ) (old new : State) → EachNote IsPlainNote (believes_noted file old new)
-believed_none file old new = if_cases (EachNote IsPlainNote) (same_state old new) [] (Note.Believes file new ∷ [])
-    (λ same. tt) (λ other. (tt, tt))
-
-believed_settles : (file : ℕ) (old new : State) (number : ℕ) → settles_in (believes_noted file old new) number ≡ false
-believed_settles file old new number = if_cases (λ l. settles_in l number ≡ false) (same_state old new) []
-    (Note.Believes file new ∷ []) (λ same. refl) (λ other. refl)
-
--- with a belief behind it a turn settles the same
-abbrev turn_notes : ℕ → Entry → Turn → List Note
-turn_notes file old turn = turn.settled ++ believes_noted file (belief_of old) (belief_of turn.entry)
-
-turn_settles : (file : ℕ) (old : Entry) (turn : Turn) (number : ℕ)
-    → settles_in (turn_notes file old turn) number ≡ settles_in turn.settled number
-turn_settles file old turn number = settles_append turn.settled _ number
-    ∙ ap (λ b. settles_in turn.settled number || b) (believed_settles file (belief_of old) (belief_of turn.entry) number)
-    ∙ or_none (settles_in turn.settled number)
-  where
-    or_none : (a : Bool) → (a || false) ≡ a
-    or_none true = refl
-    or_none false = refl
-
--- of another file it settles nothing
-untouched_left : (client : Client) (notes : List Note) (file at : ℕ) → IsSoundClient client → file ≢ at
-    → ((number : ℕ) → settles_in notes number ≡ true → has_number number (unanswered_in (client.entries at)) ≡ true)
-    → left_of notes (unanswered_in (client.entries file)) ≡ unanswered_in (client.entries file)
-untouched_left client notes file at s ne own =
-    filter_same (λ w. not (settles_in notes w.number)) (unanswered_in (client.entries file))
-    (λ w a. ap not (not_true (settles_in notes w.number) (λ settled.
-    clash (has_number w.number (unanswered_in (client.entries file)))
-    (number_there w (unanswered_in (client.entries file)) a)
-    (s.numbers.apart at file w.number (λ e. ne (sym e)) (own w.number settled)))))
-
-turned_leaves : (client : Client) (at : ℕ) (turn : Turn) → IsSoundClient client → TurnLeaves (client.entries at) turn
-    → LeavesWrites client (turned client at turn)
-unfolding turned
-turned_leaves client at turn s t = record {
-  none = notes_append IsPlainNote turn.settled _ (settling_none turn.settled t.each)
-      (believed_none at (belief_of (client.entries at)) (belief_of turn.entry));
-  left = λ file known. by_client
-      (λ f. left_of (turn_notes at (client.entries at) turn) (unanswered_in (client.entries f))
-      ≡ unanswered_in (put client.entries at turn.entry f)) at file
-      (filter_alike (λ w. not (settles_in (turn_notes at (client.entries at) turn) w.number))
-      (λ w. not (settles_in turn.settled w.number)) (unanswered_in (client.entries at))
-      (λ w a. ap not (turn_settles at (client.entries at) turn w.number))
-      ∙ t.left ∙ ap (λ (e : Entry). unanswered_in e) (sym (put_same client.entries at turn.entry)))
-      (λ ne apart. untouched_left client (turn_notes at (client.entries at) turn) file at s ne
-      (λ number settled. t.own number (sym (turn_settles at (client.entries at) turn number) ∙ settled))
-      ∙ ap (λ (e : Entry). unanswered_in e) (sym (put_other client.entries at turn.entry file ne)));
-}
-
-turned_tells : (client : Client) (at : ℕ) (turn : Turn) → IsSoundClient client → TurnLeaves (client.entries at) turn
-    → TellsWrites client (turned client at turn)
-turned_tells client at turn s t = TellsWrites.Leaves (turned_leaves client at turn s t)
-
--- a turn that settles nothing
-quiet_leaves : (old : Entry) (turn : Turn) → turn.settled ≡ [] → unanswered_in old ≡ unanswered_in turn.entry
-    → TurnLeaves old turn
-quiet_leaves old turn none same = record {
-  each = subst (EachNote IsSettling) (sym none) tt;
-  left = ap (λ l. left_of l (unanswered_in old)) none ∙ left_all (unanswered_in old) ∙ same;
-  own = λ number settled. absurd (true≢false (sym settled ∙ ap (λ l. settles_in l number) none));
-}
-
--- one that settles all of these
-front_leaves : (last : ℕ) (old : Entry) (turn : Turn) (outcome : Settlement) (keep gone : List Pending)
-    → are_rising 0 last (unanswered_in old) ≡ true → unanswered_in old ≡ keep ++ gone
-    → turn.settled ≡ settled_as outcome gone → unanswered_in turn.entry ≡ keep → TurnLeaves old turn
-front_leaves last old turn outcome keep gone rises are settled same = record {
-  each = subst (EachNote IsSettling) (sym settled) (settles outcome gone);
-  left = ap₂ (λ l ws. left_of l ws) settled are
-      ∙ left_front outcome last keep gone (ap (are_rising 0 last) (sym are) ∙ rises) ∙ sym same;
-  own = λ number e. ap (has_number number) are ∙ number_append number keep gone
-      ∙ or_later (has_number number keep) (has_number number gone)
-      (sym (settles_these outcome gone number) ∙ ap (λ l. settles_in l number) (sym settled) ∙ e);
-}
-
-same_leaves : (client : Client) (answer : Answer)
-    → LeavesWrites client (record { client = client; answer = answer; requests = []; notes = [] })
-same_leaves client answer = record { none = tt; left = λ file known. left_all (unanswered_in (client.entries file)) }
+use Rattle.lease_coherence.proofs.writes.Settled.{same_bool, or_later, filter_alike, number_there, number_append, settles_in, settles_append, settles_these, left_of, left_one, left_one_front, left_buffered}
+use Rattle.lease_coherence.proofs.writes.Noted.{IsPlainNote, noted_left, LeavesWrites, TellsWrites, TurnLeaves, settling_none, believed_none, turn_notes, turn_settles, turned_leaves, turned_tells, quiet_leaves, front_leaves, same_leaves}
 
 -- ---- commands
 
