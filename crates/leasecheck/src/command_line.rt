@@ -40,6 +40,33 @@ fn show_command<'a>(alloc: Global) -> Result<Command<'a>, AllocError> {
         .arg(hex_argument(alloc, "The bytes as hexadecimal digits"))
 }
 
+fn file_argument<'a>(alloc: Global, help: &'a str) -> Arg<'a> {
+    Arg::new(alloc, "FILE").required(true).help(help)
+}
+
+fn replay_command<'a>(alloc: Global) -> Result<Command<'a>, AllocError> {
+    Command::new(alloc, "replay")
+        .about("Prints the record of the run that a schedule asks for")
+        .long_about(
+            "Reads a schedule, that is files, clients and events, one a line, runs it on the server and \
+             the clients, and prints the record, one fact a line, and '# safe' behind it. The whole \
+             output is a record that 'judge' reads.",
+        )
+        .arg(file_argument(alloc, "The schedule; - is standard input"))
+}
+
+fn judge_command<'a>(alloc: Global) -> Result<Command<'a>, AllocError> {
+    Command::new(alloc, "judge")
+        .about("Prints whether a record is safe, or where it first is not")
+        .long_about(
+            "Reads a record, one fact a line, and prints 'safe' (status 0), 'unsafe PLACE RULE' (status \
+             3) or 'malformed PLACE' (status 1). PLACE is the number of the first bad fact, from 1; RULE \
+             is 1 for a write cache beside another cache, 2 for a cached read of other bytes, 3 for a \
+             buffered write that was accepted late, and 4 for a write told as done that was not accepted.",
+        )
+        .arg(file_argument(alloc, "The record; - is standard input"))
+}
+
 fn kind_named(name: &str) -> Option<Kind> {
     match name {
         "ask" => Some(Kind::Ask),
@@ -57,7 +84,9 @@ fn program<'a>(alloc: Global) -> Result<Command<'a>, AllocError> {
         .disable_help_subcommand(true)
         .subcommand_required(true)
         .subcommand(ack_command(alloc)?)?
-        .subcommand(show_command(alloc)?)
+        .subcommand(show_command(alloc)?)?
+        .subcommand(replay_command(alloc)?)?
+        .subcommand(judge_command(alloc)?)
 }
 
 fn parse<'a>(alloc: Global, words: &'a [&'a str]) -> Result<ArgMatches<'a>, Error> {
@@ -92,6 +121,13 @@ fn usage_of(alloc: Global, error: &Error) -> Usage
     }
 }
 
+fn owned(alloc: Global, given: &ArgMatches, name: &str) -> Result<Option<String>, AllocError> {
+    match given.get_str(name) {
+        Some(text) => Ok(Some(String::from_str(alloc, text)?)),
+        None => Ok(None),
+    }
+}
+
 fn show_task(alloc: Global, given: &ArgMatches) -> Result<Option<Task>, AllocError> {
     let (Some(name), Some(digits)) = (given.get_str("KIND"), given.get_str("HEX")) else {
         return Ok(None);
@@ -102,11 +138,10 @@ fn show_task(alloc: Global, given: &ArgMatches) -> Result<Option<Task>, AllocErr
 
 fn task_of(alloc: Global, matches: &ArgMatches) -> Result<Option<Task>, AllocError> {
     match matches.subcommand() {
-        Some(("ack", given)) => match given.get_str("HEX") {
-            Some(digits) => Ok(Some(Task::Ack(String::from_str(alloc, digits)?))),
-            None => Ok(None),
-        },
+        Some(("ack", given)) => Ok(owned(alloc, given, "HEX")?.map(|digits| Task::Ack(digits))),
         Some(("show", given)) => show_task(alloc, given),
+        Some(("replay", given)) => Ok(owned(alloc, given, "FILE")?.map(|path| Task::Replay(path))),
+        Some(("judge", given)) => Ok(owned(alloc, given, "FILE")?.map(|path| Task::Judge(path))),
         _ => Ok(None),
     }
 }

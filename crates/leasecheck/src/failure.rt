@@ -1,7 +1,9 @@
 ghost use Rattle.std.specs.Prelude.{◌≡◌};
 ghost use Rattle.leasecheck.specs.declared.failure.Failure.TheVariants.{Wire, Memory};
 
+use lease_state::Memory;
 use lease_wire::WireFault;
+use lease_world::RunFault;
 use std::alloc::{AllocError, AllocFailed};
 use std::fmt;
 
@@ -12,6 +14,12 @@ pub enum Failure {
     Hex,
     /// The bytes are refused.
     Wire(WireFault),
+    /// The file can't be read.
+    File,
+    /// The line of this number, from 1, is refused.
+    Line(u64),
+    /// There is no run of the schedule.
+    Run(RunFault),
     /// There was no memory.
     Memory,
     /// A write to standard output failed.
@@ -28,6 +36,9 @@ impl fmt::Display for Failure {
         match self {
             Failure::Hex => f.write_str("fault hex"),
             Failure::Wire(fault) => write!(f, "fault {fault}"),
+            Failure::File => f.write_str("fault file"),
+            Failure::Line(number) => write!(f, "fault line {number}"),
+            Failure::Run(fault) => write!(f, "fault run {fault}"),
             Failure::Memory => f.write_str("fault memory"),
             Failure::Output => f.write_str("fault output"),
         }
@@ -55,5 +66,22 @@ impl<T: Drop> From<AllocFailed<T>> for Failure {
 
     fn from(_error: AllocFailed<T>) -> Failure {
         Failure::Memory
+    }
+}
+
+impl From<Memory> for Failure {
+    ghost from_gives = { λ _ failure. failure ≡ Memory };
+
+    fn from(_error: Memory) -> Failure {
+        Failure::Memory
+    }
+}
+
+impl From<RunFault> for Failure {
+    fn from(fault: RunFault) -> Failure {
+        match fault {
+            RunFault::Memory => Failure::Memory,
+            fault => Failure::Run(fault),
+        }
     }
 }

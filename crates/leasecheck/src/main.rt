@@ -11,17 +11,21 @@
 //! prints `ack 00010203-0405-0607-0809-0a0b0c0d0e0f RH`; the tests have it, and more.
 #![tactic(auto)]
 
-mod acknowledge;
 mod command_line;
 mod failure;
+mod fields;
 mod hexadecimal;
+mod judging;
+mod lines;
 mod printing;
-mod render;
+mod records;
+mod replaying;
 mod run;
+mod schedules;
 mod tasks;
 #[cfg(test)]
 mod tests;
-mod words;
+mod wire;
 
 use run::run_words;
 use std::process::ExitCode;
@@ -37,5 +41,5 @@ fn words_given<R: Env + AllocGlobal>(rt: &R) -> io::Result<Vec<String>> {
 fn main(rt: HostRuntime) -> ExitCode {
     let given = words_given(&rt);
     let (mut out, mut faults) = (io::writer(&rt), rt.stderr());
-    ExitCode::from(run_words(rt.alloc(), given, &mut out, &mut faults))
+    ExitCode::from(run_words(&rt, given, &mut out, &mut faults))
 }

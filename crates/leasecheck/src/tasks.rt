@@ -20,6 +20,20 @@ pub enum Task {
     Ack(String),
     /// What the bytes in these hexadecimal digits hold.
     Show(Kind, String),
+    /// The record of the run that the schedule in this file asks for.
+    Replay(String),
+    /// The verdict on the record in this file.
+    Judge(String),
+}
+
+impl Task {
+    /// The file that it reads; a hyphen stands for standard input.
+    pub fn path(&self) -> Option<&str> {
+        match self {
+            Task::Ack(_) | Task::Show(_, _) => None,
+            Task::Replay(path) | Task::Judge(path) => Some(path.as_str()),
+        }
+    }
 }
 
 /// Why there is no task: help was asked for, or the command line is refused.

@@ -9,10 +9,10 @@ ghost use Rattle.leasecheck.specs.Refusals.{RefusesExactly, shown_fault};
 ghost use Rattle.leasecheck.specs.Shown.{ShowsCreate, ShowsBreak, ShowsKeyAndState, Shows};
 ghost use Rattle.leasecheck.specs.Words.{break_line, key_and_state_line};
 
-use crate::acknowledge::push_rest;
+use crate::wire::acknowledge::push_rest;
 use crate::failure::Failure;
 use crate::tasks::Kind;
-use crate::words::{push_context, push_values, state_letters};
+use crate::wire::words::{push_context, push_values, state_letters};
 use lease_state::{LeaseKey, LeaseState};
 use lease_wire::{Acknowledgment, BreakResponse, ContextValues, Direction, Notification, contexts};
 use std::alloc::{AllocError, Global};

@@ -6,7 +6,7 @@ use Rattle.lease_wire.specs.Gathering.{gathered, value_of}
 use Rattle.lease_wire.specs.Reading.{items_of}
 use Rattle.lease_wire.specs.Views.{values_of}
 use Rattle.leasecheck.specs.Words.{item_line}
-use Rattle.leasecheck.proofs.render.render_create.Given as goal
+use Rattle.leasecheck.proofs.wire.render.render_create.Given as goal
 
 -- what is left gives the whole value, and the whole of the lines where there was memory so far
 abbrev pub invariant-loop-item : goal.invariant-loop-item

@@ -1,6 +1,6 @@
 use Rattle.std.proofs.Common.{refl, length-drop}
 use Rattle.lease_wire.specs.Notification.{notice_of}
-use Rattle.leasecheck.proofs.render.render_break.Goals as goal
+use Rattle.leasecheck.proofs.wire.render.render_break.Goals as goal
 
 pub returns-clause-shown : goal.returns-clause-shown
 returns-clause-shown c = (

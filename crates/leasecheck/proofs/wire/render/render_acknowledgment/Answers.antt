@@ -1,10 +1,10 @@
 use Rattle.std.proofs.Common.{refl, length-drop}
-use Rattle.lease_wire.specs.Acknowledgment.{responded_of}
-use Rattle.leasecheck.proofs.render.render_response.Goals as goal
+use Rattle.lease_wire.specs.Acknowledgment.{acknowledged_of}
+use Rattle.leasecheck.proofs.wire.render.render_acknowledgment.Goals as goal
 
 pub returns-clause-shown : goal.returns-clause-shown
 returns-clause-shown c = (
-  responded_of c.in_ok-message.message,
+  acknowledged_of c.in_ok-message.message,
   c.in_ok-message.ensures.value,
   rw (c.in_ok-key_and_state_text.ensures, c.in_ok-message.ensures.rest, length-drop) refl,
 )

@@ -1,6 +1,6 @@
 use Rattle.std.proofs.Common.{refl, length-drop}
 use Rattle.lease_wire.specs.Notification.{notice_of}
-use Rattle.leasecheck.proofs.acknowledge.ack_lines.Goals as goal
+use Rattle.leasecheck.proofs.wire.acknowledge.ack_lines.Goals as goal
 
 pub returns-clause-printed : goal.returns-clause-printed
 returns-clause-printed c = (

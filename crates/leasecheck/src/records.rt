@@ -1,0 +1,7 @@
+//! Records as texts: a line for each fact.
+
+mod reading;
+mod writing;
+
+pub use reading::read_fact;
+pub use writing::push_fact;

@@ -1,0 +1,9 @@
+//! The lines of `leasecheck ack` and `leasecheck show`: what the bytes of messages hold.
+
+mod acknowledge;
+mod render;
+mod words;
+
+pub use acknowledge::ack_lines;
+pub use render::render;
+pub(crate) use words::state_letters;
