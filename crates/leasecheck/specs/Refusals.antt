@@ -1,5 +1,6 @@
 -- Why a task is refused, and the line that tells it.
 use Rattle.std.specs.Prelude.{◌≡◌, ℕ, ◌++◌, List, [], ◌∷◌, codes, Option, Some, None, Result, Ok, Err, MatchResult, ◌⊎◌}
+use Rattle.std.specs.Fmt.{decimal}
 use Rattle.std.specs.Option.{option_map}
 use Rattle.std.specs.Result.{result_err}
 use Rattle.std.specs.String.{string_bytes}
@@ -10,7 +11,8 @@ use Rattle.lease_wire.specs.WireFaults.{message_fault, fault_text}
 use Rattle.lease_wire.specs.declared.create.Direction.TheVariants.{Request, Reply}
 use Rattle.lease_wire.specs.declared.fault.WireFault.{WireFault}
 use Rattle.leasecheck.specs.declared.failure.Failure.{Failure}
-use Rattle.leasecheck.specs.declared.failure.Failure.TheVariants.{Hex, Wire, Memory, Output}
+use Rattle.leasecheck.specs.declared.failure.Failure.TheVariants.{Hex, Wire, File, Line, Run, Memory, Output}
+use Rattle.lease_world.specs.declared.setup.RunFault.TheVariants as run
 use Rattle.leasecheck.specs.declared.tasks.Kind.{Kind}
 use Rattle.leasecheck.specs.declared.tasks.Kind.TheVariants as kind
 use Rattle.leasecheck.specs.declared.tasks.Task.{Task}
@@ -38,6 +40,8 @@ digits_refusal fault (Err e) = Some Hex
 abbrev pub refusal_of : Task → Option Failure
 refusal_of (task.Ack digits) = digits_refusal (message_fault 44) (decode_of (string_bytes digits))
 refusal_of (task.Show kind digits) = digits_refusal (shown_fault kind) (decode_of (string_bytes digits))
+refusal_of (task.Replay path) = None
+refusal_of (task.Judge path) = None
 
 -- An answer to a task is given only where its argument is not refused; a refusal is the argument's own, or
 -- want of memory.
@@ -55,6 +59,11 @@ EndsWith asked old new failure =
 abbrev pub failure_text : Failure → List ℕ
 failure_text Hex = codes "fault hex"
 failure_text (Wire fault) = codes "fault " ++ fault_text fault
+failure_text File = codes "fault file"
+failure_text (Line number) = codes "fault line " ++ decimal number
+failure_text (Run run.BadSetup) = codes "fault run 1 BadSetup"
+failure_text (Run run.TooMany) = codes "fault run 2 TooMany"
+failure_text (Run run.Memory) = codes "fault memory"
 failure_text Memory = codes "fault memory"
 failure_text Output = codes "fault output"
 

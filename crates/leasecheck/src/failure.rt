@@ -1,5 +1,5 @@
 ghost use Rattle.std.specs.Prelude.{◌≡◌};
-ghost use Rattle.leasecheck.specs.declared.failure.Failure.TheVariants.{Wire, Memory};
+ghost use Rattle.leasecheck.specs.declared.failure.Failure.TheVariants.{Wire, Run, Memory};
 
 use lease_state::Memory;
 use lease_wire::WireFault;
@@ -38,8 +38,9 @@ impl fmt::Display for Failure {
             Failure::Wire(fault) => write!(f, "fault {fault}"),
             Failure::File => f.write_str("fault file"),
             Failure::Line(number) => write!(f, "fault line {number}"),
-            Failure::Run(fault) => write!(f, "fault run {fault}"),
-            Failure::Memory => f.write_str("fault memory"),
+            Failure::Run(RunFault::BadSetup) => f.write_str("fault run 1 BadSetup"),
+            Failure::Run(RunFault::TooMany) => f.write_str("fault run 2 TooMany"),
+            Failure::Run(RunFault::Memory) | Failure::Memory => f.write_str("fault memory"),
             Failure::Output => f.write_str("fault output"),
         }
     }
@@ -78,10 +79,9 @@ impl From<Memory> for Failure {
 }
 
 impl From<RunFault> for Failure {
+    ghost from_gives = { λ fault failure. failure ≡ Run fault };
+
     fn from(fault: RunFault) -> Failure {
-        match fault {
-            RunFault::Memory => Failure::Memory,
-            fault => Failure::Run(fault),
-        }
+        Failure::Run(fault)
     }
 }

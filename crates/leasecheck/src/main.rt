@@ -17,6 +17,7 @@ mod fields;
 mod hexadecimal;
 mod judging;
 mod lines;
+mod pieces;
 mod printing;
 mod records;
 mod replaying;

@@ -79,7 +79,12 @@ fn print_text<O: Write>(text: &str, out: &mut O) -> Result<(), Failure>
 }
 
 // Makes the task's whole text, and writes it after that.
-fn print_task<I: Read, O: Write>(alloc: Global, task: &Task, input: &mut I, out: &mut O) -> Result<u8, Failure> {
+fn print_task<I: Read, O: Write>(
+    alloc: Global,
+    task: &Task,
+    input: &mut I,
+    out: &mut O,
+) -> Result<u8, Failure> {
     let printed = text_of(alloc, task, input)?;
     print_text(printed.text.as_str(), out)?;
     Ok(printed.status)
@@ -104,8 +109,7 @@ pub fn perform<I: Read, O: Write, F: Write>(
     input: &mut I,
     out: &mut O,
     faults: &mut F,
-) -> u8
-{
+) -> u8 {
     match print_task(alloc, task, input, out) {
         Ok(status) => status,
         Err(failure) => {

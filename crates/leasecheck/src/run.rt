@@ -7,10 +7,9 @@ use crate::failure::Failure;
 use crate::printing::{perform, tell_failure};
 use crate::tasks::{Task, Usage};
 use std::alloc::{AllocError, Global};
-use std::fs;
-use std::io;
 use std::io::Write;
 use std::rt::Files;
+use std::{fs, io};
 
 fn views<'a>(alloc: Global, words: &'a [String]) -> Result<Vec<&'a str>, AllocError> {
     words.iter().map(|word| word.as_str()).collect(alloc)
@@ -71,8 +70,7 @@ pub fn run_words<R: Files + Input + AllocGlobal, O: Write, F: Write>(
     given: io::Result<Vec<String>>,
     out: &mut O,
     faults: &mut F,
-) -> u8
-{
+) -> u8 {
     let Ok(owned) = given else {
         let _ = writeln!(
             faults,

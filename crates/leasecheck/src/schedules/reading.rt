@@ -1,6 +1,14 @@
+ghost use Rattle.std.specs.Prelude.{◌≡◌, ◌⊎◌, ◌+◌, Some, None, Ok, Err, [], MatchResult, MatchBool, length, ℕ};
+ghost use Rattle.uuid.specs.Text.{parsed};
+ghost use Rattle.leasecheck.specs.Fields.{one};
+ghost use Rattle.leasecheck.specs.Takes.{Takes};
+ghost use Rattle.leasecheck.specs.Reading.{is_passed_over};
+ghost use Rattle.leasecheck.specs.Schedules.{part_named, part_told, part_in, with_part, with_line, schedule_in};
+ghost use Rattle.leasecheck.specs.Drafts.{part_of, draft_of, RefusesLine};
+
 use crate::failure::Failure;
-use crate::fields::{Fields, LineFault};
-use crate::lines::is_passed_over;
+use crate::fields::{Fields, LineFault, is};
+use crate::lines::{first_line, is_passed_over};
 use crate::schedules::events::read_event;
 use lease_state::Content;
 use lease_world::{Event, Setup};
@@ -22,26 +30,56 @@ enum Part {
     Event(Event),
 }
 
-fn read_guid(fields: &mut Fields) -> Result<[u8; 16], LineFault> {
-    match Uuid::try_parse_ascii(fields.next()?) {
-        Ok(guid) => Ok(guid.into_bytes()),
-        Err(_) => Err(LineFault::Refused),
+fn guid_of(text: &[u8]) -> Option<[u8; 16]>
+    ensures { result ≡ parsed text.now }
+{
+    match Uuid::try_parse_ascii(text) {
+        Ok(guid) => Some(guid.into_bytes()),
+        Err(_) => None,
     }
 }
 
-fn read_part(alloc: Global, line: &[u8]) -> Result<Part, LineFault> {
+fn read_guid(fields: &mut Fields) -> Result<[u8; 16], LineFault>
+    ensures { Takes (λ guid. guid) (one parsed) fields.old fields.new result }
+{
+    guid_of(fields.next()?).ok_or(LineFault::Refused)
+}
+
+#[tactic(auto, unfolding(crate::specs::Schedules::part_named))]
+fn read_part_of(alloc: Global, kind: &[u8], fields: &mut Fields) -> Result<Part, LineFault>
+    ensures { Takes part_of (part_named kind.now) fields.old fields.new result }
+{
+    if is(kind, b"file") {
+        Ok(Part::File(fields.content(alloc)?))
+    } else if is(kind, b"client") {
+        Ok(Part::Client(read_guid(fields)?))
+    } else {
+        Ok(Part::Event(read_event(alloc, kind, fields)?))
+    }
+}
+
+fn read_fields(alloc: Global, fields: &mut Fields) -> Result<Part, LineFault>
+    ensures { Takes part_of part_told fields.old fields.new result }
+{
+    let kind = fields.next()?;
+    read_part_of(alloc, kind, fields)
+}
+
+#[tactic(auto, unfolding(crate::specs::Schedules::part_in))]
+fn read_part(alloc: Global, line: &[u8]) -> Result<Part, LineFault>
+    ensures { MatchResult result (λ part. part_in line.now ≡ Some (part_of part))
+        (λ fault. fault ≡ LineFault.Refused → part_in line.now ≡ None) }
+{
     let mut fields = Fields::of(line);
-    let part = match fields.next()? {
-        b"file" => Part::File(fields.content(alloc)?),
-        b"client" => Part::Client(read_guid(&mut fields)?),
-        kind => Part::Event(read_event(alloc, kind, &mut fields)?),
-    };
+    let part = read_fields(alloc, &mut fields)?;
     fields.end()?;
     Ok(part)
 }
 
 impl Schedule {
-    fn new(alloc: Global) -> Schedule {
+    fn new(alloc: Global) -> Schedule
+        ensures { draft_of result ≡ record { files = []; clients = []; events = [] } }
+    {
         Schedule {
             setup: Setup {
                 files: Vec::new(alloc),
@@ -52,7 +90,11 @@ impl Schedule {
     }
 
     // Files and clients stand before the first event.
-    fn add(&mut self, part: Part) -> Result<(), LineFault> {
+    #[tactic(auto, unfolding(crate::specs::Schedules::with_part))]
+    fn add(&mut self, part: Part) -> Result<(), LineFault>
+        ensures { MatchResult result (λ _. with_part (draft_of self.old) (Some (part_of part)) ≡ Some (draft_of self.new))
+            (λ fault. fault ≡ LineFault.Refused → with_part (draft_of self.old) (Some (part_of part)) ≡ None) }
+    {
         match part {
             Part::Event(event) => self.events.push(event)?,
             _ if !self.events.is_empty() => return Err(LineFault::Refused),
@@ -62,11 +104,16 @@ impl Schedule {
         Ok(())
     }
 
-    fn add_line(&mut self, alloc: Global, line: &[u8]) -> Result<(), LineFault> {
+    #[tactic(auto, unfolding(crate::specs::Schedules::with_line, crate::specs::Schedules::with_part))]
+    fn add_line(&mut self, alloc: Global, line: &[u8]) -> Result<(), LineFault>
+        ensures { MatchResult result (λ _. with_line (draft_of self.old) line.now ≡ Some (draft_of self.new))
+            (λ fault. fault ≡ LineFault.Refused → with_line (draft_of self.old) line.now ≡ None) }
+    {
         if is_passed_over(line) {
             return Ok(());
         }
-        self.add(read_part(alloc, line)?)
+        let part = read_part(alloc, line)?;
+        self.add(part)
     }
 }
 
@@ -75,7 +122,11 @@ impl Schedule {
 /// # Errors
 ///
 /// `Line` with the number of the first line that is refused, and `Memory` where there is none left.
-pub fn read_schedule(alloc: Global, text: &[u8]) -> Result<Schedule, Failure> {
+#[tactic(auto, unfolding(crate::specs::Reading::reads_on))]
+pub fn read_schedule(alloc: Global, text: &[u8]) -> Result<Schedule, Failure>
+    ensures { MatchResult result (λ schedule. schedule_in text.now ≡ Ok (draft_of schedule))
+        (λ failure. (failure ≡ Failure.Memory) ⊎ RefusesLine (schedule_in text.now) failure) }
+{
     let mut schedule = Schedule::new(alloc);
     let mut rest = text;
     let mut number = 0u64;
@@ -89,12 +140,4 @@ pub fn read_schedule(alloc: Global, text: &[u8]) -> Result<Schedule, Failure> {
         }
     }
     Ok(schedule)
-}
-
-// The first line of a text, without its line feed, and what follows.
-fn first_line(text: &[u8]) -> (&[u8], &[u8]) {
-    match text.iter().position(|byte| *byte == b'\n') {
-        Some(place) => (&text[..place], &text[place + 1..]),
-        None => (text, &[]),
-    }
 }

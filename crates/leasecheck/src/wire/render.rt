@@ -9,9 +9,9 @@ ghost use Rattle.leasecheck.specs.Refusals.{RefusesExactly, shown_fault};
 ghost use Rattle.leasecheck.specs.Shown.{ShowsCreate, ShowsBreak, ShowsKeyAndState, Shows};
 ghost use Rattle.leasecheck.specs.Words.{break_line, key_and_state_line};
 
-use crate::wire::acknowledge::push_rest;
 use crate::failure::Failure;
 use crate::tasks::Kind;
+use crate::wire::acknowledge::push_rest;
 use crate::wire::words::{push_context, push_values, state_letters};
 use lease_state::{LeaseKey, LeaseState};
 use lease_wire::{Acknowledgment, BreakResponse, ContextValues, Direction, Notification, contexts};
