@@ -8,5 +8,6 @@ pub mod Records
 pub mod Schedules
 pub mod Drafts
 pub mod Shown
+pub mod Replayed
 pub mod Printed
 pub mod Refusals

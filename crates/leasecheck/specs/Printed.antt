@@ -1,20 +1,26 @@
 -- What a task prints, end to end: from the digits of its argument to the text on standard output.
-use Rattle.std.specs.Prelude.{◌≡◌, ℕ, List, Option, Ok, ⊤}
+use Rattle.std.specs.Prelude.{◌≡◌, ℕ, List, Option, Ok, IfSome}
 use Rattle.std.specs.String.{string_bytes}
 use Rattle.std.specs.Io.KnownBytes.{Appends}
 use Rattle.hex.specs.Hex.{decode_of}
 use Rattle.leasecheck.specs.Answer.{AnswersWith}
+use Rattle.lease_world.specs.declared.verdict.Verdict.{Verdict}
 use Rattle.leasecheck.specs.Shown.{Shows}
+use Rattle.leasecheck.specs.Replayed.{Replays, verdict_line, status_of}
 use Rattle.leasecheck.specs.declared.tasks.Task.{Task}
 use Rattle.leasecheck.specs.declared.tasks.Task.TheVariants.{Ack, Show, Replay, Judge}
 
--- the text is what the task prints
-abbrev pub IsTextOf : Task → List ℕ → Type 0
-IsTextOf (Ack digits) text = (bytes : List ℕ) × (decode_of (string_bytes digits) ≡ Ok bytes) × AnswersWith bytes text
-IsTextOf (Show kind digits) text = (bytes : List ℕ) × (decode_of (string_bytes digits) ≡ Ok bytes) × Shows kind bytes text
-IsTextOf (Replay path) text = ⊤
-IsTextOf (Judge path) text = ⊤
+-- The text is what the task prints, and the status how it ends, where its file has these bytes; nothing is said of
+-- what a replay prints for bytes that aren't known.
+abbrev pub IsTextOf : Task → Option (List ℕ) → List ℕ → ℕ → Type 0
+IsTextOf (Ack digits) file text status =
+    (status ≡ 0) × (bytes : List ℕ) × (decode_of (string_bytes digits) ≡ Ok bytes) × AnswersWith bytes text
+IsTextOf (Show kind digits) file text status =
+    (status ≡ 0) × (bytes : List ℕ) × (decode_of (string_bytes digits) ≡ Ok bytes) × Shows kind bytes text
+IsTextOf (Replay path) file text status = (status ≡ 0) × IfSome file (λ schedule. Replays schedule text)
+IsTextOf (Judge path) file text status =
+    (verdict : Verdict) × (text ≡ verdict_line verdict) × (status ≡ status_of verdict)
 
 -- a writer whose bytes are known before and after has got what the task prints
-abbrev pub Prints : Task → Option (List ℕ) → Option (List ℕ) → Type 0
-Prints asked old new = (text : List ℕ) × IsTextOf asked text × Appends old new text
+abbrev pub Prints : Task → Option (List ℕ) → Option (List ℕ) → Option (List ℕ) → ℕ → Type 0
+Prints asked file old new status = (text : List ℕ) × IsTextOf asked file text status × Appends old new text

@@ -1,5 +1,5 @@
 -- Why a task is refused, and the line that tells it.
-use Rattle.std.specs.Prelude.{◌≡◌, ℕ, ◌++◌, List, [], ◌∷◌, codes, Option, Some, None, Result, Ok, Err, MatchResult, ◌⊎◌}
+use Rattle.std.specs.Prelude.{◌≡◌, ℕ, ◌++◌, List, [], ◌∷◌, codes, Option, Some, None, Result, Ok, Err, MatchResult, ◌⊎◌, ⊤}
 use Rattle.std.specs.Fmt.{decimal}
 use Rattle.std.specs.Option.{option_map}
 use Rattle.std.specs.Result.{result_err}
@@ -10,6 +10,7 @@ use Rattle.lease_wire.specs.Gathering.{value_of}
 use Rattle.lease_wire.specs.WireFaults.{message_fault, fault_text}
 use Rattle.lease_wire.specs.declared.create.Direction.TheVariants.{Request, Reply}
 use Rattle.lease_wire.specs.declared.fault.WireFault.{WireFault}
+use Rattle.leasecheck.specs.Replayed.{replay_refusal}
 use Rattle.leasecheck.specs.declared.failure.Failure.{Failure}
 use Rattle.leasecheck.specs.declared.failure.Failure.TheVariants.{Hex, Wire, File, Line, Run, Memory, Output}
 use Rattle.lease_world.specs.declared.setup.RunFault.TheVariants as run
@@ -36,24 +37,37 @@ abbrev pub digits_refusal : {E : Type 0} → (List ℕ → Option WireFault) →
 digits_refusal fault (Ok bytes) = option_map Wire (fault bytes)
 digits_refusal fault (Err e) = Some Hex
 
--- what the task's argument is refused as
-abbrev pub refusal_of : Task → Option Failure
-refusal_of (task.Ack digits) = digits_refusal (message_fault 44) (decode_of (string_bytes digits))
-refusal_of (task.Show kind digits) = digits_refusal (shown_fault kind) (decode_of (string_bytes digits))
-refusal_of (task.Replay path) = None
-refusal_of (task.Judge path) = None
+-- what a schedule is refused as, where its bytes are known
+abbrev pub known_refusal : Option (List ℕ) → Option Failure
+known_refusal None = None
+known_refusal (Some schedule) = replay_refusal schedule
 
--- An answer to a task is given only where its argument is not refused; a refusal is the argument's own, or
--- want of memory.
-abbrev pub AnswersOrRefuses : {X : Type 0} → Task → Result X Failure → Type 0
-AnswersOrRefuses asked answer = MatchResult answer (λ _. refusal_of asked ≡ None)
-    (λ failure. (failure ≡ Memory) ⊎ (refusal_of asked ≡ Some failure))
+-- what the task's argument, or its schedule, is refused as
+abbrev pub refusal_of : Task → Option (List ℕ) → Option Failure
+refusal_of (task.Ack digits) file = digits_refusal (message_fault 44) (decode_of (string_bytes digits))
+refusal_of (task.Show kind digits) file = digits_refusal (shown_fault kind) (decode_of (string_bytes digits))
+refusal_of (task.Replay path) file = known_refusal file
+refusal_of (task.Judge path) file = None
 
--- A task that ends with this failure: where a write failed the argument was fine, and else nothing was written.
-abbrev pub EndsWith : Task → Option (List ℕ) → Option (List ℕ) → Failure → Type 0
-EndsWith asked old new failure =
-    ((failure ≡ Output) × (refusal_of asked ≡ None))
-    ⊎ (Keeps old new × ((failure ≡ Memory) ⊎ (refusal_of asked ≡ Some failure)))
+-- Failures that any task may end with.
+abbrev pub MayAlways : Failure → Type 0
+MayAlways failure = (failure ≡ Memory) ⊎ (failure ≡ File) ⊎ ((number : ℕ) × (failure ≡ Line number))
+
+-- The same where a file's bytes are known; of bytes that aren't nothing is said.
+abbrev pub MayOf : Option (List ℕ) → Failure → Type 0
+MayOf None failure = ⊤
+MayOf (Some bytes) failure = MayAlways failure
+
+-- An answer to a task is given only where nothing of it is refused; a refusal is that, or want of memory, or the file's.
+abbrev pub AnswersOrRefuses : {X : Type 0} → Task → Option (List ℕ) → Result X Failure → Type 0
+AnswersOrRefuses asked file answer = MatchResult answer (λ _. refusal_of asked file ≡ None)
+    (λ failure. MayOf file failure ⊎ (refusal_of asked file ≡ Some failure))
+
+-- A task that ends with this failure: where a write failed nothing was refused, and else nothing was written.
+abbrev pub EndsWith : Task → Option (List ℕ) → Option (List ℕ) → Option (List ℕ) → Failure → Type 0
+EndsWith asked file old new failure =
+    ((failure ≡ Output) × (refusal_of asked file ≡ None))
+    ⊎ (Keeps old new × (MayOf file failure ⊎ (refusal_of asked file ≡ Some failure)))
 
 -- a failure as it is told
 abbrev pub failure_text : Failure → List ℕ

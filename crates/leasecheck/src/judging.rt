@@ -1,16 +1,67 @@
+ghost use Rattle.std.specs.Prelude.{◌≡◌, ◌++◌, IfErr, OnOk};
+ghost use Rattle.std.specs.String.{string_bytes};
+ghost use Rattle.leasecheck.specs.Refusals.{MayAlways};
+ghost use Rattle.leasecheck.specs.Replayed.{verdict_line, status_of};
+
 use crate::failure::Failure;
 use crate::fields::LineFault;
-use crate::lines::is_passed_over;
+use crate::lines::{first_line, is_passed_over};
 use crate::records::read_fact;
 use lease_world::{Judge, Verdict};
 use std::alloc::{AllocError, Global};
 use std::io::{BufRead, BufReader, Read};
 
-// How many bytes are read at a time.
-const CAPACITY: usize = 65_536;
+// About how many bytes are read at a time.
+const CAPACITY: u64 = 65_536;
 
-// The judge after a line of a record, which has this number.
-fn take_line(alloc: Global, judge: Judge, line: &[u8], number: u64) -> Result<Judge, Failure> {
+// A record that is being judged, and the number of its next line.
+#[derive(Debug, Drop)]
+struct Progress {
+    judge: Judge,
+    number: u64,
+}
+
+impl Progress {
+    fn new(alloc: Global) -> Progress {
+        Progress {
+            judge: Judge::new(alloc),
+            number: 1,
+        }
+    }
+
+    fn take_line(self, alloc: Global, line: &[u8]) -> Result<Progress, Failure>
+        ensures { IfErr result MayAlways }
+    {
+        let Progress { judge, number } = self;
+        let Some(next) = number.checked_add(1) else {
+            return Err(Failure::File);
+        };
+        let judge = take_fact(alloc, judge, line, number)?;
+        Ok(Progress {
+            judge,
+            number: next,
+        })
+    }
+
+    // Takes all lines of a text.
+    fn take_lines(self, alloc: Global, text: &[u8]) -> Result<Progress, Failure>
+        ensures { IfErr result MayAlways }
+    {
+        let mut progress = self;
+        let mut rest = text;
+        while !rest.is_empty() {
+            let (line, behind) = first_line(rest);
+            progress = progress.take_line(alloc, line)?;
+            rest = behind;
+        }
+        Ok(progress)
+    }
+}
+
+// The judge after the line of this number.
+fn take_fact(alloc: Global, judge: Judge, line: &[u8], number: u64) -> Result<Judge, Failure>
+    ensures { IfErr result MayAlways }
+{
     if is_passed_over(line) {
         return Ok(judge);
     }
@@ -21,28 +72,31 @@ fn take_line(alloc: Global, judge: Judge, line: &[u8], number: u64) -> Result<Ju
     }
 }
 
-// Reads the next line without its line feed; false where there is none.
-fn next_line<I: BufRead>(input: &mut I, line: &mut Vec<u8>) -> Result<bool, Failure> {
-    line.clear();
-    match input.read_until(b'\n', line) {
-        Ok(0) => return Ok(false),
-        Ok(_) => {}
-        Err(_) => return Err(Failure::File),
+// Reads whole lines, and none where nothing is left: what one read gives, and on to the end of its last line.
+fn read_lines<I: BufRead>(input: &mut I, lines: &mut Vec<u8>) -> Result<(), Failure>
+    ensures { IfErr result MayAlways }
+{
+    lines.clear();
+    if input.by_ref().take(CAPACITY).read_to_end(lines).is_err() {
+        return Err(Failure::File);
     }
-    if let [.., b'\n'] = line.as_slice() {
-        let _ = line.pop();
+    if input.read_until(b'\n', lines).is_err() {
+        return Err(Failure::File);
     }
-    Ok(true)
+    Ok(())
 }
 
-fn judge_lines<I: BufRead>(alloc: Global, input: &mut I) -> Result<Verdict, Failure> {
-    let mut judge = Judge::new(alloc);
-    let mut line = Vec::new(alloc);
-    for number in 1..u64::MAX {
-        if !next_line(input, &mut line)? {
-            return Ok(judge.verdict());
+fn judge_lines<I: BufRead>(alloc: Global, input: &mut I) -> Result<Verdict, Failure>
+    ensures { IfErr result MayAlways }
+{
+    let mut progress = Progress::new(alloc);
+    let mut lines = Vec::new(alloc);
+    for _ in 0..u64::MAX {
+        read_lines(input, &mut lines)?;
+        if lines.is_empty() {
+            return Ok(progress.judge.verdict());
         }
-        judge = take_line(alloc, judge, line.as_slice(), number)?;
+        progress = progress.take_lines(alloc, lines.as_slice())?;
     }
     Err(Failure::File)
 }
@@ -53,15 +107,19 @@ fn judge_lines<I: BufRead>(alloc: Global, input: &mut I) -> Result<Verdict, Fail
 ///
 /// `Line` with the number of the first line that is refused, `File` where the reader fails, and `Memory` where there
 /// is none left.
-pub fn judge_text<I: Read>(alloc: Global, input: &mut I) -> Result<Verdict, Failure> {
-    match BufReader::with_capacity(alloc, CAPACITY, input) {
+pub fn judge_text<I: Read>(alloc: Global, input: &mut I) -> Result<Verdict, Failure>
+    ensures { IfErr result MayAlways }
+{
+    match BufReader::new(alloc, input) {
         Ok(mut lines) => judge_lines(alloc, &mut lines),
         Err(_) => Err(Failure::Memory),
     }
 }
 
 /// The line of a verdict.
-pub fn push_verdict(text: &mut String, verdict: &Verdict) -> Result<(), AllocError> {
+pub fn push_verdict(text: &mut String, verdict: &Verdict) -> Result<(), AllocError>
+    ensures { OnOk result (string_bytes text.new ≡ string_bytes text.old ++ verdict_line verdict.now) }
+{
     match verdict {
         Verdict::Safe => text.push_str("safe\n"),
         Verdict::Unsafe { place, rule } => {
@@ -69,5 +127,16 @@ pub fn push_verdict(text: &mut String, verdict: &Verdict) -> Result<(), AllocErr
             writeln!(text, "unsafe {place} {rule}")
         }
         Verdict::Malformed { place } => writeln!(text, "malformed {place}"),
+    }
+}
+
+/// The exit status of a verdict.
+pub fn status_of(verdict: &Verdict) -> u8
+    ensures { result ≡ status_of verdict.now }
+{
+    match verdict {
+        Verdict::Safe => 0,
+        Verdict::Malformed { .. } => 1,
+        Verdict::Unsafe { .. } => 3,
     }
 }

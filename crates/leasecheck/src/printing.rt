@@ -1,16 +1,17 @@
-ghost use Rattle.std.specs.Prelude.{◌≡◌, ◌≤◌, IfOk, IfErr, IsSome, OnOk};
+ghost use Rattle.std.specs.Prelude.{◌≡◌, ◌≢◌, ◌≤◌, ◌⊎◌, Some, None, MatchResult, IfSome, IfOk, IfErr, IsSome, OnOk};
 ghost use Rattle.std.specs.String.{string_bytes};
 ghost use Rattle.std.specs.Io.KnownBytes.{Appends, Keeps};
 ghost use Rattle.leasecheck.specs.Printed.{IsTextOf, Prints};
-ghost use Rattle.leasecheck.specs.Refusals.{AnswersOrRefuses, EndsWith, refusal_of, failure_line};
+ghost use Rattle.lease_world.specs.declared.verdict.Verdict.{Verdict};
+ghost use Rattle.leasecheck.specs.Replayed.{Replays, verdict_line, status_of};
+ghost use Rattle.leasecheck.specs.Refusals.{AnswersOrRefuses, EndsWith, MayAlways, MayOf, known_refusal, refusal_of, failure_line};
 
 use crate::failure::Failure;
 use crate::hexadecimal;
-use crate::judging::{judge_text, push_verdict};
+use crate::judging::{judge_text, push_verdict, status_of};
 use crate::replaying::replay;
 use crate::tasks::Task;
 use crate::wire::{ack_lines, render};
-use lease_world::Verdict;
 use std::alloc::Global;
 use std::io;
 use std::io::{Read, Write};
@@ -22,20 +23,16 @@ struct Printed {
     status: u8,
 }
 
-fn done(text: String) -> Printed {
+fn done(text: String) -> Printed
+    ensures { (string_bytes result.text ≡ string_bytes text) × (result.status ≡ 0) }
+{
     Printed { text, status: 0 }
 }
 
-// The exit status of a verdict.
-fn status_of(verdict: &Verdict) -> u8 {
-    match verdict {
-        Verdict::Safe => 0,
-        Verdict::Malformed { .. } => 1,
-        Verdict::Unsafe { .. } => 3,
-    }
-}
-
-fn judged<I: Read>(alloc: Global, input: &mut I) -> Result<Printed, Failure> {
+fn judged<I: Read>(alloc: Global, input: &mut I) -> Result<Printed, Failure>
+    ensures { MatchResult result (λ printed. (verdict : Verdict) × (string_bytes printed.text ≡ verdict_line verdict) × (printed.status ≡ status_of verdict))
+        (λ failure. MayAlways failure) }
+{
     let verdict = judge_text(alloc, input)?;
     let mut text = String::new(alloc);
     push_verdict(&mut text, &verdict)?;
@@ -43,18 +40,30 @@ fn judged<I: Read>(alloc: Global, input: &mut I) -> Result<Printed, Failure> {
     Ok(Printed { text, status })
 }
 
-fn replayed<I: Read>(alloc: Global, input: &mut I) -> Result<Printed, Failure> {
+fn replayed<I: Read>(alloc: Global, input: &mut I) -> Result<Printed, Failure>
+    ensures printed { IfOk result (λ printed. (printed.status ≡ 0)
+        × IfSome (I.remaining input.old) (λ schedule. Replays schedule (string_bytes printed.text))) }
+    ensures refused { MatchResult result (λ _. known_refusal (I.remaining input.old) ≡ None)
+        (λ failure. MayOf (I.remaining input.old) failure ⊎ (known_refusal (I.remaining input.old) ≡ Some failure)) }
+{
     let mut bytes = Vec::new(alloc);
-    if input.read_to_end(&mut bytes).is_err() {
+    let Ok(_) = input.read_to_end(&mut bytes) else {
         return Err(Failure::File);
+    };
+    match replay(alloc, bytes.as_slice()) {
+        Ok((text, verdict)) => Ok(Printed {
+            text,
+            status: status_of(&verdict),
+        }),
+        Err(failure) => Err(failure),
     }
-    let (text, verdict) = replay(alloc, bytes.as_slice())?;
-    let status = status_of(&verdict);
-    Ok(Printed { text, status })
 }
 
 // All that the task prints.
-fn text_of<I: Read>(alloc: Global, task: &Task, input: &mut I) -> Result<Printed, Failure> {
+fn text_of<I: Read>(alloc: Global, task: &Task, input: &mut I) -> Result<Printed, Failure>
+    ensures text { IfOk result (λ printed. IsTextOf task.now (I.remaining input.old) (string_bytes printed.text) printed.status) }
+    ensures refused { AnswersOrRefuses task.now (I.remaining input.old) result }
+{
     match task {
         Task::Ack(digits) => {
             let bytes = hexadecimal::bytes_of(alloc, digits.as_str())?;
@@ -84,7 +93,11 @@ fn print_task<I: Read, O: Write>(
     task: &Task,
     input: &mut I,
     out: &mut O,
-) -> Result<u8, Failure> {
+) -> Result<u8, Failure>
+    ensures printed { IfOk result (λ status. Prints task.now (I.remaining input.old) (O.contents out.old) (O.contents out.new) status) }
+    ensures accepted { OnOk result (refusal_of task.now (I.remaining input.old) ≡ None) }
+    ensures refused { IfErr result (EndsWith task.now (I.remaining input.old) (O.contents out.old) (O.contents out.new)) }
+{
     let printed = text_of(alloc, task, input)?;
     print_text(printed.text.as_str(), out)?;
     Ok(printed.status)
@@ -109,7 +122,15 @@ pub fn perform<I: Read, O: Write, F: Write>(
     input: &mut I,
     out: &mut O,
     faults: &mut F,
-) -> u8 {
+) -> u8
+    ensures status { (result ≤ 1) ⊎ (result ≡ 3) }
+    ensures printed { result ≢ 1 → Prints task.now (I.remaining input.old) (O.contents out.old) (O.contents out.new) result }
+    ensures silent { result ≢ 1 → Keeps (F.contents faults.old) (F.contents faults.new) }
+
+    // What is refused prints nothing.
+    ensures refused { IsSome (refusal_of task.now (I.remaining input.old)) → result ≡ 1 }
+    ensures kept { IsSome (refusal_of task.now (I.remaining input.old)) → Keeps (O.contents out.old) (O.contents out.new) }
+{
     match print_task(alloc, task, input, out) {
         Ok(status) => status,
         Err(failure) => {

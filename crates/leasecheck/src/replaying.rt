@@ -1,30 +1,69 @@
+ghost use Rattle.std.specs.Prelude.{◌≡◌, ◌⊎◌, ◌++◌, map, codes, Some, None, Ok, IfOk, OnOk, MatchResult};
+ghost use Rattle.std.specs.String.{string_bytes};
+ghost use Rattle.lease_model.specs.records.Safe.{Safe};
+ghost use Rattle.lease_world.specs.Facts.{fact_of};
+ghost use Rattle.lease_world.specs.declared.verdict.Verdict.TheVariants as verdict;
+ghost use Rattle.leasecheck.specs.Drafts.{draft_of};
+ghost use Rattle.leasecheck.specs.Records.{record_text};
+ghost use Rattle.leasecheck.specs.Replayed.{Replays, RefusesReplay, record_of, run_refusal, verdict_line};
+
 use crate::failure::Failure;
 use crate::judging::push_verdict;
 use crate::records::push_fact;
-use crate::schedules::read_schedule;
-use lease_world::{Fact, Verdict, judge, run};
+use crate::schedules::{Schedule, read_schedule};
+use lease_laws::verdict_decides;
+use lease_world::{Fact, RunFault, Verdict, judge, run};
 use std::alloc::{AllocError, Global};
 
-fn push_record(alloc: Global, text: &mut String, facts: &[Fact]) -> Result<(), AllocError> {
+fn push_record(alloc: Global, text: &mut String, facts: &[Fact]) -> Result<(), AllocError>
+    ensures { OnOk result (string_bytes text.new ≡ string_bytes text.old ++ record_text facts.now) }
+{
     for fact in facts {
         push_fact(alloc, text, fact)?;
     }
     Ok(())
 }
 
-/// What `leasecheck replay` prints for the text of a schedule: the record of its run, and the verdict on it.
+// The text of a record, and the verdict on it behind a sign that it is none of its facts.
+fn text_of(alloc: Global, facts: &[Fact], verdict: &Verdict) -> Result<String, AllocError>
+    ensures { IfOk result (λ text. string_bytes text ≡ record_text facts.now ++ codes "# " ++ verdict_line verdict.now) }
+{
+    let mut text = String::new(alloc);
+    push_record(alloc, &mut text, facts)?;
+    text.push_str("# ")?;
+    push_verdict(&mut text, verdict)?;
+    Ok(text)
+}
+
+fn run_schedule(alloc: Global, schedule: &Schedule) -> Result<Vec<Fact>, Failure>
+    ensures record { IfOk result (λ facts. map fact_of facts.items ≡ record_of (draft_of schedule.now)) }
+    ensures safe { IfOk result (λ facts. Safe (map fact_of facts.items)) }
+    ensures refused { MatchResult result (λ _. run_refusal (Ok (draft_of schedule.now)) ≡ None)
+        (λ failure. (failure ≡ Failure.Memory) ⊎ (run_refusal (Ok (draft_of schedule.now)) ≡ Some failure)) }
+{
+    match run(alloc, &schedule.setup, schedule.events.as_slice()) {
+        Ok(facts) => Ok(facts),
+        Err(RunFault::Memory) => Err(Failure::Memory),
+        Err(fault) => Err(Failure::Run(fault)),
+    }
+}
+
+/// What `leasecheck replay` prints for the text of a schedule: the record of its run, and the verdict on it, which is that it
+/// is safe.
 ///
 /// # Errors
 ///
 /// `Line` with the number of the first line that is refused, else `Run` where there is no run of the schedule, and
 /// `Memory` where there is none left.
-pub fn replay(alloc: Global, schedule: &[u8]) -> Result<(String, Verdict), Failure> {
+pub fn replay(alloc: Global, schedule: &[u8]) -> Result<(String, Verdict), Failure>
+    ensures printed { IfOk result (λ answer. Replays schedule.now (string_bytes answer.0)) }
+    ensures safe { IfOk result (λ answer. answer.1 ≡ verdict.Safe) }
+    ensures refused { RefusesReplay schedule.now result }
+{
+    verdict_decides();
     let schedule = read_schedule(alloc, schedule)?;
-    let facts = run(alloc, &schedule.setup, schedule.events.as_slice())?;
+    let facts = run_schedule(alloc, &schedule)?;
     let verdict = judge(alloc, facts.as_slice())?;
-    let mut text = String::new(alloc);
-    push_record(alloc, &mut text, facts.as_slice())?;
-    text.push_str("# ")?;
-    push_verdict(&mut text, &verdict)?;
+    let text = text_of(alloc, facts.as_slice(), &verdict)?;
     Ok((text, verdict))
 }

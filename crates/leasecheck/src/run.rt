@@ -41,7 +41,10 @@ fn perform_on_file<R: Files + Input + AllocGlobal, O: Write, F: Write>(
     asked: &Task,
     out: &mut O,
     faults: &mut F,
-) -> u8 {
+) -> u8
+    ensures silent { result ≢ 1 → Keeps (F.contents faults.old) (F.contents faults.new) }
+    ensures status { result ≢ 2 }
+{
     let alloc = rt.alloc();
     match asked.path() {
         None => {
@@ -70,7 +73,11 @@ pub fn run_words<R: Files + Input + AllocGlobal, O: Write, F: Write>(
     given: io::Result<Vec<String>>,
     out: &mut O,
     faults: &mut F,
-) -> u8 {
+) -> u8
+    ensures silent { result ≡ 0 → Keeps (F.contents faults.old) (F.contents faults.new) }
+    ensures refused { result ≡ 2 → Keeps (O.contents out.old) (O.contents out.new) }
+    ensures unread { IsErr given → result ≡ 2 }
+{
     let Ok(owned) = given else {
         let _ = writeln!(
             faults,

@@ -1,0 +1,60 @@
+-- What `leasecheck replay` prints, and why it refuses a schedule.
+use Rattle.std.specs.Prelude.{◌≡◌, ◌⊎◌, ◌++◌, ℕ, map, if◌then◌else◌, List, [], ◌∷◌, codes, Option, Some, None, Result, Ok, Err, MatchResult}
+use Rattle.std.specs.Fmt.{decimal}
+use Rattle.lease_model.specs.records.Facts as model
+use Rattle.lease_model.specs.world.World.{Setup}
+use Rattle.lease_model.specs.world.Allowed.{is_allowed_setup, are_too_many}
+use Rattle.lease_model.specs.world.Events.{recorded}
+use Rattle.lease_world.specs.Facts.{fact_of}
+use Rattle.lease_world.specs.Setups.{event_of}
+use Rattle.lease_world.specs.Verdicts.{rule_number}
+use Rattle.lease_world.specs.declared.fact.Fact.{Fact}
+use Rattle.lease_world.specs.declared.setup.RunFault.TheVariants as run
+use Rattle.lease_world.specs.declared.verdict.Verdict.{Verdict}
+use Rattle.lease_world.specs.declared.verdict.Verdict.TheVariants as verdict
+use Rattle.leasecheck.specs.Records.{record_text}
+use Rattle.leasecheck.specs.Schedules.{Draft, schedule_in}
+use Rattle.leasecheck.specs.declared.failure.Failure.{Failure}
+use Rattle.leasecheck.specs.declared.failure.Failure.TheVariants as failure
+
+abbrev pub setup_of : Draft → Setup
+setup_of draft = record { files = draft.files; clients = draft.clients }
+
+abbrev pub verdict_line : Verdict → List ℕ
+verdict_line verdict.Safe = codes "safe" ++ 10 ∷ []
+verdict_line (verdict.Unsafe place rule) =
+    codes "unsafe " ++ decimal place ++ codes " " ++ decimal (rule_number rule) ++ 10 ∷ []
+verdict_line (verdict.Malformed place) = codes "malformed " ++ decimal place ++ 10 ∷ []
+
+-- the exit status of a verdict
+abbrev pub status_of : Verdict → ℕ
+status_of verdict.Safe = 0
+status_of (verdict.Unsafe place rule) = 3
+status_of (verdict.Malformed place) = 1
+
+-- the record of the run that a schedule asks for
+abbrev pub record_of : Draft → List model.Fact
+record_of draft = recorded (setup_of draft) (map event_of draft.events)
+
+-- the text is the record of the run that the schedule asks for, and that it is safe
+abbrev pub Replays : List ℕ → List ℕ → Type 0
+Replays schedule text =
+    (draft : Draft) × (facts : List Fact) × (schedule_in schedule ≡ Ok draft)
+    × (map fact_of facts ≡ record_of draft)
+    × (text ≡ record_text facts ++ codes "# safe" ++ 10 ∷ [])
+
+abbrev pub run_refusal : Result Draft ℕ → Option Failure
+run_refusal (Err number) = Some (failure.Line number)
+run_refusal (Ok draft) =
+    if is_allowed_setup (setup_of draft)
+    then (if are_too_many (map event_of draft.events) then Some (failure.Run run.TooMany) else None)
+    else Some (failure.Run run.BadSetup)
+
+-- what a schedule is refused as
+abbrev pub replay_refusal : List ℕ → Option Failure
+replay_refusal schedule = run_refusal (schedule_in schedule)
+
+-- It is answered only where it isn't refused, and refused as that, or for want of memory.
+abbrev pub RefusesReplay : {X : Type 0} → List ℕ → Result X Failure → Type 0
+RefusesReplay schedule answer = MatchResult answer (λ _. replay_refusal schedule ≡ None)
+    (λ told. (told ≡ failure.Memory) ⊎ (replay_refusal schedule ≡ Some told))
