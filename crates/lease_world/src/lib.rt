@@ -11,7 +11,8 @@
 //! assert!(judge.verdict() == Verdict::Malformed { place: 2 });
 //! ```
 //!
-//! Contracts speak of records, runs and verdicts of the rules in `lease_model`. That the record of a run is safe is no clause here.
+//! Contracts speak of records, runs and verdicts of the rules in `lease_model`. That the record of every run is safe is the clause
+//! `safe` of [`run`].
 #![tactic(auto)]
 
 mod copies;

@@ -14,8 +14,8 @@ fn refuses_other_command_lines(rt: HostRuntime) {
         &["show", "break"],
         &["show", "notification", BREAK],
         &["show", "break", BREAK, BREAK],
-        &["replay", "schedule"],
-        &["judge", "record"],
+        &["replay"],
+        &["judge", "record", "record"],
         &["help"],
         &["--unknown"],
     ];
@@ -63,6 +63,12 @@ fn asks_for_a_task(rt: HostRuntime) -> Result<(), Fail> {
         let digits = String::from_str(rt.alloc(), "2c")?;
         assert_eq!(&rt; asked, Some(Task::Show(kind, digits)));
     }
+    let path = String::from_str(rt.alloc(), "-")?;
+    let asked = task(rt.alloc(), &["replay", "-"]).ok();
+    assert_eq!(&rt; asked, Some(Task::Replay(path)));
+    let path = String::from_str(rt.alloc(), "a record")?;
+    let asked = task(rt.alloc(), &["judge", "a record"]).ok();
+    assert_eq!(&rt; asked, Some(Task::Judge(path)));
     let asked = task(rt.alloc(), &["ack", BREAK]).ok();
     assert_eq!(&rt;
         asked,
