@@ -1,8 +1,10 @@
 //! Runs: which are refused, and the records of the others.
 
-use crate::tests::words::{joined, opened, patch, sent, start, took};
-use crate::{Event, Fact, RunFault, Setup, Verdict, judge, run};
-use lease_client::Command;
+use crate::tests::words::{
+    believes, buffered, changed, joined, opened, patch, sent, settled, start, took,
+};
+use crate::{Event, RunFault, Setup, Verdict, judge, run};
+use lease_client::{Command, Settlement};
 use lease_state::{Access, ClientNo, Content, FileNo, LeaseState, Share};
 use std::alloc::Global;
 use std::test::Fail;
@@ -126,23 +128,29 @@ fn two_clients_take_turns(rt: HostRuntime) -> Result<(), Fail> {
         Ok(facts) => facts,
         Err(_) => Vec::new(alloc),
     };
-    let begin = [
+    let wanted = [
         start(alloc, 1, &[0, 7])?,
         joined(1),
         joined(2),
         opened(1, 1),
         sent(1),
         took(1),
+        believes(1, 1, 7),
+        buffered(alloc, 1, 1, 1, 0, 9)?,
+        sent(1),
+        took(1),
+        believes(1, 1, 3),
+        changed(alloc, 1, 1, 1, 0, 9)?,
+        sent(1),
+        sent(1),
+        opened(1, 2),
+        sent(2),
+        took(1),
+        settled(1, 1, Settlement::Done),
+        took(2),
+        believes(2, 1, 1),
     ];
-    assert!(rt; facts.len() > 6);
-    assert!(rt; &facts[..6] == begin.as_slice());
-    let mut is_changed = false;
-    for fact in &facts {
-        if let Fact::Changed(..) = fact {
-            is_changed = true;
-        }
-    }
-    assert!(rt; is_changed);
+    assert!(rt; facts.as_slice() == wanted.as_slice());
     assert_eq!(rt; judge(alloc, &facts)?, Verdict::Safe);
     Ok(())
 }
