@@ -9,5 +9,6 @@ pub mod Schedules
 pub mod Drafts
 pub mod Shown
 pub mod Replayed
+pub mod Judging
 pub mod Printed
 pub mod Refusals

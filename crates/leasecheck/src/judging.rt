@@ -1,4 +1,9 @@
-ghost use Rattle.std.specs.Prelude.{◌≡◌, ◌++◌, IfErr, OnOk};
+ghost use Rattle.std.specs.Prelude.{◌≡◌, ◌++◌, ◌∷◌, [], List, ℕ, map, IfErr, OnOk, MatchResult};
+ghost use Rattle.lease_world.specs.Facts.{fact_of};
+ghost use Rattle.lease_world.specs.declared.fact.Fact.{Fact};
+ghost use Rattle.lease_world.specs.judge.Judged.{HasJudged};
+ghost use Rattle.leasecheck.specs.Pieces.{lines_of};
+ghost use Rattle.leasecheck.specs.Judging.{HasRead, TakesLine, ReadsMore, JudgesText, TakesLines};
 ghost use Rattle.std.specs.String.{string_bytes};
 ghost use Rattle.leasecheck.specs.Refusals.{MayAlways};
 ghost use Rattle.leasecheck.specs.Replayed.{verdict_line, status_of};
@@ -22,7 +27,9 @@ struct Progress {
 }
 
 impl Progress {
-    fn new(alloc: Global) -> Progress {
+    fn new(alloc: Global) -> Progress
+        ensures { HasRead result [] }
+    {
         Progress {
             judge: Judge::new(alloc),
             number: 1,
@@ -30,28 +37,35 @@ impl Progress {
     }
 
     fn take_line(self, alloc: Global, line: &[u8]) -> Result<Progress, Failure>
-        ensures { IfErr result MayAlways }
+        ensures read { (lines : List (List ℕ)) → HasRead self lines → ReadsMore lines (line.now ∷ []) result }
+        ensures may { IfErr result MayAlways }
     {
         let Progress { judge, number } = self;
-        let Some(next) = number.checked_add(1) else {
+        if number == u64::MAX {
             return Err(Failure::File);
-        };
-        let judge = take_fact(alloc, judge, line, number)?;
-        Ok(Progress {
-            judge,
-            number: next,
-        })
+        }
+        match take_fact(alloc, judge, line, number) {
+            Ok(judge) => Ok(Progress {
+                judge,
+                number: number + 1,
+            }),
+            Err(failure) => Err(failure),
+        }
     }
 
     // Takes all lines of a text.
     fn take_lines(self, alloc: Global, text: &[u8]) -> Result<Progress, Failure>
-        ensures { IfErr result MayAlways }
+        ensures read { (lines : List (List ℕ)) → HasRead self lines → ReadsMore lines (lines_of text.now) result }
+        ensures may { IfErr result MayAlways }
     {
         let mut progress = self;
         let mut rest = text;
         while !rest.is_empty() {
             let (line, behind) = first_line(rest);
-            progress = progress.take_line(alloc, line)?;
+            match progress.take_line(alloc, line) {
+                Ok(next) => progress = next,
+                Err(failure) => return Err(failure),
+            }
             rest = behind;
         }
         Ok(progress)
@@ -60,7 +74,8 @@ impl Progress {
 
 // The judge after the line of this number.
 fn take_fact(alloc: Global, judge: Judge, line: &[u8], number: u64) -> Result<Judge, Failure>
-    ensures { IfErr result MayAlways }
+    ensures judged { (facts : List Fact) → HasJudged judge (map fact_of facts) → TakesLine facts line.now number result }
+    ensures may { IfErr result MayAlways }
 {
     if is_passed_over(line) {
         return Ok(judge);
