@@ -1,4 +1,4 @@
-use Rattle.std.proofs.Common.{◌≡◌, ◌⊎◌, inl, inr, ℕ, ◌+◌, ◌++◌, List, [], ◌∷◌, map, Option, Some, None, Result, Ok, Err, true, false, refl, sym, ap, ◌∙◌, subst, append_assoc, length, arith, ◌==◌}
+use Rattle.std.proofs.Common.{◌≡◌, ◌⊎◌, inl, inr, ℕ, ◌+◌, ◌++◌, List, [], ◌∷◌, map, Some, None, Result, Err, true, false, refl, sym, ap, ◌∙◌, subst, append_assoc, length, arith, ◌==◌}
 use Rattle.std.proofs.lemmas.List.{append-nil}
 use Rattle.std.proofs.lemmas.Bool.Decides.{nat_tests}
 use Rattle.leasecheck.specs.Pieces.{pieces, lines_of}
@@ -57,7 +57,7 @@ read_line old new line lines has next taken = record {
   facts = taken.0;
   judged = taken.2;
   read = λ rest. taken_line line lines rest old.number has.facts taken.0 taken.1 (has.read (line ∷ rest))
-    ∙ ap (λ n. reads_on with_line n taken.0 rest) (sym next);
+      ∙ ap (λ n. reads_on with_line n taken.0 rest) (sym next);
 }
 
 pub refuse_line : (old : Progress) (line : List ℕ) (lines : List (List ℕ)) (told : Failure) → (has : HasRead old lines)
@@ -88,15 +88,15 @@ go_on next line behind rest text lines taken has first same = (
 -- the next line of what is left is refused, whatever follows the text
 pub stop_at : (told : Failure) (line behind rest text : List ℕ) (lines taken : List (List ℕ))
     → (told ≡ failure.Memory) ⊎ (told ≡ failure.File)
-      ⊎ ((more : List (List ℕ)) → RefusesLine (reads_on with_line 1 [] ((lines ++ taken) ++ (line ∷ [] ++ more))) told)
+    ⊎ ((more : List (List ℕ)) → RefusesLine (reads_on with_line 1 [] ((lines ++ taken) ++ (line ∷ [] ++ more))) told)
     → lines_of rest ≡ line ∷ lines_of behind → taken ++ lines_of rest ≡ lines_of text
     → (told ≡ failure.Memory) ⊎ (told ≡ failure.File)
-      ⊎ ((more : List (List ℕ)) → RefusesLine (reads_on with_line 1 [] (lines ++ (lines_of text ++ more))) told)
+    ⊎ ((more : List (List ℕ)) → RefusesLine (reads_on with_line 1 [] (lines ++ (lines_of text ++ more))) told)
 stop_at told line behind rest text lines taken (inl memory) first same = inl memory
 stop_at told line behind rest text lines taken (inr (inl file)) first same = inr (inl file)
 stop_at told line behind rest text lines taken (inr (inr refused)) first same =
     inr (inr (λ more. subst (λ all. RefusesLine (reads_on with_line 1 [] all) told)
-      (append_assoc lines taken (line ∷ (lines_of behind ++ more))
-        ∙ ap (λ all. lines ++ all) (sym (append_assoc taken (line ∷ lines_of behind) more)
-          ∙ ap (λ all. all ++ more) (ap (λ all. taken ++ all) (sym first) ∙ same)))
-      (refused (lines_of behind ++ more))))
+    (append_assoc lines taken (line ∷ (lines_of behind ++ more))
+    ∙ ap (λ all. lines ++ all) (sym (append_assoc taken (line ∷ lines_of behind) more)
+    ∙ ap (λ all. all ++ more) (ap (λ all. taken ++ all) (sym first) ∙ same)))
+    (refused (lines_of behind ++ more))))

@@ -1,6 +1,5 @@
 -- Schedules of the code as the definitions see them, and how a refused line is told.
 use Rattle.std.specs.Prelude.{◌≡◌, ℕ, Result, Err}
-use Rattle.lease_world.specs.declared.setup.Setup.{Setup}
 use Rattle.leasecheck.specs.Schedules.{Draft, Part}
 use Rattle.leasecheck.specs.declared.failure.Failure.{Failure}
 use Rattle.leasecheck.specs.declared.failure.Failure.TheVariants as failure

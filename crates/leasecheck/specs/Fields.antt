@@ -1,8 +1,7 @@
 -- The fields of a line, and what a field says.
-use Rattle.std.specs.Prelude.{ℕ, ◌+◌, ◌-◌, ◌*◌, ◌^◌, ◌==◌, ◌&&◌, nat_le, nat_lt, Bool, true, false, List, [], ◌∷◌, length, codes, bytes_eq, if◌then◌else◌, Option, Some, None, Result, Ok, Err}
+use Rattle.std.specs.Prelude.{ℕ, ◌+◌, ◌-◌, ◌*◌, ◌^◌, ◌==◌, ◌&&◌, nat_le, nat_lt, List, [], ◌∷◌, length, codes, bytes_eq, if◌then◌else◌, Option, Some, None}
 use Rattle.std.specs.Result.{result_ok}
 use Rattle.hex.specs.Hex.{decode_of}
-use Rattle.lease_state.specs.State.{State, state_of_bits}
 use Rattle.lease_state.specs.declared.access.Access.{Access}
 use Rattle.lease_state.specs.declared.access.Access.TheVariants as access
 use Rattle.lease_state.specs.declared.access.Share.{Share}

@@ -1,5 +1,5 @@
 -- What a judge of a text has read of it.
-use Rattle.std.specs.Prelude.{◌≡◌, ◌⊎◌, ◌+◌, ◌++◌, ℕ, map, List, [], ◌∷◌, Option, Some, None, Result, Ok, Err, MatchResult, IfSome, MatchOption}
+use Rattle.std.specs.Prelude.{◌≡◌, ◌⊎◌, ◌++◌, ℕ, map, List, [], Option, Some, None, Result, Ok, MatchResult, IfSome}
 use Rattle.lease_model.specs.records.Verdict.{verdict}
 use Rattle.lease_world.specs.Facts.{fact_of}
 use Rattle.lease_world.specs.Verdicts.{verdict_of}

@@ -1,5 +1,5 @@
 -- Texts that are read line by line.
-use Rattle.std.specs.Prelude.{ℕ, ◌+◌, ◌==◌, Bool, true, false, List, [], ◌∷◌, Option, Some, None, Result, Ok, Err}
+use Rattle.std.specs.Prelude.{ℕ, ◌+◌, ◌==◌, Bool, true, List, [], ◌∷◌, Option, Some, None, Result, Ok, Err}
 
 -- an empty line, or a remark, counts for nothing but its number
 abbrev pub is_passed_over : List ℕ → Bool

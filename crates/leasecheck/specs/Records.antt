@@ -1,5 +1,5 @@
 -- Records as texts: the line of each fact, and what a line tells.
-use Rattle.std.specs.Prelude.{ℕ, ◌+◌, ◌++◌, nat_le, Bool, true, false, List, [], ◌∷◌, length, codes, bytes_eq, if◌then◌else◌, Option, Some, None, Result}
+use Rattle.std.specs.Prelude.{ℕ, ◌++◌, Bool, true, false, List, [], ◌∷◌, codes, bytes_eq, if◌then◌else◌, Option, Some, None, Result}
 use Rattle.std.specs.Fmt.{decimal}
 use Rattle.std.specs.List.{flat_map}
 use Rattle.hex.specs.Hex.{encode_lower}
@@ -10,7 +10,7 @@ use Rattle.lease_client.specs.declared.note.Settlement.TheVariants as settlement
 use Rattle.lease_world.specs.declared.fact.Fact.{Fact}
 use Rattle.lease_world.specs.declared.fact.Fact.TheVariants as fact
 use Rattle.leasecheck.specs.Pieces.{fields_of, lines_of}
-use Rattle.leasecheck.specs.Fields.{Words, Taking, and_then, one, whole, ordinal_in, number_in, bytes_in, content_in, state_in, patch_in}
+use Rattle.leasecheck.specs.Fields.{Taking, and_then, one, whole, ordinal_in, number_in, bytes_in, content_in, state_in, patch_in}
 use Rattle.leasecheck.specs.Reading.{reads_on, is_passed_over}
 use Rattle.leasecheck.specs.Words.{state_word}
 

@@ -1,5 +1,5 @@
 -- Schedules as texts: what a line asks for, and what a whole text does.
-use Rattle.std.specs.Prelude.{ℕ, ◌+◌, ◌++◌, Bool, true, false, List, [], ◌∷◌, codes, bytes_eq, if◌then◌else◌, Option, Some, None, Result, Ok, Err}
+use Rattle.std.specs.Prelude.{ℕ, ◌++◌, Bool, true, false, List, [], ◌∷◌, codes, bytes_eq, if◌then◌else◌, Option, Some, None, Result}
 use Rattle.std.specs.Result.{result_ok}
 use Rattle.hex.specs.Hex.{decode_sized}
 use Rattle.uuid.specs.Text.{parsed}
@@ -10,7 +10,7 @@ use Rattle.lease_client.specs.declared.command.Command.TheVariants as command
 use Rattle.lease_world.specs.declared.setup.Event.{Event}
 use Rattle.lease_world.specs.declared.setup.Event.TheVariants as event
 use Rattle.leasecheck.specs.Pieces.{fields_of, lines_of}
-use Rattle.leasecheck.specs.Fields.{Words, Taking, and_then, with_rest, one, whole, ordinal_in, number_in, bytes_in, content_in, access_in, share_in, state_in, patch_in}
+use Rattle.leasecheck.specs.Fields.{Taking, and_then, with_rest, one, whole, ordinal_in, number_in, bytes_in, content_in, access_in, share_in, state_in, patch_in}
 use Rattle.leasecheck.specs.Reading.{reads_on, is_passed_over}
 
 -- the word behind a durable open, which others lack

@@ -1,5 +1,5 @@
 -- What a call takes from the fields of a line.
-use Rattle.std.specs.Prelude.{◌≡◌, Option, Some, None, Result, MatchResult}
+use Rattle.std.specs.Prelude.{◌≡◌, Some, None, Result, MatchResult}
 use Rattle.leasecheck.specs.Fields.{Taking, Words}
 use Rattle.leasecheck.specs.declared.fields.LineFault.{LineFault}
 use Rattle.leasecheck.specs.declared.fields.LineFault.TheVariants.{Refused}

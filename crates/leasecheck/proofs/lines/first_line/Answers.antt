@@ -1,4 +1,4 @@
-use Rattle.std.proofs.Common.{arith, refl, [], ◌∷◌}
+use Rattle.std.proofs.Common.{arith, refl, []}
 use Rattle.std.proofs.lemmas.Bool.Decides.{nat_tests}
 use Rattle.leasecheck.specs.Pieces.{pieces}
 use Rattle.leasecheck.proofs.Cut.{pieces_found, lines_whole}

@@ -1,7 +1,7 @@
-use Rattle.std.proofs.Common.{◌≡◌, ◌⊎◌, List, ℕ, [], ◌++◌, Option, Some, None, inl, inr, refl, sym, ◌∙◌, subst, ap}
-use Rattle.std.specs.Prelude.{⊤, IfSome}
+use Rattle.std.proofs.Common.{◌≡◌, ◌⊎◌, List, ℕ, [], ◌++◌, Option, Some, None, inl, inr, ◌∙◌, subst, ap}
+use Rattle.std.specs.Prelude.{IfSome}
 use Rattle.leasecheck.specs.Replayed.{replay_refusal}
-use Rattle.leasecheck.specs.Refusals.{MayAlways, MayOf, known_refusal}
+use Rattle.leasecheck.specs.Refusals.{MayOf, known_refusal}
 use Rattle.leasecheck.specs.declared.failure.Failure.{Failure}
 use Rattle.leasecheck.specs.declared.failure.Failure.TheVariants.{Memory}
 use Rattle.leasecheck.proofs.printing.replayed.Goals as goal

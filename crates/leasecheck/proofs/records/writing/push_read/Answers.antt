@@ -1,4 +1,4 @@
-use Rattle.std.proofs.Common.{◌≡◌, ◌++◌, List, ℕ, Result, Ok, Err, OnOk, ap, sym, refl, ◌∙◌, append_assoc, codes}
+use Rattle.std.proofs.Common.{◌≡◌, ◌++◌, List, ℕ, Result, Ok, Err, OnOk, ap, ◌∙◌, append_assoc, codes}
 use Rattle.std.specs.String.{string_bytes}
 use Rattle.leasecheck.specs.Records.{pair_words, read_words}
 use Rattle.leasecheck.proofs.records.writing.push_read.Goals as goal

@@ -1,4 +1,4 @@
-use Rattle.std.proofs.Common.{◌≡◌, List, ℕ, Option, Some, None, refl, sym, true≢false}
+use Rattle.std.proofs.Common.{◌≡◌, Option, Some, None, refl, sym, true≢false}
 use Rattle.leasecheck.proofs.schedules.reading.guid_of.Goals as goal
 
 none_else : {X : Type 0} (o : Option X) → ((u : X) → o ≡ Some u → ⊥) → None ≡ o
