@@ -3,7 +3,7 @@ ghost use Rattle.lease_world.specs.Facts.{fact_of};
 ghost use Rattle.lease_world.specs.declared.fact.Fact.{Fact};
 ghost use Rattle.lease_world.specs.judge.Judged.{HasJudged};
 ghost use Rattle.leasecheck.specs.Pieces.{lines_of};
-ghost use Rattle.leasecheck.specs.Judging.{HasRead, TakesLine, ReadsMore, JudgesText, TakesLines};
+ghost use Rattle.leasecheck.specs.Judging.{HasRead, TakesLine, ReadsMore};
 ghost use Rattle.std.specs.String.{string_bytes};
 ghost use Rattle.leasecheck.specs.Refusals.{MayAlways};
 ghost use Rattle.leasecheck.specs.Replayed.{verdict_line, status_of};
