@@ -1,4 +1,4 @@
-ghost use Rattle.std.specs.Prelude.{◌≡◌, ◌≢◌, ◌≤◌, IsErr};
+ghost use Rattle.std.specs.Prelude.{◌≡◌, ◌≢◌, ◌≤◌, ◌⊎◌, IsErr};
 ghost use Rattle.std.specs.String.{string_bytes};
 ghost use Rattle.std.specs.Io.KnownBytes.{Appends, Keeps};
 
@@ -43,7 +43,7 @@ fn perform_on_file<R: Files + Input + AllocGlobal, O: Write, F: Write>(
     faults: &mut F,
 ) -> u8
     ensures silent { result ≢ 1 → Keeps (F.contents faults.old) (F.contents faults.new) }
-    ensures status { result ≢ 2 }
+    ensures status { (result ≤ 1) ⊎ (result ≡ 3) }
 {
     let alloc = rt.alloc();
     match asked.path() {
@@ -74,6 +74,7 @@ pub fn run_words<R: Files + Input + AllocGlobal, O: Write, F: Write>(
     out: &mut O,
     faults: &mut F,
 ) -> u8
+    ensures status { result ≤ 3 }
     ensures silent { result ≡ 0 → Keeps (F.contents faults.old) (F.contents faults.new) }
     ensures refused { result ≡ 2 → Keeps (O.contents out.old) (O.contents out.new) }
     ensures unread { IsErr given → result ≡ 2 }
