@@ -9,10 +9,14 @@ pub mod KeyOrder
 pub mod LeaseTable
 pub mod Losing
 pub mod NewTables
+pub mod Ordering
 pub mod Passing
 pub mod Places
+pub mod Recording
 pub mod Refusing
 pub mod Rounds
 pub mod Sending
 pub mod Standing
+pub mod Summing
+pub mod Tallies
 pub mod Wanting

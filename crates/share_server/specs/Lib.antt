@@ -1,11 +1,14 @@
 pub mod Closing
 pub mod Findings
+pub mod KeyOrder
 pub mod Laws
 pub mod Leases
 pub mod Looks
 pub mod Outs
 pub mod Passing
 pub mod Requests
+pub mod Summaries
 pub mod Table
+pub mod Tallies
 pub mod Wishes
 pub mod Written

@@ -35,6 +35,7 @@ mod arrival;
 mod attempt;
 mod calls;
 mod closing;
+mod file_summary;
 mod finding;
 mod grant;
 mod key;
@@ -48,7 +49,9 @@ mod passes;
 mod request;
 mod server;
 mod state;
+mod summaries;
 mod tables;
+mod tally;
 #[cfg(test)]
 mod tests;
 mod want;

@@ -1,0 +1,70 @@
+-- Keys in the order in which maps keep them: equal where they are one key, and less where the one is broken before.
+use Rattle.std.proofs.Common.{◌≡◌, ℕ, Bool, true, false, List, [], ◌∷◌, refl, ap, sym, ◌∙◌, arith}
+use Rattle.std.specs.Prelude.{◌==◌, ◌&&◌, ◌||◌, nat_lt, bytes_eq, Option, Some, None, is_some}
+use Rattle.std.specs.Ordering.{is_eq, is_lt, nat_cmp}
+use Rattle.std.specs.Cmp.Lexicographic.{slice_cmp}
+use Rattle.std.proofs.lemmas.Bool.Decides.{nat_tests}
+use Rattle.lease_model.specs.server.Naming.{key_of, key_under, key_of_open}
+use Rattle.lease_model.specs.server.State.{Open, is_key, has_key}
+use Rattle.lease_model.specs.values.Keys.{Key, key_eq, key_before, bytes_before}
+use Rattle.share_server.specs.KeyOrder.{key_order}
+
+bytes_same : (xs ys : List ℕ) → is_eq (slice_cmp nat_cmp xs ys) ≡ bytes_eq xs ys
+bytes_same [] [] = refl
+bytes_same [] (y ∷ ys) = refl
+bytes_same (x ∷ xs) [] = refl
+bytes_same (x ∷ xs) (y ∷ ys) = let e = bytes_same xs ys in grind (arith, nat_tests, e)
+
+bytes_less : (xs ys : List ℕ) → is_lt (slice_cmp nat_cmp xs ys) ≡ bytes_before xs ys
+unfolding bytes_before
+bytes_less [] [] = refl
+bytes_less [] (y ∷ ys) = refl
+bytes_less (x ∷ xs) [] = refl
+bytes_less (x ∷ xs) (y ∷ ys) = let e = bytes_less xs ys in grind (arith, nat_tests, e)
+
+pub order_eq : (one other : Key) → is_eq (key_order one other) ≡ key_eq one other
+unfolding key_eq
+order_eq one other = let e = bytes_same one.bytes other.bytes in grind (arith, nat_tests, e)
+
+pub order_before : (one other : Key) → is_lt (key_order one other) ≡ key_before one other
+unfolding key_before
+order_before one other = let e = bytes_less one.bytes other.bytes in grind (arith, nat_tests, e)
+
+bytes_same-back : (xs ys : List ℕ) → is_eq (slice_cmp nat_cmp xs ys) ≡ bytes_eq ys xs
+bytes_same-back [] [] = refl
+bytes_same-back [] (y ∷ ys) = refl
+bytes_same-back (x ∷ xs) [] = refl
+bytes_same-back (x ∷ xs) (y ∷ ys) = let e = bytes_same-back xs ys in grind (arith, nat_tests, e)
+
+pub order_eq-back : (one other : Key) → is_eq (key_order one other) ≡ key_eq other one
+unfolding key_eq
+order_eq-back one other = let e = bytes_same-back one.bytes other.bytes in grind (arith, nat_tests, e)
+
+-- whether an open has a key, by the key that it has
+has_key_by : (client : ℕ) (bytes : Option (List ℕ)) (own key : Key) → key_under client bytes ≡ Some own
+    → is_key key client bytes ≡ key_eq key own
+unfolding key_eq
+has_key_by client None own key e = absurd (cc e)
+has_key_by client (Some bytes) own key e =
+    let same : key_of client bytes ≡ own = some_same e in rw (sym same) refl
+  where
+    some_same : {X : Type 0} {x y : X} → Some x ≡ Some y → x ≡ y
+    some_same e = cc e
+
+pub has_key_own : (one : Open) (own key : Key) → key_of_open one ≡ Some own → has_key key one ≡ key_eq key own
+has_key_own one own key e = has_key_by one.client one.lease_key own key e
+
+has_none_by : (client : ℕ) (bytes : Option (List ℕ)) (key : Key) → key_under client bytes ≡ None
+    → is_key key client bytes ≡ false
+has_none_by client None key e = refl
+has_none_by client (Some bytes) key e = absurd (cc e)
+
+pub has_key_none : (one : Open) (key : Key) → key_of_open one ≡ None → has_key key one ≡ false
+has_key_none one key e = has_none_by one.client one.lease_key key e
+
+keyed_by : (client : ℕ) (bytes : Option (List ℕ)) → is_some (key_under client bytes) ≡ is_some bytes
+keyed_by client None = refl
+keyed_by client (Some bytes) = refl
+
+pub keyed : (one : Open) → is_some (key_of_open one) ≡ is_some one.lease_key
+keyed one = keyed_by one.client one.lease_key

@@ -1,0 +1,374 @@
+-- How lease records and file summaries follow the list of opens: with one open more or less, and with another lease.
+use Rattle.std.proofs.Common.{◌≡◌, ℕ, ◌+◌, ◌^◌, ◌<◌, ◌≤◌, Bool, true, false, not, cond, List, [], ◌∷◌, ◌++◌, length, refl, ap, sym, ◌∙◌, arith, subst}
+use Rattle.std.specs.Prelude.{if◌then◌else◌, ◌&&◌, ◌||◌, ◌==◌, is_some, Option, Some, None}
+use Rattle.std.specs.BTreeMap.{BTreeMap, Updates, get}
+use Rattle.std.specs.List.{list_any}
+use Rattle.std.specs.Ordering.{is_eq, nat_cmp}
+use Rattle.std.proofs.lemmas.Bool.Decides.{nat_tests, Decides-eqb}
+use Rattle.lease_state.specs.Access.{uses_of, allowed_by}
+use Rattle.lease_state.specs.declared.number.FileNo.{FileNo}
+use Rattle.lease_model.specs.server.State.{Open, Lease, has_key}
+use Rattle.lease_model.specs.values.Keys.{Key, key_eq}
+use Rattle.share_server.specs.Looks.{is_elsewhere}
+use Rattle.share_server.specs.Summaries.{IsOneMore, file_order, is_on, has_key_on, is_keyless_on, SumsUp, IsSummary, SummaryFits, Gains, Loses, Writes, AreAfter, AreLeft, IsPut}
+use Rattle.share_server.specs.Tallies.{count, tally_of, raised, lowered, tally_raised, tally_lowered}
+use Rattle.share_server.specs.declared.file_summary.FileSummary.{FileSummary}
+use Rattle.share_server.specs.declared.tally.Tally.{Tally}
+use Rattle.share_server.proofs.Tallies.{count_more, any_more, count_less}
+
+-- ---- one open more
+
+pub counts : (test : Open → Bool) (one : Open) (less more : List Open) → IsOneMore one less more
+    → count test more ≡ count test less + (if test one then 1 else 0)
+counts test one less more m = rw (m.is_less, m.is_more) (count_more test m.before m.behind one)
+
+pub anys : (test : Open → Bool) (one : Open) (less more : List Open) → IsOneMore one less more
+    → list_any test more ≡ (test one || list_any test less)
+anys test one less more m = rw (m.is_less, m.is_more) (any_more test m.before m.behind one)
+
+raise_count : (test : Open → Bool) (one : Open) (less more : List Open) (b : Bool) → IsOneMore one less more
+    → length more < 2 ^ 64 → test one ≡ b → raised b (count test less) ≡ count test more
+raise_count test one less more true m short is =
+    let e = counts test one less more m in
+    let many = count_less test more in
+    grind (arith, nat_tests, e, many, is, short)
+raise_count test one less more false m short is =
+    let e = counts test one less more m in
+    grind (arith, e, is)
+
+lower_count : (test : Open → Bool) (one : Open) (less more : List Open) (b : Bool) → IsOneMore one less more
+    → test one ≡ b → lowered b (count test more) ≡ count test less
+lower_count test one less more true m is = let e = counts test one less more m in grind (arith, e, is)
+lower_count test one less more false m is = let e = counts test one less more m in grind (arith, e, is)
+
+both : (a b : Bool) → a ≡ true → (a && b) ≡ b
+both a b e = rw e refl
+
+tally_same : (a b c d e v w x y z : ℕ) → a ≡ v → b ≡ w → c ≡ x → d ≡ y → e ≡ z
+    → let one : Tally = record { opens = a; reads = b; writes = c; refuses_reads = d; refuses_writes = e } in
+    one ≡ record { opens = v; reads = w; writes = x; refuses_reads = y; refuses_writes = z }
+tally_same a b c d e v w x y z f g h i j = rw (f, g, h, i, j) refl
+
+pub raise_tally : (test : Open → Bool) (one : Open) (less more : List Open) → IsOneMore one less more
+    → length more < 2 ^ 64 → test one ≡ true → tally_raised one (tally_of test less) ≡ tally_of test more
+raise_tally test one less more m short is =
+    tally_same _ _ _ _ _ _ _ _ _ _
+    (raise_count test one less more true m short is)
+    (raise_count _ one less more _ m short (both (test one) (uses_of one.access).read is))
+    (raise_count _ one less more _ m short (both (test one) (uses_of one.access).write is))
+    (raise_count _ one less more _ m short (both (test one) (not (allowed_by one.share).read) is))
+    (raise_count _ one less more _ m short (both (test one) (not (allowed_by one.share).write) is))
+
+pub lower_tally : (test : Open → Bool) (one : Open) (less more : List Open) → IsOneMore one less more
+    → test one ≡ true → tally_lowered one (tally_of test more) ≡ tally_of test less
+lower_tally test one less more m is =
+    tally_same _ _ _ _ _ _ _ _ _ _
+    (lower_count test one less more true m is)
+    (lower_count _ one less more _ m (both (test one) (uses_of one.access).read is))
+    (lower_count _ one less more _ m (both (test one) (uses_of one.access).write is))
+    (lower_count _ one less more _ m (both (test one) (not (allowed_by one.share).read) is))
+    (lower_count _ one less more _ m (both (test one) (not (allowed_by one.share).write) is))
+
+same_count : (test other : Open → Bool) (one : Open) (less more : List Open) → IsOneMore one less more
+    → test one ≡ false → count (λ x. test x && other x) less ≡ count (λ x. test x && other x) more
+same_count test other one less more m is =
+    let e = counts (λ x. test x && other x) one less more m in grind (arith, e, is)
+
+plain_count : (test : Open → Bool) (one : Open) (less more : List Open) → IsOneMore one less more
+    → test one ≡ false → count test less ≡ count test more
+plain_count test one less more m is = let e = counts test one less more m in grind (arith, e, is)
+
+pub keep_tally : (test : Open → Bool) (one : Open) (less more : List Open) → IsOneMore one less more
+    → test one ≡ false → tally_of test less ≡ tally_of test more
+keep_tally test one less more m is =
+    tally_same _ _ _ _ _ _ _ _ _ _
+    (plain_count test one less more m is)
+    (same_count test (λ x. (uses_of x.access).read) one less more m is)
+    (same_count test (λ x. (uses_of x.access).write) one less more m is)
+    (same_count test (λ x. not (allowed_by x.share).read) one less more m is)
+    (same_count test (λ x. not (allowed_by x.share).write) one less more m is)
+
+-- ---- file summaries
+
+pub on_itself : (n : ℕ) → (n == n) ≡ true
+on_itself n = (Decides-eqb n n).1 refl
+
+pub gains_sums_up : (one : Open) (writes : Bool) (old new : FileSummary) (less more : List Open) (leases later : Key → Lease)
+    → IsOneMore one less more → length more < 2 ^ 64 → AreAfter one writes less leases later
+    → SumsUp one.file less leases old → Gains one writes old new → SumsUp one.file more later new
+gains_sums_up one writes old new less more leases later m short after s g = record {
+  tally = g.tally ∙ (ap (tally_raised one) s.tally
+      ∙ raise_tally (is_on one.file) one less more m short (on_itself one.file));
+  keys = λ key.
+      let now = g.keys key in
+      let was = s.keys key in
+      let e = anys (has_key_on one.file key) one less more m in
+      let here = on_itself one.file in
+      grind (arith, now, was, e, here);
+  keyless = g.keyless ∙ (ap (raised (not (is_some one.lease_key))) s.keyless
+      ∙ raise_count (is_keyless_on one.file) one less more (not (is_some one.lease_key)) m short
+      (both (one.file == one.file) (not (is_some one.lease_key)) (on_itself one.file)));
+  writers = λ key.
+      let now = g.writers key in
+      let was = s.writers key in
+      let e = anys (has_key_on one.file key) one less more m in
+      let here = on_itself one.file in
+      let same = after.same key in
+      let own = after.own key in
+      gained (has_key key one) (list_any (has_key_on one.file key) less) (list_any (has_key_on one.file key) more)
+      writes (leases key) (later key) _ _ now was (rw here at e) same own;
+}
+  where
+    gained : (has any_less any_more writes : Bool) (old new : Lease) (was now : Bool)
+        → now ≡ (if has then writes else was) → was ≡ (any_less && old.state.write)
+        → any_more ≡ (has || any_less) → (has ≡ false → new ≡ old) → (has ≡ true → new.state.write ≡ writes)
+        → now ≡ (any_more && new.state.write)
+    gained true any_less any_more writes old new was now a b c d e =
+        let f = e refl in rw (a, c, f) refl
+    gained false any_less any_more writes old new was now a b c d e =
+        let f = d refl in rw (a, b, c, f) refl
+
+-- on another file
+elsewhere_none : (key : Key) (file at : ℕ) (opens : List Open) → (at == file) ≡ false
+    → list_any (is_elsewhere key at) opens ≡ false → list_any (has_key_on file key) opens ≡ false
+elsewhere_none key file at [] apart none = refl
+elsewhere_none key file at (one ∷ opens) apart none =
+    let e = elsewhere_none key file at opens apart in grind (arith, nat_tests, e)
+
+pub sums_up_apart : (one : Open) (writes : Bool) (file : ℕ) (summary : FileSummary) (less more : List Open) (leases later : Key → Lease)
+    → IsOneMore one less more → is_on file one ≡ false → AreAfter one writes less leases later
+    → SumsUp file less leases summary → SumsUp file more later summary
+sums_up_apart one writes file summary less more leases later m apart after s = record {
+  tally = s.tally ∙ keep_tally (is_on file) one less more m apart;
+  keys = λ key.
+      let was = s.keys key in
+      let e = anys (has_key_on file key) one less more m in
+      grind (arith, was, e, apart);
+  keyless = s.keyless ∙ same_count (is_on file) (λ x. not (is_some x.lease_key)) one less more m apart;
+  writers = λ key.
+      let was = s.writers key in
+      let e = anys (has_key_on file key) one less more m in
+      let none = elsewhere_none key file one.file less apart in
+      stays (has_key key one) (list_any (has_key_on file key) less) (list_any (has_key_on file key) more)
+      (leases key) (later key) _ was (rw apart at e) (after.same key) (λ has. none (after.home key has));
+}
+  where
+    stays : (has any_less any_more : Bool) (old new : Lease) (was : Bool) → was ≡ (any_less && old.state.write)
+        → any_more ≡ any_less → (has ≡ false → new ≡ old) → (has ≡ true → any_less ≡ false)
+        → was ≡ (any_more && new.state.write)
+    stays true any_less any_more old new was a b c d = let e = d refl in rw (a, b, e) refl
+    stays false any_less any_more old new was a b c d = let e = c refl in rw (a, b, e) refl
+
+and_on : (b : Bool) → (b && true) ≡ b
+and_on true = refl
+and_on false = refl
+
+and_off : (b : Bool) → (b && false) ≡ false
+and_off true = refl
+and_off false = refl
+
+has_on : (key : Key) (file : ℕ) (opens : List Open) → list_any (has_key_on file key) opens ≡ true
+    → list_any (has_key key) opens ≡ true
+has_on key file [] some = some
+has_on key file (one ∷ opens) some = let e = has_on key file opens in grind (arith, e, some)
+
+pub loses_sums_up : (one : Open) (last : Bool) (old new : FileSummary) (less more : List Open) (leases later : Key → Lease)
+    → IsOneMore one less more → AreLeft less leases later
+    → ((key : Key) → has_key key one ≡ true → last ≡ not (list_any (has_key_on one.file key) less))
+    → SumsUp one.file more leases old → Loses one last old new → SumsUp one.file less later new
+loses_sums_up one last old new less more leases later m left is_last s l = record {
+  tally = l.tally ∙ (ap (tally_lowered one) s.tally
+      ∙ lower_tally (is_on one.file) one less more m (on_itself one.file));
+  keys = λ key.
+      let now = l.keys key in
+      let was = s.keys key in
+      let e = anys (has_key_on one.file key) one less more m in
+      let here = on_itself one.file in
+      lost_key (has_key key one) (list_any (has_key_on one.file key) less) (list_any (has_key_on one.file key) more)
+      last _ _ now was (rw here at e) (is_last key);
+  keyless = l.keyless ∙ (ap (lowered (not (is_some one.lease_key))) s.keyless
+      ∙ lower_count (is_keyless_on one.file) one less more (not (is_some one.lease_key)) m
+      (both (one.file == one.file) (not (is_some one.lease_key)) (on_itself one.file)));
+  writers = λ key.
+      let now = l.writers key in
+      let was = s.writers key in
+      let e = anys (has_key_on one.file key) one less more m in
+      let here = on_itself one.file in
+      lost_writer (has_key key one) (list_any (has_key_on one.file key) less)
+      (list_any (has_key_on one.file key) more) last (leases key) (later key) _ _ now was (rw here at e) (is_last key)
+      (λ some. left key (has_on key one.file less some));
+}
+  where
+    lost_key : (has any_less any_more last : Bool) (was now : Bool)
+        → now ≡ (was && not (has && last)) → was ≡ any_more
+        → any_more ≡ (has || any_less) → (has ≡ true → last ≡ not any_less)
+        → now ≡ any_less
+    lost_key true true any_more last was now a b c d = let f = d refl in rw (a, b, c, f) refl
+    lost_key true false any_more last was now a b c d = let f = d refl in rw (a, b, c, f) refl
+    lost_key false true any_more last was now a b c d = rw (a, b, c) refl
+    lost_key false false any_more last was now a b c d = rw (a, b, c) refl
+    lost_writer : (has any_less any_more last : Bool) (old new : Lease) (was now : Bool)
+        → now ≡ (was && not (has && last)) → was ≡ (any_more && old.state.write)
+        → any_more ≡ (has || any_less) → (has ≡ true → last ≡ not any_less) → (any_less ≡ true → new ≡ old)
+        → now ≡ (any_less && new.state.write)
+    lost_writer true true any_more last old new was now a b c d e =
+        let f = d refl in let g = e refl in rw (a, b, c, f, g) (and_on old.state.write)
+    lost_writer true false any_more last old new was now a b c d e =
+        let f = d refl in rw (a, b, c, f) (and_off old.state.write)
+    lost_writer false true any_more last old new was now a b c d e =
+        let g = e refl in rw (a, b, c, g) (and_on old.state.write)
+    lost_writer false false any_more last old new was now a b c d e = rw (a, b, c) refl
+
+pub sums_up_away : (one : Open) (file : ℕ) (summary : FileSummary) (less more : List Open) (leases later : Key → Lease)
+    → IsOneMore one less more → is_on file one ≡ false → AreLeft less leases later
+    → SumsUp file more leases summary → SumsUp file less later summary
+sums_up_away one file summary less more leases later m apart left s = record {
+  tally = s.tally ∙ sym (keep_tally (is_on file) one less more m apart);
+  keys = λ key.
+      let was = s.keys key in
+      let e = anys (has_key_on file key) one less more m in
+      grind (arith, was, e, apart);
+  keyless = s.keyless ∙ sym (same_count (is_on file) (λ x. not (is_some x.lease_key)) one less more m apart);
+  writers = λ key.
+      let was = s.writers key in
+      let e = anys (has_key_on file key) one less more m in
+      stays (list_any (has_key_on file key) less) (list_any (has_key_on file key) more)
+      (leases key) (later key) _ was (rw apart at e) (λ some. left key (has_on key file less some));
+}
+  where
+    stays : (any_less any_more : Bool) (old new : Lease) (was : Bool) → was ≡ (any_more && old.state.write)
+        → any_more ≡ any_less → (any_less ≡ true → new ≡ old)
+        → was ≡ (any_less && new.state.write)
+    stays true any_more old new was a c d = let e = d refl in rw (a, c, e) refl
+    stays false any_more old new was a c d = rw (a, c) refl
+
+-- ---- another lease of a key
+
+pub writes_sums_up : (file : ℕ) (key : Key) (writes : Bool) (old new : FileSummary) (opens : List Open)
+    (leases later : Key → Lease)
+    → IsPut key writes leases later
+    → ((other : Key) → key_eq other key ≡ true → list_any (has_key_on file other) opens ≡ true)
+    → SumsUp file opens leases old → Writes key writes old new → SumsUp file opens later new
+writes_sums_up file key writes old new opens leases later put there s w = record {
+  tally = w.tally ∙ s.tally;
+  keys = λ other. rw w.keys (s.keys other);
+  keyless = w.keyless ∙ s.keyless;
+  writers = λ other. written (key_eq other key) (list_any (has_key_on file other) opens) writes (leases other)
+      (later other) _ _ (w.writers other) (s.writers other) (put.0 other) (put.1 other) (there other);
+}
+  where
+    written : (is any writes : Bool) (old new : Lease) (was now : Bool)
+        → now ≡ (if is then writes else was) → was ≡ (any && old.state.write)
+        → (is ≡ false → new ≡ old) → (is ≡ true → new.state.write ≡ writes) → (is ≡ true → any ≡ true)
+        → now ≡ (any && new.state.write)
+    written true any writes old new was now a b c d e =
+        let f = d refl in let g = e refl in rw (a, f, g) refl
+    written false any writes old new was now a b c d e = let f = c refl in rw (a, b, f) refl
+
+pub sums_up_written : (file : ℕ) (key : Key) (writes : Bool) (summary : FileSummary) (opens : List Open)
+    (leases later : Key → Lease)
+    → IsPut key writes leases later
+    → ((other : Key) → key_eq other key ≡ true → list_any (has_key_on file other) opens ≡ false)
+    → SumsUp file opens leases summary → SumsUp file opens later summary
+sums_up_written file key writes summary opens leases later put none s = record {
+  tally = s.tally;
+  keys = s.keys;
+  keyless = s.keyless;
+  writers = λ other. written (key_eq other key) (list_any (has_key_on file other) opens) (leases other)
+      (later other) _ (s.writers other) (put.0 other) (none other);
+}
+  where
+    written : (is any : Bool) (old new : Lease) (was : Bool)
+        → was ≡ (any && old.state.write)
+        → (is ≡ false → new ≡ old) → (is ≡ true → any ≡ false)
+        → was ≡ (any && new.state.write)
+    written true any old new was b c e = let g = e refl in rw (b, g) refl
+    written false any old new was b c e = let f = c refl in rw (b, f) refl
+
+-- ---- the map of summaries
+
+used_more : (test : Open → Bool) (one : Open) (less more : List Open) → IsOneMore one less more → test one ≡ true
+    → list_any test more ≡ true
+used_more test one less more m is = let e = anys test one less more m in grind (arith, e, is)
+
+used_same : (test : Open → Bool) (one : Open) (less more : List Open) (b : Bool) → IsOneMore one less more
+    → test one ≡ false → list_any test less ≡ b → list_any test more ≡ b
+used_same test one less more b m is was = let e = anys test one less more m in grind (arith, e, is, was)
+
+used_back : (test : Open → Bool) (one : Open) (less more : List Open) (b : Bool) → IsOneMore one less more
+    → test one ≡ false → list_any test more ≡ b → list_any test less ≡ b
+used_back test one less more b m is was = let e = anys test one less more m in grind (arith, e, is, was)
+
+fits_apart : (one : Open) (writes : Bool) (file : ℕ) (known : Option FileSummary) (less more : List Open)
+    (leases later : Key → Lease)
+    → IsOneMore one less more → is_on file one ≡ false → AreAfter one writes less leases later
+    → SummaryFits file less leases known → SummaryFits file more later known
+fits_apart one writes file None less more leases later m apart after fits =
+    used_same (is_on file) one less more false m apart fits
+fits_apart one writes file (Some summary) less more leases later m apart after fits = record {
+  is_used = used_same (is_on file) one less more true m apart fits.is_used;
+  sums_up = sums_up_apart one writes file summary less more leases later m apart after fits.sums_up;
+}
+
+fits_away : (one : Open) (file : ℕ) (known : Option FileSummary) (less more : List Open)
+    (leases later : Key → Lease)
+    → IsOneMore one less more → is_on file one ≡ false → AreLeft less leases later
+    → SummaryFits file more leases known → SummaryFits file less later known
+fits_away one file None less more leases later m apart left fits =
+    used_back (is_on file) one less more false m apart fits
+fits_away one file (Some summary) less more leases later m apart left fits = record {
+  is_used = used_back (is_on file) one less more true m apart fits.is_used;
+  sums_up = sums_up_away one file summary less more leases later m apart left fits.sums_up;
+}
+
+-- the summaries before and after a change on one file
+pub record IsChangedAt (here : ℕ) (before after : FileNo → Option FileSummary) (known : Option FileSummary) : Type 0 where
+  pub there : after (record { 0 = here }) ≡ known
+  pub apart : (file : FileNo) → (file.0 == here) ≡ false → after file ≡ before file
+
+at_file : (P : FileNo → Type 0) (here : ℕ) → P (record { 0 = here })
+    → ((file : FileNo) → (file.0 == here) ≡ false → P file) → (file : FileNo) → P file
+at_file P here there apart file = by_case (file.0 == here) refl
+  where
+    by_case : (b : Bool) → (file.0 == here) ≡ b → P file
+    by_case true e = subst (λ n. P (record { 0 = n })) (sym ((Decides-eqb file.0 here).0 e)) there
+    by_case false e = apart file e
+
+flip : (a b : ℕ) (x : Bool) → (a == b) ≡ x → (b == a) ≡ x
+flip a b x e = grind (arith, nat_tests, e)
+
+pub summaries_gain : (one : Open) (writes : Bool) (before after : FileNo → Option FileSummary) (old new : FileSummary)
+    (less more : List Open) (leases later : Key → Lease)
+    → IsOneMore one less more → length more < 2 ^ 64 → AreAfter one writes less leases later
+    → SumsUp one.file less leases old → Gains one writes old new → IsChangedAt one.file before after (Some new)
+    → ((file : FileNo) → SummaryFits file.0 less leases (before file))
+    → (file : FileNo) → SummaryFits file.0 more later (after file)
+summaries_gain one writes before after old new less more leases later m short are s g changed fits =
+    at_file (λ file. SummaryFits file.0 more later (after file)) one.file
+    (subst (SummaryFits one.file more later) (sym changed.there) (record {
+      is_used = used_more (is_on one.file) one less more m (on_itself one.file);
+      sums_up = gains_sums_up one writes old new less more leases later m short are s g;
+    }))
+    (λ file apart. subst (SummaryFits file.0 more later) (sym (changed.apart file apart))
+    (fits_apart one writes file.0 (before file) less more leases later m (flip file.0 one.file false apart) are (fits file)))
+
+-- what fits where there is a summary sums up
+pub known_sums_up : (file : ℕ) (opens : List Open) (leases : Key → Lease) (known : Option FileSummary) (summary : FileSummary)
+    → known ≡ Some summary → SummaryFits file opens leases known → IsSummary file opens leases summary
+known_sums_up file opens leases known summary is fits = subst (SummaryFits file opens leases) is fits
+
+pub none_is_open : (file : ℕ) (opens : List Open) (leases : Key → Lease) (known : Option FileSummary)
+    → known ≡ None → SummaryFits file opens leases known → list_any (is_on file) opens ≡ false
+none_is_open file opens leases known is fits = subst (SummaryFits file opens leases) is fits
+
+file_apart : (a b : ℕ) → (a == b) ≡ false → is_eq (nat_cmp b a) ≡ false
+file_apart a b e = grind (arith, nat_tests, e)
+
+-- what a change of the map at one file is
+pub changed_at : (before after : BTreeMap FileNo FileSummary) (here : ℕ) (known : Option FileSummary)
+    → Updates file_order before after (record { 0 = here }) known
+    → IsChangedAt here (get file_order before) (get file_order after) known
+changed_at before after here known updates = record {
+  there = updates.1;
+  apart = λ file e. updates.2 file (file_apart file.0 here e);
+}

@@ -1,0 +1,27 @@
+use Rattle.std.proofs.Common.{◌∙◌, ap, sym, refl}
+use Rattle.std.specs.Prelude.{is_some}
+use Rattle.share_server.proofs.Ordering.{has_key_own, has_key_none, keyed}
+use Rattle.share_server.proofs.file_summary.FileSummary.gain.Goals as goal
+
+pub returns-in_ok-gain_key-in-Some : goal.returns-in_ok-gain_key-in-Some
+returns-in_ok-gain_key-in-Some c =
+    let own = sym c.key.ensures ∙ c.in-Some.is in
+    let has = sym (keyed c.args.one.now) ∙ ap is_some own in
+    record {
+      tally = c.in_ok-gain_key-in-Some.ensures.tally ∙ c.raised-self.ensures;
+      keyless = rw has c.in_ok-gain_key-in-Some.ensures.keyless;
+      keys = λ other. rw (has_key_own c.args.one.now c.in-Some.key other own) (c.in_ok-gain_key-in-Some.ensures.keys other);
+      writers = λ other.
+          rw (has_key_own c.args.one.now c.in-Some.key other own) (c.in_ok-gain_key-in-Some.ensures.writers other);
+    }
+
+pub returns-in-None : goal.returns-in-None
+returns-in-None c =
+    let own = sym c.key.ensures ∙ c.in-None.is in
+    let has = sym (keyed c.args.one.now) ∙ ap is_some own in
+    record {
+      tally = c.raised-self.ensures;
+      keyless = rw has c.saturating_add-self.ensures;
+      keys = λ other. rw (has_key_none c.args.one.now other own) refl;
+      writers = λ other. rw (has_key_none c.args.one.now other own) refl;
+    }

@@ -1,0 +1,120 @@
+ghost use Rattle.std.specs.Prelude.{◌≡◌, ◌<◌, ◌^◌, ◌+◌, ℕ, Bool, true, false, not, ◌&&◌, ◌||◌, if◌then◌else◌, nat_lt, List, length, OnOk};
+ghost use Rattle.std.specs.List.{list_any};
+ghost use Rattle.lease_model.specs.server.Allowed.{is_other_on};
+ghost use Rattle.lease_model.specs.server.State.{Open as ModelOpen, Lease as ModelLease, has_key};
+ghost use Rattle.lease_model.specs.values.Keys.{Key as ModelKey, key_eq};
+ghost use Rattle.std.specs.BTreeSet.{contains};
+ghost use Rattle.share_server.specs.KeyOrder.{key_order};
+ghost use Rattle.share_server.specs.Summaries.{IsOneMore, SumsUp, Gains, Loses, Writes, is_on};
+
+use crate::key::Key;
+use crate::open::Open;
+use crate::tally::Tally;
+use lease_state::Memory;
+use std::alloc::Global;
+use std::collections::BTreeSet;
+
+/// What a server keeps of a file that is open: counts of the opens on it, and their keys. An open
+/// without a key counts as a key of its own (own).
+#[derive(Debug, Drop)]
+pub struct FileSummary {
+    pub tally: Tally,
+    /// The keys of the opens, in the order in which their leases are broken.
+    pub keys: BTreeSet<Key>,
+    /// How many opens have no key.
+    pub keyless: u64,
+    /// Those of the keys whose leases hold `WRITE_CACHING`: one at most, by the laws of servers.
+    pub writers: BTreeSet<Key>,
+}
+
+impl FileSummary {
+    /// Of a file without an open.
+    pub fn new(alloc: Global) -> FileSummary
+        ensures { (file : ℕ) (opens : List ModelOpen) (leases : ModelKey → ModelLease)
+            → list_any (is_on file) opens ≡ false → SumsUp file opens leases result }
+    {
+        FileSummary {
+            tally: Tally::none(),
+            keys: BTreeSet::new(alloc),
+            keyless: 0,
+            writers: BTreeSet::new(alloc),
+        }
+    }
+
+    /// One more open, whose lease holds `WRITE_CACHING` or doesn't.
+    ///
+    /// # Errors
+    ///
+    /// `Memory` where there is none left for the keys.
+    pub fn gain(&mut self, one: &Open, writes: bool) -> Result<(), Memory>
+        ensures { OnOk result (Gains one.now writes self.old self.new) }
+    {
+        self.tally = self.tally.raised(one);
+        match one.key() {
+            Some(key) => {
+                self.gain_key(key, writes)?;
+                Ok(())
+            }
+            None => {
+                self.keyless = self.keyless.saturating_add(1);
+                Ok(())
+            }
+        }
+    }
+
+    // The key has an open.
+    fn gain_key(&mut self, key: Key, writes: bool) -> Result<(), Memory>
+        ensures tally { OnOk result (self.new.tally ≡ self.old.tally) }
+        ensures keyless { OnOk result (self.new.keyless ≡ self.old.keyless) }
+        ensures keys { OnOk result ((other : ModelKey) → contains key_order self.new.keys other
+            ≡ (key_eq other key || contains key_order self.old.keys other)) }
+        ensures writers { OnOk result ((other : ModelKey) → contains key_order self.new.writers other
+            ≡ (if key_eq other key then writes else contains key_order self.old.writers other)) }
+    {
+        self.keys.insert(key)?;
+        self.set_writer(key, writes)?;
+        Ok(())
+    }
+
+    /// One open less, the last of its key or not.
+    pub fn lose(&mut self, one: &Open, last: bool)
+        ensures { Loses one.now last self.old self.new }
+    {
+        self.tally = self.tally.lowered(one);
+        match one.key() {
+            Some(key) => self.lose_key(key, last),
+            None => self.keyless = self.keyless.saturating_sub(1),
+        }
+    }
+
+    // The key has an open less, its last or not.
+    fn lose_key(&mut self, key: Key, last: bool)
+        ensures tally { self.new.tally ≡ self.old.tally }
+        ensures keyless { self.new.keyless ≡ self.old.keyless }
+        ensures keys { (other : ModelKey) → contains key_order self.new.keys other
+            ≡ (contains key_order self.old.keys other && not (key_eq other key && last)) }
+        ensures writers { (other : ModelKey) → contains key_order self.new.writers other
+            ≡ (contains key_order self.old.writers other && not (key_eq other key && last)) }
+    {
+        if last {
+            self.keys.remove(&key);
+            self.writers.remove(&key);
+        }
+    }
+
+    /// The lease of the key holds `WRITE_CACHING`, or doesn't.
+    ///
+    /// # Errors
+    ///
+    /// `Memory` where there is none left for the keys.
+    pub fn set_writer(&mut self, key: Key, writes: bool) -> Result<(), Memory>
+        ensures { OnOk result (Writes key writes self.old self.new) }
+    {
+        if writes {
+            self.writers.insert(key)?;
+        } else {
+            self.writers.remove(&key);
+        }
+        Ok(())
+    }
+}
