@@ -1,5 +1,7 @@
+pub mod Agreeing
 pub mod Alike
 pub mod Arriving
+pub mod Asking
 pub mod Breaking
 pub mod Expiring
 pub mod FilePlaces

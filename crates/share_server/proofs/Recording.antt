@@ -3,8 +3,9 @@ use Rattle.std.proofs.Common.{◌≡◌, ℕ, ◌+◌, ◌^◌, ◌<◌, Bool, t
 use Rattle.std.specs.Prelude.{if◌then◌else◌, ◌&&◌, ◌||◌, ◌==◌, Option, Some, None}
 use Rattle.std.specs.BTreeMap.{BTreeMap, Updates, get}
 use Rattle.std.specs.List.{list_any}
-use Rattle.std.proofs.lemmas.Bool.Decides.{nat_tests}
+use Rattle.std.proofs.lemmas.Bool.Decides.{nat_tests, Decides-eqb}
 use Rattle.lease_state.specs.declared.number.FileNo.{FileNo}
+use Rattle.lease_model.specs.server.State as model
 use Rattle.lease_model.specs.server.State.{Open, has_key, no_lease}
 use Rattle.lease_model.specs.values.Keys.{Key, key_eq}
 use Rattle.lease_laws.proofs.server.Keys.{key_eq-same, key_eq-refl}
@@ -13,7 +14,7 @@ use Rattle.share_server.proofs.Ordering.{order_eq-back, has_key_own, has_key_non
 use Rattle.share_server.specs.KeyOrder.{key_order}
 use Rattle.share_server.specs.Leases.{lease_of}
 use Rattle.share_server.specs.Looks.{is_elsewhere}
-use Rattle.share_server.specs.Summaries.{IsOneMore, IsRecord, RecordFits, tally_in, lease_or_none, IsKeyChanged}
+use Rattle.share_server.specs.Summaries.{IsOneMore, IsRecord, RecordFits, tally_in, lease_or_none, has_key_on, IsKeyChanged, AreLeft}
 use Rattle.share_server.specs.Tallies.{count, tally_of, tally_raised, tally_lowered}
 use Rattle.share_server.specs.declared.lease.Lease.{Lease}
 use Rattle.share_server.specs.declared.summaries.LeaseRecord.{LeaseRecord}
@@ -235,3 +236,90 @@ tally_changed before after key known tally is same updates =
 pub and_no : (b : Bool) → (b && false) ≡ false
 and_no true = refl
 and_no false = refl
+
+-- ---- the file of a key
+
+pub on_file_alike : (key : Key) (file : ℕ) (opens : List Open) → list_any (is_elsewhere key file) opens ≡ false
+    → list_any (has_key_on file key) opens ≡ list_any (has_key key) opens
+on_file_alike key file [] home = refl
+on_file_alike key file (one ∷ opens) home = let e = on_file_alike key file opens in grind (arith, e, home)
+
+home_at : (has here : Bool) (rest : Bool) (all : Bool) → all ≡ ((has && not here) || rest) → all ≡ false → has ≡ true
+    → (here ≡ true) × (rest ≡ false)
+home_at has here rest all e none its = (grind (arith, e, none, its), grind (arith, e, none, its))
+
+pub home_of : (key : Key) (one : Open) (known : Option LeaseRecord) (less more : List Open)
+    → IsOneMore one less more → has_key key one ≡ true → RecordFits key more known
+    → list_any (is_elsewhere key one.file) less ≡ false
+home_of key one None less more m has fits =
+    let e = anys (has_key key) one less more m in
+    absurd (true≢false (sym (rw (has, fits) at e)))
+home_of key one (Some known) less more m has fits =
+    let e = anys (is_elsewhere key known.file.0) one less more m in
+    let both = home_at (has_key key one) (one.file == known.file.0) _ _ e fits.one_file has in
+    subst (λ n. list_any (is_elsewhere key n) less ≡ false) (sym ((Decides-eqb one.file known.file.0).0 both.0)) both.1
+
+pub lease_unused : (key : Key) (opens : List Open) (known : Option LeaseRecord) → RecordFits key opens known
+    → list_any (has_key key) opens ≡ false → lease_or_none known ≡ no_lease
+lease_unused key opens None fits unused = refl
+lease_unused key opens (Some known) fits unused = absurd (true≢false (sym fits.is_used ∙ unused))
+
+pub last_is : (key : Key) (one : Open) (known : LeaseRecord) (before : Key → Option LeaseRecord) (less more : List Open)
+    (b : Bool)
+    → key_of_open one ≡ Some key → IsOneMore one less more → before key ≡ Some known
+    → nat_eq (tally_lowered one known.tally).opens 0 ≡ b
+    → ((other : Key) → RecordFits other more (before other)) → list_any (has_key key) less ≡ not b
+last_is key one known before less more b own m was is fits =
+    last_lost key one known less more m (own_has one key own) (subst (RecordFits key more) was (fits key)) ∙ ap not is
+
+pub records_put : (key : Key) (known : LeaseRecord) (lease : Lease) (before after : Key → Option LeaseRecord)
+    (opens : List Open)
+    → before key ≡ Some known → IsKeyChanged key before after (Some (record known { lease = lease }))
+    → ((other : Key) → RecordFits other opens (before other)) → (other : Key) → RecordFits other opens (after other)
+records_put key known lease before after opens was changed fits =
+    let there = subst (RecordFits key opens) was (fits key) in
+    at_key (λ other. RecordFits other opens (after other)) key
+    (subst (RecordFits key opens) (sym changed.there)
+    (record { tally = there.tally; is_used = there.is_used; one_file = there.one_file }))
+    (λ other e. subst (RecordFits other opens) (sym (changed.apart other e)) (fits other))
+
+pub lease_left : (key : Key) (one : Open) (last : Bool) (before after : Key → Option LeaseRecord) (less more : List Open)
+    → key_of_open one ≡ Some key → IsOneMore one less more → list_any (has_key key) less ≡ not last
+    → ((other : Key) → lease_or_none (after other)
+    ≡ (if key_eq other key && last then no_lease else lease_or_none (before other)))
+    → ((other : Key) → RecordFits other more (before other))
+    → (other : Key) → lease_or_none (after other)
+    ≡ (if list_any (has_key other) less then lease_or_none (before other) else no_lease)
+lease_left key one last before after less more own m left now fits =
+    at_key (λ other. lease_or_none (after other)
+    ≡ (if list_any (has_key other) less then lease_or_none (before other) else no_lease)) key
+    (now key ∙ rw (key_eq-refl key, left) (turned last (lease_or_none (before key))))
+    (λ other e. now other ∙ rw e (unless (list_any (has_key other) less) _ (λ none.
+    lease_unused other more (before other) (fits other) (anys (has_key other) one less more m
+    ∙ rw (has_key_own one key other own, e, none) refl))))
+  where
+    turned : (b : Bool) (lease : model.Lease) → (if true && b then no_lease else lease) ≡ (if not b then lease else no_lease)
+    turned true lease = refl
+    turned false lease = refl
+    unless : (b : Bool) (lease : model.Lease) → (b ≡ false → lease ≡ no_lease) → lease ≡ (if b then lease else no_lease)
+    unless true lease e = refl
+    unless false lease e = e refl
+
+pub lease_kept_left : (one : Open) (known : Key → Option LeaseRecord) (less more : List Open)
+    → key_of_open one ≡ None → IsOneMore one less more
+    → ((other : Key) → RecordFits other more (known other))
+    → (other : Key) → lease_or_none (known other)
+    ≡ (if list_any (has_key other) less then lease_or_none (known other) else no_lease)
+lease_kept_left one known less more own m fits = λ other.
+    unless (list_any (has_key other) less) _ (λ none.
+    lease_unused other more (known other) (fits other) (anys (has_key other) one less more m
+    ∙ rw (has_key_none one other own, none) refl))
+  where
+    unless : (b : Bool) (lease : model.Lease) → (b ≡ false → lease ≡ no_lease) → lease ≡ (if b then lease else no_lease)
+    unless true lease e = refl
+    unless false lease e = e refl
+
+pub are_left : (less : List Open) (leases later : Key → model.Lease)
+    → ((key : Key) → later key ≡ (if list_any (has_key key) less then leases key else no_lease))
+    → AreLeft less leases later
+are_left less leases later now = λ key some. now key ∙ rw some refl

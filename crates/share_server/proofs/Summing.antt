@@ -1,5 +1,5 @@
 -- How lease records and file summaries follow the list of opens: with one open more or less, and with another lease.
-use Rattle.std.proofs.Common.{◌≡◌, ℕ, ◌+◌, ◌^◌, ◌<◌, ◌≤◌, Bool, true, false, not, cond, List, [], ◌∷◌, ◌++◌, length, refl, ap, sym, ◌∙◌, arith, subst}
+use Rattle.std.proofs.Common.{◌≡◌, ℕ, ◌+◌, ◌^◌, ◌<◌, ◌≤◌, Bool, true, false, not, cond, List, [], ◌∷◌, ◌++◌, length, refl, ap, sym, ◌∙◌, arith, subst, nat_eq, true≢false}
 use Rattle.std.specs.Prelude.{if◌then◌else◌, ◌&&◌, ◌||◌, ◌==◌, is_some, Option, Some, None}
 use Rattle.std.specs.BTreeMap.{BTreeMap, Updates, get}
 use Rattle.std.specs.List.{list_any}
@@ -9,12 +9,13 @@ use Rattle.lease_state.specs.Access.{uses_of, allowed_by}
 use Rattle.lease_state.specs.declared.number.FileNo.{FileNo}
 use Rattle.lease_model.specs.server.State.{Open, Lease, has_key}
 use Rattle.lease_model.specs.values.Keys.{Key, key_eq}
+use Rattle.lease_laws.proofs.server.Keys.{key_eq-same}
 use Rattle.share_server.specs.Looks.{is_elsewhere}
 use Rattle.share_server.specs.Summaries.{IsOneMore, file_order, is_on, has_key_on, is_keyless_on, SumsUp, IsSummary, SummaryFits, Gains, Loses, Writes, AreAfter, AreLeft, IsPut}
 use Rattle.share_server.specs.Tallies.{count, tally_of, raised, lowered, tally_raised, tally_lowered}
 use Rattle.share_server.specs.declared.file_summary.FileSummary.{FileSummary}
 use Rattle.share_server.specs.declared.tally.Tally.{Tally}
-use Rattle.share_server.proofs.Tallies.{count_more, any_more, count_less}
+use Rattle.share_server.proofs.Tallies.{count_more, any_more, count_less, any_counted, none_both}
 
 -- ---- one open more
 
@@ -372,3 +373,98 @@ changed_at before after here known updates = record {
   there = updates.1;
   apart = λ file e. updates.2 file (file_apart file.0 here e);
 }
+
+still_used : (file : ℕ) (opens : List Open) (leases : Key → Lease) (summary : FileSummary)
+    → SumsUp file opens leases summary → nat_eq summary.tally.opens 0 ≡ false → list_any (is_on file) opens ≡ true
+still_used file opens leases summary s some =
+    let e = any_counted (is_on file) opens in
+    let c = ap (λ (t : Tally). t.opens) s.tally in
+    grind (arith, nat_tests, e, c, some)
+
+now_unused : (file : ℕ) (opens : List Open) (leases : Key → Lease) (summary : FileSummary)
+    → SumsUp file opens leases summary → nat_eq summary.tally.opens 0 ≡ true → list_any (is_on file) opens ≡ false
+now_unused file opens leases summary s none =
+    let e = any_counted (is_on file) opens in
+    let c = ap (λ (t : Tally). t.opens) s.tally in
+    grind (arith, nat_tests, e, c, none)
+
+pub summaries_lose : (one : Open) (last : Bool) (before after : FileNo → Option FileSummary) (old new : FileSummary)
+    (less more : List Open) (leases later : Key → Lease)
+    → IsOneMore one less more → AreLeft less leases later
+    → ((key : Key) → has_key key one ≡ true → last ≡ not (list_any (has_key_on one.file key) less))
+    → before (record { 0 = one.file }) ≡ Some old → Loses one last old new
+    → IsChangedAt one.file before after (Some new) → nat_eq new.tally.opens 0 ≡ false
+    → ((file : FileNo) → SummaryFits file.0 more leases (before file))
+    → (file : FileNo) → SummaryFits file.0 less later (after file)
+summaries_lose one last before after old new less more leases later m left is_last was l changed some fits =
+    let s = loses_sums_up one last old new less more leases later m left is_last
+    (known_sums_up one.file more leases _ old was (fits (record { 0 = one.file }))).sums_up l in
+    at_file (λ file. SummaryFits file.0 less later (after file)) one.file
+    (subst (SummaryFits one.file less later) (sym changed.there)
+    (record { is_used = still_used one.file less later new s some; sums_up = s }))
+    (λ file apart. subst (SummaryFits file.0 less later) (sym (changed.apart file apart))
+    (fits_away one file.0 (before file) less more leases later m (flip file.0 one.file false apart) left (fits file)))
+
+pub summaries_end : (one : Open) (last : Bool) (before after : FileNo → Option FileSummary) (old new : FileSummary)
+    (less more : List Open) (leases later : Key → Lease)
+    → IsOneMore one less more → AreLeft less leases later
+    → ((key : Key) → has_key key one ≡ true → last ≡ not (list_any (has_key_on one.file key) less))
+    → before (record { 0 = one.file }) ≡ Some old → Loses one last old new
+    → IsChangedAt one.file before after None → nat_eq new.tally.opens 0 ≡ true
+    → ((file : FileNo) → SummaryFits file.0 more leases (before file))
+    → (file : FileNo) → SummaryFits file.0 less later (after file)
+summaries_end one last before after old new less more leases later m left is_last was l changed none fits =
+    let s = loses_sums_up one last old new less more leases later m left is_last
+    (known_sums_up one.file more leases _ old was (fits (record { 0 = one.file }))).sums_up l in
+    at_file (λ file. SummaryFits file.0 less later (after file)) one.file
+    (subst (SummaryFits one.file less later) (sym changed.there) (now_unused one.file less later new s none))
+    (λ file apart. subst (SummaryFits file.0 less later) (sym (changed.apart file apart))
+    (fits_away one file.0 (before file) less more leases later m (flip file.0 one.file false apart) left (fits file)))
+
+pub never_closed : (one : Open) (less more : List Open) (leases : Key → Lease) (known : Option FileSummary)
+    → IsOneMore one less more → known ≡ None → SummaryFits one.file more leases known → ⊥
+never_closed one less more leases known m none fits =
+    let unused = none_is_open one.file more leases known none fits in
+    let e = used_more (is_on one.file) one less more m (on_itself one.file) in
+    true≢false (sym e ∙ unused)
+
+pub changed_at_twice : (here : ℕ) (before during after : FileNo → Option FileSummary) (known other : Option FileSummary)
+    → IsChangedAt here before during known → IsChangedAt here during after other
+    → IsChangedAt here before after other
+changed_at_twice here before during after known other first second = record {
+  there = second.there;
+  apart = λ file e. second.apart file e ∙ first.apart file e;
+}
+
+pub summaries_put : (file : ℕ) (key : Key) (writes : Bool) (before after : FileNo → Option FileSummary)
+    (old new : FileSummary) (opens : List Open) (leases later : Key → Lease)
+    → IsPut key writes leases later
+    → list_any (has_key_on file key) opens ≡ true → list_any (is_elsewhere key file) opens ≡ false
+    → before (record { 0 = file }) ≡ Some old → Writes key writes old new → IsChangedAt file before after (Some new)
+    → ((at : FileNo) → SummaryFits at.0 opens leases (before at))
+    → (at : FileNo) → SummaryFits at.0 opens later (after at)
+summaries_put file key writes before after old new opens leases later put there home was w changed fits =
+    let s = known_sums_up file opens leases _ old was (fits (record { 0 = file })) in
+    at_file (λ at. SummaryFits at.0 opens later (after at)) file
+    (subst (SummaryFits file opens later) (sym changed.there) (record {
+      is_used = s.is_used;
+      sums_up = writes_sums_up file key writes old new opens leases later put
+          (λ other e. rw (key_eq-same other key e) there) s.sums_up w;
+    }))
+    (λ at apart. subst (SummaryFits at.0 opens later) (sym (changed.apart at apart))
+    (fits_put at.0 (before at) (λ other e. rw (key_eq-same other key e)
+    (elsewhere_none key at.0 file opens (flip at.0 file false apart) home)) (fits at)))
+  where
+    fits_put : (at : ℕ) (known : Option FileSummary)
+        → ((other : Key) → key_eq other key ≡ true → list_any (has_key_on at other) opens ≡ false)
+        → SummaryFits at opens leases known → SummaryFits at opens later known
+    fits_put at None none f = f
+    fits_put at (Some summary) none f = record {
+      is_used = f.is_used;
+      sums_up = sums_up_written at key writes summary opens leases later put none f.sums_up;
+    }
+
+pub never_on : (file : ℕ) (key : Key) (opens : List Open) (leases : Key → Lease) (known : Option FileSummary)
+    → list_any (has_key_on file key) opens ≡ true → known ≡ None → SummaryFits file opens leases known → ⊥
+never_on file key opens leases known there none fits =
+    true≢false (sym there ∙ none_both (is_on file) (has_key key) opens (none_is_open file opens leases known none fits))

@@ -1,5 +1,5 @@
 -- How counts of opens change with one open more or less, and what they tell.
-use Rattle.std.proofs.Common.{◌≡◌, ℕ, ◌+◌, ◌^◌, ◌<◌, ◌≤◌, Bool, true, false, not, cond, filter, List, [], ◌∷◌, ◌++◌, map, length, refl, ap, sym, ◌∙◌, arith}
+use Rattle.std.proofs.Common.{◌≡◌, ℕ, ◌+◌, ◌^◌, ◌<◌, ◌≤◌, Bool, true, false, not, cond, filter, List, [], ◌∷◌, ◌++◌, map, length, refl, ap, ap₂, sym, ◌∙◌, arith}
 use Rattle.std.specs.Prelude.{if◌then◌else◌, ◌&&◌, ◌||◌, ◌==◌}
 use Rattle.std.specs.List.{list_any}
 use Rattle.std.proofs.lemmas.Bool.Decides.{nat_tests}
@@ -50,3 +50,62 @@ none_tallied test opens nobody =
     none_counted _ opens (none_both test (λ one. (uses_of one.access).write) opens nobody),
     none_counted _ opens (none_both test (λ one. not (allowed_by one.share).read) opens nobody),
     none_counted _ opens (none_both test (λ one. not (allowed_by one.share).write) opens nobody)) refl
+
+-- ---- conflicts
+
+any_either : (test : Open → Bool) (one_test other_test : Open → Bool) (opens : List Open)
+    → list_any (λ one. test one && (one_test one || other_test one)) opens
+    ≡ (list_any (λ one. test one && one_test one) opens || list_any (λ one. test one && other_test one) opens)
+any_either test one_test other_test [] = refl
+any_either test one_test other_test (one ∷ opens) = let e = any_either test one_test other_test opens in grind (arith, e)
+
+any_if : (test : Open → Bool) (b : Bool) (other : Open → Bool) (opens : List Open)
+    → list_any (λ one. test one && (b && other one)) opens ≡ (b && list_any (λ one. test one && other one) opens)
+any_if test b other [] = grind (arith)
+any_if test b other (one ∷ opens) = let e = any_if test b other opens in grind (arith, e)
+
+-- a conflict, by what either does and refuses
+abbrev conflicts_by : Access → Share → Open → Bool
+conflicts_by access share one =
+    (not (allowed_by share).read && (uses_of one.access).read)
+    || ((not (allowed_by share).write && (uses_of one.access).write)
+    || (((uses_of access).read && not (allowed_by one.share).read)
+    || ((uses_of access).write && not (allowed_by one.share).write)))
+
+parts : (a b c d e f g h : Bool)
+    → (not ((not a || b) && (not c || d)) || not ((not e || f) && (not g || h)))
+    ≡ ((not f && e) || ((not h && g) || ((a && not b) || (c && not d))))
+parts a b c d e f g h = grind (arith)
+
+conflict_parts : (access : Access) (share : Share) (one : Open)
+    → conflict access share one.access one.share ≡ conflicts_by access share one
+conflict_parts access share one =
+    parts (uses_of access).read (allowed_by one.share).read (uses_of access).write (allowed_by one.share).write
+    (uses_of one.access).read (allowed_by share).read (uses_of one.access).write (allowed_by share).write
+
+any_same : (test other : Open → Bool) (opens : List Open) → ((one : Open) → test one ≡ other one)
+    → list_any test opens ≡ list_any other opens
+any_same test other [] same = refl
+any_same test other (one ∷ opens) same = rw (same one, any_same test other opens same) refl
+
+pub conflicts_are : (access : Access) (share : Share) (test : Open → Bool) (opens : List Open)
+    → tally_conflicts access share (tally_of test opens)
+    ≡ list_any (λ one. test one && conflict access share one.access one.share) opens
+conflicts_are access share test opens =
+    let a = any_counted (λ one. test one && (uses_of one.access).read) opens in
+    let b = any_counted (λ one. test one && (uses_of one.access).write) opens in
+    let c = any_counted (λ one. test one && not (allowed_by one.share).read) opens in
+    let d = any_counted (λ one. test one && not (allowed_by one.share).write) opens in
+    let e = any_same (λ one. test one && conflict access share one.access one.share) _ opens
+    (λ one. ap (λ x. test one && x) (conflict_parts access share one)) in
+    let f = any_either test (λ one. not (allowed_by share).read && (uses_of one.access).read) _ opens in
+    let g = any_either test (λ one. not (allowed_by share).write && (uses_of one.access).write) _ opens in
+    let h = any_either test (λ one. (uses_of access).read && not (allowed_by one.share).read)
+    (λ one. (uses_of access).write && not (allowed_by one.share).write) opens in
+    let i = any_if test (not (allowed_by share).read) (λ one. (uses_of one.access).read) opens in
+    let j = any_if test (not (allowed_by share).write) (λ one. (uses_of one.access).write) opens in
+    let k = any_if test (uses_of access).read (λ one. not (allowed_by one.share).read) opens in
+    let l = any_if test (uses_of access).write (λ one. not (allowed_by one.share).write) opens in
+    sym (e ∙ f ∙ ap₂ ◌||◌ (i ∙ ap (λ x. not (allowed_by share).read && x) a)
+    (g ∙ ap₂ ◌||◌ (j ∙ ap (λ x. not (allowed_by share).write && x) b)
+    (h ∙ ap₂ ◌||◌ (k ∙ ap (λ x. (uses_of access).read && x) c) (l ∙ ap (λ x. (uses_of access).write && x) d))))

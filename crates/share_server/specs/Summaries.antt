@@ -6,7 +6,7 @@ use Rattle.std.specs.BTreeSet.{contains}
 use Rattle.std.specs.declared.cmp.Ordering.{Ordering}
 use Rattle.std.specs.Ordering.{nat_cmp, on}
 use Rattle.lease_state.specs.declared.number.FileNo.{FileNo}
-use Rattle.lease_model.specs.server.State.{Open, Lease, no_lease, has_key}
+use Rattle.lease_model.specs.server.State.{Server, Open, Lease, no_lease, has_key}
 use Rattle.lease_model.specs.values.Keys.{Key, key_eq}
 use Rattle.share_server.specs.KeyOrder.{key_order}
 use Rattle.share_server.specs.Leases.{lease_of}
@@ -147,3 +147,8 @@ IsPut key writes leases later =
 abbrev pub IsAtHome : Option Key → ℕ → List Open → Type 0
 IsAtHome None file opens = ⊤
 IsAtHome (Some key) file opens = list_any (is_elsewhere key file) opens ≡ false
+
+-- Records and summaries stand for the opens and leases of a server.
+pub record StandFor (summaries : Summaries) (server : Server) : Type 0 where
+  pub agree : Agrees summaries server.opens
+  pub leases : (key : Key) → server.leases key ≡ lease_in summaries key

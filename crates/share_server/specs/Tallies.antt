@@ -54,6 +54,6 @@ is_counted n = nat_lt 0 n
 abbrev pub tally_conflicts : Access → Share → Tally → Bool
 tally_conflicts access share tally =
     (not (allowed_by share).read && is_counted tally.reads)
-    || (not (allowed_by share).write && is_counted tally.writes)
-    || ((uses_of access).read && is_counted tally.refuses_reads)
-    || ((uses_of access).write && is_counted tally.refuses_writes)
+    || ((not (allowed_by share).write && is_counted tally.writes)
+    || (((uses_of access).read && is_counted tally.refuses_reads)
+    || ((uses_of access).write && is_counted tally.refuses_writes)))

@@ -1,12 +1,17 @@
-ghost use Rattle.std.specs.Prelude.{◌≡◌, ◌<◌, ◌^◌, List, length, [], OnOk, Some, if◌then◌else◌, ◌&&◌};
+ghost use Rattle.std.specs.Prelude.{◌≡◌, ◌<◌, ◌^◌, List, length, [], OnOk, Some, if◌then◌else◌, ◌&&◌, true, false, not};
+ghost use Rattle.std.specs.List.{list_any};
 ghost use Rattle.lease_state.specs.declared.number.FileNo.{FileNo};
 ghost use Rattle.lease_model.specs.server.State.{Open as ModelOpen, Lease as ModelLease};
 ghost use Rattle.lease_model.specs.values.Keys.{Key as ModelKey};
-ghost use Rattle.lease_model.specs.server.State.{no_lease};
+ghost use Rattle.lease_model.specs.server.State.{Server, no_lease, has_key, has_lease};
 ghost use Rattle.lease_model.specs.server.Naming.{key_of_open};
 ghost use Rattle.lease_model.specs.values.Keys.{key_eq};
+ghost use Rattle.share_server.specs.Leases.{lease_of};
 ghost use Rattle.share_server.specs.Tallies.{tally_raised};
-ghost use Rattle.share_server.specs.Summaries.{record_at, lease_in, tally_in, IsKeyChanged, RecordFits};
+ghost use Rattle.share_server.specs.Summaries.{record_at, lease_in, tally_in, IsKeyChanged, RecordFits, AreLeft, IsPut, IsAtHome, StandFor, has_key_on};
+ghost use Rattle.lease_model.specs.server.Allowed as grants;
+ghost use Rattle.share_server.specs.Closing.{lease_under};
+ghost use Rattle.share_server.specs.Looks.{is_elsewhere};
 ghost use Rattle.share_server.specs.Summaries.{Agrees, IsOneMore, AreAfter, SummaryFits, summary_at};
 
 use crate::file_summary::FileSummary;
@@ -14,7 +19,7 @@ use crate::key::Key;
 use crate::lease::Lease;
 use crate::open::Open;
 use crate::tally::Tally;
-use lease_state::{FileNo, Memory};
+use lease_state::{Access, FileNo, Memory, Share};
 use std::alloc::Global;
 use std::collections::BTreeMap;
 
@@ -104,6 +109,9 @@ impl Summaries {
         ensures records { (less more : List ModelOpen) → key_of_open one.now ≡ Some key → IsOneMore one.now less more
             → ((other : ModelKey) → RecordFits other more (record_at self.old other))
             → (other : ModelKey) → RecordFits other less (record_at self.new other) }
+        ensures last { (less more : List ModelOpen) → key_of_open one.now ≡ Some key → IsOneMore one.now less more
+            → ((other : ModelKey) → RecordFits other more (record_at self.old other))
+            → list_any (has_key key) less ≡ not result }
         ensures leases { (other : ModelKey) → lease_in self.new other
             ≡ (if key_eq other key && result then no_lease else lease_in self.old other) }
     {
@@ -117,6 +125,158 @@ impl Summaries {
                 true
             }
             None => true,
+        }
+    }
+
+    // The summary of the file, with one open less, the last of its key or not.
+    fn lose_on_file(&mut self, one: &Open, last: bool)
+        ensures leases { self.new.leases ≡ self.old.leases }
+        ensures files { (less more : List ModelOpen) (leases later : ModelKey → ModelLease)
+            → IsOneMore one.now less more → AreLeft less leases later
+            → ((key : ModelKey) → has_key key one.now ≡ true → last ≡ not (list_any (has_key_on one.now.file key) less))
+            → ((file : FileNo) → SummaryFits file.0 more leases (summary_at self.old file))
+            → (file : FileNo) → SummaryFits file.0 less later (summary_at self.new file) }
+    {
+        match self.files.get_mut(&one.file) {
+            Some(summary) => {
+                summary.lose(one, last);
+                if summary.tally.is_empty() {
+                    self.files.remove(&one.file);
+                }
+            }
+            None => {}
+        }
+    }
+
+    /// One open less, of a list that these agree with.
+    pub fn lose(&mut self, one: &Open)
+        ensures agrees { (less more : List ModelOpen) → IsOneMore one.now less more → Agrees self.old more
+            → Agrees self.new less }
+        ensures leases { (less more : List ModelOpen) → IsOneMore one.now less more → Agrees self.old more
+            → (key : ModelKey) → lease_in self.new key
+            ≡ (if list_any (has_key key) less then lease_in self.old key else no_lease) }
+    {
+        match one.key() {
+            Some(key) => {
+                let last = self.lose_record(key, one);
+                self.lose_on_file(one, last);
+            }
+            None => self.lose_on_file(one, false),
+        }
+    }
+
+    /// One open more, which a key has nowhere else than on its file, and whose lease becomes this one.
+    ///
+    /// # Errors
+    ///
+    /// `Memory` where there is none left for its record or its file's summary.
+    pub fn gain(&mut self, alloc: Global, one: &Open, lease: Lease) -> Result<(), Memory>
+        ensures agrees { OnOk result ((less more : List ModelOpen) → IsOneMore one.now less more
+            → length more < 2 ^ 64 → IsAtHome (key_of_open one.now) one.now.file less
+            → Agrees self.old less → Agrees self.new more) }
+        ensures leases { OnOk result ((key : ModelKey) → lease_in self.new key
+            ≡ (if has_key key one.now then lease_of lease else lease_in self.old key)) }
+    {
+        match one.key() {
+            Some(key) => {
+                self.gain_record(key, one, lease)?;
+                self.gain_on_file(alloc, one, lease.state.caches_writes())?;
+                Ok(())
+            }
+            None => {
+                self.gain_on_file(alloc, one, false)?;
+                Ok(())
+            }
+        }
+    }
+
+    // The summary of the file, where the lease of a key holds `WRITE_CACHING` or doesn't.
+    fn write_on_file(&mut self, file: FileNo, key: Key, writes: bool) -> Result<(), Memory>
+        ensures leases { OnOk result (self.new.leases ≡ self.old.leases) }
+        ensures files { OnOk result ((opens : List ModelOpen) (leases later : ModelKey → ModelLease)
+            → IsPut key writes leases later
+            → list_any (has_key_on file.0 key) opens ≡ true → list_any (is_elsewhere key file.0) opens ≡ false
+            → ((at : FileNo) → SummaryFits at.0 opens leases (summary_at self.old at))
+            → (at : FileNo) → SummaryFits at.0 opens later (summary_at self.new at)) }
+    {
+        match self.files.get_mut(&file) {
+            Some(summary) => {
+                summary.set_writer(key, writes)?;
+                Ok(())
+            }
+            None => Ok(()),
+        }
+    }
+
+    /// The lease of a key that an open has becomes this one.
+    ///
+    /// # Errors
+    ///
+    /// `Memory` where there is none left for the file's summary.
+    pub fn put(&mut self, key: Key, lease: Lease) -> Result<(), Memory>
+        ensures agrees { OnOk result ((opens : List ModelOpen) → list_any (has_key key) opens ≡ true
+            → Agrees self.old opens → Agrees self.new opens) }
+        ensures leases { OnOk result ((opens : List ModelOpen) → list_any (has_key key) opens ≡ true
+            → Agrees self.old opens → (other : ModelKey) → lease_in self.new other
+            ≡ (if key_eq other key then lease_of lease else lease_in self.old other)) }
+    {
+        match self.leases.get_mut(&key) {
+            Some(known) => {
+                known.lease = lease;
+                let file = known.file;
+                self.write_on_file(file, key, lease.state.caches_writes())?;
+                Ok(())
+            }
+            None => Ok(()),
+        }
+    }
+
+    /// The lease of a key; none where no open has it.
+    pub fn lease(&self, key: Key) -> Lease
+        ensures { lease_of result ≡ lease_in self.now key }
+    {
+        match self.leases.get(&key) {
+            Some(known) => known.lease,
+            None => Lease::none(),
+        }
+    }
+
+    /// The lease under which an open stands.
+    pub fn under(&self, one: &Open) -> Lease
+        ensures { lease_of result ≡ lease_under (lease_in self.now) (key_of_open one.now) }
+    {
+        match one.key() {
+            Some(key) => self.lease(key),
+            None => Lease::none(),
+        }
+    }
+
+    /// Whether an open has the key.
+    pub fn has_lease(&self, key: Key) -> bool
+        ensures { (server : Server) → StandFor self.now server → result ≡ has_lease server key }
+    {
+        self.leases.contains_key(&key)
+    }
+
+    /// Whether an open of the key is on another file.
+    pub fn is_elsewhere(&self, key: Key, file: FileNo) -> bool
+        ensures { (server : Server) → StandFor self.now server
+            → result ≡ list_any (is_elsewhere key file.0) server.opens }
+    {
+        match self.leases.get(&key) {
+            Some(known) => known.file != file,
+            None => false,
+        }
+    }
+
+    /// Whether an open on the file conflicts with this access and share.
+    pub fn has_conflict_on(&self, file: FileNo, access: Access, share: Share) -> bool
+        ensures { (server : Server) → StandFor self.now server
+            → result ≡ list_any (grants.conflicts_on file.0 access share) server.opens }
+    {
+        match self.files.get(&file) {
+            Some(summary) => summary.tally.conflicts(access, share),
+            None => false,
         }
     }
 }

@@ -2,7 +2,7 @@ use Rattle.std.proofs.Common.{sym, ◌∙◌, rules}
 
 use Rattle.share_server.specs.Summaries.{record_at}
 use Rattle.lease_model.specs.values.Keys.{key_eq}
-use Rattle.share_server.proofs.Recording.{and_no, records_lose, records_end, key_changed, tally_changed, changed_twice, leases_kept, lease_gone, lease_missing, never_missing}
+use Rattle.share_server.proofs.Recording.{and_no, last_is, records_lose, records_end, key_changed, tally_changed, changed_twice, leases_kept, lease_gone, lease_missing, never_missing}
 use Rattle.share_server.proofs.summaries.Summaries.lose_record.Goals as goal
 
 pub returns-then-not-is_empty-clause-records : goal.returns-then-not-is_empty-clause-records
@@ -54,3 +54,19 @@ returns-in-None-clause-records c = λ less more own m fits.
 pub returns-in-None-clause-leases : goal.returns-in-None-clause-leases
 returns-in-None-clause-leases c =
     rw c.get_mut.follows.holds-at-none (lease_missing c.args.key (record_at c.args.self.now) (sym c.in-None.ensures.value))
+
+pub returns-then-not-is_empty-clause-last : goal.returns-then-not-is_empty-clause-last
+returns-then-not-is_empty-clause-last c = λ less more own m fits.
+    last_is c.args.key c.args.one.now c.in-Some.known.now (record_at c.args.self.now) less more _ own m
+    (sym c.in-Some.ensures.value)
+    (rw c.lowered-known.ensures at (sym c.is_empty.ensures ∙ c.if-not-is_empty.true)) fits
+
+pub returns-else-not-is_empty-clause-last : goal.returns-else-not-is_empty-clause-last
+returns-else-not-is_empty-clause-last c = λ less more own m fits.
+    last_is c.args.key c.args.one.now c.in-Some.known.now (record_at c.args.self.now) less more _ own m
+    (sym c.in-Some.ensures.value)
+    (rw c.lowered-known.ensures at (sym c.is_empty.ensures ∙ c.if-not-is_empty.false)) fits
+
+pub returns-in-None-clause-last : goal.returns-in-None-clause-last
+returns-in-None-clause-last c = λ less more own m fits.
+    absurd (never_missing c.args.key c.args.one.now _ less more own m (sym c.in-None.ensures.value) (fits c.args.key))

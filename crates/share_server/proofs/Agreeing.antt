@@ -1,0 +1,101 @@
+-- Records and summaries together agree with the list of opens.
+use Rattle.std.proofs.Common.{◌≡◌, ℕ, ◌^◌, ◌<◌, Bool, true, false, not, List, length, refl, ap, sym, ◌∙◌, subst, true≢false}
+use Rattle.std.specs.Prelude.{if◌then◌else◌, ◌&&◌, Option, Some, None}
+use Rattle.std.specs.BTreeMap.{get}
+use Rattle.std.specs.List.{list_any}
+use Rattle.lease_laws.proofs.server.Keys.{key_eq-same}
+use Rattle.lease_model.specs.server.Naming.{key_of_open}
+use Rattle.lease_model.specs.server.State.{Open, has_key, no_lease}
+use Rattle.lease_model.specs.server.State as model
+use Rattle.lease_model.specs.values.Keys.{Key, key_eq}
+use Rattle.lease_state.specs.declared.number.FileNo.{FileNo}
+use Rattle.share_server.specs.KeyOrder.{key_order}
+use Rattle.share_server.specs.Leases.{lease_of}
+use Rattle.share_server.specs.Looks.{is_elsewhere}
+use Rattle.share_server.specs.Summaries.{Agrees, IsOneMore, IsPut, IsRecord, AreAfter, AreLeft, IsAtHome, IsKeyChanged, RecordFits, SummaryFits, record_at, summary_at, lease_in, lease_or_none, tally_in, has_key_on, file_order}
+use Rattle.share_server.specs.Tallies.{tally_raised}
+use Rattle.share_server.specs.declared.lease.Lease.{Lease}
+use Rattle.share_server.specs.declared.summaries.LeaseRecord.{LeaseRecord}
+use Rattle.share_server.specs.declared.summaries.Summaries.{Summaries}
+use Rattle.share_server.proofs.Ordering.{has_key_own, has_key_none}
+use Rattle.share_server.proofs.Recording.{own_has, home_of, on_file_alike, lease_left, lease_kept_left, are_left, records_gain, records_keyless, records_stay, lease_put}
+
+-- a change of the summaries alone
+pub agrees_from : (after during : Summaries) (opens : List Open) → after.leases ≡ during.leases
+    → ((key : Key) → RecordFits key opens (record_at during key))
+    → ((file : FileNo) → SummaryFits file.0 opens (lease_in during) (summary_at after file))
+    → Agrees after opens
+agrees_from after during opens same records files = record {
+  records = λ key. subst (λ l. RecordFits key opens (get key_order l key)) (sym same) (records key);
+  files = λ file. subst (λ l. SummaryFits file.0 opens (λ key. lease_or_none (get key_order l key)) (summary_at after file))
+      (sym same) (files file);
+}
+
+-- a change of the records alone
+pub files_kept : (before during : Summaries) (opens : List Open) (leases : Key → model.Lease)
+    → during.files ≡ before.files
+    → ((file : FileNo) → SummaryFits file.0 opens leases (summary_at before file))
+    → (file : FileNo) → SummaryFits file.0 opens leases (summary_at during file)
+files_kept before during opens leases same fits = λ file.
+    subst (λ f. SummaryFits file.0 opens leases (get file_order f file)) (sym same) (fits file)
+
+pub leases_same : (after during : Summaries) (key : Key) → after.leases ≡ during.leases
+    → lease_in after key ≡ lease_in during key
+leases_same after during key same = ap (λ l. lease_or_none (get key_order l key)) same
+
+twice : (b : Bool) → b ≡ not (not b)
+twice true = refl
+twice false = refl
+
+pub last_on : (key : Key) (one : Open) (less : List Open) (last : Bool) → key_of_open one ≡ Some key
+    → list_any (is_elsewhere key one.file) less ≡ false → list_any (has_key key) less ≡ not last
+    → (other : Key) → has_key other one ≡ true → last ≡ not (list_any (has_key_on one.file other) less)
+last_on key one less last own home left other has =
+    let same = key_eq-same other key (sym (has_key_own one key other own) ∙ has) in
+    rw (same, on_file_alike key one.file less home, left) (twice last)
+
+pub never_has : (one : Open) (key : Key) {P : Type 0} → key_of_open one ≡ None → has_key key one ≡ true → P
+never_has one key own has = absurd (true≢false (sym has ∙ has_key_none one key own))
+
+-- the leases once an open of a key has come
+pub after_gain : (key : Key) (one : Open) (lease : Lease) (writes : Bool) (less : List Open) (before during : Summaries)
+    → key_of_open one ≡ Some key → list_any (is_elsewhere key one.file) less ≡ false
+    → (lease_of lease).state.write ≡ writes
+    → ((other : Key) → lease_in during other ≡ (if key_eq other key then lease_of lease else lease_in before other))
+    → AreAfter one writes less (lease_in before) (lease_in during)
+after_gain key one lease writes less before during own home is now = record {
+  same = λ other e. now other ∙ rw (sym (has_key_own one key other own) ∙ e) refl;
+  own = λ other e. rw (now other, sym (has_key_own one key other own) ∙ e) is;
+  home = λ other e.
+      let same = key_eq-same other key (sym (has_key_own one key other own) ∙ e) in
+      rw same home;
+}
+
+pub after_keyless : (one : Open) (writes : Bool) (less : List Open) (leases : Key → model.Lease)
+    → key_of_open one ≡ None → AreAfter one writes less leases leases
+after_keyless one writes less leases own = record {
+  same = λ other e. refl;
+  own = λ other e. never_has one other own e;
+  home = λ other e. never_has one other own e;
+}
+
+pub at_home : (own : Option Key) (key : Key) (file : ℕ) (opens : List Open) → own ≡ Some key → IsAtHome own file opens
+    → list_any (is_elsewhere key file) opens ≡ false
+at_home own key file opens is home = subst (λ o. IsAtHome o file opens) is home
+
+pub is_put : (key : Key) (lease : model.Lease) (writes : Bool) (leases later : Key → model.Lease)
+    → lease.state.write ≡ writes
+    → ((other : Key) → later other ≡ (if key_eq other key then lease else leases other))
+    → IsPut key writes leases later
+is_put key lease writes leases later is now =
+    (λ other e. now other ∙ rw e refl, λ other e. rw (now other, e) is)
+
+-- a key that an open has has a record
+pub record_there : (key : Key) (opens : List Open) (known : Option LeaseRecord) (is : LeaseRecord) → known ≡ Some is
+    → RecordFits key opens known → IsRecord key opens is
+record_there key opens known is same fits = subst (RecordFits key opens) same fits
+
+pub never_unknown : (key : Key) (opens : List Open) (known : Option LeaseRecord) {P : Type 0}
+    → list_any (has_key key) opens ≡ true → known ≡ None → RecordFits key opens known → P
+never_unknown key opens known there none fits =
+    absurd (true≢false (sym there ∙ subst (RecordFits key opens) none fits))

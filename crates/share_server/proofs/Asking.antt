@@ -1,0 +1,60 @@
+-- What lease records and file summaries tell of the opens that they agree with.
+use Rattle.std.proofs.Common.{◌≡◌, ℕ, Bool, true, false, not, List, [], ◌∷◌, refl, ap, sym, ◌∙◌, arith, subst}
+use Rattle.std.specs.Prelude.{◌&&◌, ◌==◌, Option, Some, None, is_some}
+use Rattle.std.specs.List.{list_any}
+use Rattle.std.proofs.lemmas.Bool.Decides.{nat_tests}
+use Rattle.lease_model.specs.server.Allowed.{conflicts_on}
+use Rattle.lease_model.specs.server.State.{Open, Lease, has_key}
+use Rattle.lease_model.specs.values.Keys.{Key}
+use Rattle.lease_state.specs.Access.{conflict}
+use Rattle.lease_state.specs.declared.access.Access.{Access}
+use Rattle.lease_state.specs.declared.access.Share.{Share}
+use Rattle.share_server.specs.Looks.{is_elsewhere}
+use Rattle.share_server.specs.Summaries.{RecordFits, IsRecord, SummaryFits, IsSummary, is_on, has_key_on}
+use Rattle.share_server.specs.Tallies.{tally_conflicts}
+use Rattle.share_server.specs.declared.file_summary.FileSummary.{FileSummary}
+use Rattle.share_server.specs.declared.summaries.LeaseRecord.{LeaseRecord}
+use Rattle.share_server.proofs.Tallies.{none_both, conflicts_are}
+
+pub is_known : (key : Key) (opens : List Open) (known : Option LeaseRecord) → RecordFits key opens known
+    → is_some known ≡ list_any (has_key key) opens
+is_known key opens None fits = sym fits
+is_known key opens (Some known) fits = sym fits.is_used
+
+elsewhere_by : (key : Key) (at file : ℕ) (opens : List Open) → list_any (is_elsewhere key at) opens ≡ false
+    → list_any (is_elsewhere key file) opens ≡ (not (at == file) && list_any (has_key key) opens)
+elsewhere_by key at file [] home = grind (arith)
+elsewhere_by key at file (one ∷ opens) home =
+    let e = elsewhere_by key at file opens in grind (arith, nat_tests, e, home)
+
+pub elsewhere_known : (key : Key) (file : ℕ) (opens : List Open) (known : Option LeaseRecord) (is : LeaseRecord)
+    → known ≡ Some is → RecordFits key opens known
+    → not (is.file.0 == file) ≡ list_any (is_elsewhere key file) opens
+elsewhere_known key file opens known is same fits =
+    let there : IsRecord key opens is = subst (RecordFits key opens) same fits in
+    let e = elsewhere_by key is.file.0 file opens there.one_file in
+    let u = there.is_used in
+    grind (arith, e, u)
+
+pub elsewhere_none : (key : Key) (file : ℕ) (opens : List Open) (known : Option LeaseRecord)
+    → known ≡ None → RecordFits key opens known → false ≡ list_any (is_elsewhere key file) opens
+elsewhere_none key file opens known none fits =
+    sym (none_both (has_key key) (λ one. not (one.file == file)) opens (subst (RecordFits key opens) none fits))
+
+pub conflict_known : (file : ℕ) (access : Access) (share : Share) (opens : List Open) (leases : Key → Lease)
+    (known : Option FileSummary) (is : FileSummary)
+    → known ≡ Some is → SummaryFits file opens leases known
+    → tally_conflicts access share is.tally ≡ list_any (conflicts_on file access share) opens
+unfolding conflicts_on
+conflict_known file access share opens leases known is same fits =
+    let there : IsSummary file opens leases is = subst (SummaryFits file opens leases) same fits in
+    rw there.sums_up.tally (conflicts_are access share (is_on file) opens)
+
+pub conflict_none : (file : ℕ) (access : Access) (share : Share) (opens : List Open) (leases : Key → Lease)
+    (known : Option FileSummary)
+    → known ≡ None → SummaryFits file opens leases known
+    → false ≡ list_any (conflicts_on file access share) opens
+unfolding conflicts_on
+conflict_none file access share opens leases known none fits =
+    sym (none_both (is_on file) (λ one. conflict access share one.access one.share) opens
+    (subst (SummaryFits file opens leases) none fits))
