@@ -5,6 +5,7 @@ pub mod Asking
 pub mod Breaking
 pub mod Expiring
 pub mod FilePlaces
+pub mod Filing
 pub mod Joining
 pub mod Kept
 pub mod KeyOrder
@@ -20,5 +21,6 @@ pub mod Rounds
 pub mod Sending
 pub mod Standing
 pub mod Summing
+pub mod Tabling
 pub mod Tallies
 pub mod Wanting

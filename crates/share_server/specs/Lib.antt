@@ -1,5 +1,7 @@
 pub mod Closing
+pub mod Filed
 pub mod Findings
+pub mod Kept
 pub mod KeyOrder
 pub mod Laws
 pub mod Leases
@@ -10,5 +12,6 @@ pub mod Requests
 pub mod Summaries
 pub mod Table
 pub mod Tallies
+pub mod Wanted
 pub mod Wishes
 pub mod Written

@@ -5,6 +5,9 @@ ghost use Rattle.lease_model.specs.server.Findings.{connected_open};
 ghost use Rattle.share_server.specs.Findings.{outcome_of};
 ghost use Rattle.share_server.specs.Outs.{progress_of};
 ghost use Rattle.share_server.specs.Requests.{file_request_of, lease_asked};
+ghost use Rattle.lease_model.specs.server.Attempt.Outcome.{Ready};
+ghost use Rattle.lease_model.specs.server.Naming.{own_key};
+ghost use Rattle.share_server.specs.Kept.{IsAtHomeFor, IsCreateAtHome};
 ghost use Rattle.share_server.specs.Table.{server_of};
 
 use crate::attempt::Outcome;
@@ -28,6 +31,7 @@ pub fn conclude(
     request: FileRequest,
     outcome: Outcome,
 ) -> Result<(), Memory>
+    requires { outcome_of outcome ≡ Ready → IsAtHomeFor client.0 (file_request_of request) (server_of tables.old) }
     ensures { OnOk result (progress_of tables.new outs.new
         ≡ rules.concluded client.0 (file_request_of request) (progress_of tables.old outs.old) (outcome_of outcome)) }
 {
@@ -46,6 +50,7 @@ fn answer(
     client: ClientNo,
     request: FileRequest,
 ) -> Result<(), Memory>
+    requires { IsAtHomeFor client.0 (file_request_of request) (server_of tables.old) }
     ensures { OnOk result (progress_of tables.new outs.new
         ≡ rules.answered client.0 (file_request_of request) (progress_of tables.old outs.old)) }
 {
@@ -75,6 +80,8 @@ fn answer(
 }
 
 fn create(tables: &mut Tables, outs: &mut Outs, opening: Opening) -> Result<(), Memory>
+    requires { IsCreateAtHome (own_key opening.client.0 (option_map lease_asked opening.ask.lease)) opening.file.0
+        (option_map (λ file_id. file_id.0) opening.ask.reconnect) (server_of tables.old) }
     ensures { OnOk result (progress_of tables.new outs.new
         ≡ rules.created opening.client.0 opening.file.0 opening.access opening.share
         (option_map lease_asked opening.ask.lease) opening.ask.durable
@@ -153,7 +160,7 @@ fn close_open(
     ensures { OnOk result (progress_of tables.new outs.new
         ≡ rules.closed client.0 fid.0 (progress_of tables.old outs.old)) }
 {
-    tables.close(Closing::Named(fid));
+    tables.close(Closing::Named(fid))?;
     outs.closed(client, fid)?;
     Ok(())
 }

@@ -171,7 +171,7 @@ fn meet(tables: &mut Tables, outs: &mut Outs, want: &Want) -> Result<(), Memory>
     ensures { OnOk result (progress_of tables.new outs.new
         ≡ rules.want_met want.now (progress_of tables.old outs.old)) }
 {
-    tables.close(Closing::LeftOf(want.key));
+    tables.close(Closing::LeftOf(want.key))?;
     break_lease(tables, outs, want.key, want.lowered)?;
     Ok(())
 }

@@ -50,7 +50,7 @@ pub fn cut(tables: &mut Tables, client: ClientNo) -> Result<Outs, Memory>
 {
     let mut outs = Outs::new(tables.alloc());
     if tables.is_present(client) {
-        lose(tables, client);
+        lose(tables, client)?;
         try_all(tables, &mut outs)?;
     }
     Ok(outs)
@@ -58,13 +58,14 @@ pub fn cut(tables: &mut Tables, client: ClientNo) -> Result<Outs, Memory>
 
 // The client's opens that don't outlive its connection are closed, the others disconnected, and the
 // connection and its held requests are forgotten.
-fn lose(tables: &mut Tables, client: ClientNo)
-    ensures { progress_of tables.new [] ≡ rules.client_forgotten client.0 (rules.opens_disconnected client.0
-        (opens_dropped (rules.is_lost (server_of tables.old) client.0) (begun (server_of tables.old)))) }
+fn lose(tables: &mut Tables, client: ClientNo) -> Result<(), Memory>
+    ensures { OnOk result (progress_of tables.new [] ≡ rules.client_forgotten client.0 (rules.opens_disconnected client.0
+        (opens_dropped (rules.is_lost (server_of tables.old) client.0) (begun (server_of tables.old))))) }
 {
-    tables.close(Closing::LostBy(client));
-    tables.disconnect(client);
+    tables.close(Closing::LostBy(client))?;
+    tables.disconnect(client)?;
     tables.forget(client);
+    Ok(())
 }
 
 /// The timer of a lease break runs out.
@@ -86,7 +87,7 @@ fn end_lease(tables: &mut Tables, key: Key) -> Result<(), Memory>
     ensures { OnOk result (progress_of tables.new []
         ≡ rules.key_expired key (opens_dropped (has_key key) (begun (server_of tables.old)))) }
 {
-    tables.close(Closing::Of(key));
+    tables.close(Closing::Of(key))?;
     tables.expire(key)?;
     Ok(())
 }
@@ -99,16 +100,17 @@ pub fn scavenge(tables: &mut Tables, fid: FileId) -> Result<Outs, Memory>
 {
     let mut outs = Outs::new(tables.alloc());
     if tables.has_left_behind(fid) {
-        end_open(tables, fid);
+        end_open(tables, fid)?;
         try_all(tables, &mut outs)?;
     }
     Ok(outs)
 }
 
 // The open that was left behind is closed.
-fn end_open(tables: &mut Tables, fid: FileId)
-    ensures { progress_of tables.new []
-        ≡ opens_dropped (rules.is_left_behind fid.0) (begun (server_of tables.old)) }
+fn end_open(tables: &mut Tables, fid: FileId) -> Result<(), Memory>
+    ensures { OnOk result (progress_of tables.new []
+        ≡ opens_dropped (rules.is_left_behind fid.0) (begun (server_of tables.old))) }
 {
-    tables.close(Closing::LeftBehind(fid));
+    tables.close(Closing::LeftBehind(fid))?;
+    Ok(())
 }

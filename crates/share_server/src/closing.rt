@@ -1,12 +1,11 @@
-ghost use Rattle.std.specs.Prelude.{◌≡◌, not, filter};
-ghost use Rattle.lease_model.specs.server.State.{has_key};
+ghost use Rattle.std.specs.Prelude.{◌≡◌};
 ghost use Rattle.share_server.specs.Closing.{closes};
-ghost use Rattle.share_server.specs.Table.{lease_at};
+ghost use Rattle.share_server.specs.Summaries.{lease_in};
 
 use crate::key::Key;
 use crate::lease::Lease;
-use crate::leases::Leases;
 use crate::open::Open;
+use crate::summaries::Summaries;
 use lease_state::{ClientNo, FileId};
 
 /// Which opens are closed together.
@@ -26,16 +25,16 @@ pub enum Closing {
 
 impl Closing {
     /// Whether the open, which stands under this lease, is one of them.
-    pub fn closes(self, leases: &Leases, one: &Open) -> bool
-        ensures { result ≡ closes self (lease_at leases.now) one.now }
+    pub fn closes(&self, leases: &Summaries, one: &Open) -> bool
+        ensures { result ≡ closes self.now (lease_in leases.now) one.now }
     {
         match self {
-            Closing::Named(fid) => one.file_id == fid,
-            Closing::LeftBehind(fid) => one.is_left_behind(fid),
-            Closing::Of(key) => one.has_key(key),
-            Closing::LeftOf(key) => one.is_left_open(key),
+            Closing::Named(fid) => one.file_id == *fid,
+            Closing::LeftBehind(fid) => one.is_left_behind(*fid),
+            Closing::Of(key) => one.has_key(*key),
+            Closing::LeftOf(key) => one.is_left_open(*key),
             Closing::LostBy(client) => {
-                one.client == client && one.connected && !one.outlives_connection(leases.under(one))
+                one.client == *client && one.connected && !one.outlives_connection(leases.under(one))
             }
         }
     }

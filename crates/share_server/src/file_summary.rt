@@ -5,11 +5,13 @@ ghost use Rattle.lease_model.specs.server.State.{Open as ModelOpen, Lease as Mod
 ghost use Rattle.lease_model.specs.values.Keys.{Key as ModelKey, key_eq};
 ghost use Rattle.std.specs.BTreeSet.{contains};
 ghost use Rattle.share_server.specs.KeyOrder.{key_order};
+ghost use Rattle.share_server.specs.Wanted.{own_count, keys_for};
 ghost use Rattle.share_server.specs.Summaries.{IsOneMore, SumsUp, Gains, Loses, Writes, is_on};
 
 use crate::key::Key;
 use crate::open::Open;
 use crate::tally::Tally;
+use crate::want::Wish;
 use lease_state::Memory;
 use std::alloc::Global;
 use std::collections::BTreeSet;
@@ -116,5 +118,39 @@ impl FileSummary {
             self.writers.remove(&key);
         }
         Ok(())
+    }
+
+    /// Whether an open on the file has another key than the request.
+    pub fn has_other(&self, own: Option<Key>) -> bool
+        ensures { (file : ℕ) (opens : List ModelOpen) (leases : ModelKey → ModelLease) → SumsUp file opens leases self.now
+            → result ≡ list_any (is_other_on own file) opens }
+    {
+        self.keyless > 0 || self.keys.len() > self.own_count(own)
+    }
+
+    // How many of the keys are the request's.
+    fn own_count(&self, own: Option<Key>) -> usize
+        ensures { result ≡ own_count own self.now }
+    {
+        match own {
+            Some(key) => {
+                if self.keys.contains(&key) {
+                    1
+                } else {
+                    0
+                }
+            }
+            None => 0,
+        }
+    }
+
+    /// The keys among which are all whose leases can be wanted.
+    pub fn keys_for(&self, wish: Wish) -> &BTreeSet<Key>
+        ensures { result.now ≡ keys_for wish self.now }
+    {
+        match wish {
+            Wish::NoWrites => &self.writers,
+            Wish::NoHandles { .. } | Wish::Nothing => &self.keys,
+        }
     }
 }

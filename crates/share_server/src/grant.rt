@@ -1,4 +1,6 @@
-ghost use Rattle.std.specs.Prelude.{◌≡◌, ◌+◌, ◌<◌, ◌^◌, OnOk};
+ghost use Rattle.std.specs.Prelude.{◌≡◌, ◌+◌, ◌<◌, ◌^◌, false, OnOk};
+ghost use Rattle.lease_model.specs.server.Findings.{is_leased_elsewhere};
+ghost use Rattle.lease_model.specs.server.Naming.{own_key};
 ghost use Rattle.std.specs.Option.{option_map};
 ghost use Rattle.lease_model.specs.server.Grant as rules;
 ghost use Rattle.lease_state.specs.State.{state_of};
@@ -34,6 +36,8 @@ pub struct Opening {
 /// `Memory` where there is none left.
 #[tactic(auto, unfolding(lease_model::specs::server::Grant::granted, lease_model::specs::values::Limits::last_file_id))]
 pub fn grant(tables: &mut Tables, outs: &mut Outs, opening: Opening) -> Result<(), Memory>
+    requires { is_leased_elsewhere (server_of tables.old)
+        (own_key opening.client.0 (option_map lease_asked opening.ask.lease)) opening.file.0 ≡ false }
     ensures { OnOk result (progress_of tables.new outs.new
         ≡ rules.granted opening.client.0 opening.file.0 opening.access opening.share
         (option_map lease_asked opening.ask.lease) opening.ask.durable (progress_of tables.old outs.old)) }
@@ -53,7 +57,9 @@ fn grant_with(
     opening: Opening,
     lease: Lease,
 ) -> Result<(), Memory>
-    requires { (server_of tables.old).last_id + 1 < 2 ^ 64 }
+    requires next { (server_of tables.old).last_id + 1 < 2 ^ 64 }
+    requires home { is_leased_elsewhere (server_of tables.old)
+        (own_key opening.client.0 (option_map lease_asked opening.ask.lease)) opening.file.0 ≡ false }
     ensures { OnOk result (progress_of tables.new outs.new
         ≡ rules.granted_with opening.client.0 opening.file.0 opening.access opening.share
         (option_map lease_asked opening.ask.lease) opening.ask.durable (lease_of lease)
@@ -68,8 +74,7 @@ fn grant_with(
     } = opening;
     let durable = ask.durable && lease.state.caches_handles();
     let file_id = FileId(tables.last_id() + 1);
-    put_asked(tables, client, ask.lease, lease)?;
-    tables.add_open(Open {
+    let one = Open {
         file_id,
         client,
         file,
@@ -78,7 +83,8 @@ fn grant_with(
         share,
         durable,
         connected: true,
-    })?;
+    };
+    tables.open(one, lease)?;
     outs.opened(file, client)?;
     let answer = CreateAnswer {
         lease: lease_given(ask.lease, lease),
@@ -107,22 +113,6 @@ fn lease_given(
     match asked {
         Some((bytes, _)) => Some((bytes, lease.state, lease.is_breaking())),
         None => None,
-    }
-}
-
-// Puts the lease under the key that a create names.
-fn put_asked(
-    tables: &mut Tables,
-    client: ClientNo,
-    asked: Option<(LeaseKey, LeaseState)>,
-    lease: Lease,
-) -> Result<(), Memory>
-    ensures { OnOk result (server_of tables.new
-        ≡ rules.lease_put (server_of tables.old) client.0 (option_map lease_asked asked) (lease_of lease)) }
-{
-    match asked {
-        Some((bytes, _)) => tables.put_lease(Key { client, bytes }, lease),
-        None => Ok(()),
     }
 }
 

@@ -2,8 +2,7 @@ ghost use Rattle.std.specs.Prelude.{◌≡◌};
 ghost use Rattle.lease_model.specs.server.State.{has_key, has_own_key};
 ghost use Rattle.lease_model.specs.server.Allowed.{is_other_on, conflicts_on};
 ghost use Rattle.lease_model.specs.server.Attempt.{is_left_open};
-ghost use Rattle.lease_model.specs.server.Calls.{is_left_behind, disconnected};
-ghost use Rattle.lease_model.specs.server.Grant.{connected_again};
+ghost use Rattle.lease_model.specs.server.Calls.{is_left_behind};
 ghost use Rattle.lease_model.specs.server.Findings.{awaits};
 ghost use Rattle.lease_model.specs.server.Naming.{key_of_open};
 ghost use Rattle.share_server.specs.Closing.{outlives_under};
@@ -158,21 +157,10 @@ impl Open {
         self.durable && lease.state.caches_handles() && !lease.is_breaking()
     }
 
-    /// The open is no longer connected, if it is one of the client's.
-    pub fn disconnect(&mut self, client: ClientNo)
-        ensures { self.new ≡ disconnected client.0 self.old }
+    /// The open's client is there, or is away.
+    pub fn set_connected(&mut self, connected: bool)
+        ensures { self.new ≡ record self.old { connected = connected } }
     {
-        if self.client == client {
-            self.connected = false;
-        }
-    }
-
-    /// The open is connected again, if it has this FileId.
-    pub fn connect_again(&mut self, fid: FileId)
-        ensures { self.new ≡ connected_again fid.0 self.old }
-    {
-        if self.file_id == fid {
-            self.connected = true;
-        }
+        self.connected = connected;
     }
 }

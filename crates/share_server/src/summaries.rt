@@ -1,4 +1,4 @@
-ghost use Rattle.std.specs.Prelude.{◌≡◌, ◌<◌, ◌^◌, List, length, [], OnOk, Some, if◌then◌else◌, ◌&&◌, true, false, not};
+ghost use Rattle.std.specs.Prelude.{◌≡◌, ◌<◌, ◌^◌, List, length, [], OnOk, IfOk, filter, Some, if◌then◌else◌, ◌&&◌, true, false, not};
 ghost use Rattle.std.specs.List.{list_any};
 ghost use Rattle.lease_state.specs.declared.number.FileNo.{FileNo};
 ghost use Rattle.lease_model.specs.server.State.{Open as ModelOpen, Lease as ModelLease};
@@ -10,6 +10,11 @@ ghost use Rattle.share_server.specs.Leases.{lease_of};
 ghost use Rattle.share_server.specs.Tallies.{tally_raised};
 ghost use Rattle.share_server.specs.Summaries.{record_at, lease_in, tally_in, IsKeyChanged, RecordFits, AreLeft, IsPut, IsAtHome, StandFor, has_key_on};
 ghost use Rattle.lease_model.specs.server.Allowed as grants;
+ghost use Rattle.std.specs.BTreeSet.{IsOrdered};
+ghost use Rattle.lease_model.specs.server.KeyOrder.{keys_of};
+ghost use Rattle.share_server.specs.KeyOrder.{key_order};
+ghost use Rattle.share_server.specs.Wanted.{is_wanted_key, is_own_key};
+ghost use Rattle.share_server.specs.Wishes.{is_demanded};
 ghost use Rattle.share_server.specs.Closing.{lease_under};
 ghost use Rattle.share_server.specs.Looks.{is_elsewhere};
 ghost use Rattle.share_server.specs.Summaries.{Agrees, IsOneMore, AreAfter, SummaryFits, summary_at};
@@ -19,9 +24,10 @@ use crate::key::Key;
 use crate::lease::Lease;
 use crate::open::Open;
 use crate::tally::Tally;
+use crate::want::Demand;
 use lease_state::{Access, FileNo, Memory, Share};
 use std::alloc::Global;
-use std::collections::BTreeMap;
+use std::collections::{BTreeMap, BTreeSet};
 
 /// What a server keeps of a lease: its file, the lease itself, and counts of its opens.
 #[derive(Clone, Copy, Debug)]
@@ -278,5 +284,79 @@ impl Summaries {
             Some(summary) => summary.tally.conflicts(access, share),
             None => false,
         }
+    }
+
+    /// Whether an open on the file has another key than the request. An open without a key counts as
+    /// a key of its own (own).
+    pub fn has_other_on(&self, own: Option<Key>, file: FileNo) -> bool
+        ensures { (server : Server) → StandFor self.now server
+            → result ≡ list_any (grants.is_other_on own file.0) server.opens }
+    {
+        match self.files.get(&file) {
+            Some(summary) => summary.has_other(own),
+            None => false,
+        }
+    }
+
+    /// The keys whose leases are wanted, in the order in which these are broken.
+    ///
+    /// # Errors
+    ///
+    /// `Memory` where there is none left for the list.
+    pub fn wanted_keys(&self, alloc: Global, demand: &Demand) -> Result<Vec<Key>, Memory>
+        ensures { IfOk result (λ keys. (server : Server) → StandFor self.now server
+            → keys.items ≡ keys_of (filter (is_demanded demand.now server) server.opens)) }
+    {
+        match self.files.get(&demand.file) {
+            Some(summary) => {
+                let keys = summary.keys_for(demand.wish);
+                let keys = self.wanted_among(alloc, keys, demand)?;
+                Ok(keys)
+            }
+            None => Ok(Vec::new(alloc)),
+        }
+    }
+
+    // Those of the keys whose leases are wanted.
+    fn wanted_among(
+        &self,
+        alloc: Global,
+        keys: &BTreeSet<Key>,
+        demand: &Demand,
+    ) -> Result<Vec<Key>, Memory>
+        ensures wanted { IfOk result (λ wanted. wanted.items ≡ filter (is_wanted_key self.now demand.now) keys.now.keys) }
+        ensures ordered { IsOrdered key_order keys.now }
+    {
+        let mut wanted = Vec::new(alloc);
+        for key in keys {
+            if self.is_wanted(*key, demand) {
+                wanted.push(*key)?;
+            }
+        }
+        Ok(wanted)
+    }
+
+    // Whether the lease of a key on the file is wanted: it is another one than the request's, and
+    // holds what the request wishes to be given up.
+    fn is_wanted(&self, key: Key, demand: &Demand) -> bool
+        ensures { result ≡ is_wanted_key self.now demand.now key }
+    {
+        if is_own(demand.own, key) {
+            return false;
+        }
+        match self.leases.get(&key) {
+            Some(known) => demand.wish.needs(known),
+            None => false,
+        }
+    }
+}
+
+// Whether the request has this key.
+fn is_own(own: Option<Key>, key: Key) -> bool
+    ensures { result ≡ is_own_key own key }
+{
+    match own {
+        Some(other) => key.is(other),
+        None => false,
     }
 }

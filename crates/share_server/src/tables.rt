@@ -8,10 +8,10 @@ ghost use Rattle.share_server.specs.Table.{no_file, file_in, fresh_file};
 
 use crate::key::Key;
 use crate::lease::Lease;
-use crate::leases::Leases;
-use crate::open::Open;
+use crate::opens::Opens;
 use crate::request::Held;
 use crate::state::without_write;
+use crate::summaries::Summaries;
 use lease_state::{Access, ClientNo, Content, FileId, FileNo, LeaseState, Memory, Patch, Share};
 use std::alloc::{AllocError, Global};
 use std::marker::Model;
@@ -105,8 +105,9 @@ pub struct Tables {
     files: Vec<File>,
     /// How many of them are files: those from 1 on.
     count: u8,
-    opens: Vec<Open>,
-    leases: Leases,
+    opens: Opens,
+    /// Lease records and file summaries, which agree with the opens.
+    summaries: Summaries,
     /// The clients whose connection the server has.
     present: Vec<ClientNo>,
     /// The keys whose break timer ran out since their client joined.
@@ -118,20 +119,22 @@ pub struct Tables {
 impl Model for Tables {
     ghost use Rattle.std.specs.Prelude.{◌≡◌, vec_len};
     ghost use Rattle.share_server.specs.Table as table;
+    ghost use Rattle.share_server.specs.Kept.{listed, AreKept};
 
     ghost Value = { table.Table };
 
     ghost view = { λ tables. record {
       files = tables.files.items;
       count = tables.count;
-      opens = tables.opens.items;
-      leases = tables.leases;
+      opens = tables.opens;
+      leases = listed tables.summaries;
       present = tables.present.items;
       expired = tables.expired.items;
       last_id = tables.last_id;
     } };
 
-    ghost invariant = { λ tables. vec_len tables.files ≡ 256 };
+    ghost invariant = { λ tables. (vec_len tables.files ≡ 256)
+        × AreKept tables.opens tables.summaries tables.last_id };
 }
 
 impl Tables {
@@ -157,8 +160,8 @@ impl Tables {
         Ok(Tables {
             files: places_of(alloc, contents)?,
             count,
-            opens: Vec::new(alloc),
-            leases: Leases::new(alloc),
+            opens: Opens::new(alloc),
+            summaries: Summaries::new(alloc),
             present: Vec::new(alloc),
             expired: Vec::new(alloc),
             last_id: 0,
@@ -167,7 +170,7 @@ impl Tables {
 
     /// The allocator of the tables.
     pub fn alloc(&self) -> Global {
-        *self.opens.allocator()
+        *self.present.allocator()
     }
 
     /// How many files there are.
@@ -234,23 +237,21 @@ impl Tables {
     pub fn lease(&self, key: Key) -> Lease
         ensures { lease_of result ≡ (server_of self.now).leases key }
     {
-        self.leases.of(key)
+        self.summaries.lease(key)
     }
 
     /// Whether an open on the file has another key than the request.
     pub fn has_other_on(&self, own: Option<Key>, file: FileNo) -> bool
         ensures { result ≡ list_any (allowed.is_other_on own file.0) (server_of self.now).opens }
     {
-        self.opens.iter().any(|one| one.is_other_on(own, file))
+        self.summaries.has_other_on(own, file)
     }
 
     /// Whether an open on the file conflicts with this access and share.
     pub fn has_conflict_on(&self, file: FileNo, access: Access, share: Share) -> bool
         ensures { result ≡ list_any (allowed.conflicts_on file.0 access share) (server_of self.now).opens }
     {
-        self.opens
-            .iter()
-            .any(|one| one.conflicts_on(file, access, share))
+        self.summaries.has_conflict_on(file, access, share)
     }
 
     /// What may be granted of a wanted state.
@@ -269,12 +270,7 @@ impl Tables {
     pub fn kept(&self, client: ClientNo, file: FileNo) -> Option<FileId>
         ensures { option_map (λ file_id. file_id.0) result ≡ queries.kept (server_of self.now) client.0 file.0 }
     {
-        for one in &self.opens {
-            if one.is_left_by(client, file) {
-                return Some(one.file_id);
-            }
-        }
-        None
+        self.opens.first_left_by(client, file)
     }
 }
 

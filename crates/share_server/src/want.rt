@@ -1,9 +1,11 @@
 ghost use Rattle.std.specs.Prelude.{◌≡◌};
 ghost use Rattle.lease_state.specs.State.{state_of};
+ghost use Rattle.share_server.specs.Wanted.{needs_lease};
 ghost use Rattle.share_server.specs.Wishes.{lowered_for};
 
 use crate::key::Key;
-use crate::state::{without_handle, without_write};
+use crate::state::{holds_any, without_handle, without_write};
+use crate::summaries::LeaseRecord;
 use lease_state::{Access, FileNo, LeaseState, Share};
 use std::marker::Model;
 
@@ -28,6 +30,20 @@ impl Wish {
             Wish::NoHandles { .. } => without_handle(state),
             Wish::NoWrites => without_write(state),
             Wish::Nothing => LeaseState::NONE,
+        }
+    }
+
+    /// Whether a lease, which this is known of, holds what is wished to be given up.
+    pub fn needs(self, known: &LeaseRecord) -> bool
+        ensures { result ≡ needs_lease self known.now }
+    {
+        let state = known.lease.state;
+        match self {
+            Wish::NoHandles { access, share } => {
+                known.tally.conflicts(access, share) && state.caches_handles()
+            }
+            Wish::NoWrites => state.caches_writes(),
+            Wish::Nothing => holds_any(state),
         }
     }
 }

@@ -1,46 +1,75 @@
-ghost use Rattle.std.specs.Prelude.{◌≡◌, ◌+◌, ◌<◌, ◌^◌, ◌++◌, ◌==◌, [], ◌∷◌};
-ghost use Rattle.std.specs.Prelude.{true, not, filter, map, OnOk, length, Some, vec_len};
-ghost use Rattle.std.specs.List.{remove, slice_get};
+ghost use Rattle.std.specs.Prelude.{◌≡◌, ◌+◌, ◌<◌, ◌++◌, ◌==◌, [], ◌∷◌};
+ghost use Rattle.std.specs.Prelude.{true, not, filter, map, OnOk, length, List, Some, vec_len, if◌then◌else◌};
+ghost use Rattle.std.specs.List.{remove, slice_get, list_any};
 ghost use Rattle.lease_state.specs.Content.{patch as patched};
+ghost use Rattle.lease_laws.specs.server.Laws.{Among};
 ghost use Rattle.lease_model.specs.server.Calls.{disconnected, client_forgotten};
 ghost use Rattle.lease_model.specs.server.Grant.{connected_again};
+ghost use Rattle.lease_model.specs.server.Naming.{key_of_open};
 ghost use Rattle.lease_model.specs.server.Progress.{with_lease, with_opens};
+ghost use Rattle.lease_model.specs.server.State.{Open as ModelOpen, has_key, has_lease, no_lease};
+ghost use Rattle.lease_model.specs.values.Keys.{Key as ModelKey};
 ghost use Rattle.lease_model.specs.values.Lists.{without};
 ghost use Rattle.lease_model.specs.values.Tables.{put, put_key};
 ghost use Rattle.share_server.specs.Closing.{closes};
+ghost use Rattle.share_server.specs.Filed.{has_id};
+ghost use Rattle.share_server.specs.Kept.{opened_with, HaveClosed, is_one_of, disconnected_where};
 ghost use Rattle.share_server.specs.Leases.{lease_of};
 ghost use Rattle.share_server.specs.Outs.{progress_of};
-ghost use Rattle.share_server.specs.Table.{server_of, lease_at, file_without};
+ghost use Rattle.share_server.specs.Summaries.{Agrees, IsAtHome, lease_in};
+ghost use Rattle.share_server.specs.Table.{server_of, file_without};
 
 use crate::closing::Closing;
 use crate::key::Key;
 use crate::lease::Lease;
-use crate::leases::Leases;
 use crate::open::Open;
+use crate::opens::Opens;
 use crate::request::Held;
+use crate::summaries::Summaries;
 use crate::tables::{File, Tables};
 use lease_state::{ClientNo, FileId, FileNo, Memory, Patch};
+use std::alloc::Global;
 
 impl Tables {
-    /// Puts a lease under the key.
+    /// The lease of a key that an open has becomes this one.
     ///
     /// # Errors
     ///
-    /// `Memory` where there is none left for the list of leases.
+    /// `Memory` where there is none left for the file's summary; no open is left then.
     pub fn put_lease(&mut self, key: Key, lease: Lease) -> Result<(), Memory>
+        requires { has_lease (server_of self.old) key ≡ true }
         ensures { OnOk result (server_of self.new ≡ with_lease (server_of self.old) key (lease_of lease)) }
     {
-        self.leases.put(key, lease)
+        match self.summaries.put(key, lease) {
+            Ok(()) => Ok(()),
+            Err(memory) => {
+                self.forget_opens();
+                Err(memory)
+            }
+        }
     }
 
     /// Closes opens; with its last open a lease is gone (MS-SMB2 3.3.5.10).
+    ///
+    /// # Errors
+    ///
+    /// `Memory` where there is none left for the list of FileIds.
     #[tactic(auto, unfolding(lease_model::specs::server::Progress::with_opens))]
-    pub fn close(&mut self, closing: Closing)
-        ensures { server_of self.new ≡ with_opens (server_of self.old)
-            (without (closes closing (server_of self.old).leases) (server_of self.old).opens) }
+    pub fn close(&mut self, closing: Closing) -> Result<(), Memory>
+        ensures { OnOk result (server_of self.new ≡ with_opens (server_of self.old)
+            (without (closes closing (server_of self.old).leases) (server_of self.old).opens)) }
     {
-        drop_opens(&mut self.opens, &self.leases, closing);
-        self.leases.keep_under(&self.opens);
+        let alloc = self.alloc();
+        let ids = self.opens.closed(alloc, &closing, &self.summaries)?;
+        close_all(&mut self.opens, &mut self.summaries, &ids);
+        Ok(())
+    }
+
+    // No open is left: what a call leaves where there was no memory, with which its server is dropped.
+    fn forget_opens(&mut self) {
+        let alloc = self.alloc();
+        self.opens = Opens::new(alloc);
+        self.summaries = Summaries::new(alloc);
     }
 
     /// The request waits on the file, behind those that wait there.
@@ -112,30 +141,42 @@ impl Tables {
         self.last_id
     }
 
-    /// One more open, which has the next FileId.
+    /// One more open, which has the next FileId, and whose key has no open on another file. The
+    /// lease of its key becomes this one.
     ///
     /// # Errors
     ///
-    /// `Memory` where there is none left for the list of opens.
-    pub fn add_open(&mut self, one: Open) -> Result<(), Memory>
-        requires { (server_of self.old).last_id + 1 < 2 ^ 64 }
-        ensures { OnOk result (server_of self.new ≡ record (server_of self.old) {
-          opens = (server_of self.old).opens ++ one ∷ [];
-          last_id = (server_of self.old).last_id + 1;
-        }) }
+    /// `Memory` where there is none left; no open is left then.
+    pub fn open(&mut self, one: Open, lease: Lease) -> Result<(), Memory>
+        requires next { one.file_id ≡ (server_of self.old).last_id + 1 }
+        requires home { IsAtHome (key_of_open one) one.file (server_of self.old).opens }
+        ensures { OnOk result (server_of self.new ≡ opened_with (server_of self.old) one (lease_of lease)) }
     {
-        self.opens.push(one)?;
-        self.last_id += 1;
-        Ok(())
+        let alloc = self.alloc();
+        self.last_id = one.file_id.0;
+        match add(&mut self.opens, &mut self.summaries, alloc, one, lease) {
+            Ok(()) => Ok(()),
+            Err(memory) => {
+                self.forget_opens();
+                Err(memory)
+            }
+        }
     }
 
     /// The client's opens are no longer connected.
-    pub fn disconnect(&mut self, client: ClientNo)
-        ensures { server_of self.new ≡ record (server_of self.old) {
+    ///
+    /// # Errors
+    ///
+    /// `Memory` where there is none left for the list of FileIds.
+    pub fn disconnect(&mut self, client: ClientNo) -> Result<(), Memory>
+        ensures { OnOk result (server_of self.new ≡ record (server_of self.old) {
           opens = map (disconnected client.0) (server_of self.old).opens;
-        } }
+        }) }
     {
-        disconnect(&mut self.opens, client);
+        let alloc = self.alloc();
+        let ids = self.opens.of_client(alloc, client)?;
+        disconnect_all(&mut self.opens, &ids);
+        Ok(())
     }
 
     /// The open of this FileId is connected again.
@@ -144,15 +185,56 @@ impl Tables {
           opens = map (connected_again fid.0) (server_of self.old).opens;
         } }
     {
-        connect_again(&mut self.opens, fid);
+        self.opens.connect_again(fid);
     }
 }
 
-// Keeps the opens that aren't closed.
-fn drop_opens(opens: &mut Vec<Open>, leases: &Leases, closing: Closing)
-    ensures { opens.new.items ≡ filter (λ one. not (closes closing (lease_at leases.now) one)) opens.old.items }
+// The opens of these FileIds are no longer connected.
+fn disconnect_all(opens: &mut Opens, ids: &[FileId])
+    ensures { opens.new ≡ map (disconnected_where (is_one_of (map (λ id. id.0) ids.now))) opens.old }
 {
-    opens.retain(|one| !closing.closes(leases, one));
+    for id in ids {
+        opens.disconnect(*id);
+    }
+}
+
+// Closes the opens of these FileIds.
+fn close_all(opens: &mut Opens, summaries: &mut Summaries, ids: &[FileId])
+    ensures { Agrees summaries.old opens.old
+        → HaveClosed opens.old (map (λ id. id.0) ids.now) summaries.old opens.new summaries.new }
+{
+    for id in ids {
+        close_one(opens, summaries, *id);
+    }
+}
+
+// Closes the open of this FileId, if there is one.
+fn close_one(opens: &mut Opens, summaries: &mut Summaries, id: FileId)
+    ensures opens { opens.new ≡ without (has_id id.0) opens.old }
+    ensures agrees { Agrees summaries.old opens.old → Agrees summaries.new opens.new }
+    ensures leases { Agrees summaries.old opens.old → (key : ModelKey) → lease_in summaries.new key
+        ≡ (if list_any (has_key key) opens.new then lease_in summaries.old key else no_lease) }
+{
+    if let Some(one) = opens.take(id) {
+        summaries.lose(&one);
+    }
+}
+
+// Adds an open, with the lease of its key.
+fn add(opens: &mut Opens, summaries: &mut Summaries, alloc: Global, one: Open, lease: Lease) -> Result<(), Memory>
+    requires { (other : ModelOpen) → Among other opens.old → other.file_id < one.file_id }
+    ensures opens { OnOk result (opens.new ≡ opens.old ++ one ∷ []) }
+    ensures agrees { OnOk result (IsAtHome (key_of_open one) one.file opens.old → Agrees summaries.old opens.old
+        → Agrees summaries.new opens.new) }
+    ensures leases { OnOk result ((key : ModelKey) → lease_in summaries.new key
+        ≡ (if has_key key one then lease_of lease else lease_in summaries.old key)) }
+{
+    if opens.len() == usize::MAX {
+        return Err(Memory);
+    }
+    summaries.gain(alloc, &one, lease)?;
+    opens.push(one)?;
+    Ok(())
 }
 
 // Keeps the connections of other clients.
@@ -168,21 +250,5 @@ fn forget_requests(files: &mut Vec<File>, client: ClientNo)
 {
     for file in files.iter_mut() {
         file.forget(client);
-    }
-}
-
-fn disconnect(opens: &mut Vec<Open>, client: ClientNo)
-    ensures { opens.new.items ≡ map (disconnected client.0) opens.old.items }
-{
-    for one in opens.iter_mut() {
-        one.disconnect(client);
-    }
-}
-
-fn connect_again(opens: &mut Vec<Open>, fid: FileId)
-    ensures { opens.new.items ≡ map (connected_again fid.0) opens.old.items }
-{
-    for one in opens.iter_mut() {
-        one.connect_again(fid);
     }
 }

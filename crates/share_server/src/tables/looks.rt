@@ -6,7 +6,6 @@ ghost use Rattle.lease_model.specs.server.Findings as findings;
 ghost use Rattle.lease_model.specs.server.Naming as naming;
 ghost use Rattle.lease_model.specs.server.State.{has_lease};
 ghost use Rattle.share_server.specs.Leases.{lease_of};
-ghost use Rattle.share_server.specs.Looks.{is_elsewhere};
 ghost use Rattle.share_server.specs.Table.{server_of};
 
 use crate::key::Key;
@@ -21,12 +20,10 @@ impl Tables {
     pub fn connected_open(&self, client: ClientNo, fid: FileId) -> Option<&Open>
         ensures { option_map (λ one. one.now) result ≡ findings.connected_open (server_of self.now) client.0 fid.0 }
     {
-        for one in &self.opens {
-            if one.is_connected_as(client, fid) {
-                return Some(one);
-            }
+        match self.opens.find(fid) {
+            Some(one) if one.is_connected_as(client, fid) => Some(one),
+            _ => None,
         }
-        None
     }
 
     /// The file of the client's connected open of this FileId.
@@ -58,15 +55,9 @@ impl Tables {
         ensures { result ≡ findings.is_leased_elsewhere (server_of self.now) own file.0 }
     {
         match own {
-            Some(key) => self.has_open_elsewhere(key, file),
+            Some(key) => self.summaries.is_elsewhere(key, file),
             None => false,
         }
-    }
-
-    fn has_open_elsewhere(&self, key: Key, file: FileNo) -> bool
-        ensures { result ≡ list_any (is_elsewhere key file.0) (server_of self.now).opens }
-    {
-        self.opens.iter().any(|one| one.is_elsewhere(key, file))
     }
 
     /// Whether a durable open waits for this reconnect.
@@ -79,23 +70,27 @@ impl Tables {
     ) -> bool
         ensures { result ≡ list_any (findings.awaits client.0 file.0 own fid.0) (server_of self.now).opens }
     {
-        self.opens
-            .iter()
-            .any(|one| one.awaits(client, file, own, fid))
+        match self.opens.find(fid) {
+            Some(one) => one.awaits(client, file, own, fid),
+            None => false,
+        }
     }
 
     /// Whether an open has the key.
     pub fn has_lease(&self, key: Key) -> bool
         ensures { result ≡ has_lease (server_of self.now) key }
     {
-        self.opens.iter().any(|one| one.has_key(key))
+        self.summaries.has_lease(key)
     }
 
     /// Whether a disconnected open has this FileId.
     pub fn has_left_behind(&self, fid: FileId) -> bool
         ensures { result ≡ list_any (is_left_behind fid.0) (server_of self.now).opens }
     {
-        self.opens.iter().any(|one| one.is_left_behind(fid))
+        match self.opens.find(fid) {
+            Some(one) => one.is_left_behind(fid),
+            None => false,
+        }
     }
 
     /// Whether the timer of the key ran out since its client joined.
