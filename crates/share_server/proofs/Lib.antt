@@ -3,6 +3,7 @@ pub mod Alike
 pub mod Arriving
 pub mod Asking
 pub mod Breaking
+pub mod Demanding
 pub mod Expiring
 pub mod FilePlaces
 pub mod Filing
@@ -11,6 +12,7 @@ pub mod Kept
 pub mod KeyOrder
 pub mod LeaseTable
 pub mod Losing
+pub mod Mapping
 pub mod NewTables
 pub mod Ordering
 pub mod Passing

@@ -45,7 +45,7 @@ lower_count test one less more false m is = let e = counts test one less more m 
 both : (a b : Bool) → a ≡ true → (a && b) ≡ b
 both a b e = rw e refl
 
-tally_same : (a b c d e v w x y z : ℕ) → a ≡ v → b ≡ w → c ≡ x → d ≡ y → e ≡ z
+pub tally_same : (a b c d e v w x y z : ℕ) → a ≡ v → b ≡ w → c ≡ x → d ≡ y → e ≡ z
     → let one : Tally = record { opens = a; reads = b; writes = c; refuses_reads = d; refuses_writes = e } in
     one ≡ record { opens = v; reads = w; writes = x; refuses_reads = y; refuses_writes = z }
 tally_same a b c d e v w x y z f g h i j = rw (f, g, h, i, j) refl

@@ -1,5 +1,5 @@
 -- The tables' opens and lease records as the server that they stand for.
-use Rattle.std.proofs.Common.{◌≡◌, inl, inr, ⊎_elim, ℕ, ◌≤◌, Bool, true, false, not, List, [], ◌∷◌, ◌++◌, map, filter, refl, ap, sym, ◌∙◌, arith, subst, ◌<◌}
+use Rattle.std.proofs.Common.{append-nil, ◌^◌, take, get_or, length, zero, suc, ◌≡◌, inl, inr, ⊎_elim, ℕ, ◌+◌, ◌≤◌, Bool, true, false, not, List, [], ◌∷◌, ◌++◌, map, filter, refl, ap, ap₂, sym, ◌∙◌, arith, subst, ◌<◌, true≢false}
 use Rattle.std.proofs.Math.Path.{fun_ext}
 use Rattle.std.proofs.lemmas.Bool.Decides.{nat_tests, Decides-eqb}
 use Rattle.std.specs.Prelude.{if◌then◌else◌, ◌==◌, ◌&&◌, ◌||◌, Option, Some, None, find}
@@ -7,24 +7,30 @@ use Rattle.std.specs.BTreeMap.{is_at}
 use Rattle.std.specs.List.{list_any}
 use Rattle.std.specs.Map.{lookup}
 use Rattle.lease_laws.proofs.server.Goes.{one_id}
-use Rattle.lease_laws.proofs.server.Lists.{either, clash, among_filter, among_filtered, among_append, any_has, has_any, not_true, among_map}
+use Rattle.lease_laws.proofs.server.Lists.{either, clash, among_filter, among_filtered, among_append, any_has, has_any, not_true, among_map, or_of_true, and_parts}
 use Rattle.lease_laws.specs.server.Laws.{Among, AreInOrder}
+use Rattle.lease_model.specs.server.Calls.{disconnected, is_left_behind}
+use Rattle.lease_model.specs.server.Findings.{awaits, is_leased_elsewhere}
 use Rattle.lease_model.specs.server.Progress.{with_opens, with_lease}
-use Rattle.lease_model.specs.server.State.{Server, Open, Lease, has_key, no_lease}
+use Rattle.lease_model.specs.server.State.{Server, Open, Lease, has_key, is_key, no_lease}
 use Rattle.lease_model.specs.values.Keys.{Key, key_eq}
 use Rattle.lease_model.specs.values.Lists.{without}
 use Rattle.lease_model.specs.values.Tables.{put_key}
+use Rattle.lease_state.specs.declared.number.FileId.{FileId}
 use Rattle.share_server.specs.Closing.{closes}
-use Rattle.share_server.specs.Filed.{has_id}
+use Rattle.share_server.specs.Filed.{has_id, is_of, disconnected_at}
 use Rattle.share_server.specs.KeyOrder.{key_order}
-use Rattle.share_server.specs.Kept.{listed, AreKept, HaveClosed, is_one_of, disconnected_where}
+use Rattle.share_server.specs.Kept.{listed, AreKept, HaveClosed, is_one_of, disconnected_where, lease_put_by, opened_with}
 use Rattle.share_server.specs.Leases.{lease_of}
-use Rattle.share_server.specs.Summaries.{Agrees, StandFor, lease_in, lease_or_none}
+use Rattle.share_server.specs.Looks.{is_connected_as, is_elsewhere}
+use Rattle.share_server.specs.Summaries.{Agrees, IsOneMore, StandFor, record_at, lease_in, lease_or_none}
 use Rattle.share_server.specs.Table.{Table, KeyedLease, lease_at, server_of}
 use Rattle.share_server.specs.declared.closing.Closing.{Closing}
 use Rattle.share_server.specs.declared.summaries.LeaseRecord.{LeaseRecord}
 use Rattle.share_server.specs.declared.summaries.Summaries.{Summaries}
+use Rattle.share_server.proofs.Mapping.{KeepsCounted, agrees_mapped}
 use Rattle.share_server.proofs.Ordering.{order_eq}
+use Rattle.share_server.proofs.Recording.{lease_unused}
 
 abbrev listed_entry : Key × LeaseRecord → KeyedLease
 listed_entry entry = record { key = entry.0; lease = lease_of entry.1.lease }
@@ -141,3 +147,320 @@ map_alike f g (one ∷ opens) same =
     let here = same one (inl refl) in
     let later = map_alike f g opens (λ other a. same other (inr a)) in
     rw (here, later) refl
+
+-- ---- opens that are closed
+
+not_either : (a b : Bool) → not (a || b) ≡ (not a && not b)
+not_either true b = refl
+not_either false b = refl
+
+one_more : (ids : List ℕ) (id : ℕ) (one : Open) → is_one_of (ids ++ id ∷ []) one ≡ (is_one_of ids one || has_id id one)
+one_more [] id one = or_false (has_id id one)
+  where
+    or_false : (b : Bool) → (b || false) ≡ b
+    or_false true = refl
+    or_false false = refl
+one_more (x ∷ ids) id one = let e = one_more ids id one in grind (arith, e)
+
+without_more : (ids : List ℕ) (id : ℕ) (opens : List Open)
+    → without (has_id id) (without (is_one_of ids) opens) ≡ without (is_one_of (ids ++ id ∷ [])) opens
+without_more ids id [] = refl
+without_more ids id (one ∷ opens) =
+    let later = without_more ids id opens in
+    let more = one_more ids id one in
+    either (is_one_of ids one)
+    (λ t. rw (more, t) later)
+    (λ t. either (has_id id one) (λ h. rw (more, t, h) later) (λ h. rw (more, t, h) (ap (λ x. one ∷ x) later)))
+
+unused_lease : (key : Key) (opens : List Open) (summaries : Summaries) → Agrees summaries opens
+    → lease_in summaries key ≡ (if list_any (has_key key) opens then lease_in summaries key else no_lease)
+unused_lease key opens summaries agree = either (list_any (has_key key) opens)
+    (λ t. rw t refl)
+    (λ t. rw t (lease_unused key opens (record_at summaries key) (agree.records key) t))
+
+nothing_left_out : (xs : List Open) → xs ≡ without (is_one_of []) xs
+nothing_left_out [] = refl
+nothing_left_out (x ∷ xs) = ap (λ y. x ∷ y) (nothing_left_out xs)
+
+pub closed_none : (opens : List Open) (summaries : Summaries) → Agrees summaries opens
+    → HaveClosed opens [] summaries opens summaries
+closed_none opens summaries agree = record {
+  opens_left = nothing_left_out opens;
+  agree = agree;
+  leases = λ key. unused_lease key opens summaries agree;
+}
+
+any_left : (test out : Open → Bool) (opens : List Open) → list_any test (without out opens) ≡ true
+    → list_any test opens ≡ true
+any_left test out [] some = some
+any_left test out (one ∷ opens) some = either (out one)
+    (λ o. or_of_true (test one) (list_any test opens) (any_left test out opens (rw o at some)))
+    (λ o. either (test one) (λ t. rw t refl) (λ t. rw t (any_left test out opens (rw (o, t) at some))))
+
+pub closed_more : (opens : List Open) (ids : List ℕ) (id : ℕ) (summaries during after : Summaries) (middle left : List Open)
+    → HaveClosed opens ids summaries middle during
+    → left ≡ without (has_id id) middle → Agrees after left
+    → ((key : Key) → lease_in after key ≡ (if list_any (has_key key) left then lease_in during key else no_lease))
+    → HaveClosed opens (ids ++ id ∷ []) summaries left after
+closed_more opens ids id summaries during after middle left closed is agree leases = record {
+  opens_left = is ∙ (ap (without (has_id id)) closed.opens_left ∙ without_more ids id opens);
+  agree = agree;
+  leases = λ key. leases key ∙ still (list_any (has_key key) left) (list_any (has_key key) middle) _ _ (closed.leases key)
+      (λ some. any_left (has_key key) (has_id id) middle (rw is at some));
+}
+  where
+    still : (left middle : Bool) (lease now : Lease) → now ≡ (if middle then lease else no_lease)
+        → (left ≡ true → middle ≡ true) → (if left then now else no_lease) ≡ (if left then lease else no_lease)
+    still true middle lease now e up = rw (up refl) at e
+    still false middle lease now e up = refl
+
+abbrev with_leases : Server → List Open → (Key → Lease) → Server
+with_leases server opens leases = record server { opens = opens; leases = leases }
+
+same_leases : (server : Server) (opens others : List Open) (leases later : Key → Lease) → opens ≡ others → leases ≡ later
+    → with_leases server opens leases ≡ with_leases server others later
+same_leases server opens others leases later a b =
+    ap (λ x. with_leases server x leases) a ∙ ap (λ x. with_leases server others x) b
+
+closes_alike : (closing : Closing) (summaries : Summaries)
+    → closes closing (lease_in summaries) ≡ closes closing (lease_at (listed summaries))
+closes_alike closing summaries = ap (closes closing) (sym (leases_are summaries))
+
+-- what is left once the opens of these FileIds are closed is what the rules leave
+pub table_closed : (table : Table) (closing : Closing) (ids : List ℕ) (summaries after : Summaries) (left : List Open)
+    → table.leases ≡ listed summaries → AreInOrder table.opens
+    → ids ≡ map (λ one. one.file_id) (filter (closes closing (lease_in summaries)) table.opens)
+    → HaveClosed table.opens ids summaries left after
+    → server_of (record table { opens = left; leases = listed after })
+    ≡ with_opens (server_of table) (without (closes closing (server_of table).leases) (server_of table).opens)
+unfolding with_opens
+table_closed table closing ids summaries after left same order are closed =
+    let chosen_ones : (one : Open) → Among one table.opens → is_one_of ids one ≡ closes closing (lease_in summaries) one =
+    λ one a. rw are (chosen (closes closing (lease_in summaries)) table.opens one order a) in
+    let is : left ≡ without (closes closing (lease_at table.leases)) table.opens =
+    closed.opens_left
+    ∙ (filter_alike (is_one_of ids) (closes closing (lease_in summaries)) table.opens chosen_ones
+    ∙ ap (λ f. without f table.opens) (closes_alike closing summaries ∙ ap (λ l. closes closing (lease_at l)) (sym same))) in
+    same_leases (server_of table) _ _ _ _ is
+    (fun_ext (λ key. listed_lease after key
+    ∙ (closed.leases key
+    ∙ ap₂ (λ b l. if b then l else no_lease) (ap (λ o. list_any (has_key key) o) is)
+    (sym (listed_lease summaries key) ∙ ap (λ l. lease_at l key) (sym same)))))
+
+pub kept_left : (opens : List Open) (ids : List ℕ) (summaries after : Summaries) (left : List Open) (last_id : ℕ)
+    → AreKept opens summaries last_id → HaveClosed opens ids summaries left after → AreKept left after last_id
+kept_left opens ids summaries after left last_id kept closed = record {
+  agree = closed.agree;
+  numbered = λ one a. kept.numbered one
+      (among_filter (λ o. not (is_one_of ids o)) one opens (subst (λ xs. Among one xs) closed.opens_left a)).0;
+}
+
+pub lease_written : (table : Table) (key : Key) (lease : Lease) (summaries after : Summaries)
+    → table.leases ≡ listed summaries
+    → ((other : Key) → lease_in after other ≡ (if key_eq other key then lease else lease_in summaries other))
+    → server_of (record table { leases = listed after }) ≡ with_lease (server_of table) key lease
+unfolding put_key
+lease_written table key lease summaries after same now =
+    same_leases (server_of table) _ _ _ _ refl
+    (fun_ext (λ other. listed_lease after other
+    ∙ (now other
+    ∙ ap (λ l. if key_eq other key then lease else l)
+    (sym (listed_lease summaries other) ∙ ap (λ l. lease_at l other) (sym same)))))
+
+-- ---- a new open
+
+new_leases : (client : ℕ) (bytes : Option (List ℕ)) (server : Server) (lease : Lease) (later : Key → Lease) (opens : List Open) (last : ℕ)
+    → ((key : Key) → later key ≡ (if is_key key client bytes then lease else server.leases key))
+    → record server { opens = opens; leases = later; last_id = last }
+    ≡ record (lease_put_by server client bytes lease) { opens = opens; last_id = last }
+unfolding put_key key_eq
+new_leases client None server lease later opens last now =
+    ap (λ (l : Key → Lease). record server { opens = opens; leases = l; last_id = last }) (fun_ext now)
+new_leases client (Some bytes) server lease later opens last now =
+    ap (λ (l : Key → Lease). record server { opens = opens; leases = l; last_id = last }) (fun_ext now)
+
+pub table_opened : (table : Table) (one : Open) (lease : Lease) (summaries after : Summaries)
+    → table.leases ≡ listed summaries
+    → ((key : Key) → lease_in after key ≡ (if has_key key one then lease else lease_in summaries key))
+    → server_of (record table { opens = table.opens ++ one ∷ []; leases = listed after; last_id = one.file_id })
+    ≡ opened_with (server_of table) one lease
+table_opened table one lease summaries after same now =
+    new_leases one.client one.lease_key (server_of table) lease _ _ one.file_id
+    (λ key. listed_lease after key
+    ∙ (now key
+    ∙ ap (λ l. if has_key key one then lease else l)
+    (sym (listed_lease summaries key) ∙ ap (λ l. lease_at l key) (sym same))))
+
+below_next : (one : Open) (last next : ℕ) → one.file_id ≤ last → next ≡ last + 1 → one.file_id < next
+below_next one last next low is = omega (arith, low, is)
+
+pub below_new : (opens : List Open) (summaries : Summaries) (last next : ℕ) → AreKept opens summaries last → next ≡ last + 1
+    → (other : Open) → Among other opens → other.file_id < next
+below_new opens summaries last next kept is = λ other a. below_next other last next (kept.numbered other a) is
+
+pub kept_opened : (opens : List Open) (one : Open) (summaries after : Summaries) (last : ℕ) → AreKept opens summaries last
+    → one.file_id ≡ last + 1 → Agrees after (opens ++ one ∷ []) → AreKept (opens ++ one ∷ []) after one.file_id
+kept_opened opens one summaries after last kept is agree = record {
+  agree = agree;
+  numbered = λ other a. ⊎_elim
+      (λ before. let low = kept.numbered other before in omega (arith, low, is))
+      (λ behind. ⊎_elim (λ same. let e = ap (λ (o : Open). o.file_id) same in omega (arith, e)) (λ never. absurd never) behind)
+      (among_append other opens (one ∷ []) a);
+}
+
+-- ---- opens that are connected or disconnected
+
+pub kept_mapped : (opens : List Open) (change : Open → Open) (summaries : Summaries) (last : ℕ) → AreKept opens summaries last
+    → KeepsCounted change → ((one : Open) → (change one).file_id ≡ one.file_id) → AreKept (map change opens) summaries last
+kept_mapped opens change summaries last kept keeps same = record {
+  agree = agrees_mapped summaries change opens keeps kept.agree;
+  numbered = λ one a.
+      let was = among_map change one opens a in
+      let low = kept.numbered was.0 was.1 in
+      let e = ap (λ (o : Open). o.file_id) was.2 ∙ same was.0 in
+      omega (arith, low, e);
+}
+
+disconnect_more : (ids : List ℕ) (id : ℕ) (one : Open)
+    → disconnected_at id (disconnected_where (is_one_of ids) one) ≡ disconnected_where (is_one_of (ids ++ id ∷ [])) one
+disconnect_more ids id one =
+    let more = one_more ids id one in
+    either (is_one_of ids one)
+    (λ t. either (has_id id one) (λ h. rw (more, t, h) refl) (λ h. rw (more, t, h) refl))
+    (λ t. either (has_id id one) (λ h. rw (more, t, h) refl) (λ h. rw (more, t, h) refl))
+
+pub disconnected_more : (ids : List ℕ) (id : ℕ) (opens : List Open)
+    → map (disconnected_at id) (map (disconnected_where (is_one_of ids)) opens)
+    ≡ map (disconnected_where (is_one_of (ids ++ id ∷ []))) opens
+disconnected_more ids id [] = refl
+disconnected_more ids id (one ∷ opens) = rw (disconnect_more ids id one, disconnected_more ids id opens) refl
+
+pub disconnected_none : (opens : List Open) → opens ≡ map (disconnected_where (is_one_of [])) opens
+disconnected_none [] = refl
+disconnected_none (one ∷ opens) = ap (λ x. one ∷ x) (disconnected_none opens)
+
+pub disconnected_are : (client : ℕ) (ids : List ℕ) (opens : List Open) → AreInOrder opens
+    → ids ≡ map (λ one. one.file_id) (filter (is_of client) opens)
+    → map (disconnected_where (is_one_of ids)) opens ≡ map (disconnected client) opens
+disconnected_are client ids opens order are =
+    map_alike (disconnected_where (is_one_of ids)) (disconnected client) opens
+    (λ one a. let e = chosen (is_of client) opens one order a in rw (are, e) refl)
+
+pub same_id_where : (test : Open → Bool) (b : Bool) (one : Open)
+    → (if test one then record one { connected = b } else one).file_id ≡ one.file_id
+same_id_where test b one = either (test one) (λ t. rw t refl) (λ t. rw t refl)
+
+-- ---- looks at the open of a FileId
+
+pub found_so : (n : ℕ) (test : Open → Bool) (opens : List Open) (one : Open)
+    → ((other : Open) → test other ≡ true → has_id n other ≡ true) → AreInOrder opens
+    → Some one ≡ find (has_id n) opens → test one ≡ true → Some one ≡ find test opens
+found_so n test opens one only order found is =
+    sym (find_one n test opens only order ∙ (ap (pick test) (sym found) ∙ rw is refl))
+
+pub found_not : (n : ℕ) (test : Open → Bool) (opens : List Open) (one : Open)
+    → ((other : Open) → test other ≡ true → has_id n other ≡ true) → AreInOrder opens
+    → Some one ≡ find (has_id n) opens → test one ≡ false → None ≡ find test opens
+found_not n test opens one only order found is =
+    sym (find_one n test opens only order ∙ (ap (pick test) (sym found) ∙ rw is refl))
+
+pub found_none : (n : ℕ) (test : Open → Bool) (opens : List Open)
+    → ((other : Open) → test other ≡ true → has_id n other ≡ true) → AreInOrder opens
+    → None ≡ find (has_id n) opens → None ≡ find test opens
+found_none n test opens only order found =
+    sym (find_one n test opens only order ∙ ap (pick test) (sym found))
+
+pub any_so : (n : ℕ) (test : Open → Bool) (opens : List Open) (one : Open)
+    → ((other : Open) → test other ≡ true → has_id n other ≡ true) → AreInOrder opens
+    → Some one ≡ find (has_id n) opens → test one ≡ list_any test opens
+any_so n test opens one only order found =
+    sym (any_one n test opens only order ∙ ap (check test) (sym found))
+
+pub any_none : (n : ℕ) (test : Open → Bool) (opens : List Open)
+    → ((other : Open) → test other ≡ true → has_id n other ≡ true) → AreInOrder opens
+    → None ≡ find (has_id n) opens → false ≡ list_any test opens
+any_none n test opens only order found =
+    sym (any_one n test opens only order ∙ ap (check test) (sym found))
+
+pub connected_only : (client n : ℕ) (one : Open) → is_connected_as client n one ≡ true → has_id n one ≡ true
+connected_only client n one is =
+    (and_parts (has_id n one) (one.client == client) (and_parts (has_id n one && one.client == client) one.connected is).0).0
+
+pub left_only : (n : ℕ) (one : Open) → is_left_behind n one ≡ true → has_id n one ≡ true
+left_only n one is = (and_parts (has_id n one) (not one.connected) is).0
+
+pub awaits_only : (client file : ℕ) (own : Option Key) (n : ℕ) (one : Open) → awaits client file own n one ≡ true
+    → has_id n one ≡ true
+unfolding awaits
+awaits_only client file None n one is = absurd (true≢false (sym is))
+awaits_only client file (Some key) n one is =
+    let a = and_parts (has_id n one && not one.connected && one.client == client && one.file == file) (has_key key one) is in
+    let b = and_parts (has_id n one && not one.connected && one.client == client) (one.file == file) a.0 in
+    let d = and_parts (has_id n one && not one.connected) (one.client == client) b.0 in
+    (and_parts (has_id n one) (not one.connected) d.0).0
+
+pub kept_none : (last : ℕ) (summaries : Summaries) (opens : List Open) → opens ≡ [] → Agrees summaries []
+    → AreKept opens summaries last
+kept_none last summaries opens none agree = record {
+  agree = subst (Agrees summaries) (sym none) agree;
+  numbered = λ one a. absurd (subst (Among one) none a);
+}
+
+pub leased_by : (server : Server) (own : Option Key) (key : Key) (file : ℕ) (b : Bool) → own ≡ Some key
+    → b ≡ list_any (is_elsewhere key file) server.opens → b ≡ is_leased_elsewhere server own file
+unfolding is_leased_elsewhere
+leased_by server own key file b is e = rw is e
+
+-- ---- steps of loops over FileIds
+
+pub none_taken : (n : ℕ) (opens : List Open) → None ≡ find (has_id n) opens → without (has_id n) opens ≡ opens
+none_taken n [] none = refl
+none_taken n (one ∷ opens) none = either (has_id n one)
+    (λ t. absurd (cc (rw t at none)))
+    (λ t. rw t (ap (λ x. one ∷ x) (none_taken n opens (rw t at none))))
+
+pub untaken_agrees : (n : ℕ) (opens left : List Open) (summaries : Summaries) → None ≡ find (has_id n) opens
+    → left ≡ without (has_id n) opens → Agrees summaries opens → Agrees summaries left
+untaken_agrees n opens left summaries none is agree =
+    subst (Agrees summaries) (sym (is ∙ none_taken n opens none)) agree
+
+pub unused_now : (key : Key) (opens : List Open) (summaries : Summaries) → Agrees summaries opens
+    → lease_in summaries key ≡ (if list_any (has_key key) opens then lease_in summaries key else no_lease)
+unused_now key opens summaries agree = unused_lease key opens summaries agree
+
+pub ids_more : (ids : List FileId) (i : ℕ) (d : FileId) → i < length ids
+    → map (λ id. id.0) (take (i + 1) ids) ≡ map (λ id. id.0) (take i ids) ++ (get_or ids i d).0 ∷ []
+ids_more [] i d inside = absurd (omega (arith, inside))
+ids_more (id ∷ ids) zero d inside = refl
+ids_more (id ∷ ids) (suc i) d inside =
+    let e : suc i + 1 ≡ suc (i + 1) = omega arith in
+    rw e (ap (λ x. id.0 ∷ x) (ids_more ids i d (omega (arith, inside))))
+
+pub ids_all : (ids : List FileId) (i : ℕ) → length ids ≤ i → map (λ id. id.0) (take i ids) ≡ map (λ id. id.0) ids
+ids_all [] zero less = refl
+ids_all [] (suc i) less = refl
+ids_all (id ∷ ids) zero less = absurd (omega (arith, less))
+ids_all (id ∷ ids) (suc i) less = ap (λ x. id.0 ∷ x) (ids_all ids i (omega (arith, less)))
+
+pub one_more_last : (one : Open) (opens : List Open) → IsOneMore one opens (opens ++ one ∷ [])
+one_more_last one opens = record {
+  before = opens;
+  behind = [];
+  is_less = sym (append-nil opens);
+  is_more = refl;
+}
+
+length_last : (opens : List Open) (one : Open) → length (opens ++ one ∷ []) ≡ suc (length opens)
+length_last [] one = refl
+length_last (first ∷ opens) one = ap suc (length_last opens one)
+
+pub short_more : (opens : List Open) (one : Open) (n : ℕ) → n ≡ length opens → n < 2 ^ 63 → length (opens ++ one ∷ []) < 2 ^ 64
+short_more opens one n is small =
+    let e = length_last opens one in
+    omega (arith, e, is, small)
+
+pub opened_now : (opens now : List Open) (one : Open) (summaries after : Summaries) (last : ℕ) → AreKept opens summaries last
+    → one.file_id ≡ last + 1 → now ≡ opens ++ one ∷ [] → Agrees after now → AreKept now after one.file_id
+opened_now opens now one summaries after last kept is same agree =
+    subst (λ xs. AreKept xs after one.file_id) (sym same)
+    (kept_opened opens one summaries after last kept is (subst (Agrees after) same agree))

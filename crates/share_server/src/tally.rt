@@ -32,7 +32,7 @@ impl Tally {
         }
     }
 
-    #[tactic(auto, using(crate::proofs::Tabling::map_alike))]
+    #[tactic(auto, using(crate::proofs::Demanding::others_counted))]
     /// Whether no open is counted.
     pub fn is_empty(self) -> bool
         ensures { result ≡ nat_eq self.opens 0 }

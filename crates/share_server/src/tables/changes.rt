@@ -40,10 +40,11 @@ impl Tables {
         requires { has_lease (server_of self.old) key ≡ true }
         ensures { OnOk result (server_of self.new ≡ with_lease (server_of self.old) key (lease_of lease)) }
     {
+        let alloc = self.alloc();
         match self.summaries.put(key, lease) {
             Ok(()) => Ok(()),
             Err(memory) => {
-                self.forget_opens();
+                forget_opens(&mut self.opens, &mut self.summaries, alloc);
                 Err(memory)
             }
         }
@@ -63,13 +64,6 @@ impl Tables {
         let ids = self.opens.closed(alloc, &closing, &self.summaries)?;
         close_all(&mut self.opens, &mut self.summaries, &ids);
         Ok(())
-    }
-
-    // No open is left: what a call leaves where there was no memory, with which its server is dropped.
-    fn forget_opens(&mut self) {
-        let alloc = self.alloc();
-        self.opens = Opens::new(alloc);
-        self.summaries = Summaries::new(alloc);
     }
 
     /// The request waits on the file, behind those that wait there.
@@ -157,7 +151,7 @@ impl Tables {
         match add(&mut self.opens, &mut self.summaries, alloc, one, lease) {
             Ok(()) => Ok(()),
             Err(memory) => {
-                self.forget_opens();
+                forget_opens(&mut self.opens, &mut self.summaries, alloc);
                 Err(memory)
             }
         }
@@ -189,6 +183,15 @@ impl Tables {
     }
 }
 
+// No open is left: so a call ends that finds no memory, and with which its server is dropped.
+fn forget_opens(opens: &mut Opens, summaries: &mut Summaries, alloc: Global)
+    ensures opens { opens.new ≡ [] }
+    ensures agrees { Agrees summaries.new [] }
+{
+    *opens = Opens::new(alloc);
+    *summaries = Summaries::new(alloc);
+}
+
 // The opens of these FileIds are no longer connected.
 fn disconnect_all(opens: &mut Opens, ids: &[FileId])
     ensures { opens.new ≡ map (disconnected_where (is_one_of (map (λ id. id.0) ids.now))) opens.old }
@@ -215,8 +218,9 @@ fn close_one(opens: &mut Opens, summaries: &mut Summaries, id: FileId)
     ensures leases { Agrees summaries.old opens.old → (key : ModelKey) → lease_in summaries.new key
         ≡ (if list_any (has_key key) opens.new then lease_in summaries.old key else no_lease) }
 {
-    if let Some(one) = opens.take(id) {
-        summaries.lose(&one);
+    match opens.take(id) {
+        Some(one) => summaries.lose(&one),
+        None => {}
     }
 }
 

@@ -8,6 +8,6 @@ unfolding last_file_number
 returns c =
     let many : c.len-count.result ≡ length c.truncate.new.self.items = omega (arith, c.len-count.ensures) in
     let counted : c.len-count.result ≡ length (take 255 c.args.contents.items) = rw c.truncate.ensures.items at many in
-    rw (c.new.ensures.items, c.new-2.ensures, c.new-3.ensures.items, c.new-4.ensures.items)
+    rw (c.new.ensures, c.new-2.ensures.leases, c.new-3.ensures.items, c.new-4.ensures.items)
     (new_tables_are_new c.args.contents.items c.len-count.result c.in_ok-places_of.field-0.items counted
     (λ n. rw c.truncate.ensures.items at (c.in_ok-places_of.ensures.places n)))

@@ -1,11 +1,16 @@
-use Rattle.std.proofs.Common.{◌∙◌, ap, map}
+use Rattle.std.proofs.Common.{◌∙◌, ap, map, refl}
 use Rattle.share_server.specs.Table.{server_of}
 use Rattle.share_server.specs.Wishes.{want_of}
+use Rattle.share_server.specs.contracts.tables.Tables.{the_view}
+use Rattle.share_server.proofs.Tabling.{stands_now}
 use Rattle.share_server.proofs.Wanting.{wants_are}
 use Rattle.share_server.proofs.tables.Tables.wants.Goals as goal
 
 pub returns : goal.returns
 returns c =
-    c.in_ok-wants.ensures
-    ∙ (ap (map (want_of c.args.wish (server_of c.args.self.now))) (c.deref.ensures.value ∙ c.in_ok-keys.ensures)
-    ∙ wants_are c.args.wish (server_of c.args.self.now) c.args.own c.args.file)
+    let table = the_view c.self.inside in
+    rw (← c.self.view_is)
+    (rw (← c.self.view_is) at c.in_ok-wants.ensures
+    ∙ (ap (map (want_of c.args.wish (server_of table))) (c.deref.ensures.value ∙ c.in_ok-keys.ensures (server_of table)
+    (stands_now table c.self.inside.summaries c.self.invariant.1 refl))
+    ∙ wants_are c.args.wish (server_of table) c.args.own c.args.file))

@@ -1,0 +1,6 @@
+use Rattle.std.proofs.Common.{◌∙◌, sym}
+use Rattle.share_server.proofs.Tabling.{listed_lease}
+use Rattle.share_server.proofs.tables.Tables.lease.Goals as goal
+
+pub returns : goal.returns
+returns c = rw (← c.self.view_is) (c.lease.ensures ∙ sym (listed_lease c.self.inside.summaries c.args.key))

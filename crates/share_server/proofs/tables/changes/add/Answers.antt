@@ -1,0 +1,9 @@
+use Rattle.std.proofs.Common.{◌∙◌, [], refl, ap, length, arith, sym}
+use Rattle.share_server.proofs.Tabling.{one_more_last, short_more}
+use Rattle.share_server.proofs.tables.changes.add.Goals as goal
+
+pub returns-clause-agrees : goal.returns-clause-agrees
+returns-clause-agrees c = λ home agree.
+    rw c.in_ok-push.ensures
+    (c.in_ok-gain.ensures.agrees c.args.opens.now _ (one_more_last c.args.one c.args.opens.now)
+    (short_more c.args.opens.now c.args.one c.len.result c.len.ensures.count c.len.ensures.small) home agree)
