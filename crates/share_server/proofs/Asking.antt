@@ -3,8 +3,8 @@ use Rattle.std.proofs.Common.{◌≡◌, ℕ, Bool, true, false, not, List, [], 
 use Rattle.std.specs.Prelude.{◌&&◌, ◌==◌, Option, Some, None, is_some}
 use Rattle.std.specs.List.{list_any}
 use Rattle.std.proofs.lemmas.Bool.Decides.{nat_tests}
-use Rattle.lease_model.specs.server.Allowed.{conflicts_on}
-use Rattle.lease_model.specs.server.State.{Open, Lease, has_key}
+use Rattle.lease_model.specs.server.Allowed.{conflicts_on, is_other_on}
+use Rattle.lease_model.specs.server.State.{Open, Lease, has_key, has_own_key}
 use Rattle.lease_model.specs.values.Keys.{Key}
 use Rattle.lease_state.specs.Access.{conflict}
 use Rattle.lease_state.specs.declared.access.Access.{Access}
@@ -58,3 +58,9 @@ unfolding conflicts_on
 conflict_none file access share opens leases known none fits =
     sym (none_both (is_on file) (λ one. conflict access share one.access one.share) opens
     (subst (SummaryFits file opens leases) none fits))
+
+pub other_none : (own : Option Key) (file : ℕ) (opens : List Open) (leases : Key → Lease) (known : Option FileSummary)
+    → known ≡ None → SummaryFits file opens leases known → false ≡ list_any (is_other_on own file) opens
+unfolding is_other_on
+other_none own file opens leases known none fits =
+    sym (none_both (is_on file) (λ one. not (has_own_key own one)) opens (subst (SummaryFits file opens leases) none fits))

@@ -1,5 +1,5 @@
 -- Which keys are wanted, by records and summaries and by the list of opens.
-use Rattle.std.proofs.Common.{◌≡◌, inl, inr, ⊎_elim, ℕ, zero, suc, ◌<◌, Bool, true, false, not, List, [], ◌∷◌, map, filter, length, refl, ap, sym, ◌∙◌, arith, subst, true≢false, nat_lt}
+use Rattle.std.proofs.Common.{◌≡◌, inl, inr, ⊎_elim, ℕ, zero, suc, ◌<◌, ◌≤◌, Bool, true, false, not, List, [], ◌∷◌, map, filter, length, refl, ap, sym, ◌∙◌, arith, subst, true≢false, nat_lt}
 use Rattle.std.specs.Prelude.{if◌then◌else◌, ◌==◌, ◌&&◌, ◌||◌, Option, Some, None, is_some, ⊤}
 use Rattle.std.specs.BTreeMap.{is_at}
 use Rattle.std.specs.BTreeSet.{BTreeSet, contains}
@@ -8,7 +8,7 @@ use Rattle.std.specs.List.Sorted.{IsStrictlySortedBy}
 use Rattle.std.specs.Ordering.{is_eq, is_lt}
 use Rattle.std.specs.declared.cmp.Ordering.TheVariants.{Less}
 use Rattle.std.proofs.lemmas.Bool.Decides.{nat_tests, Decides-eqb}
-use Rattle.lease_laws.proofs.server.Keys.{key_eq-same, key_eq-refl, lease_by-key, is_key-one}
+use Rattle.lease_laws.proofs.server.Keys.{key_eq-same, key_eq-refl, lease_by-key, is_key-one, is_key-refl}
 use Rattle.lease_laws.proofs.server.KeyOrder.{keys_of-all, among_mapped}
 use Rattle.lease_laws.proofs.server.Lists.{either, clash, and_parts, and_both, not_parts, not_true, any_has, has_any, none_has, among_filter, among_filtered}
 use Rattle.lease_laws.proofs.server.Wanted.{wants_where-exact, key_before-then, key_before-self}
@@ -17,15 +17,30 @@ use Rattle.lease_laws.specs.server.Laws.{Among}
 use Rattle.lease_laws.specs.server.Wanted.{AreInKeyOrder}
 use Rattle.lease_model.specs.server.Allowed.{is_other_on, conflicts_on}
 use Rattle.lease_model.specs.server.KeyOrder.{keys_of}
-use Rattle.lease_model.specs.server.Naming.{key_of_open, lease_of}
-use Rattle.lease_model.specs.server.State.{Server, Open, Lease, has_key, has_own_key}
+use Rattle.lease_model.specs.server.Naming.{key_of, key_of_open, lease_of}
+use Rattle.lease_model.specs.server.State.{Server, Open, Lease, has_key, is_key, has_own_key}
 use Rattle.lease_model.specs.server.Wants.{Want, wants_where}
 use Rattle.lease_model.specs.values.Keys.{Key, key_eq, key_before}
 use Rattle.lease_model.specs.values.LeaseStates.{holds_any}
 use Rattle.lease_state.specs.Access.{conflict}
 use Rattle.lease_state.specs.State.{State}
 use Rattle.share_server.specs.KeyOrder.{key_order}
-use Rattle.share_server.specs.Wanted.{is_own_key}
+use Rattle.lease_state.specs.declared.access.Access.{Access}
+use Rattle.lease_state.specs.declared.access.Share.{Share}
+use Rattle.lease_state.specs.declared.number.FileNo.{FileNo}
+use Rattle.share_server.specs.Leases as leases
+use Rattle.share_server.specs.Looks.{is_elsewhere}
+use Rattle.share_server.specs.Summaries.{StandFor, SumsUp, RecordFits, record_at, lease_in, lease_or_none, is_on, has_key_on, is_keyless_on}
+use Rattle.share_server.specs.Tallies.{tally_conflicts}
+use Rattle.share_server.specs.Wanted.{is_own_key, own_count, keys_for, needs_known, is_wanted_key}
+use Rattle.share_server.specs.Wishes.{is_wanted, is_demanded}
+use Rattle.share_server.specs.declared.summaries.LeaseRecord.{LeaseRecord}
+use Rattle.share_server.specs.declared.summaries.Summaries.{Summaries}
+use Rattle.share_server.specs.declared.want.Demand.{Demand}
+use Rattle.share_server.specs.declared.want.Wish.{Wish}
+use Rattle.share_server.specs.declared.want.Wish.TheVariants.{NoHandles, NoWrites, Nothing}
+use Rattle.share_server.proofs.Tallies.{conflicts_are}
+use Rattle.share_server.specs.declared.file_summary.FileSummary.{FileSummary}
 use Rattle.share_server.proofs.Ordering.{order_eq, order_eq-back, order_before, has_key_own}
 
 -- ---- lists of keys in order
@@ -135,3 +150,285 @@ others_counted own (key ∷ keys) sorted = either (key_eq key own)
     below own key (other ∷ keys) = either (list_any (is_at (key_order own)) (other ∷ keys))
         (λ t. rw t (grind (arith, nat_tests)))
         (λ t. rw t (grind (arith, nat_tests)))
+
+-- ---- keys of opens
+
+own_alike : (own : Option Key) (key : Key) (one : Open) → has_key key one ≡ true → has_own_key own one ≡ is_own_key own key
+own_alike None key one has = refl
+own_alike (Some other) key one has = both_so (has_key other one) (key_eq key other)
+    (λ h. ap (key_eq key) (is_key-one other key one.client one.lease_key h has) ∙ key_eq-refl key)
+    (λ e. subst (λ k. has_key k one ≡ true) (key_eq-same key other e) has)
+
+key_there : (client : ℕ) (bytes : Option (List ℕ)) → is_some bytes ≡ true → (key : Key) × (is_key key client bytes ≡ true)
+key_there client None some = absurd (true≢false (sym some))
+key_there client (Some bytes) some = (key_of client bytes, is_key-refl client bytes)
+
+not_off : (b : Bool) → not b ≡ true → b ≡ false
+not_off true e = sym e
+not_off false e = refl
+
+has_none_by : (client : ℕ) (bytes : Option (List ℕ)) (key : Key) → is_some bytes ≡ false → is_key key client bytes ≡ false
+has_none_by client None key none = refl
+has_none_by client (Some bytes) key none = absurd (true≢false none)
+
+keyless_own : (own : Option Key) (one : Open) → is_some one.lease_key ≡ false → has_own_key own one ≡ false
+keyless_own None one none = refl
+keyless_own (Some key) one none = has_none_by one.client one.lease_key key none
+
+pub other_keyless : (own : Option Key) (file : ℕ) (opens : List Open) → list_any (is_keyless_on file) opens ≡ true
+    → list_any (is_other_on own file) opens ≡ true
+unfolding is_other_on
+other_keyless own file opens some =
+    let one = any_has (is_keyless_on file) opens some in
+    let parts = and_parts (is_on file one.0) (not (is_some (one.0).lease_key)) one.2 in
+    let apart = keyless_own own one.0 (not_off _ parts.1) in
+    has_any (λ o. o.file == file && not (has_own_key own o)) one.0 opens one.1
+    (and_both (is_on file one.0) (not (has_own_key own one.0)) parts.0 (ap not apart))
+
+pub others_are : (own : Option Key) (file : ℕ) (opens : List Open) (keys : BTreeSet Key)
+    → ((key : Key) → contains key_order keys key ≡ list_any (has_key_on file key) opens)
+    → list_any (is_keyless_on file) opens ≡ false
+    → list_any (λ key. not (is_own_key own key)) keys.keys ≡ list_any (is_other_on own file) opens
+unfolding is_other_on
+others_are own file opens keys are keyless =
+    both_so _ _
+    (λ some.
+        let key = any_has (λ k. not (is_own_key own k)) keys.keys some in
+        let one = any_has (has_key_on file key.0) opens (sym (are key.0) ∙ member keys key.0 key.1) in
+        let parts = and_parts (is_on file one.0) (has_key key.0 one.0) one.2 in
+        has_any (λ o. o.file == file && not (has_own_key own o)) one.0 opens one.1
+        (and_both (is_on file one.0) (not (has_own_key own one.0)) parts.0
+        (ap not (own_alike own key.0 one.0 parts.1) ∙ key.2)))
+    (λ some.
+        let one = any_has (λ o. o.file == file && not (has_own_key own o)) opens some in
+        let parts = and_parts (is_on file one.0) (not (has_own_key own one.0)) one.2 in
+        let unkeyed = none_has (is_keyless_on file) one.0 opens keyless one.1 in
+        let keyed = still_keyed (is_on file one.0) (is_some (one.0).lease_key) unkeyed parts.0 in
+        let key = key_there (one.0).client (one.0).lease_key keyed in
+        let there = are key.0 ∙ has_any (has_key_on file key.0) one.0 opens one.1
+        (and_both (is_on file one.0) (has_key key.0 one.0) parts.0 key.1) in
+        has_any (λ k. not (is_own_key own k)) key.0 keys.keys (among_members keys key.0 there)
+        (ap not (sym (own_alike own key.0 one.0 key.1)) ∙ parts.1))
+  where
+    still_keyed : (on keyed : Bool) → (on && not keyed) ≡ false → on ≡ true → keyed ≡ true
+    still_keyed on true e o = refl
+    still_keyed true false e o = absurd (true≢false e)
+    still_keyed false false e o = absurd (true≢false (sym o))
+
+pub others_by : (own : Option Key) (summary : FileSummary) → IsStrictlySortedBy key_order summary.keys.keys
+    → list_any (λ key. not (is_own_key own key)) summary.keys.keys ≡ nat_lt (own_count own summary) (length summary.keys.keys)
+others_by None summary sorted = all_counted summary.keys.keys
+  where
+    all_counted : (keys : List Key) → list_any (λ key. true) keys ≡ nat_lt 0 (length keys)
+    all_counted [] = grind (arith, nat_tests)
+    all_counted (key ∷ keys) = grind (arith, nat_tests)
+others_by (Some key) summary sorted = others_counted key summary.keys.keys sorted
+
+pub some_is : (n : ℕ) → 0 < n → nat_lt 0 n ≡ true
+some_is n some = grind (arith, nat_tests, some)
+
+pub none_is : (n : ℕ) → n ≤ 0 → nat_lt 0 n ≡ false
+none_is n none = grind (arith, nat_tests, none)
+
+-- ---- the wanted keys
+
+-- an open by which a key is wanted
+record Wants (wish : Wish) (server : Server) (own : Option Key) (file : ℕ) (key : Key) : Type 0 where
+  pub one : Open
+  pub is_there : Among one server.opens
+  pub is_wanted : is_wanted wish server own file one ≡ true
+  pub has_it : has_key key one ≡ true
+
+lease_known : (summaries : Summaries) (server : Server) (key : Key) (one : Open) (known : LeaseRecord)
+    → StandFor summaries server → record_at summaries key ≡ Some known → has_key key one ≡ true
+    → lease_of server one ≡ leases.lease_of known.lease
+lease_known summaries server key one known stand is has =
+    lease_by-key server key one.client one.lease_key has ∙ (stand.leases key ∙ ap lease_or_none is)
+
+-- an open on the file that has the key, whose lease passes
+other_on : (own : Option Key) (file : ℕ) (key : Key) (one : Open) → is_on file one ≡ true → has_key key one ≡ true
+    → not (is_own_key own key) ≡ true → is_other_on own file one ≡ true
+unfolding is_other_on
+other_on own file key one on has apart =
+    and_both (one.file == file) (not (has_own_key own one)) on (ap not (own_alike own key one has) ∙ apart)
+
+on_other : (own : Option Key) (file : ℕ) (key : Key) (one : Open) → is_other_on own file one ≡ true → has_key key one ≡ true
+    → (has_key_on file key one ≡ true) × (not (is_own_key own key) ≡ true)
+unfolding is_other_on
+on_other own file key one other has =
+    let parts = and_parts (one.file == file) (not (has_own_key own one)) other in
+    (and_both (one.file == file) (has_key key one) parts.0 has, ap not (sym (own_alike own key one has)) ∙ parts.1)
+
+conflicting : (file : ℕ) (access : Access) (share : Share) (one : Open) → is_on file one ≡ true
+    → conflict access share one.access one.share ≡ true → conflicts_on file access share one ≡ true
+unfolding conflicts_on
+conflicting file access share one on both = and_both (one.file == file) (conflict access share one.access one.share) on both
+
+conflicted : (file : ℕ) (access : Access) (share : Share) (one : Open) → conflicts_on file access share one ≡ true
+    → conflict access share one.access one.share ≡ true
+unfolding conflicts_on
+conflicted file access share one c = (and_parts (one.file == file) (conflict access share one.access one.share) c).1
+
+-- an open of the key is on the key's file
+at_file : (key : Key) (at : ℕ) (opens : List Open) (one : Open) → list_any (is_elsewhere key at) opens ≡ false
+    → Among one opens → has_key key one ≡ true → one.file ≡ at
+at_file key at opens one home among has =
+    (Decides-eqb one.file at).0 (on_true (has_key key one) (one.file == at)
+    (none_has (is_elsewhere key at) one opens home among) has)
+  where
+    on_true : (has on : Bool) → (has && not on) ≡ false → has ≡ true → on ≡ true
+    on_true true true e h = refl
+    on_true true false e h = absurd (true≢false e)
+    on_true false on e h = absurd (true≢false (sym h))
+
+wants_to : (wish : Wish) (own : Option Key) (file : FileNo) (key : Key) (summaries : Summaries) (server : Server)
+    (summary : FileSummary) (known : Option LeaseRecord)
+    → StandFor summaries server → SumsUp file.0 server.opens (lease_in summaries) summary
+    → record_at summaries key ≡ known → RecordFits key server.opens known
+    → contains key_order (keys_for wish summary) key ≡ true → not (is_own_key own key) ≡ true
+    → needs_known wish known ≡ true → Wants wish server own file.0 key
+wants_to wish own file key summaries server summary None stand s is fits there apart needs = absurd (true≢false (sym needs))
+wants_to (NoHandles access share) own file key summaries server summary (Some known) stand s is fits there apart needs =
+    let both = and_parts (tally_conflicts access share known.tally) (leases.lease_of known.lease).state.handle needs in
+    let some = sym (conflicts_are access share (has_key key) server.opens) ∙ (ap (tally_conflicts access share) (sym fits.tally) ∙ both.0) in
+    let found = any_has (λ o. has_key key o && conflict access share o.access o.share) server.opens some in
+    let parts = and_parts (has_key key found.0) (conflict access share (found.0).access (found.0).share) found.2 in
+    let other = any_has (has_key_on file.0 key) server.opens (sym (s.keys key) ∙ there) in
+    let others = and_parts (is_on file.0 other.0) (has_key key other.0) other.2 in
+    let same = at_file key known.file.0 server.opens found.0 fits.one_file found.1 parts.0
+    ∙ (sym (at_file key known.file.0 server.opens other.0 fits.one_file other.1 others.1)
+    ∙ (Decides-eqb (other.0).file file.0).0 others.0) in
+    let on = (Decides-eqb (found.0).file file.0).1 same in
+    record {
+      one = found.0;
+      is_there = found.1;
+      is_wanted = and_both (conflicts_on file.0 access share found.0 && is_other_on own file.0 found.0)
+          (lease_of server found.0).state.handle
+          (and_both (conflicts_on file.0 access share found.0) (is_other_on own file.0 found.0)
+          (conflicting file.0 access share found.0 on parts.1) (other_on own file.0 key found.0 on parts.0 apart))
+          (ap (λ (l : Lease). l.state.handle) (lease_known summaries server key found.0 known stand is parts.0) ∙ both.1);
+      has_it = parts.0;
+    }
+wants_to NoWrites own file key summaries server summary (Some known) stand s is fits there apart needs =
+    let writes = and_parts (list_any (has_key_on file.0 key) server.opens) (lease_in summaries key).state.write
+    (sym (s.writers key) ∙ there) in
+    let found = any_has (has_key_on file.0 key) server.opens writes.0 in
+    let parts = and_parts (is_on file.0 found.0) (has_key key found.0) found.2 in
+    record {
+      one = found.0;
+      is_there = found.1;
+      is_wanted = and_both (is_other_on own file.0 found.0) (lease_of server found.0).state.write
+          (other_on own file.0 key found.0 parts.0 parts.1 apart)
+          (ap (λ (l : Lease). l.state.write) (lease_known summaries server key found.0 known stand is parts.1) ∙ needs);
+      has_it = parts.1;
+    }
+wants_to Nothing own file key summaries server summary (Some known) stand s is fits there apart needs =
+    let found = any_has (has_key_on file.0 key) server.opens (sym (s.keys key) ∙ there) in
+    let parts = and_parts (is_on file.0 found.0) (has_key key found.0) found.2 in
+    record {
+      one = found.0;
+      is_there = found.1;
+      is_wanted = and_both (is_other_on own file.0 found.0) (holds_any (lease_of server found.0).state)
+          (other_on own file.0 key found.0 parts.0 parts.1 apart)
+          (ap (λ (l : Lease). holds_any l.state) (lease_known summaries server key found.0 known stand is parts.1) ∙ needs);
+      has_it = parts.1;
+    }
+
+-- what is known of a key by which an open wants it
+record IsKnown (wish : Wish) (own : Option Key) (key : Key) (summary : FileSummary) (known : Option LeaseRecord) : Type 0 where
+  pub there : contains key_order (keys_for wish summary) key ≡ true
+  pub apart : not (is_own_key own key) ≡ true
+  pub needs : needs_known wish known ≡ true
+
+wants_from : (wish : Wish) (own : Option Key) (file : FileNo) (key : Key) (summaries : Summaries) (server : Server)
+    (summary : FileSummary) (known : Option LeaseRecord) (one : Open)
+    → StandFor summaries server → SumsUp file.0 server.opens (lease_in summaries) summary
+    → record_at summaries key ≡ known → RecordFits key server.opens known
+    → Among one server.opens → has_key key one ≡ true → is_wanted wish server own file.0 one ≡ true
+    → IsKnown wish own key summary known
+wants_from wish own file key summaries server summary None one stand s is fits there has wanted =
+    absurd (true≢false (sym (has_any (has_key key) one server.opens there has) ∙ fits))
+wants_from (NoHandles access share) own file key summaries server summary (Some known) one stand s is fits there has wanted =
+    let a = and_parts (conflicts_on file.0 access share one && is_other_on own file.0 one) (lease_of server one).state.handle wanted in
+    let b = and_parts (conflicts_on file.0 access share one) (is_other_on own file.0 one) a.0 in
+    let o = on_other own file.0 key one b.1 has in
+    record {
+      there = s.keys key ∙ has_any (has_key_on file.0 key) one server.opens there o.0;
+      apart = o.1;
+      needs = and_both (tally_conflicts access share known.tally) (leases.lease_of known.lease).state.handle
+          (ap (tally_conflicts access share) fits.tally
+          ∙ (conflicts_are access share (has_key key) server.opens
+          ∙ has_any (λ x. has_key key x && conflict access share x.access x.share) one server.opens there
+          (and_both (has_key key one) (conflict access share one.access one.share) has (conflicted file.0 access share one b.0))))
+          (ap (λ (l : Lease). l.state.handle) (sym (lease_known summaries server key one known stand is has)) ∙ a.1);
+    }
+wants_from NoWrites own file key summaries server summary (Some known) one stand s is fits there has wanted =
+    let a = and_parts (is_other_on own file.0 one) (lease_of server one).state.write wanted in
+    let o = on_other own file.0 key one a.0 has in
+    let writes = ap (λ (l : Lease). l.state.write) (sym (lease_known summaries server key one known stand is has)) ∙ a.1 in
+    record {
+      there = s.writers key ∙ and_both (list_any (has_key_on file.0 key) server.opens) (lease_in summaries key).state.write
+          (has_any (has_key_on file.0 key) one server.opens there o.0)
+          (ap (λ r. (lease_or_none r).state.write) is ∙ writes);
+      apart = o.1;
+      needs = writes;
+    }
+wants_from Nothing own file key summaries server summary (Some known) one stand s is fits there has wanted =
+    let a = and_parts (is_other_on own file.0 one) (holds_any (lease_of server one).state) wanted in
+    let o = on_other own file.0 key one a.0 has in
+    record {
+      there = s.keys key ∙ has_any (has_key_on file.0 key) one server.opens there o.0;
+      apart = o.1;
+      needs = ap (λ (l : Lease). holds_any l.state) (sym (lease_known summaries server key one known stand is has)) ∙ a.1;
+    }
+
+pub wanted_are : (demand : Demand) (summaries : Summaries) (server : Server) (summary : FileSummary)
+    → StandFor summaries server → SumsUp demand.file.0 server.opens (lease_in summaries) summary
+    → IsStrictlySortedBy key_order (keys_for demand.wish summary).keys
+    → filter (is_wanted_key summaries demand) (keys_for demand.wish summary).keys
+    ≡ keys_of (filter (is_demanded demand server) server.opens)
+wanted_are demand summaries server summary stand s sorted =
+    one_list _ _ (filter_ordered (is_wanted_key summaries demand) _ (sorted_ordered _ sorted))
+    (keys_ordered server (is_demanded demand server))
+    (λ key a.
+        let found = among_filter (is_wanted_key summaries demand) key (keys_for demand.wish summary).keys a in
+        let parts = and_parts (not (is_own_key demand.own key)) (needs_known demand.wish (record_at summaries key)) found.1 in
+        let w = wants_to demand.wish demand.own demand.file key summaries server summary (record_at summaries key) stand s refl
+        (stand.agree.records key) (member (keys_for demand.wish summary) key found.0) parts.0 parts.1 in
+        keys_of-all key w.one (filter (is_demanded demand server) server.opens)
+        (among_filtered (is_demanded demand server) w.one server.opens w.is_there w.is_wanted) w.has_it)
+    (λ key a.
+        let found = keys_of-has key (filter (is_demanded demand server) server.opens) a in
+        let there = among_filter (is_demanded demand server) found.0 server.opens found.1 in
+        let k = wants_from demand.wish demand.own demand.file key summaries server summary (record_at summaries key) found.0
+        stand s refl (stand.agree.records key) there.0 found.2 there.1 in
+        among_filtered (is_wanted_key summaries demand) key (keys_for demand.wish summary).keys
+        (among_members (keys_for demand.wish summary) key k.there)
+        (and_both (not (is_own_key demand.own key)) (needs_known demand.wish (record_at summaries key)) k.apart k.needs))
+
+-- where nothing is open nothing is wanted
+other_here : (own : Option Key) (file : ℕ) (one : Open) → is_other_on own file one ≡ true → is_on file one ≡ true
+unfolding is_other_on
+other_here own file one o = (and_parts (one.file == file) (not (has_own_key own one)) o).0
+
+on_file : (wish : Wish) (server : Server) (own : Option Key) (file : ℕ) (one : Open)
+    → is_wanted wish server own file one ≡ true → is_on file one ≡ true
+on_file (NoHandles access share) server own file one w =
+    other_here own file one (and_parts (conflicts_on file access share one) (is_other_on own file one)
+    (and_parts (conflicts_on file access share one && is_other_on own file one) (lease_of server one).state.handle w).0).1
+on_file NoWrites server own file one w =
+    other_here own file one (and_parts (is_other_on own file one) (lease_of server one).state.write w).0
+on_file Nothing server own file one w =
+    other_here own file one (and_parts (is_other_on own file one) (holds_any (lease_of server one).state) w).0
+
+no_keys : (test : Open → Bool) (opens : List Open) → ((one : Open) → Among one opens → test one ≡ false)
+    → [] ≡ keys_of (filter test opens)
+unfolding keys_of
+no_keys test [] none = refl
+no_keys test (one ∷ opens) none = rw (none one (inl refl)) (no_keys test opens (λ other a. none other (inr a)))
+
+pub wanted_none : (demand : Demand) (server : Server) → list_any (is_on demand.file.0) server.opens ≡ false
+    → [] ≡ keys_of (filter (is_demanded demand server) server.opens)
+wanted_none demand server none =
+    no_keys (is_demanded demand server) server.opens (λ one a. not_true (is_demanded demand server one) (λ w.
+    clash (is_on demand.file.0 one) (on_file demand.wish server demand.own demand.file.0 one w) (none_has (is_on demand.file.0) one server.opens none a)))

@@ -310,8 +310,8 @@ impl Summaries {
         match self.files.get(&demand.file) {
             Some(summary) => {
                 let keys = summary.keys_for(demand.wish);
-                let keys = self.wanted_among(alloc, keys, demand)?;
-                Ok(keys)
+                let wanted = self.wanted_among(alloc, keys, demand)?;
+                Ok(wanted)
             }
             None => Ok(Vec::new(alloc)),
         }
