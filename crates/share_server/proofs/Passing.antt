@@ -1,5 +1,5 @@
 -- A pass over a file's queue, place by place, and the passes one after another.
-use Rattle.std.proofs.Common.{◌≡◌, ℕ, ◌+◌, ◌-◌, ◌<◌, ◌≤◌, zero, suc, Bool, true, false, List, [], ◌∷◌, ◌++◌, length, get_or, take, drop, refl, ap, sym, ◌∙◌, arith}
+use Rattle.std.proofs.Common.{◌≡◌, ℕ, ◌+◌, ◌-◌, ◌<◌, ◌≤◌, zero, suc, Bool, true, false, List, [], ◌∷◌, ◌++◌, length, get_or, take, drop, refl, ap, sym, ◌∙◌, arith, subst}
 use Rattle.std.proofs.lemmas.List.{drop_all}
 use Rattle.std.proofs.Math.Seq.{take-suc, drop-cons}
 use Rattle.std.specs.List.{remove, slice_get}
@@ -12,11 +12,13 @@ use Rattle.lease_model.specs.server.Answers.{concluded}
 use Rattle.lease_model.specs.server.Attempt.{Outcome, Tried, ended, tried}
 use Rattle.lease_model.specs.server.Passes.{Pass, is_behind, left_waiting, pass_answered, after_try, tried_again, pass_over, one_pass, passes_for, passes, passes_over, all_passes}
 use Rattle.lease_model.specs.server.Progress.{Progress, held_left}
-use Rattle.lease_model.specs.server.State.{Held}
+use Rattle.lease_model.specs.server.State.{Server, Held}
 use Rattle.lease_model.specs.values.Lists.{numbers_to}
 use Rattle.lease_model.specs.values.Tables.{put}
 use Rattle.share_server.proofs.Breaking.{silent}
+use Rattle.share_server.specs.Kept.{IsAtHomeFor}
 use Rattle.share_server.specs.Outs.{progress_of}
+use Rattle.share_server.proofs.Homing.{ready_at_home, home_kept}
 use Rattle.share_server.specs.Passing.{pass_at, is_waiting}
 use Rattle.share_server.specs.Table.{Table, server_of}
 
@@ -216,6 +218,23 @@ answered_here file place before one again during after outs outcome last inside 
           ∙ sym (one_on file place has before one inside is)))));
       fewer = rw queue (one_less (before.server.held file) place inside);
     }
+
+-- a create that is answered has no open under its key on another file
+pub home_again : (file place : ℕ) (before : Progress) (one again : Held) (during after : Table)
+    (outs : List Out) (outcome : Outcome)
+    → one ≡ get_or (before.server.held file) place one
+    → ended (progress_of during outs) outcome ≡ tried one.client one.request before
+    → server_of after ≡ record (server_of during) {
+      held = put (server_of during).held file (remove ((server_of during).held file) place);
+    }
+    → slice_get ((server_of during).held file) place ≡ Some again
+    → outcome ≡ Outcome.Ready → IsAtHomeFor again.client again.request (server_of after)
+home_again file place before one again during after outs outcome is end left found ready =
+    let same = same_held file one.client one.request before (progress_of during outs) outcome end in
+    let there : one ≡ again = is ∙ got (before.server.held file) place again one (rw same at found) in
+    let home = ready_at_home one.client one.request before (progress_of during outs) outcome end ready in
+    subst (λ (h : Held). IsAtHomeFor h.client h.request (server_of after)) there
+    (home_kept (server_of during) (server_of after) one.client one.request (sym (ap (λ (s : Server). s.opens) left)) home)
 
 -- ---- the end of a pass
 

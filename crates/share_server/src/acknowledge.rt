@@ -1,4 +1,6 @@
-ghost use Rattle.std.specs.Prelude.{◌≡◌, Some, OnOk};
+ghost use Rattle.std.specs.Prelude.{◌≡◌, true, Some, OnOk};
+ghost use Rattle.lease_model.specs.server.State.{has_lease};
+ghost use Rattle.share_server.specs.Table.{server_of};
 ghost use Rattle.lease_model.specs.messages.FromBytes.{acknowledged_in};
 ghost use Rattle.lease_model.specs.server.Acknowledge as rules;
 ghost use Rattle.lease_state.specs.State.{state_of};
@@ -74,6 +76,7 @@ fn end_break(
     key: Key,
     state: LeaseState,
 ) -> Result<(), Memory>
+    requires { has_lease (server_of tables.old) key ≡ true }
     ensures { OnOk result (progress_of tables.new outs.new
         ≡ rules.break_ended key (state_of state) (progress_of tables.old outs.old)) }
 {

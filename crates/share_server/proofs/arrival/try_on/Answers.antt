@@ -3,6 +3,7 @@ use Rattle.share_server.specs.Findings.{outcome_of}
 use Rattle.share_server.specs.Outs.{progress_of}
 use Rattle.share_server.specs.Requests.{file_request_of}
 use Rattle.share_server.proofs.Arriving.{behind_held, tried_and_held}
+use Rattle.share_server.proofs.Homing.{ready_at_home}
 use Rattle.share_server.proofs.arrival.try_on.Goals as goal
 
 pub returns-then-is_behind : goal.returns-then-is_behind
@@ -18,3 +19,9 @@ returns-then-waits c =
     (rw c.held.ensures at (sym c.is_behind.ensures ∙ c.if-is_behind.false))
     (c.in_ok-outcome.ensures ∙ c.ask.ensures c.args.client.0 (progress_of c.args.tables.now c.args.outs.now))
     (sym c.waits.ensures ∙ c.if-waits.true) c.in_ok-hold-2.ensures
+
+pub conclude-requires : goal.conclude-requires
+conclude-requires c = λ ready.
+    ready_at_home c.args.client.0 (file_request_of c.args.request) (progress_of c.args.tables.now c.args.outs.now)
+    (progress_of c.attempt.new.tables c.attempt.new.outs) _
+    (c.in_ok-outcome.ensures ∙ c.ask.ensures c.args.client.0 (progress_of c.args.tables.now c.args.outs.now)) ready

@@ -8,4 +8,4 @@ unfolding want_met
 returns c =
     rw (← c.want.view_is)
     (c.in_ok-break_lease.ensures
-    ∙ ap (lease_broken _ _) (dropped c.args.tables.now c.close.new.self c.args.outs.now _ c.close.ensures))
+    ∙ ap (lease_broken _ _) (dropped c.args.tables.now c.close.new.self c.args.outs.now _ c.in_ok-close.ensures))

@@ -7,4 +7,4 @@ pub returns : goal.returns
 unfolding key_expired
 returns c =
     silent c.close.new.self c.expire.new.self [] _ c.in_ok-expire.ensures
-    ∙ ap (key_expired c.args.key) (dropped c.args.tables.now c.close.new.self [] _ c.close.ensures)
+    ∙ ap (key_expired c.args.key) (dropped c.args.tables.now c.close.new.self [] _ c.in_ok-close.ensures)

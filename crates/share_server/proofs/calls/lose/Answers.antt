@@ -11,8 +11,8 @@ unfolding opens_disconnected
 returns c =
     c.forget.ensures
     ∙ ap (client_forgotten c.args.client.0)
-    (silent c.close.new.self c.disconnect.new.self [] _ c.disconnect.ensures
+    (silent c.close.new.self c.disconnect.new.self [] _ c.in_ok-disconnect.ensures
     ∙ ap (opens_disconnected c.args.client.0)
-    (dropped c.args.tables.now c.close.new.self [] _ c.close.ensures
+    (dropped c.args.tables.now c.close.new.self [] _ c.in_ok-close.ensures
     ∙ ap (λ test. opens_dropped test (begun (server_of c.args.tables.now)))
     (lost_are (server_of c.args.tables.now) c.args.client)))

@@ -2,7 +2,7 @@ use Rattle.std.proofs.Common.{◌∙◌, sym, arith}
 use Rattle.share_server.specs.Findings.{outcome_of}
 use Rattle.share_server.specs.Outs.{progress_of}
 use Rattle.share_server.specs.contracts.request.Held.{the_view}
-use Rattle.share_server.proofs.Passing.{behind_here, waits_here, same_held, answered_here}
+use Rattle.share_server.proofs.Passing.{behind_here, waits_here, same_held, answered_here, home_again}
 use Rattle.share_server.proofs.passes.try_again.Goals as goal
 
 pub returns-then-is_behind-clause-step : goal.returns-then-is_behind-clause-step
@@ -58,3 +58,13 @@ returns-clause-fewer c =
     ∙ c.ask-ask.ensures c.one.inside.client.0 (progress_of c.args.tables.now c.args.outs.now))
     (sym c.waits.ensures ∙ c.if-waits.false) c.release-one.ensures.left
     (rw (← c.one-2.view_is) at c.release-one.ensures.taken) c.in_ok-conclude.ensures).fewer
+
+pub conclude-requires : goal.conclude-requires
+conclude-requires c = λ ready.
+    home_again c.args.file.0 c.args.place (progress_of c.args.tables.now c.args.outs.now) (the_view c.one.inside)
+    (the_view c.one-2.inside) c.attempt.new.tables c.release-one.new.self c.attempt.new.outs
+    (outcome_of c.in_ok-outcome.outcome)
+    (rw (← c.one.view_is, c.held-held.ensures) at c.index-held-place.is)
+    (c.in_ok-outcome.ensures
+    ∙ c.ask-ask.ensures c.one.inside.client.0 (progress_of c.args.tables.now c.args.outs.now))
+    c.release-one.ensures.left (rw (← c.one-2.view_is) at c.release-one.ensures.taken) ready

@@ -1,0 +1,108 @@
+-- A create that is ready has no open under its key on another file.
+use Rattle.std.proofs.Common.{◌≡◌, refl, sym, ap, ◌∙◌, subst, ℕ, zero, suc, Bool, true, false, not, List}
+use Rattle.std.specs.Prelude.{◌&&◌, ◌==◌, Option, Some, None}
+use Rattle.std.specs.List.{list_any}
+use Rattle.std.proofs.lemmas.Bool.Decides.{Decides-eqb}
+use Rattle.lease_state.specs.declared.access.Access.{Access}
+use Rattle.lease_state.specs.declared.access.Share.{Share}
+use Rattle.lease_laws.proofs.server.Lists.{if_cases, either, has_none}
+use Rattle.lease_laws.proofs.server.Ready.{RequestFree, CreateFree, ready-free}
+use Rattle.lease_laws.proofs.server.Tries.{IsFoundReady}
+use Rattle.lease_laws.specs.server.Laws.{Among}
+use Rattle.lease_laws.specs.server.SmallSteps.{IsFree}
+use Rattle.lease_model.specs.messages.Requests.{FileRequest, CreateAsk, LeaseOf}
+use Rattle.lease_model.specs.server.Attempt.{Outcome, Tried, ended, must_wait, after_breaks, after_finding, tried_for, tried, wants_met}
+use Rattle.lease_model.specs.server.Findings.{Finding, finding, is_leased_elsewhere}
+use Rattle.lease_model.specs.server.Grant.{asked_key}
+use Rattle.lease_model.specs.server.Naming.{own_key, key_under}
+use Rattle.lease_model.specs.server.Progress.{Progress}
+use Rattle.lease_model.specs.server.Ready.{is_ready}
+use Rattle.lease_model.specs.server.State.{Server, Open, has_key}
+use Rattle.lease_model.specs.values.Keys.{Key}
+use Rattle.share_server.specs.Kept.{IsAtHomeFor, IsCreateAtHome, AreContextsAtHome}
+use Rattle.share_server.specs.Summaries.{IsAtHome}
+
+-- where a try ends ready, a look at the request finds it so
+abbrev EndsReady : ℕ → FileRequest → Tried → Type 0
+EndsReady client request done = done.outcome ≡ Outcome.Ready → IsFoundReady client request done.progress
+
+finding_ready : (again : Progress → Tried) (client : ℕ) (request : FileRequest) (progress : Progress) (found : Finding)
+    → finding progress.server client request ≡ found
+    → ((next : Progress) → EndsReady client request (again next))
+    → EndsReady client request (after_finding again request progress found)
+finding_ready again client request progress (Finding.Fails status) e good = λ r. absurd (cc)
+finding_ready again client request progress (Finding.Needs wants) e good =
+    if_cases (EndsReady client request) (is_ready request progress.server.leases wants)
+    (ended progress Outcome.Ready) (after_breaks again request wants (wants_met wants progress))
+    (λ r same. record { wants = wants; found = e; ready = r })
+    (λ n. if_cases (EndsReady client request) (must_wait request (wants_met wants progress) wants)
+    (ended (wants_met wants progress) Outcome.Waits) (again (wants_met wants progress))
+    (λ w same. absurd (cc))
+    (λ w. good (wants_met wants progress)))
+
+tried_ready : (rounds client : ℕ) (request : FileRequest) (progress : Progress)
+    → EndsReady client request (tried_for rounds client request progress)
+unfolding tried_for
+tried_ready zero client request progress = λ same. absurd (cc)
+tried_ready (suc rounds) client request progress =
+    finding_ready (tried_for rounds client request) client request progress (finding progress.server client request) refl
+    (λ next. tried_ready rounds client request next)
+
+home_free : (server : Server) (own : Option Key) (file : ℕ) (access : Access) (share : Share)
+    → IsFree server.opens server.leases own file access share → is_leased_elsewhere server own file ≡ false
+unfolding is_leased_elsewhere
+home_free server None file access share free = refl
+home_free server (Some key) file access share free =
+    has_none (λ one. has_key key one && not (one.file == file)) server.opens (λ one a. either (has_key key one)
+    (λ has. rw (has, (Decides-eqb one.file file).1 (free.at_home one a has)) refl)
+    (λ has. rw has refl))
+
+at_home : (server : Server) (client : ℕ) (request : FileRequest) → RequestFree server client request
+    → IsAtHomeFor client request server
+at_home server client (FileRequest.Create file access share None) free = tt
+at_home server client (FileRequest.Create file access share (Some ask)) free = contexts ask.reconnect free
+  where
+    contexts : (again : Option ℕ) → CreateFree server client file access share ask.lease again
+        → IsCreateAtHome (own_key client ask.lease) file again server
+    contexts None f = home_free server (own_key client ask.lease) file access share f
+    contexts (Some file_id) f = tt
+at_home server client (FileRequest.Read file_id) free = tt
+at_home server client (FileRequest.Write file_id number patch) free = tt
+at_home server client (FileRequest.Close file_id) free = tt
+
+pub ready_at_home : (client : ℕ) (request : FileRequest) (before after : Progress) (outcome : Outcome)
+    → ended after outcome ≡ tried client request before → outcome ≡ Outcome.Ready → IsAtHomeFor client request after.server
+ready_at_home client request before after outcome end ready =
+    let is : (tried client request before).outcome ≡ Outcome.Ready = ap (λ (t : Tried). t.outcome) (sym end) ∙ ready in
+    let free = ready-free client request (tried client request before).progress (tried_ready 3 client request before is) in
+    subst (λ (p : Progress). IsAtHomeFor client request p.server) (ap (λ (t : Tried). t.progress) (sym end))
+    (at_home (tried client request before).progress.server client request free)
+
+elsewhere_same : (a b : Server) (own : Option Key) (file : ℕ) → a.opens ≡ b.opens
+    → is_leased_elsewhere a own file ≡ is_leased_elsewhere b own file
+unfolding is_leased_elsewhere
+elsewhere_same a b None file same = refl
+elsewhere_same a b (Some key) file same = ap (list_any (λ one. has_key key one && not (one.file == file))) same
+
+-- what is held has no part in it
+pub home_kept : (a b : Server) (client : ℕ) (request : FileRequest) → a.opens ≡ b.opens
+    → IsAtHomeFor client request a → IsAtHomeFor client request b
+home_kept a b client (FileRequest.Create file access share None) same home = tt
+home_kept a b client (FileRequest.Create file access share (Some ask)) same home = contexts ask.reconnect home
+  where
+    contexts : (again : Option ℕ) → IsCreateAtHome (own_key client ask.lease) file again a
+        → IsCreateAtHome (own_key client ask.lease) file again b
+    contexts None h = sym (elsewhere_same a b (own_key client ask.lease) file same) ∙ h
+    contexts (Some file_id) h = tt
+home_kept a b client (FileRequest.Read file_id) same home = tt
+home_kept a b client (FileRequest.Write file_id number patch) same home = tt
+home_kept a b client (FileRequest.Close file_id) same home = tt
+
+pub home_asked : (server : Server) (client file : ℕ) (asked : Option LeaseOf) (bytes : Option (List ℕ)) → bytes ≡ asked_key asked
+    → is_leased_elsewhere server (own_key client asked) file ≡ false
+    → IsAtHome (key_under client bytes) file server.opens
+unfolding is_leased_elsewhere
+home_asked server client file None bytes same home =
+    subst (λ b. IsAtHome (key_under client b) file server.opens) (sym same) tt
+home_asked server client file (Some asked) bytes same home =
+    subst (λ b. IsAtHome (key_under client b) file server.opens) (sym same) home
