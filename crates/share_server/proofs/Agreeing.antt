@@ -1,6 +1,6 @@
 -- Records and summaries together agree with the list of opens.
-use Rattle.std.proofs.Common.{◌≡◌, ℕ, ◌^◌, ◌<◌, Bool, true, false, not, List, length, refl, ap, sym, ◌∙◌, subst, true≢false}
-use Rattle.std.specs.Prelude.{if◌then◌else◌, ◌&&◌, Option, Some, None}
+use Rattle.std.proofs.Common.{◌≡◌, ℕ, Bool, true, false, not, List, refl, ap, sym, ◌∙◌, subst, true≢false}
+use Rattle.std.specs.Prelude.{if◌then◌else◌, Option, Some, None}
 use Rattle.std.specs.BTreeMap.{get}
 use Rattle.std.specs.List.{list_any}
 use Rattle.lease_laws.proofs.server.Keys.{key_eq-same}
@@ -12,13 +12,12 @@ use Rattle.lease_state.specs.declared.number.FileNo.{FileNo}
 use Rattle.share_server.specs.KeyOrder.{key_order}
 use Rattle.share_server.specs.Leases.{lease_of}
 use Rattle.share_server.specs.Looks.{is_elsewhere}
-use Rattle.share_server.specs.Summaries.{Agrees, IsOneMore, IsPut, IsRecord, AreAfter, AreLeft, IsAtHome, IsKeyChanged, RecordFits, SummaryFits, record_at, summary_at, lease_in, lease_or_none, tally_in, has_key_on, file_order}
-use Rattle.share_server.specs.Tallies.{tally_raised}
+use Rattle.share_server.specs.Summaries.{Agrees, IsPut, IsRecord, AreAfter, IsAtHome, RecordFits, SummaryFits, record_at, summary_at, lease_in, lease_or_none, has_key_on, file_order}
 use Rattle.share_server.specs.declared.lease.Lease.{Lease}
 use Rattle.share_server.specs.declared.summaries.LeaseRecord.{LeaseRecord}
 use Rattle.share_server.specs.declared.summaries.Summaries.{Summaries}
 use Rattle.share_server.proofs.Ordering.{has_key_own, has_key_none}
-use Rattle.share_server.proofs.Recording.{own_has, home_of, on_file_alike, lease_left, lease_kept_left, are_left, records_gain, records_keyless, records_stay, lease_put}
+use Rattle.share_server.proofs.Recording.{on_file_alike}
 
 -- a change of the summaries alone
 pub agrees_from : (after during : Summaries) (opens : List Open) → after.leases ≡ during.leases

@@ -1,5 +1,5 @@
 -- What lease records and file summaries tell of the opens that they agree with.
-use Rattle.std.proofs.Common.{◌≡◌, ℕ, Bool, true, false, not, List, [], ◌∷◌, refl, ap, sym, ◌∙◌, arith, subst}
+use Rattle.std.proofs.Common.{◌≡◌, ℕ, false, not, List, [], ◌∷◌, sym, arith, subst}
 use Rattle.std.specs.Prelude.{◌&&◌, ◌==◌, Option, Some, None, is_some}
 use Rattle.std.specs.List.{list_any}
 use Rattle.std.proofs.lemmas.Bool.Decides.{nat_tests}
@@ -10,7 +10,7 @@ use Rattle.lease_state.specs.Access.{conflict}
 use Rattle.lease_state.specs.declared.access.Access.{Access}
 use Rattle.lease_state.specs.declared.access.Share.{Share}
 use Rattle.share_server.specs.Looks.{is_elsewhere}
-use Rattle.share_server.specs.Summaries.{RecordFits, IsRecord, SummaryFits, IsSummary, is_on, has_key_on}
+use Rattle.share_server.specs.Summaries.{RecordFits, IsRecord, SummaryFits, IsSummary, is_on}
 use Rattle.share_server.specs.Tallies.{tally_conflicts}
 use Rattle.share_server.specs.declared.file_summary.FileSummary.{FileSummary}
 use Rattle.share_server.specs.declared.summaries.LeaseRecord.{LeaseRecord}

@@ -1,6 +1,6 @@
 -- Which keys are wanted, by records and summaries and by the list of opens.
-use Rattle.std.proofs.Common.{◌≡◌, inl, inr, ⊎_elim, ℕ, zero, suc, ◌<◌, ◌≤◌, Bool, true, false, not, List, [], ◌∷◌, map, filter, length, refl, ap, sym, ◌∙◌, arith, subst, true≢false, nat_lt}
-use Rattle.std.specs.Prelude.{if◌then◌else◌, ◌==◌, ◌&&◌, ◌||◌, Option, Some, None, is_some, ⊤}
+use Rattle.std.proofs.Common.{◌≡◌, inl, inr, ⊎_elim, ℕ, suc, ◌<◌, ◌≤◌, Bool, true, false, not, List, [], ◌∷◌, map, filter, length, refl, ap, sym, ◌∙◌, arith, subst, true≢false, nat_lt}
+use Rattle.std.specs.Prelude.{if◌then◌else◌, ◌==◌, ◌&&◌, Option, Some, None, is_some, ⊤}
 use Rattle.std.specs.BTreeMap.{is_at}
 use Rattle.std.specs.BTreeSet.{BTreeSet, contains}
 use Rattle.std.specs.List.{list_any, AllByRecursion}
@@ -10,16 +10,16 @@ use Rattle.std.specs.declared.cmp.Ordering.TheVariants.{Less}
 use Rattle.std.proofs.lemmas.Bool.Decides.{nat_tests, Decides-eqb}
 use Rattle.lease_laws.proofs.server.Keys.{key_eq-same, key_eq-refl, lease_by-key, is_key-one, is_key-refl}
 use Rattle.lease_laws.proofs.server.KeyOrder.{keys_of-all, among_mapped}
-use Rattle.lease_laws.proofs.server.Lists.{either, clash, and_parts, and_both, not_parts, not_true, any_has, has_any, none_has, among_filter, among_filtered}
+use Rattle.lease_laws.proofs.server.Lists.{either, clash, and_parts, and_both, not_true, any_has, has_any, none_has, among_filter, among_filtered}
 use Rattle.lease_laws.proofs.server.Wanted.{wants_where-exact, key_before-then, key_before-self}
 use Rattle.lease_laws.proofs.server.Wants.{keys_of-has}
 use Rattle.lease_laws.specs.server.Laws.{Among}
 use Rattle.lease_laws.specs.server.Wanted.{AreInKeyOrder}
 use Rattle.lease_model.specs.server.Allowed.{is_other_on, conflicts_on}
 use Rattle.lease_model.specs.server.KeyOrder.{keys_of}
-use Rattle.lease_model.specs.server.Naming.{key_of, key_of_open, lease_of}
+use Rattle.lease_model.specs.server.Naming.{key_of, lease_of}
 use Rattle.lease_model.specs.server.State.{Server, Open, Lease, has_key, is_key, has_own_key}
-use Rattle.lease_model.specs.server.Wants.{Want, wants_where}
+use Rattle.lease_model.specs.server.Wants.{wants_where}
 use Rattle.lease_model.specs.values.Keys.{Key, key_eq, key_before}
 use Rattle.lease_model.specs.values.LeaseStates.{holds_any}
 use Rattle.lease_state.specs.Access.{conflict}
@@ -41,7 +41,7 @@ use Rattle.share_server.specs.declared.want.Wish.{Wish}
 use Rattle.share_server.specs.declared.want.Wish.TheVariants.{NoHandles, NoWrites, Nothing}
 use Rattle.share_server.proofs.Tallies.{conflicts_are}
 use Rattle.share_server.specs.declared.file_summary.FileSummary.{FileSummary}
-use Rattle.share_server.proofs.Ordering.{order_eq, order_eq-back, order_before, has_key_own}
+use Rattle.share_server.proofs.Ordering.{order_eq, order_eq-back, order_before}
 
 -- ---- lists of keys in order
 
@@ -71,10 +71,11 @@ filter_ordered test (key ∷ keys) ordered = either (test key)
 wants_ordered : (lowering : Key → State) (keys : List Key)
     → AreInKeyOrder (map (λ (key : Key). record { key = key; lowered = lowering key }) keys) → AreOrdered keys
 wants_ordered lowering [] ordered = tt
-wants_ordered lowering (key ∷ keys) ordered =
-    (λ other a. ordered.0 (record { key = other; lowered = lowering other })
-    (among_mapped (λ (key : Key). record { key = key; lowered = lowering key }) other keys a),
-    wants_ordered lowering keys ordered.1)
+wants_ordered lowering (key ∷ keys) ordered = (
+  λ other a. ordered.0 (record { key = other; lowered = lowering other })
+      (among_mapped (λ (key : Key). record { key = key; lowered = lowering key }) other keys a),
+  wants_ordered lowering keys ordered.1,
+)
 
 pub keys_ordered : (server : Server) (test : Open → Bool) → AreOrdered (keys_of (filter test server.opens))
 unfolding wants_where
@@ -138,10 +139,10 @@ unfolding IsStrictlySortedBy
 others_counted own [] sorted = grind (arith, nat_tests)
 others_counted own (key ∷ keys) sorted = either (key_eq key own)
     (λ t.
-        let same = key_eq-same key own t in
-        let apart : (other : Key) → Among other keys → key_eq other own ≡ false =
-        λ other a. sym (order_eq-back own other) ∙ ap is_eq (ap (λ k. key_order k other) (sym same) ∙ before_all key keys sorted.0 other a) in
-        rw (t, order_eq-back own key, t) (none_own own keys apart ∙ one_below (length keys)))
+    let same = key_eq-same key own t in
+    let apart : (other : Key) → Among other keys → key_eq other own ≡ false =
+    λ other a. sym (order_eq-back own other) ∙ ap is_eq (ap (λ k. key_order k other) (sym same) ∙ before_all key keys sorted.0 other a) in
+    rw (t, order_eq-back own key, t) (none_own own keys apart ∙ one_below (length keys)))
     (λ t. rw (t, order_eq-back own key, t) (sym (below own key keys)))
   where
     below : (own key : Key) (keys : List Key)
@@ -193,22 +194,22 @@ unfolding is_other_on
 others_are own file opens keys are keyless =
     both_so _ _
     (λ some.
-        let key = any_has (λ k. not (is_own_key own k)) keys.keys some in
-        let one = any_has (has_key_on file key.0) opens (sym (are key.0) ∙ member keys key.0 key.1) in
-        let parts = and_parts (is_on file one.0) (has_key key.0 one.0) one.2 in
-        has_any (λ o. o.file == file && not (has_own_key own o)) one.0 opens one.1
-        (and_both (is_on file one.0) (not (has_own_key own one.0)) parts.0
-        (ap not (own_alike own key.0 one.0 parts.1) ∙ key.2)))
+    let key = any_has (λ k. not (is_own_key own k)) keys.keys some in
+    let one = any_has (has_key_on file key.0) opens (sym (are key.0) ∙ member keys key.0 key.1) in
+    let parts = and_parts (is_on file one.0) (has_key key.0 one.0) one.2 in
+    has_any (λ o. o.file == file && not (has_own_key own o)) one.0 opens one.1
+    (and_both (is_on file one.0) (not (has_own_key own one.0)) parts.0
+    (ap not (own_alike own key.0 one.0 parts.1) ∙ key.2)))
     (λ some.
-        let one = any_has (λ o. o.file == file && not (has_own_key own o)) opens some in
-        let parts = and_parts (is_on file one.0) (not (has_own_key own one.0)) one.2 in
-        let unkeyed = none_has (is_keyless_on file) one.0 opens keyless one.1 in
-        let keyed = still_keyed (is_on file one.0) (is_some (one.0).lease_key) unkeyed parts.0 in
-        let key = key_there (one.0).client (one.0).lease_key keyed in
-        let there = are key.0 ∙ has_any (has_key_on file key.0) one.0 opens one.1
-        (and_both (is_on file one.0) (has_key key.0 one.0) parts.0 key.1) in
-        has_any (λ k. not (is_own_key own k)) key.0 keys.keys (among_members keys key.0 there)
-        (ap not (sym (own_alike own key.0 one.0 key.1)) ∙ parts.1))
+    let one = any_has (λ o. o.file == file && not (has_own_key own o)) opens some in
+    let parts = and_parts (is_on file one.0) (not (has_own_key own one.0)) one.2 in
+    let unkeyed = none_has (is_keyless_on file) one.0 opens keyless one.1 in
+    let keyed = still_keyed (is_on file one.0) (is_some (one.0).lease_key) unkeyed parts.0 in
+    let key = key_there (one.0).client (one.0).lease_key keyed in
+    let there = are key.0 ∙ has_any (has_key_on file key.0) one.0 opens one.1
+    (and_both (is_on file one.0) (has_key key.0 one.0) parts.0 key.1) in
+    has_any (λ k. not (is_own_key own k)) key.0 keys.keys (among_members keys key.0 there)
+    (ap not (sym (own_alike own key.0 one.0 key.1)) ∙ parts.1))
   where
     still_keyed : (on keyed : Bool) → (on && not keyed) ≡ false → on ≡ true → keyed ≡ true
     still_keyed on true e o = refl
@@ -391,20 +392,20 @@ wanted_are demand summaries server summary stand s sorted =
     one_list _ _ (filter_ordered (is_wanted_key summaries demand) _ (sorted_ordered _ sorted))
     (keys_ordered server (is_demanded demand server))
     (λ key a.
-        let found = among_filter (is_wanted_key summaries demand) key (keys_for demand.wish summary).keys a in
-        let parts = and_parts (not (is_own_key demand.own key)) (needs_known demand.wish (record_at summaries key)) found.1 in
-        let w = wants_to demand.wish demand.own demand.file key summaries server summary (record_at summaries key) stand s refl
-        (stand.agree.records key) (member (keys_for demand.wish summary) key found.0) parts.0 parts.1 in
-        keys_of-all key w.one (filter (is_demanded demand server) server.opens)
-        (among_filtered (is_demanded demand server) w.one server.opens w.is_there w.is_wanted) w.has_it)
+    let found = among_filter (is_wanted_key summaries demand) key (keys_for demand.wish summary).keys a in
+    let parts = and_parts (not (is_own_key demand.own key)) (needs_known demand.wish (record_at summaries key)) found.1 in
+    let w = wants_to demand.wish demand.own demand.file key summaries server summary (record_at summaries key) stand s refl
+    (stand.agree.records key) (member (keys_for demand.wish summary) key found.0) parts.0 parts.1 in
+    keys_of-all key w.one (filter (is_demanded demand server) server.opens)
+    (among_filtered (is_demanded demand server) w.one server.opens w.is_there w.is_wanted) w.has_it)
     (λ key a.
-        let found = keys_of-has key (filter (is_demanded demand server) server.opens) a in
-        let there = among_filter (is_demanded demand server) found.0 server.opens found.1 in
-        let k = wants_from demand.wish demand.own demand.file key summaries server summary (record_at summaries key) found.0
-        stand s refl (stand.agree.records key) there.0 found.2 there.1 in
-        among_filtered (is_wanted_key summaries demand) key (keys_for demand.wish summary).keys
-        (among_members (keys_for demand.wish summary) key k.there)
-        (and_both (not (is_own_key demand.own key)) (needs_known demand.wish (record_at summaries key)) k.apart k.needs))
+    let found = keys_of-has key (filter (is_demanded demand server) server.opens) a in
+    let there = among_filter (is_demanded demand server) found.0 server.opens found.1 in
+    let k = wants_from demand.wish demand.own demand.file key summaries server summary (record_at summaries key) found.0
+    stand s refl (stand.agree.records key) there.0 found.2 there.1 in
+    among_filtered (is_wanted_key summaries demand) key (keys_for demand.wish summary).keys
+    (among_members (keys_for demand.wish summary) key k.there)
+    (and_both (not (is_own_key demand.own key)) (needs_known demand.wish (record_at summaries key)) k.apart k.needs))
 
 -- where nothing is open nothing is wanted
 other_here : (own : Option Key) (file : ℕ) (one : Open) → is_other_on own file one ≡ true → is_on file one ≡ true

@@ -1,5 +1,5 @@
 -- Opens in a map by their FileIds, as the list of the opens.
-use Rattle.std.proofs.Common.{◌≡◌, inl, inr, ⊎_elim, ℕ, ◌<◌, Bool, true, false, not, cond, List, [], ◌∷◌, ◌++◌, map, filter, refl, ap, sym, ◌∙◌, arith, subst}
+use Rattle.std.proofs.Common.{◌≡◌, inl, inr, ℕ, ◌<◌, Bool, true, false, List, [], ◌∷◌, ◌++◌, map, refl, ap, sym, ◌∙◌, arith, subst}
 use Rattle.std.specs.Prelude.{if◌then◌else◌, ◌==◌, Option, Some, None, IfSome, find}
 use Rattle.std.specs.BTreeMap.{insert_entry, is_at}
 use Rattle.std.specs.List.{AllByRecursion}
@@ -47,21 +47,21 @@ pub one_removed : (n : ℕ) (entries : List (FileId × Open)) (one : Open) → A
 one_removed n [] one filed found = absurd (cc found)
 one_removed n (e ∷ entries) one filed found = either (test_at n e.0)
     (λ at.
-        let same : e.1 ≡ one = some_same (rw at at found) in
-        record {
-          before = [];
-          behind = values_of entries;
-          is_less = rw at refl;
-          is_more = rw same refl;
-        })
+    let same : e.1 ≡ one = some_same (rw at at found) in
+    record {
+      before = [];
+      behind = values_of entries;
+      is_less = rw at refl;
+      is_more = rw same refl;
+    })
     (λ at.
-        let later = one_removed n entries one filed.1 (rw at at found) in
-        record {
-          before = e.1 ∷ later.before;
-          behind = later.behind;
-          is_less = rw at (ap (λ x. e.1 ∷ x) later.is_less);
-          is_more = ap (λ x. e.1 ∷ x) later.is_more;
-        })
+    let later = one_removed n entries one filed.1 (rw at at found) in
+    record {
+      before = e.1 ∷ later.before;
+      behind = later.behind;
+      is_less = rw at (ap (λ x. e.1 ∷ x) later.is_less);
+      is_more = ap (λ x. e.1 ∷ x) later.is_more;
+    })
 
 -- ---- order
 
@@ -80,12 +80,12 @@ pub left_removed : (n : ℕ) (entries : List (FileId × Open)) → AreFiled entr
 left_removed n [] filed order = refl
 left_removed n (e ∷ entries) filed order = either (test_at n e.0)
     (λ at.
-        let is : has_id n e.1 ≡ true = sym (here n e filed.0) ∙ at in
-        let same = (Decides-eqb e.1.file_id n).0 is in
-        rw (at, is) (sym (none_behind n (values_of entries) (λ other a. subst (λ m. m < other.file_id) same (order.0 other a)))))
+    let is : has_id n e.1 ≡ true = sym (here n e filed.0) ∙ at in
+    let same = (Decides-eqb e.1.file_id n).0 is in
+    rw (at, is) (sym (none_behind n (values_of entries) (λ other a. subst (λ m. m < other.file_id) same (order.0 other a)))))
     (λ at.
-        let is : has_id n e.1 ≡ false = sym (here n e filed.0) ∙ at in
-        rw (at, is) (ap (λ x. e.1 ∷ x) (left_removed n entries filed.1 order.1)))
+    let is : has_id n e.1 ≡ false = sym (here n e filed.0) ∙ at in
+    rw (at, is) (ap (λ x. e.1 ∷ x) (left_removed n entries filed.1 order.1)))
 
 above_all : (n : ℕ) (entries : List (FileId × Open)) → AreFiled entries
     → AllByRecursion (λ y. file_id_order (record { 0 = n }) y ≡ Less) (keys_of entries)
@@ -102,9 +102,10 @@ pub in_order : (entries : List (FileId × Open)) → AreFiled entries → IsStri
     → AreInOrder (values_of entries)
 unfolding IsStrictlySortedBy
 in_order [] filed sorted = tt
-in_order (e ∷ entries) filed sorted =
-    (λ other a. subst (λ m. m < other.file_id) (sym filed.0) (above_all e.0.0 entries filed.1 sorted.0 other a),
-    in_order entries filed.1 sorted.1)
+in_order (e ∷ entries) filed sorted = (
+  λ other a. subst (λ m. m < other.file_id) (sym filed.0) (above_all e.0.0 entries filed.1 sorted.0 other a),
+  in_order entries filed.1 sorted.1,
+)
 
 -- ---- one more, the last
 
@@ -116,8 +117,10 @@ pub inserted_last : (n : ℕ) (one : Open) (entries : List (FileId × Open)) →
     → insert_entry file_id_order entries (record { 0 = n }) one ≡ entries ++ (record { 0 = n }, one) ∷ []
 inserted_last n one [] filed below = refl
 inserted_last n one (e ∷ entries) filed below =
-    rw (greater n e.0.0 (subst (λ m. m < n) filed.0 (below e.1 (inl refl))),
-    inserted_last n one entries filed.1 (λ other a. below other (inr a))) refl
+    rw (
+      greater n e.0.0 (subst (λ m. m < n) filed.0 (below e.1 (inl refl))),
+      inserted_last n one entries filed.1 (λ other a. below other (inr a)),
+    ) refl
 
 pub filed_last : (n : ℕ) (one : Open) (entries : List (FileId × Open)) → AreFiled entries → one.file_id ≡ n
     → AreFiled (entries ++ (record { 0 = n }, one) ∷ [])
@@ -151,8 +154,8 @@ pub filed_set : (n : ℕ) (change : Open → Open) (entries : List (FileId × Op
 filed_set n change [] one same filed found = tt
 filed_set n change (e ∷ entries) one same filed found = either (test_at n e.0)
     (λ at.
-        let is : e.1 ≡ one = some_same (rw at at found) in
-        rw at (same one ∙ (ap (λ (o : Open). o.file_id) (sym is) ∙ filed.0), filed.1))
+    let is : e.1 ≡ one = some_same (rw at at found) in
+    rw at (same one ∙ (ap (λ (o : Open). o.file_id) (sym is) ∙ filed.0), filed.1))
     (λ at. rw at (filed.0, filed_set n change entries one same filed.1 (rw at at found)))
 
 pub values_set : (n : ℕ) (change : Open → Open) (entries : List (FileId × Open)) (one : Open)
@@ -161,14 +164,18 @@ pub values_set : (n : ℕ) (change : Open → Open) (entries : List (FileId × O
 values_set n change [] one filed order found = refl
 values_set n change (e ∷ entries) one filed order found = either (test_at n e.0)
     (λ at.
-        let its : has_id n e.1 ≡ true = sym (here n e filed.0) ∙ at in
-        let same = (Decides-eqb e.1.file_id n).0 its in
-        let is : e.1 ≡ one = some_same (rw at at found) in
-        rw (at, its, none_changed n change (values_of entries) (λ other a. subst (λ m. m < other.file_id) same (order.0 other a)),
-        is) refl)
+    let its : has_id n e.1 ≡ true = sym (here n e filed.0) ∙ at in
+    let same = (Decides-eqb e.1.file_id n).0 its in
+    let is : e.1 ≡ one = some_same (rw at at found) in
+    rw (
+      at,
+      its,
+      none_changed n change (values_of entries) (λ other a. subst (λ m. m < other.file_id) same (order.0 other a)),
+      is,
+    ) refl)
     (λ at.
-        let its : has_id n e.1 ≡ false = sym (here n e filed.0) ∙ at in
-        rw (at, its) (ap (λ x. e.1 ∷ x) (values_set n change entries one filed.1 order.1 (rw at at found))))
+    let its : has_id n e.1 ≡ false = sym (here n e filed.0) ∙ at in
+    rw (at, its) (ap (λ x. e.1 ∷ x) (values_set n change entries one filed.1 order.1 (rw at at found))))
 
 pub values_unset : (n : ℕ) (change : Open → Open) (entries : List (FileId × Open))
     → AreFiled entries → lookup (test_at n) entries ≡ None
@@ -177,8 +184,8 @@ values_unset n change [] filed found = refl
 values_unset n change (e ∷ entries) filed found = either (test_at n e.0)
     (λ at. absurd (cc (rw at at found)))
     (λ at.
-        let its : has_id n e.1 ≡ false = sym (here n e filed.0) ∙ at in
-        rw its (ap (λ x. e.1 ∷ x) (values_unset n change entries filed.1 (rw at at found))))
+    let its : has_id n e.1 ≡ false = sym (here n e filed.0) ∙ at in
+    rw its (ap (λ x. e.1 ∷ x) (values_unset n change entries filed.1 (rw at at found))))
 
 pub one_less : (n : ℕ) (entries : List (FileId × Open)) (found : Option Open) → AreFiled entries
     → found ≡ lookup (test_at n) entries

@@ -1,5 +1,5 @@
 -- A create that is ready has no open under its key on another file.
-use Rattle.std.proofs.Common.{◌≡◌, refl, sym, ap, ◌∙◌, subst, ℕ, zero, suc, Bool, true, false, not, List}
+use Rattle.std.proofs.Common.{◌≡◌, refl, sym, ap, ◌∙◌, subst, ℕ, zero, suc, false, not, List}
 use Rattle.std.specs.Prelude.{◌&&◌, ◌==◌, Option, Some, None}
 use Rattle.std.specs.List.{list_any}
 use Rattle.std.proofs.lemmas.Bool.Decides.{Decides-eqb}
@@ -8,18 +8,17 @@ use Rattle.lease_state.specs.declared.access.Share.{Share}
 use Rattle.lease_laws.proofs.server.Lists.{if_cases, either, has_none}
 use Rattle.lease_laws.proofs.server.Ready.{RequestFree, CreateFree, ready-free}
 use Rattle.lease_laws.proofs.server.Tries.{IsFoundReady}
-use Rattle.lease_laws.specs.server.Laws.{Among}
 use Rattle.lease_laws.specs.server.SmallSteps.{IsFree}
-use Rattle.lease_model.specs.messages.Requests.{FileRequest, CreateAsk, LeaseOf}
+use Rattle.lease_model.specs.messages.Requests.{FileRequest, LeaseOf}
 use Rattle.lease_model.specs.server.Attempt.{Outcome, Tried, ended, must_wait, after_breaks, after_finding, tried_for, tried, wants_met}
 use Rattle.lease_model.specs.server.Findings.{Finding, finding, is_leased_elsewhere}
 use Rattle.lease_model.specs.server.Grant.{asked_key}
 use Rattle.lease_model.specs.server.Naming.{own_key, key_under}
 use Rattle.lease_model.specs.server.Progress.{Progress}
 use Rattle.lease_model.specs.server.Ready.{is_ready}
-use Rattle.lease_model.specs.server.State.{Server, Open, has_key}
+use Rattle.lease_model.specs.server.State.{Server, has_key}
 use Rattle.lease_model.specs.values.Keys.{Key}
-use Rattle.share_server.specs.Kept.{IsAtHomeFor, IsCreateAtHome, AreContextsAtHome}
+use Rattle.share_server.specs.Kept.{IsAtHomeFor, IsCreateAtHome}
 use Rattle.share_server.specs.Summaries.{IsAtHome}
 
 -- where a try ends ready, a look at the request finds it so

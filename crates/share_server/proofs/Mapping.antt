@@ -1,5 +1,5 @@
 -- Opens that are connected or disconnected are counted as they were.
-use Rattle.std.proofs.Common.{◌≡◌, ℕ, Bool, true, false, not, List, [], ◌∷◌, map, filter, length, refl, ap, ap₂, sym, ◌∙◌, arith}
+use Rattle.std.proofs.Common.{◌≡◌, ℕ, Bool, not, List, [], ◌∷◌, map, refl, ap, ap₂, sym, ◌∙◌, arith}
 use Rattle.std.specs.Prelude.{if◌then◌else◌, ◌==◌, ◌&&◌, Option, Some, None, is_some}
 use Rattle.std.specs.List.{list_any}
 use Rattle.lease_laws.proofs.server.Lists.{either}
@@ -8,7 +8,6 @@ use Rattle.lease_model.specs.values.Keys.{Key}
 use Rattle.lease_state.specs.Access.{uses_of, allowed_by}
 use Rattle.lease_state.specs.declared.access.Access.{Access}
 use Rattle.lease_state.specs.declared.access.Share.{Share}
-use Rattle.lease_state.specs.declared.number.FileNo.{FileNo}
 use Rattle.share_server.specs.Looks.{is_elsewhere}
 use Rattle.share_server.specs.Summaries.{Agrees, RecordFits, SummaryFits, record_at, summary_at, lease_in, is_on, has_key_on, is_keyless_on}
 use Rattle.share_server.specs.Tallies.{count, tally_of}

@@ -1,5 +1,5 @@
 -- How lease records follow the list of opens.
-use Rattle.std.proofs.Common.{◌≡◌, ℕ, ◌+◌, ◌^◌, ◌<◌, Bool, true, false, not, List, [], ◌∷◌, length, refl, ap, sym, ◌∙◌, arith, nat_eq, nat_lt, subst, true≢false}
+use Rattle.std.proofs.Common.{◌≡◌, ℕ, ◌^◌, ◌<◌, Bool, true, false, not, List, [], ◌∷◌, length, refl, ap, sym, ◌∙◌, arith, nat_eq, subst, true≢false}
 use Rattle.std.specs.Prelude.{if◌then◌else◌, ◌&&◌, ◌||◌, ◌==◌, Option, Some, None}
 use Rattle.std.specs.BTreeMap.{BTreeMap, Updates, get}
 use Rattle.std.specs.List.{list_any}
@@ -15,7 +15,7 @@ use Rattle.share_server.specs.KeyOrder.{key_order}
 use Rattle.share_server.specs.Leases.{lease_of}
 use Rattle.share_server.specs.Looks.{is_elsewhere}
 use Rattle.share_server.specs.Summaries.{IsOneMore, IsRecord, RecordFits, tally_in, lease_or_none, has_key_on, IsKeyChanged, AreLeft}
-use Rattle.share_server.specs.Tallies.{count, tally_of, tally_raised, tally_lowered}
+use Rattle.share_server.specs.Tallies.{tally_of, tally_raised, tally_lowered}
 use Rattle.share_server.specs.declared.lease.Lease.{Lease}
 use Rattle.share_server.specs.declared.summaries.LeaseRecord.{LeaseRecord}
 use Rattle.share_server.specs.declared.tally.Tally.{Tally}
@@ -301,6 +301,7 @@ lease_left key one last before after less more own m left now fits =
     turned : (b : Bool) (lease : model.Lease) → (if true && b then no_lease else lease) ≡ (if not b then lease else no_lease)
     turned true lease = refl
     turned false lease = refl
+
     unless : (b : Bool) (lease : model.Lease) → (b ≡ false → lease ≡ no_lease) → lease ≡ (if b then lease else no_lease)
     unless true lease e = refl
     unless false lease e = e refl

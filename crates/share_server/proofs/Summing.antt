@@ -1,5 +1,5 @@
 -- How lease records and file summaries follow the list of opens: with one open more or less, and with another lease.
-use Rattle.std.proofs.Common.{◌≡◌, ℕ, ◌+◌, ◌^◌, ◌<◌, ◌≤◌, Bool, true, false, not, cond, List, [], ◌∷◌, ◌++◌, length, refl, ap, sym, ◌∙◌, arith, subst, nat_eq, true≢false}
+use Rattle.std.proofs.Common.{◌≡◌, ℕ, ◌+◌, ◌^◌, ◌<◌, Bool, true, false, not, List, [], ◌∷◌, length, refl, ap, sym, ◌∙◌, arith, subst, nat_eq, true≢false}
 use Rattle.std.specs.Prelude.{if◌then◌else◌, ◌&&◌, ◌||◌, ◌==◌, is_some, Option, Some, None}
 use Rattle.std.specs.BTreeMap.{BTreeMap, Updates, get}
 use Rattle.std.specs.List.{list_any}
@@ -208,6 +208,7 @@ loses_sums_up one last old new less more leases later m left is_last s l = recor
     lost_key true false any_more last was now a b c d = let f = d refl in rw (a, b, c, f) refl
     lost_key false true any_more last was now a b c d = rw (a, b, c) refl
     lost_key false false any_more last was now a b c d = rw (a, b, c) refl
+
     lost_writer : (has any_less any_more last : Bool) (old new : Lease) (was now : Bool)
         → now ≡ (was && not (has && last)) → was ≡ (any_more && old.state.write)
         → any_more ≡ (has || any_less) → (has ≡ true → last ≡ not any_less) → (any_less ≡ true → new ≡ old)

@@ -89,12 +89,12 @@ pub any_one : (n : ℕ) (test : Open → Bool) (opens : List Open)
 any_one n test [] only order = refl
 any_one n test (one ∷ opens) only order = either (has_id n one)
     (λ its.
-        let is = (Decides-eqb one.file_id n).0 its in
-        let none = none_above n test opens only (λ other a. apart_behind n one other is (order.0 other a)) in
-        rw (its, none) (or_false (test one)))
+    let is = (Decides-eqb one.file_id n).0 its in
+    let none = none_above n test opens only (λ other a. apart_behind n one other is (order.0 other a)) in
+    rw (its, none) (or_false (test one)))
     (λ its.
-        let here = not_true (test one) (λ t. clash (has_id n one) (only one t) its) in
-        rw (its, here) (any_one n test opens only order.1))
+    let here = not_true (test one) (λ t. clash (has_id n one) (only one t) its) in
+    rw (its, here) (any_one n test opens only order.1))
   where
     or_false : (b : Bool) → (b || false) ≡ b
     or_false true = refl
@@ -106,12 +106,12 @@ pub find_one : (n : ℕ) (test : Open → Bool) (opens : List Open)
 find_one n test [] only order = refl
 find_one n test (one ∷ opens) only order = either (has_id n one)
     (λ its.
-        let is = (Decides-eqb one.file_id n).0 its in
-        let none = none_above n test opens only (λ other a. apart_behind n one other is (order.0 other a)) in
-        rw (its, find_none test opens none) refl)
+    let is = (Decides-eqb one.file_id n).0 its in
+    let none = none_above n test opens only (λ other a. apart_behind n one other is (order.0 other a)) in
+    rw (its, find_none test opens none) refl)
     (λ its.
-        let here = not_true (test one) (λ t. clash (has_id n one) (only one t) its) in
-        rw (its, here) (find_one n test opens only order.1))
+    let here = not_true (test one) (λ t. clash (has_id n one) (only one t) its) in
+    rw (its, here) (find_one n test opens only order.1))
 
 -- ---- opens chosen by their FileIds
 

@@ -1,13 +1,13 @@
 -- How counts of opens change with one open more or less, and what they tell.
-use Rattle.std.proofs.Common.{◌≡◌, ℕ, ◌+◌, ◌^◌, ◌<◌, ◌≤◌, Bool, true, false, not, cond, filter, List, [], ◌∷◌, ◌++◌, map, length, refl, ap, ap₂, sym, ◌∙◌, arith}
-use Rattle.std.specs.Prelude.{if◌then◌else◌, ◌&&◌, ◌||◌, ◌==◌}
+use Rattle.std.proofs.Common.{◌≡◌, ◌+◌, ◌≤◌, Bool, false, not, List, [], ◌∷◌, ◌++◌, length, refl, ap, ap₂, sym, ◌∙◌, arith}
+use Rattle.std.specs.Prelude.{if◌then◌else◌, ◌&&◌, ◌||◌}
 use Rattle.std.specs.List.{list_any}
 use Rattle.std.proofs.lemmas.Bool.Decides.{nat_tests}
 use Rattle.lease_model.specs.server.State.{Open}
 use Rattle.lease_state.specs.Access.{uses_of, allowed_by, conflict}
 use Rattle.lease_state.specs.declared.access.Access.{Access}
 use Rattle.lease_state.specs.declared.access.Share.{Share}
-use Rattle.share_server.specs.Tallies.{count, tally_of, raised, lowered, tally_raised, tally_lowered, tally_conflicts, is_counted}
+use Rattle.share_server.specs.Tallies.{count, tally_of, tally_conflicts, is_counted}
 use Rattle.share_server.specs.declared.tally.Tally.{Tally}
 
 pub count_more : (test : Open → Bool) (before behind : List Open) (one : Open)
@@ -45,11 +45,13 @@ none = record { opens = 0; reads = 0; writes = 0; refuses_reads = 0; refuses_wri
 
 pub none_tallied : (test : Open → Bool) (opens : List Open) → list_any test opens ≡ false → none ≡ tally_of test opens
 none_tallied test opens nobody =
-    rw (none_counted test opens nobody,
-    none_counted _ opens (none_both test (λ one. (uses_of one.access).read) opens nobody),
-    none_counted _ opens (none_both test (λ one. (uses_of one.access).write) opens nobody),
-    none_counted _ opens (none_both test (λ one. not (allowed_by one.share).read) opens nobody),
-    none_counted _ opens (none_both test (λ one. not (allowed_by one.share).write) opens nobody)) refl
+    rw (
+      none_counted test opens nobody,
+      none_counted _ opens (none_both test (λ one. (uses_of one.access).read) opens nobody),
+      none_counted _ opens (none_both test (λ one. (uses_of one.access).write) opens nobody),
+      none_counted _ opens (none_both test (λ one. not (allowed_by one.share).read) opens nobody),
+      none_counted _ opens (none_both test (λ one. not (allowed_by one.share).write) opens nobody),
+    ) refl
 
 -- ---- conflicts
 

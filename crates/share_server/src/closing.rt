@@ -34,7 +34,9 @@ impl Closing {
             Closing::Of(key) => one.has_key(*key),
             Closing::LeftOf(key) => one.is_left_open(*key),
             Closing::LostBy(client) => {
-                one.client == *client && one.connected && !one.outlives_connection(leases.under(one))
+                one.client == *client
+                    && one.connected
+                    && !one.outlives_connection(leases.under(one))
             }
         }
     }

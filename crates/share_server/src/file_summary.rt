@@ -133,13 +133,7 @@ impl FileSummary {
         ensures { result ≡ own_count own self.now }
     {
         match own {
-            Some(key) => {
-                if self.keys.contains(&key) {
-                    1
-                } else {
-                    0
-                }
-            }
+            Some(key) => { if self.keys.contains(&key) { 1 } else { 0 } }
             None => 0,
         }
     }

@@ -91,7 +91,12 @@ impl Opens {
     /// # Errors
     ///
     /// `Memory` where there is none left for the list.
-    pub fn closed(&self, alloc: Global, closing: &Closing, leases: &Summaries) -> Result<Vec<FileId>, Memory>
+    pub fn closed(
+        &self,
+        alloc: Global,
+        closing: &Closing,
+        leases: &Summaries,
+    ) -> Result<Vec<FileId>, Memory>
         ensures ids { IfOk result (λ ids. map (λ file_id. file_id.0) ids.items
             ≡ map (λ one. one.file_id) (filter (closes closing.now (lease_in leases.now)) self.now)) }
         ensures in_order { AreInOrder self.now }

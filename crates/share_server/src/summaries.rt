@@ -95,9 +95,9 @@ impl Summaries {
     fn gain_record(&mut self, key: Key, one: &Open, lease: Lease) -> Result<(), Memory>
         ensures files { OnOk result (self.new.files ≡ self.old.files) }
         ensures changed { OnOk result (IsKeyChanged key (record_at self.old) (record_at self.new) (Some (record {
-            file = record { 0 = one.now.file };
-            lease = lease;
-            tally = tally_raised one.now (tally_in (record_at self.old key));
+          file = record { 0 = one.now.file };
+          lease = lease;
+          tally = tally_raised one.now (tally_in (record_at self.old key));
         }))) }
     {
         let known = LeaseRecord {

@@ -32,7 +32,6 @@ impl Tally {
         }
     }
 
-    #[tactic(auto, using(crate::proofs::Demanding::wanted_none))]
     /// Whether no open is counted.
     pub fn is_empty(self) -> bool
         ensures { result ≡ nat_eq self.opens 0 }

@@ -225,7 +225,13 @@ fn close_one(opens: &mut Opens, summaries: &mut Summaries, id: FileId)
 }
 
 // Adds an open, with the lease of its key.
-fn add(opens: &mut Opens, summaries: &mut Summaries, alloc: Global, one: Open, lease: Lease) -> Result<(), Memory>
+fn add(
+    opens: &mut Opens,
+    summaries: &mut Summaries,
+    alloc: Global,
+    one: Open,
+    lease: Lease,
+) -> Result<(), Memory>
     requires { (other : ModelOpen) → Among other opens.old → other.file_id < one.file_id }
     ensures opens { OnOk result (opens.new ≡ opens.old ++ one ∷ []) }
     ensures agrees { OnOk result (IsAtHome (key_of_open one) one.file opens.old → Agrees summaries.old opens.old

@@ -1,4 +1,4 @@
-use Rattle.std.proofs.Common.{◌≡◌, ◌∙◌, ap, sym, true, false, nat_lt, length}
+use Rattle.std.proofs.Common.{◌≡◌, ◌∙◌, ap, sym, true, false, nat_lt}
 use Rattle.std.specs.List.{list_any}
 use Rattle.share_server.specs.Summaries.{is_keyless_on}
 use Rattle.share_server.proofs.Demanding.{some_is, none_is, other_keyless, others_are, others_by}

@@ -1,5 +1,5 @@
-use Rattle.std.proofs.Common.{◌∙◌, ap, sym, arith, refl}
-use Rattle.std.specs.Prelude.{is_some, not, ◌&&◌}
+use Rattle.std.proofs.Common.{◌∙◌, sym, refl}
+use Rattle.std.specs.Prelude.{is_some, not}
 use Rattle.lease_model.specs.server.State.{has_key}
 use Rattle.share_server.specs.Summaries.{is_on}
 use Rattle.share_server.proofs.Tallies.{none_tallied, none_both, none_counted}

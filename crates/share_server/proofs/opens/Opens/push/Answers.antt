@@ -1,4 +1,4 @@
-use Rattle.std.proofs.Common.{◌≡◌, ◌∙◌, ◌++◌, [], ◌∷◌, ap, sym}
+use Rattle.std.proofs.Common.{◌∙◌, ap, sym}
 use Rattle.std.specs.Map.{values_of}
 use Rattle.lease_model.specs.server.State.{Open}
 use Rattle.share_server.specs.Filed.{AreFiled}

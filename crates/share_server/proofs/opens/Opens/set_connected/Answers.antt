@@ -1,5 +1,4 @@
-use Rattle.std.proofs.Common.{◌∙◌, ap, refl, sym, rules}
-use Rattle.std.specs.Map.{values_of}
+use Rattle.std.proofs.Common.{refl, sym}
 use Rattle.lease_model.specs.server.State.{Open}
 use Rattle.share_server.proofs.Filing.{filed_written, values_written, values_unset}
 use Rattle.share_server.proofs.opens.Opens.set_connected.Goals as goal

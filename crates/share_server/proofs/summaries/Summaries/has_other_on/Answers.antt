@@ -1,4 +1,4 @@
-use Rattle.std.proofs.Common.{sym, ◌∙◌}
+use Rattle.std.proofs.Common.{sym}
 use Rattle.share_server.specs.Summaries.{lease_in}
 use Rattle.share_server.proofs.Asking.{other_none}
 use Rattle.share_server.proofs.Summing.{known_sums_up}

@@ -1,5 +1,4 @@
 use Rattle.std.proofs.Common.{sym, ◌∙◌, rules}
-
 use Rattle.share_server.specs.Summaries.{record_at}
 use Rattle.lease_model.specs.values.Keys.{key_eq}
 use Rattle.share_server.proofs.Recording.{and_no, last_is, records_lose, records_end, key_changed, tally_changed, changed_twice, leases_kept, lease_gone, lease_missing, never_missing}

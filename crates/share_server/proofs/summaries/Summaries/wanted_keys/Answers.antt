@@ -1,7 +1,5 @@
-use Rattle.std.proofs.Common.{◌∙◌, ap, sym, filter}
-use Rattle.std.specs.BTreeSet.{BTreeSet}
+use Rattle.std.proofs.Common.{◌∙◌, sym}
 use Rattle.share_server.specs.Summaries.{lease_in}
-use Rattle.share_server.specs.Wanted.{is_wanted_key}
 use Rattle.share_server.proofs.Demanding.{wanted_are, wanted_none}
 use Rattle.share_server.proofs.Summing.{known_sums_up, none_is_open}
 use Rattle.share_server.proofs.summaries.Summaries.wanted_keys.Goals as goal

@@ -1,5 +1,5 @@
 use Rattle.std.proofs.Common.{sym, rules}
-use Rattle.share_server.proofs.Summing.{summaries_put, changed_at, known_sums_up, never_on}
+use Rattle.share_server.proofs.Summing.{summaries_put, changed_at, never_on}
 use Rattle.share_server.proofs.summaries.Summaries.write_on_file.Goals as goal
 
 pub returns-in_ok-set_writer-in-Some-clause-files : goal.returns-in_ok-set_writer-in-Some-clause-files

@@ -6,8 +6,9 @@ use Rattle.share_server.proofs.Tabling.{kept_mapped, same_id_where}
 use Rattle.share_server.proofs.tables.Tables.connect_again.Goals as goal
 
 pub invariant_of-self : goal.invariant_of-self
-invariant_of-self c =
-    (c.self.invariant.0,
-    rw c.connect_again.ensures
-    (kept_mapped c.self.inside.opens (connected_again c.args.fid.0) c.self.inside.summaries c.self.inside.last_id
-    c.self.invariant.1 (connection_kept (has_id c.args.fid.0) true) (same_id_where (has_id c.args.fid.0) true)))
+invariant_of-self c = (
+  c.self.invariant.0,
+  rw c.connect_again.ensures
+      (kept_mapped c.self.inside.opens (connected_again c.args.fid.0) c.self.inside.summaries c.self.inside.last_id
+      c.self.invariant.1 (connection_kept (has_id c.args.fid.0) true) (same_id_where (has_id c.args.fid.0) true)),
+)

@@ -1,18 +1,18 @@
-use Rattle.std.proofs.Common.{◌∙◌, false, map, ap, sym, refl}
-use Rattle.lease_model.specs.server.State.{Open}
-use Rattle.share_server.specs.Kept.{disconnected_where, is_one_of}
-use Rattle.share_server.specs.Table.{Table, server_of}
+use Rattle.std.proofs.Common.{◌∙◌, false, ap}
+use Rattle.share_server.specs.Kept.{disconnected_where}
+use Rattle.share_server.specs.Table.{server_of}
 use Rattle.share_server.specs.contracts.tables.Tables.{the_view}
 use Rattle.share_server.proofs.Mapping.{connection_kept}
 use Rattle.share_server.proofs.Tabling.{kept_mapped, same_id_where, disconnected_are}
 use Rattle.share_server.proofs.tables.Tables.disconnect.Goals as goal
 
 pub invariant_of-self : goal.invariant_of-self
-invariant_of-self c =
-    (c.self.invariant.0,
-    rw c.disconnect_all.ensures
-    (kept_mapped c.self.inside.opens (disconnected_where _) c.self.inside.summaries c.self.inside.last_id
-    c.self.invariant.1 (connection_kept _ false) (same_id_where _ false)))
+invariant_of-self c = (
+  c.self.invariant.0,
+  rw c.disconnect_all.ensures
+      (kept_mapped c.self.inside.opens (disconnected_where _) c.self.inside.summaries c.self.inside.last_id
+      c.self.invariant.1 (connection_kept _ false) (same_id_where _ false)),
+)
 
 pub returns : goal.returns
 returns c =

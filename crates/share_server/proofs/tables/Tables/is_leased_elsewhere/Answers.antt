@@ -1,9 +1,4 @@
-use Rattle.std.proofs.Common.{◌≡◌, refl, List}
-use Rattle.std.specs.List.{list_any}
-use Rattle.std.specs.Prelude.{Some}
-use Rattle.lease_model.specs.server.Findings.{is_leased_elsewhere}
-use Rattle.lease_model.specs.server.State.{Server}
-use Rattle.share_server.specs.Looks.{is_elsewhere}
+use Rattle.std.proofs.Common.{refl}
 use Rattle.share_server.specs.Table.{server_of}
 use Rattle.share_server.specs.contracts.tables.Tables.{the_view}
 use Rattle.share_server.proofs.Tabling.{stands_now, leased_by}

@@ -1,9 +1,9 @@
-use Rattle.std.proofs.Common.{refl, sym, ◌∙◌, ap, subst}
+use Rattle.std.proofs.Common.{refl, sym, ap, subst}
 use Rattle.lease_model.specs.server.State.{Open}
 use Rattle.share_server.specs.Kept.{AreKept}
 use Rattle.share_server.specs.Leases.{lease_of}
 use Rattle.share_server.specs.contracts.tables.Tables.{the_view}
-use Rattle.share_server.proofs.Tabling.{table_opened, below_new, kept_opened, opened_now}
+use Rattle.share_server.proofs.Tabling.{table_opened, below_new, opened_now}
 use Rattle.share_server.proofs.tables.Tables.open.Goals as goal
 
 pub add-requires : goal.add-requires
@@ -12,12 +12,13 @@ add-requires c =
     (rw (← c.self.view_is) at c.requires.next)
 
 pub invariant_of-self : goal.invariant_of-self
-invariant_of-self c =
-    (c.self.invariant.0,
-    subst (λ n. AreKept c.add.new.opens c.add.new.summaries n) (ap (λ (o : Open). o.file_id) (sym c.one.view_is))
-    (opened_now c.self.inside.opens c.add.new.opens c.args.one c.self.inside.summaries c.add.new.summaries
-    c.self.inside.last_id c.self.invariant.1 (rw (← c.self.view_is) at c.requires.next) c.in-Ok.ensures.opens
-    (c.in-Ok.ensures.agrees (rw (← c.self.view_is) at c.requires.home) c.self.invariant.1.agree)))
+invariant_of-self c = (
+  c.self.invariant.0,
+  subst (λ n. AreKept c.add.new.opens c.add.new.summaries n) (ap (λ (o : Open). o.file_id) (sym c.one.view_is))
+      (opened_now c.self.inside.opens c.add.new.opens c.args.one c.self.inside.summaries c.add.new.summaries
+      c.self.inside.last_id c.self.invariant.1 (rw (← c.self.view_is) at c.requires.next) c.in-Ok.ensures.opens
+      (c.in-Ok.ensures.agrees (rw (← c.self.view_is) at c.requires.home) c.self.invariant.1.agree)),
+)
 
 pub returns-in-Ok : goal.returns-in-Ok
 returns-in-Ok c =

@@ -1,4 +1,3 @@
-use Rattle.std.proofs.Common.{◌∙◌, [], refl, ap, length, arith, sym}
 use Rattle.share_server.proofs.Tabling.{one_more_last, short_more}
 use Rattle.share_server.proofs.tables.changes.add.Goals as goal
 

@@ -1,5 +1,4 @@
-use Rattle.std.proofs.Common.{length, ◌∙◌, sym, arith, ℕ}
-use Rattle.share_server.proofs.Tabling.{closed_none, closed_more, ids_more, ids_all}
+use Rattle.share_server.proofs.Tabling.{closed_none, closed_more, ids_more}
 use Rattle.share_server.proofs.tables.changes.close_all.Goals as goal
 
 pub loop-id-init : goal.loop-id-init

@@ -1,4 +1,3 @@
-use Rattle.std.proofs.Common.{sym}
 use Rattle.share_server.proofs.Tabling.{untaken_agrees, unused_now}
 use Rattle.share_server.proofs.tables.changes.close_one.Goals as goal
 

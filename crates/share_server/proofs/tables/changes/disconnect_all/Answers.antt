@@ -1,4 +1,4 @@
-use Rattle.std.proofs.Common.{length, ◌∙◌, ap, sym, arith, ℕ, map}
+use Rattle.std.proofs.Common.{◌∙◌, ap, arith, map}
 use Rattle.share_server.specs.Filed.{disconnected_at}
 use Rattle.share_server.specs.Kept.{disconnected_where, is_one_of}
 use Rattle.share_server.proofs.Tabling.{disconnected_none, disconnected_more, ids_more, ids_all}
