@@ -11,7 +11,6 @@ pub mod Homing
 pub mod Joining
 pub mod Kept
 pub mod KeyOrder
-pub mod LeaseTable
 pub mod Losing
 pub mod Mapping
 pub mod NewTables

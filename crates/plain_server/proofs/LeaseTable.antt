@@ -7,7 +7,7 @@ use Rattle.lease_laws.proofs.server.Keys.{key_eq-same}
 use Rattle.lease_model.specs.server.State.{Open, Lease, no_lease, has_key}
 use Rattle.lease_model.specs.values.Keys.{Key, key_eq}
 use Rattle.lease_model.specs.values.Tables.{put_key}
-use Rattle.share_server.specs.Table.{KeyedLease, lease_at, leases_under, has_another_key, is_under}
+use Rattle.plain_server.specs.Table.{KeyedLease, lease_at, leases_under, has_another_key, is_under}
 
 -- a key is another one wherever it is other than an equal one
 other_apart : (one key other : Key) → key_eq one key ≡ false → key_eq key other ≡ true → key_eq one other ≡ false

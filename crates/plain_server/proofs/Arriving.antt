@@ -1,0 +1,73 @@
+-- A request that comes and has to wait.
+use Rattle.std.proofs.Common.{◌≡◌, ℕ, true, false, List, [], ◌∷◌, ◌++◌, refl, ap, sym, ◌∙◌}
+use Rattle.std.specs.Prelude.{Result, Ok, Err}
+use Rattle.lease_state.specs.declared.access.Access.{Access}
+use Rattle.lease_state.specs.declared.access.Share.{Share}
+use Rattle.lease_state.specs.declared.status.Status.{Status}
+use Rattle.lease_wire.specs.Names.{CreateView}
+use Rattle.lease_wire.specs.declared.fault.WireFault.{WireFault}
+use Rattle.lease_model.specs.messages.FromBytes.{ask_found}
+use Rattle.lease_model.specs.messages.Replies.{Reply, Out}
+use Rattle.lease_model.specs.messages.Requests.{FileRequest}
+use Rattle.lease_model.specs.server.Attempt.{Outcome, Tried, ended, tried}
+use Rattle.lease_model.specs.server.Calls.{arrived_on, after_first_try, held_of, first_tried, file_asked}
+use Rattle.lease_model.specs.server.Passes.{is_behind}
+use Rattle.lease_model.specs.server.Progress.{Progress, request_held, refused}
+use Rattle.lease_model.specs.server.State.{Server}
+use Rattle.lease_model.specs.values.Tables.{put}
+use Rattle.plain_server.proofs.Breaking.{silent}
+use Rattle.plain_server.specs.Outs.{progress_of}
+use Rattle.plain_server.specs.Passing.{is_waiting}
+use Rattle.plain_server.specs.Table.{Table, server_of}
+
+abbrev with_held : Server → ℕ → ℕ → FileRequest → Server
+with_held server client file request = record server {
+  held = put server.held file (server.held file ++ record { client = client; request = request } ∷ []);
+}
+
+held_now : (table after : Table) (outs : List Out) (client file : ℕ) (request : FileRequest)
+    → server_of after ≡ with_held (server_of table) client file request
+    → progress_of after outs ≡ request_held file (held_of client request) (progress_of table outs)
+unfolding request_held
+held_now table after outs client file request is = silent table after outs _ is
+
+pub behind_held : (table after : Table) (outs : List Out) (client file : ℕ) (request : FileRequest)
+    → is_behind client ((server_of table).held file) ≡ true
+    → server_of after ≡ with_held (server_of table) client file request
+    → progress_of after outs ≡ arrived_on client request (progress_of table outs) (Ok file)
+behind_held table after outs client file request behind is =
+    rw behind (held_now table after outs client file request is)
+
+waiting_held : (client file : ℕ) (request : FileRequest) (progress : Progress) (outcome : Outcome)
+    → is_waiting outcome ≡ true
+    → after_first_try client file request progress outcome ≡ request_held file (held_of client request) progress
+waiting_held client file request progress (Outcome.Refused status) e = absurd (cc e)
+waiting_held client file request progress Outcome.Waits e = refl
+waiting_held client file request progress Outcome.Ready e = absurd (cc e)
+
+pub tried_and_held : (before during after : Table) (outs more : List Out) (client file : ℕ) (request : FileRequest)
+    (outcome : Outcome)
+    → is_behind client ((server_of before).held file) ≡ false
+    → ended (progress_of during more) outcome ≡ tried client request (progress_of before outs)
+    → is_waiting outcome ≡ true → server_of after ≡ with_held (server_of during) client file request
+    → progress_of after more ≡ arrived_on client request (progress_of before outs) (Ok file)
+tried_and_held before during after outs more client file request outcome first end waits is =
+    rw first
+    (held_now during after more client file request is
+    ∙ (sym (waiting_held client file request (progress_of during more) outcome waits)
+    ∙ ap (λ (t : Tried). after_first_try client file request t.progress t.outcome) end))
+
+abbrev at_outs : Server → List Out → Progress
+at_outs server outs = record { server = server; outs = outs }
+
+-- a create whose contexts have a fault
+pub faulty_create : (table : Table) (outs more : List Out) (client file : ℕ) (access : Access) (share : Share)
+    (fault : WireFault) (found : Result CreateView WireFault) → Err fault ≡ found
+    → more ≡ outs ++ Out.Sent client (Reply.CreateFailed file Status.InvalidParameter) ∷ []
+    → progress_of table more
+    ≡ first_tried client (FileRequest.Create file access share (ask_found found)) (progress_of table outs)
+unfolding file_asked refused
+faulty_create table outs more client file access share fault found is told =
+    ap (at_outs (server_of table)) told
+    ∙ ap (λ (f : Result CreateView WireFault).
+    first_tried client (FileRequest.Create file access share (ask_found f)) (progress_of table outs)) is

@@ -1,0 +1,95 @@
+-- Small steps of a try, from what they make of the tables.
+use Rattle.std.proofs.Common.{◌≡◌, ◌⊎◌, inl, inr, true, false, Bool, List, [], ◌∷◌, ◌++◌, refl, ap, sym, ◌∙◌, append-nil, not}
+use Rattle.std.specs.Prelude.{ℕ, Some, None, if◌then◌else◌, ◌&&◌}
+use Rattle.lease_state.specs.State.{State, needs_acknowledgment}
+use Rattle.lease_model.specs.messages.Replies.{Out, Reply}
+use Rattle.lease_model.specs.server.Attempt.{lease_broken}
+use Rattle.lease_model.specs.server.Progress.{Progress, stepped, with_opens, with_lease, opens_dropped, lease_lowered, break_begun, break_notice, replied}
+use Rattle.lease_model.specs.server.State.{Server, Open, Lease, has_lease, is_breaking}
+use Rattle.lease_model.specs.values.Keys.{Key}
+use Rattle.lease_model.specs.values.Lists.{without}
+use Rattle.lease_laws.proofs.server.Lists.{if_cases, clash, not_parts, and_parts}
+use Rattle.plain_server.specs.Outs.{progress_of}
+use Rattle.plain_server.specs.Table.{Table, server_of}
+use Rattle.plain_server.specs.Wishes.{broken_so}
+
+abbrev at_step : List Out → Server → Progress
+at_step outs server = record { server = server; outs = outs }
+
+-- a step that gives nothing out
+pub silent : (table after : Table) (outs : List Out) (server : Server) → server_of after ≡ server
+    → progress_of after outs ≡ stepped (progress_of table outs) server []
+silent table after outs server is =
+    ap (at_step outs) is ∙ ap (λ given. at_step given server) (sym (append-nil outs))
+
+pub dropped : (table after : Table) (outs : List Out) (test : Open → Bool)
+    → server_of after ≡ with_opens (server_of table) (without test (server_of table).opens)
+    → progress_of after outs ≡ opens_dropped test (progress_of table outs)
+unfolding opens_dropped
+dropped table after outs test is = silent table after outs _ is
+
+pub not_broken : (progress : Progress) (key : Key) (lowered : State)
+    → (has_lease progress.server key ≡ false) ⊎ (is_breaking (progress.server.leases key) ≡ true)
+    → progress ≡ lease_broken key lowered progress
+unfolding lease_broken
+not_broken progress key lowered (inl none) = rw none refl
+not_broken progress key lowered (inr breaking) =
+    if_cases (λ p. progress ≡ p) (has_lease progress.server key && not (is_breaking (progress.server.leases key)))
+    _ progress
+    (λ both. clash (is_breaking (progress.server.leases key)) breaking
+    (not_parts (is_breaking (progress.server.leases key)) (and_parts _ _ both).1))
+    (λ one. refl)
+
+at_both : (a b : Server) (given told : List Out) → a ≡ b → given ≡ told → at_step given a ≡ at_step told b
+at_both a b given told x y = ap (at_step given) x ∙ ap (λ outs. at_step outs b) y
+
+kept_so : (state lowered : State) → needs_acknowledgment state ≡ true
+    → broken_so state lowered ≡ record { state = state; broken_to = Some lowered }
+kept_so state lowered e = rw e refl
+
+lowered_so : (state lowered : State) → needs_acknowledgment state ≡ false
+    → broken_so state lowered ≡ record { state = lowered; broken_to = None }
+lowered_so state lowered e = rw e refl
+
+chosen : {X : Type 0} (there breaking : Bool) (x y : X) → there ≡ true → breaking ≡ false
+    → (if there && not breaking then x else y) ≡ x
+chosen there breaking x y a b = rw (a, b) refl
+
+begun_or_lowered : (table after : Table) (outs given : List Out) (key : Key) (lowered : State)
+    → server_of after
+    ≡ with_lease (server_of table) key (broken_so ((server_of table).leases key).state lowered)
+    → given ≡ outs ++ Out.Sent key.client (break_notice key ((server_of table).leases key).state lowered) ∷ []
+    → progress_of after given
+    ≡ (if needs_acknowledgment ((server_of table).leases key).state
+    then break_begun key lowered (progress_of table outs)
+    else lease_lowered key lowered (progress_of table outs))
+unfolding lease_lowered break_begun
+begun_or_lowered table after outs given key lowered is told =
+    if_cases (λ (p : Progress). progress_of after given ≡ p)
+    (needs_acknowledgment ((server_of table).leases key).state) _ _
+    (λ e. at_both _ _ _ _
+    (is ∙ ap (with_lease (server_of table) key) (kept_so ((server_of table).leases key).state lowered e)) told)
+    (λ e. at_both _ _ _ _
+    (is ∙ ap (with_lease (server_of table) key) (lowered_so ((server_of table).leases key).state lowered e)) told)
+
+pub is_broken : (table after : Table) (outs given : List Out) (key : Key) (lowered : State) (lease : Lease)
+    → lease ≡ (server_of table).leases key → has_lease (server_of table) key ≡ true → is_breaking lease ≡ false
+    → server_of after ≡ with_lease (server_of table) key (broken_so lease.state lowered)
+    → given ≡ outs ++ Out.Sent key.client (break_notice key lease.state lowered) ∷ []
+    → progress_of after given ≡ lease_broken key lowered (progress_of table outs)
+unfolding lease_broken
+is_broken table after outs given key lowered lease same there settled is told =
+    begun_or_lowered table after outs given key lowered
+    (is ∙ ap (λ (l : Lease). with_lease (server_of table) key (broken_so l.state lowered)) same)
+    (told ∙ ap (λ (l : Lease). outs ++ Out.Sent key.client (break_notice key l.state lowered) ∷ []) same)
+    ∙ sym (chosen (has_lease (server_of table) key) (is_breaking ((server_of table).leases key)) _ _ there
+    (ap is_breaking (sym same) ∙ settled))
+
+-- opens are closed, and a reply is sent
+pub dropped_and_told : (table after : Table) (outs given : List Out) (test : Open → Bool) (client : ℕ) (reply : Reply)
+    → server_of after ≡ with_opens (server_of table) (without test (server_of table).opens)
+    → given ≡ outs ++ Out.Sent client reply ∷ []
+    → progress_of after given ≡ replied client reply (opens_dropped test (progress_of table outs))
+dropped_and_told table after outs given test client reply is told =
+    at_both _ _ _ _ refl told
+    ∙ ap (replied client reply) (dropped table after outs test is)

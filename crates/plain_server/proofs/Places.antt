@@ -1,0 +1,33 @@
+-- Places for the numbers of files.
+use Rattle.std.proofs.Common.{◌≡◌, ℕ, ◌<◌, zero, suc, List, [], ◌∷◌, ◌++◌, map, length, get_or, refl, arith}
+use Rattle.std.specs.List.{slice_get}
+use Rattle.std.specs.Prelude.{unwrap_or}
+use Rattle.lease_model.specs.values.Tables.{numbered}
+use Rattle.plain_server.specs.Table.{File, file_in, no_file, fresh_file}
+
+-- a file that was read from its place is what is in it
+pub file_there : (files : List File) (n : ℕ) (file : File) → n < length files → file ≡ get_or files n file
+    → file ≡ file_in files n
+file_there [] n file inside is = absurd (omega arith)
+file_there (one ∷ files) zero file inside is = is
+file_there (one ∷ files) (suc n) file inside is = file_there files n file (omega arith) is
+
+-- one more empty place changes nothing
+pub one_more_place : (files : List File) (n : ℕ) → file_in (files ++ no_file ∷ []) n ≡ file_in files n
+one_more_place [] zero = refl
+one_more_place [] (suc n) = refl
+one_more_place (one ∷ files) zero = refl
+one_more_place (one ∷ files) (suc n) = one_more_place files n
+
+fresh_place : (contents : List (List ℕ)) (n : ℕ)
+    → file_in (map fresh_file contents) n ≡ fresh_file (unwrap_or (slice_get contents n) [])
+fresh_place [] n = refl
+fresh_place (x ∷ xs) zero = refl
+fresh_place (x ∷ xs) (suc n) = fresh_place xs n
+
+-- the first place is empty, and the contents follow
+pub fresh_places : (contents : List (List ℕ)) (n : ℕ)
+    → file_in (no_file ∷ map fresh_file contents) n ≡ fresh_file (numbered [] contents n)
+unfolding numbered
+fresh_places contents zero = refl
+fresh_places contents (suc n) = fresh_place contents n

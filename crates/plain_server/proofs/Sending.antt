@@ -1,0 +1,29 @@
+-- Break messages are written as what is read in them.
+use Rattle.std.proofs.Common.{◌≡◌, List, ℕ, take, Some, ap, sym, ◌∙◌, arith}
+use Rattle.std.proofs.lemmas.List.{take_all}
+use Rattle.lease_laws.specs.messages.Bytes.{NotificationIsFound, AcknowledgmentIsFound, noticed_as, acknowledged_as}
+use Rattle.lease_model.specs.messages.FromBytes.{notice_in, acknowledged_in}
+use Rattle.lease_model.specs.messages.ToBytes.{notice_bytes, lease_message_bytes}
+use Rattle.lease_wire.specs.Acknowledgment.{KeyAndState, IsAcknowledgment, acknowledgment_bytes}
+use Rattle.lease_wire.specs.Notification.{Notice, IsNotification, notification_bytes}
+
+pub notice_found : (bytes : List ℕ) (v : Notice) → NotificationIsFound → IsNotification bytes v
+    → notice_in bytes ≡ Some (noticed_as v)
+notice_found bytes v law layout =
+    let whole : take 44 bytes ≡ bytes = take_all 44 bytes (let n = layout.size in omega (arith, n)) in
+    law bytes v (rw whole layout)
+
+pub notice_back : (bytes : List ℕ) (v : Notice) → NotificationIsFound → IsNotification bytes v
+    → bytes ≡ notification_bytes v → notice_bytes (notice_in bytes) ≡ bytes
+notice_back bytes v law layout text = ap notice_bytes (notice_found bytes v law layout) ∙ sym text
+
+pub acknowledgment_found : (bytes : List ℕ) (v : KeyAndState) → AcknowledgmentIsFound → IsAcknowledgment bytes v
+    → acknowledged_in bytes ≡ Some (acknowledged_as v)
+acknowledgment_found bytes v law layout =
+    let whole : take 36 bytes ≡ bytes = take_all 36 bytes (let n = layout.size in omega (arith, n)) in
+    law bytes v (rw whole layout)
+
+pub acknowledgment_back : (bytes : List ℕ) (v : KeyAndState) → AcknowledgmentIsFound → IsAcknowledgment bytes v
+    → bytes ≡ acknowledgment_bytes v → lease_message_bytes (acknowledged_in bytes) ≡ bytes
+acknowledgment_back bytes v law layout text =
+    ap lease_message_bytes (acknowledgment_found bytes v law layout) ∙ sym text

@@ -1,0 +1,20 @@
+use Rattle.std.proofs.Common.{sym, ◌∙◌}
+use Rattle.plain_server.specs.Findings.{outcome_of}
+use Rattle.plain_server.specs.Outs.{progress_of}
+use Rattle.plain_server.specs.Requests.{file_request_of}
+use Rattle.plain_server.proofs.Arriving.{behind_held, tried_and_held}
+use Rattle.plain_server.proofs.arrival.try_on.Goals as goal
+
+pub returns-then-is_behind : goal.returns-then-is_behind
+returns-then-is_behind c =
+    behind_held c.args.tables.now c.hold.new.self c.args.outs.now c.args.client.0 c.args.file.0
+    (file_request_of c.args.request)
+    (rw c.held.ensures at (sym c.is_behind.ensures ∙ c.if-is_behind.true)) c.in_ok-hold.ensures
+
+pub returns-then-waits : goal.returns-then-waits
+returns-then-waits c =
+    tried_and_held c.args.tables.now c.attempt.new.tables c.hold-then-waits.new.self c.args.outs.now c.attempt.new.outs
+    c.args.client.0 c.args.file.0 (file_request_of c.args.request) (outcome_of c.in_ok-outcome.outcome)
+    (rw c.held.ensures at (sym c.is_behind.ensures ∙ c.if-is_behind.false))
+    (c.in_ok-outcome.ensures ∙ c.ask.ensures c.args.client.0 (progress_of c.args.tables.now c.args.outs.now))
+    (sym c.waits.ensures ∙ c.if-waits.true) c.in_ok-hold-2.ensures

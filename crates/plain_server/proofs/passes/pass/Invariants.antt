@@ -1,0 +1,14 @@
+use Rattle.std.proofs.Common.{◌≡◌, ◌-◌, length}
+use Rattle.lease_model.specs.server.Passes.{one_pass}
+use Rattle.plain_server.specs.Outs.{progress_of}
+use Rattle.plain_server.specs.Passing.{pass_at}
+use Rattle.plain_server.specs.Table.{server_of}
+use Rattle.plain_server.proofs.passes.pass.Given as goal
+
+abbrev pub invariant-loop-place : goal.invariant-loop-place
+invariant-loop-place l =
+    pass_at l.file.0 l.place l.answered (progress_of l.tables l.outs)
+    ≡ one_pass l.file.0 (progress_of l.fn.tables l.fn.outs)
+
+abbrev pub decreases-loop-place : goal.decreases-loop-place
+decreases-loop-place l = length ((server_of l.tables).held l.file.0) - l.place

@@ -1,0 +1,12 @@
+use Rattle.lease_model.specs.server.Calls.{Call}
+use Rattle.plain_server.proofs.Standing.{stands, sound_after}
+use Rattle.plain_server.proofs.server.Server.scavenge.Goals as goal
+
+pub invariant_of-result : goal.invariant_of-result
+invariant_of-result c =
+    sound_after c.laws_of_servers.ensures.kept c.self.inside.tables (Call.Scavenge c.args.fid.0) _ _
+    c.self.invariant c.in_ok-outs.ensures.step
+
+pub returns-clause-after : goal.returns-clause-after
+returns-clause-after c =
+    rw (← c.self.view_is) (stands _ _ _ _ c.in_ok-outs.ensures.step c.into_vec-outs.ensures)

@@ -1,0 +1,13 @@
+use Rattle.std.proofs.Common.{◌≡◌, length, take, arith}
+use Rattle.lease_model.specs.values.Limits.{last_file_number}
+use Rattle.plain_server.proofs.NewTables.{new_tables_are_new}
+use Rattle.plain_server.proofs.tables.Tables.new.Goals as goal
+
+pub returns : goal.returns
+unfolding last_file_number
+returns c =
+    let many : c.len-count.result ≡ length c.truncate.new.self.items = omega (arith, c.len-count.ensures) in
+    let counted : c.len-count.result ≡ length (take 255 c.args.contents.items) = rw c.truncate.ensures.items at many in
+    rw (c.new.ensures.items, c.new-2.ensures, c.new-3.ensures.items, c.new-4.ensures.items)
+    (new_tables_are_new c.args.contents.items c.len-count.result c.in_ok-places_of.field-0.items counted
+    (λ n. rw c.truncate.ensures.items at (c.in_ok-places_of.ensures.places n)))

@@ -1,0 +1,11 @@
+pub mod Closing
+pub mod Findings
+pub mod Laws
+pub mod Leases
+pub mod Looks
+pub mod Outs
+pub mod Passing
+pub mod Requests
+pub mod Table
+pub mod Wishes
+pub mod Written

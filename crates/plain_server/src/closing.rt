@@ -1,0 +1,42 @@
+ghost use Rattle.std.specs.Prelude.{◌≡◌, not, filter};
+ghost use Rattle.lease_model.specs.server.State.{has_key};
+ghost use Rattle.plain_server.specs.Closing.{closes};
+ghost use Rattle.plain_server.specs.Table.{lease_at};
+
+use crate::key::Key;
+use crate::lease::Lease;
+use crate::leases::Leases;
+use crate::open::Open;
+use lease_state::{ClientNo, FileId};
+
+/// Which opens are closed together.
+#[derive(Clone, Copy, Debug)]
+pub enum Closing {
+    /// The one of this FileId (MS-SMB2 3.3.5.10).
+    Named(FileId),
+    /// The one of this FileId, if its client is away (3.3.6.2).
+    LeftBehind(FileId),
+    /// Those of the key (3.3.6.5; own).
+    Of(Key),
+    /// Those of the key whose clients are away (own).
+    LeftOf(Key),
+    /// The connected ones of the client that don't outlive its connection (3.3.7.1).
+    LostBy(ClientNo),
+}
+
+impl Closing {
+    /// Whether the open, which stands under this lease, is one of them.
+    pub fn closes(self, leases: &Leases, one: &Open) -> bool
+        ensures { result ≡ closes self (lease_at leases.now) one.now }
+    {
+        match self {
+            Closing::Named(fid) => one.file_id == fid,
+            Closing::LeftBehind(fid) => one.is_left_behind(fid),
+            Closing::Of(key) => one.has_key(key),
+            Closing::LeftOf(key) => one.is_left_open(key),
+            Closing::LostBy(client) => {
+                one.client == client && one.connected && !one.outlives_connection(leases.under(one))
+            }
+        }
+    }
+}

@@ -1,0 +1,180 @@
+ghost use Rattle.std.specs.Prelude.{◌≡◌, [], IfOk, if◌then◌else◌};
+ghost use Rattle.std.specs.Option.{option_map};
+ghost use Rattle.lease_model.specs.server.Findings as rules;
+ghost use Rattle.lease_model.specs.server.State.{has_file};
+ghost use Rattle.plain_server.specs.Findings.{finding_of};
+ghost use Rattle.lease_model.specs.values.Lists.{is_empty};
+ghost use Rattle.plain_server.specs.Requests.{request_like, patch_like, lease_asked};
+ghost use Rattle.plain_server.specs.Table.{server_of};
+
+use crate::key::Key;
+use crate::request::{Ask, key_asked};
+use crate::tables::Tables;
+use crate::want::{Want, Wish};
+use lease_state::{Access, ClientNo, FileId, FileNo, Memory, Share, Status};
+use lease_wire::CreateAsk;
+
+/// What a look at a request finds.
+#[derive(Debug, Drop)]
+pub enum Finding {
+    /// It is refused.
+    Fails(Status),
+    /// It needs these leases to be broken, perhaps none.
+    Needs(Vec<Want>),
+}
+
+impl Tables {
+    /// What a look at the request finds.
+    ///
+    /// # Errors
+    ///
+    /// `Memory` where there is none left for the list of leases.
+    #[tactic(auto, unfolding(lease_model::specs::server::Findings::finding))]
+    pub fn finding(&self, client: ClientNo, ask: Ask) -> Result<Finding, Memory>
+        ensures { IfOk result (λ found. finding_of found
+            ≡ rules.finding (server_of self.now) client.0 (request_like ask)) }
+    {
+        match ask {
+            Ask::Create {
+                file,
+                access,
+                share,
+                ask,
+            } => self.create_finding(client, file, access, share, ask),
+            Ask::Read { fid } => Ok(self.read_finding(client, fid)),
+            Ask::Write { fid, fits } => self.write_finding(client, fid, fits),
+            Ask::Close { fid } => Ok(self.close_finding(client, fid)),
+        }
+    }
+
+    // Nothing has to be broken.
+    fn nothing_needed(&self) -> Finding
+        ensures { finding_of result ≡ rules.Finding.Needs [] }
+    {
+        Finding::Needs(Vec::new(self.alloc()))
+    }
+
+    fn read_finding(&self, client: ClientNo, fid: FileId) -> Finding
+        ensures { finding_of result
+            ≡ rules.by_open (rules.connected_open (server_of self.now) client.0 fid.0) rules.read_finding }
+    {
+        match self.connected_open(client, fid) {
+            Some(one) => {
+                if one.access.reads() {
+                    self.nothing_needed()
+                } else {
+                    Finding::Fails(Status::AccessDenied)
+                }
+            }
+            None => Finding::Fails(Status::FileClosed),
+        }
+    }
+
+    fn close_finding(&self, client: ClientNo, fid: FileId) -> Finding
+        ensures { finding_of result
+            ≡ rules.by_open (rules.connected_open (server_of self.now) client.0 fid.0) (λ one. rules.Finding.Needs []) }
+    {
+        match self.connected_open(client, fid) {
+            Some(_) => self.nothing_needed(),
+            None => Finding::Fails(Status::FileClosed),
+        }
+    }
+
+    #[tactic(auto, unfolding(lease_model::specs::server::Findings::write_finding))]
+    fn write_finding(&self, client: ClientNo, fid: FileId, fits: bool) -> Result<Finding, Memory>
+        ensures { IfOk result (λ found. finding_of found
+            ≡ rules.by_open (rules.connected_open (server_of self.now) client.0 fid.0)
+            (λ one. rules.write_finding (server_of self.now) one (patch_like fits))) }
+    {
+        match self.connected_open(client, fid) {
+            None => Ok(Finding::Fails(Status::FileClosed)),
+            Some(one) => {
+                if !one.access.writes() {
+                    return Ok(Finding::Fails(Status::AccessDenied));
+                }
+                if !fits {
+                    return Ok(Finding::Fails(Status::InvalidParameter));
+                }
+                Ok(Finding::Needs(self.wants(Wish::Nothing, one.key(), one.file)?))
+            }
+        }
+    }
+
+    // A create of a file that is there is looked at as a reconnect, or as an open.
+    fn create_finding(
+        &self,
+        client: ClientNo,
+        file: FileNo,
+        access: Access,
+        share: Share,
+        ask: CreateAsk,
+    ) -> Result<Finding, Memory>
+        ensures { IfOk result (λ found. finding_of found ≡ (if has_file (server_of self.now) file.0
+            then rules.asked_finding (server_of self.now) client.0 file.0 access share
+            (option_map lease_asked ask.lease) (option_map (λ file_id. file_id.0) ask.reconnect)
+            else rules.Finding.Fails Status.ObjectNameNotFound)) }
+    {
+        if !self.has_file(file) {
+            return Ok(Finding::Fails(Status::ObjectNameNotFound));
+        }
+        let own = key_asked(client, ask.lease);
+        match ask.reconnect {
+            Some(fid) => Ok(self.reconnect_finding(client, file, own, fid)),
+            None => self.open_finding(own, file, access, share),
+        }
+    }
+
+    // A reconnect fails in one way whatever is wrong (own).
+    #[tactic(auto, unfolding(lease_model::specs::server::Findings::reconnect_finding))]
+    fn reconnect_finding(
+        &self,
+        client: ClientNo,
+        file: FileNo,
+        own: Option<Key>,
+        fid: FileId,
+    ) -> Finding
+        ensures { finding_of result ≡ rules.reconnect_finding (server_of self.now) client.0 file.0 own fid.0 }
+    {
+        if self.has_awaiting(client, file, own, fid) {
+            self.nothing_needed()
+        } else {
+            Finding::Fails(Status::ObjectNameNotFound)
+        }
+    }
+
+    // First the key's file, then conflicts, then cached writes (own).
+    #[tactic(auto, unfolding(lease_model::specs::server::Findings::create_finding))]
+    fn open_finding(
+        &self,
+        own: Option<Key>,
+        file: FileNo,
+        access: Access,
+        share: Share,
+    ) -> Result<Finding, Memory>
+        ensures { IfOk result (λ found. finding_of found
+            ≡ rules.create_finding (server_of self.now) own file.0 access share) }
+    {
+        if self.is_leased_elsewhere(own, file) {
+            return Ok(Finding::Fails(Status::InvalidParameter));
+        }
+        if !self.has_conflict_on(file, access, share) {
+            return Ok(Finding::Needs(self.wants(Wish::NoWrites, own, file)?));
+        }
+        let wants = self.wants(Wish::NoHandles { access, share }, own, file)?;
+        if has_none(&wants) {
+            Ok(Finding::Fails(Status::SharingViolation))
+        } else {
+            Ok(Finding::Needs(wants))
+        }
+    }
+}
+
+/// Whether nothing is wanted.
+pub fn has_none(wants: &[Want]) -> bool
+    ensures { result ≡ is_empty wants.now }
+{
+    match wants {
+        [] => true,
+        [..] => false,
+    }
+}

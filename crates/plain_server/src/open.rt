@@ -1,0 +1,178 @@
+ghost use Rattle.std.specs.Prelude.{◌≡◌};
+ghost use Rattle.lease_model.specs.server.State.{has_key, has_own_key};
+ghost use Rattle.lease_model.specs.server.Allowed.{is_other_on, conflicts_on};
+ghost use Rattle.lease_model.specs.server.Attempt.{is_left_open};
+ghost use Rattle.lease_model.specs.server.Calls.{is_left_behind, disconnected};
+ghost use Rattle.lease_model.specs.server.Grant.{connected_again};
+ghost use Rattle.lease_model.specs.server.Findings.{awaits};
+ghost use Rattle.lease_model.specs.server.Naming.{key_of_open};
+ghost use Rattle.plain_server.specs.Closing.{outlives_under};
+ghost use Rattle.plain_server.specs.Leases.{lease_of};
+ghost use Rattle.plain_server.specs.Looks.{is_left_by, is_connected_as, is_elsewhere};
+
+use crate::key::Key;
+use crate::lease::Lease;
+use lease_state::{Access, ClientNo, FileId, FileNo, LeaseKey, Share};
+use std::marker::Model;
+
+/// An open of a file (MS-SMB2 3.3.1.10). A durable open outlives its connection, and is then there
+/// but not connected.
+#[derive(Debug, Drop)]
+pub struct Open {
+    pub file_id: FileId,
+    pub client: ClientNo,
+    pub file: FileNo,
+    /// `None` for an open without an RqLs context, which counts as a key of its own (own).
+    pub lease_key: Option<LeaseKey>,
+    pub access: Access,
+    pub share: Share,
+    pub durable: bool,
+    pub connected: bool,
+}
+
+impl Model for Open {
+    ghost use Rattle.std.specs.Option.{option_map};
+    ghost use Rattle.lease_model.specs.server.State as model;
+
+    ghost Value = { model.Open };
+
+    ghost view = { λ one. record {
+      file_id = one.file_id.0;
+      client = one.client.0;
+      file = one.file.0;
+      lease_key = option_map (λ key. key.0) one.lease_key;
+      access = one.access;
+      share = one.share;
+      durable = one.durable;
+      connected = one.connected;
+    } };
+}
+
+impl Open {
+    /// Whether the open has this key.
+    pub fn has_key(&self, key: Key) -> bool
+        ensures { result ≡ has_key key self.now }
+    {
+        match self.lease_key {
+            Some(bytes) => key.client == self.client && key.bytes == bytes,
+            None => false,
+        }
+    }
+
+    /// Whether the open has the key of a request; `None` for a request without one.
+    pub fn has_own_key(&self, own: Option<Key>) -> bool
+        ensures { result ≡ has_own_key own self.now }
+    {
+        match own {
+            Some(key) => self.has_key(key),
+            None => false,
+        }
+    }
+
+    /// Whether the open is on the file and has another key than the request.
+    #[tactic(auto, unfolding(lease_model::specs::server::Allowed::is_other_on))]
+    pub fn is_other_on(&self, own: Option<Key>, file: FileNo) -> bool
+        ensures { result ≡ is_other_on own file.0 self.now }
+    {
+        self.file == file && !self.has_own_key(own)
+    }
+
+    /// Whether the open is on the file and conflicts with this access and share (MS-SMB2 3.3.5.9).
+    #[tactic(auto, unfolding(lease_model::specs::server::Allowed::conflicts_on))]
+    pub fn conflicts_on(&self, file: FileNo, access: Access, share: Share) -> bool
+        ensures { result ≡ conflicts_on file.0 access share self.now }
+    {
+        self.file == file && access.conflicts(share, self.access, self.share)
+    }
+
+    /// Whether the open is one of the client on the file, and waits for its client.
+    pub fn is_left_by(&self, client: ClientNo, file: FileNo) -> bool
+        ensures { result ≡ is_left_by client.0 file.0 self.now }
+    {
+        self.client == client && self.file == file && !self.connected
+    }
+
+    /// The key of the open; `None` for an open without an RqLs context.
+    pub fn key(&self) -> Option<Key>
+        ensures { result ≡ key_of_open self.now }
+    {
+        match self.lease_key {
+            Some(bytes) => Some(Key {
+                client: self.client,
+                bytes,
+            }),
+            None => None,
+        }
+    }
+
+    /// Whether the open is the client's connected open of this FileId.
+    pub fn is_connected_as(&self, client: ClientNo, fid: FileId) -> bool
+        ensures { result ≡ is_connected_as client.0 fid.0 self.now }
+    {
+        self.file_id == fid && self.client == client && self.connected
+    }
+
+    /// Whether a reconnect of this client under this key may name the open (MS-SMB2 3.3.5.9.7).
+    #[tactic(auto, unfolding(lease_model::specs::server::Findings::awaits))]
+    pub fn awaits(&self, client: ClientNo, file: FileNo, own: Option<Key>, fid: FileId) -> bool
+        ensures { result ≡ awaits client.0 file.0 own fid.0 self.now }
+    {
+        match own {
+            Some(key) => {
+                self.file_id == fid
+                    && !self.connected
+                    && self.client == client
+                    && self.file == file
+                    && self.has_key(key)
+            }
+            None => false,
+        }
+    }
+
+    /// Whether the open has the key and is on another file.
+    pub fn is_elsewhere(&self, key: Key, file: FileNo) -> bool
+        ensures { result ≡ is_elsewhere key file.0 self.now }
+    {
+        self.has_key(key) && self.file != file
+    }
+
+    /// Whether the open has the key and its client is away.
+    pub fn is_left_open(&self, key: Key) -> bool
+        ensures { result ≡ is_left_open key self.now }
+    {
+        self.has_key(key) && !self.connected
+    }
+
+    /// Whether the open has this FileId and its client is away.
+    pub fn is_left_behind(&self, fid: FileId) -> bool
+        ensures { result ≡ is_left_behind fid.0 self.now }
+    {
+        self.file_id == fid && !self.connected
+    }
+
+    /// Whether the open, which stands under this lease, outlives its client's connection (own;
+    /// MS-SMB2 3.3.7.1).
+    pub fn outlives_connection(&self, lease: Lease) -> bool
+        ensures { result ≡ outlives_under (lease_of lease) self.now }
+    {
+        self.durable && lease.state.caches_handles() && !lease.is_breaking()
+    }
+
+    /// The open is no longer connected, if it is one of the client's.
+    pub fn disconnect(&mut self, client: ClientNo)
+        ensures { self.new ≡ disconnected client.0 self.old }
+    {
+        if self.client == client {
+            self.connected = false;
+        }
+    }
+
+    /// The open is connected again, if it has this FileId.
+    pub fn connect_again(&mut self, fid: FileId)
+        ensures { self.new ≡ connected_again fid.0 self.old }
+    {
+        if self.file_id == fid {
+            self.connected = true;
+        }
+    }
+}

@@ -1,0 +1,211 @@
+ghost use Rattle.std.specs.Prelude.{◌≡◌, true, false, IfOk, IsOk};
+ghost use Rattle.std.specs.List.{list_any};
+ghost use Rattle.std.specs.Option.{option_map};
+ghost use Rattle.lease_state.specs.State.{state_of};
+ghost use Rattle.lease_model.specs.messages.FromBytes.{request_of};
+ghost use Rattle.lease_model.specs.server.Allowed as grants;
+ghost use Rattle.lease_model.specs.server.Calls as rules;
+ghost use Rattle.lease_model.specs.server.Naming.{key_of, key_under};
+ghost use Rattle.lease_model.specs.server.Queries as queries;
+ghost use Rattle.lease_model.specs.server.State.{new_server};
+ghost use Rattle.plain_server.specs.Laws.{HasOneWriter, HasNoConflict, KeepsWhatLasts, BreaksToLess};
+ghost use Rattle.plain_server.specs.Outs.{IsAfter};
+ghost use Rattle.plain_server.specs.Table.{server_of};
+
+use crate::calls;
+use crate::key::Key;
+use crate::out::Out;
+use crate::tables::Tables;
+use lease_laws::laws_of_servers;
+use lease_state::{ClientNo, Content, FileId, FileNo, LeaseKey, LeaseState, Memory, Request};
+use std::alloc::Global;
+use std::marker::Model;
+
+/// A file server of leases and durable opens: the files with their bytes, the opens, the leases and
+/// the requests that wait for a break. Every server keeps the laws of leases and of opens.
+#[derive(Debug, Drop)]
+pub struct Server {
+    tables: Tables,
+}
+
+impl Model for Server {
+    ghost use Rattle.lease_laws.specs.server.Laws.{IsSound};
+    ghost use Rattle.plain_server.specs.Table as table;
+
+    ghost Value = { table.Table };
+
+    ghost view = { λ server. server.tables };
+
+    ghost invariant = { λ server. IsSound (table.server_of server.tables) };
+}
+
+impl Server {
+    /// A server with these files, numbered from 1 in their order, that no client has joined. Files
+    /// past the 255th have no number and are dropped (own).
+    ///
+    /// # Errors
+    ///
+    /// `Memory` where there is none left for the list of files.
+    pub fn new(alloc: Global, files: Vec<Content>) -> Result<Server, Memory>
+        ensures { IfOk result (λ server. server_of server ≡ new_server files.items) }
+    {
+        laws_of_servers();
+        let tables = Tables::new(alloc, files)?;
+        Ok(Server { tables })
+    }
+
+    /// A client connects (MS-SMB2 3.3.5.1). The keys of its leases whose timer ran out may be granted
+    /// states again (own). Where the client is connected nothing changes, and nothing is given out.
+    ///
+    /// # Errors
+    ///
+    /// `Memory` where there is none left, and never where the client is connected.
+    pub fn join(self, client: ClientNo) -> Result<(Server, Vec<Out>), Memory>
+        ensures after { IfOk result (λ r. IsAfter r.0 r.1.items (rules.join (server_of self) client.0)) }
+        ensures idle { (server_of self).present client.0 ≡ true → IsOk result }
+    {
+        laws_of_servers();
+        let Server { mut tables } = self;
+        calls::join(&mut tables, client)?;
+        let outs = Vec::new(tables.alloc());
+        Ok((Server { tables }, outs))
+    }
+
+    /// A request of a client comes (MS-SMB2 3.3.5). It is refused at once where its create contexts have
+    /// a fault, or where it names no file or no open of the client's; it waits behind an earlier request
+    /// of the client that waits on its file (own); and else it is tried: what it needs of the leases of
+    /// other keys on its file is broken, and it is answered or refused, or waits for acknowledgments.
+    /// After an acknowledgment or a close requests that wait are tried again (own). Where the client
+    /// isn't connected nothing changes, and nothing is given out.
+    ///
+    /// # Errors
+    ///
+    /// `Memory` where there is none left, and never where the client isn't connected.
+    pub fn receive(self, client: ClientNo, request: Request) -> Result<(Server, Vec<Out>), Memory>
+        ensures after { IfOk result (λ r. IsAfter r.0 r.1.items
+            (rules.receive (server_of self) client.0 (request_of request))) }
+        ensures idle { (server_of self).present client.0 ≡ false → IsOk result }
+    {
+        laws_of_servers();
+        let Server { mut tables } = self;
+        let outs = calls::receive(&mut tables, client, request)?;
+        let outs = outs.into_vec();
+        Ok((Server { tables }, outs))
+    }
+
+    /// A client's connection is lost (MS-SMB2 3.3.7.1). Its opens that are durable, and whose lease
+    /// holds `HANDLE_CACHING` and isn't breaking, stay, and wait for it; its others are closed, and its
+    /// requests that wait are forgotten (own). Then requests that wait are tried again. Where the client
+    /// isn't connected nothing changes, and nothing is given out.
+    ///
+    /// # Errors
+    ///
+    /// `Memory` where there is none left, and never where the client isn't connected.
+    pub fn cut(self, client: ClientNo) -> Result<(Server, Vec<Out>), Memory>
+        ensures after { IfOk result (λ r. IsAfter r.0 r.1.items (rules.cut (server_of self) client.0)) }
+        ensures idle { (server_of self).present client.0 ≡ false → IsOk result }
+    {
+        laws_of_servers();
+        let Server { mut tables } = self;
+        let outs = calls::cut(&mut tables, client)?;
+        let outs = outs.into_vec();
+        Ok((Server { tables }, outs))
+    }
+
+    /// The timer of a lease break runs out (MS-SMB2 3.3.6.5): the opens of the client's lease of this key
+    /// are closed, and the key is granted nothing until its client joins again (own). Then requests that
+    /// wait are tried again. Where no break of the lease waits for its acknowledgment nothing changes, and
+    /// nothing is given out.
+    ///
+    /// # Errors
+    ///
+    /// `Memory` where there is none left, and never where the lease isn't breaking.
+    pub fn expire(self, client: ClientNo, key: LeaseKey) -> Result<(Server, Vec<Out>), Memory>
+        ensures after { IfOk result (λ r. IsAfter r.0 r.1.items
+            (rules.expire (server_of self) (key_of client.0 key.0))) }
+        ensures idle { queries.breaking (server_of self) (key_of client.0 key.0) ≡ false → IsOk result }
+    {
+        laws_of_servers();
+        let Server { mut tables } = self;
+        let outs = calls::expire(&mut tables, Key { client, bytes: key })?;
+        let outs = outs.into_vec();
+        Ok((Server { tables }, outs))
+    }
+
+    /// The timer of a durable open runs out (MS-SMB2 3.3.6.2): the open of this FileId is closed, if it
+    /// waits for its client. Then requests that wait are tried again. Where it doesn't nothing changes, and
+    /// nothing is given out.
+    ///
+    /// # Errors
+    ///
+    /// `Memory` where there is none left, and never where no such open waits.
+    pub fn scavenge(self, fid: FileId) -> Result<(Server, Vec<Out>), Memory>
+        ensures after { IfOk result (λ r. IsAfter r.0 r.1.items (rules.scavenge (server_of self) fid.0)) }
+        ensures idle { list_any (rules.is_left_behind fid.0) (server_of self).opens ≡ false → IsOk result }
+    {
+        laws_of_servers();
+        let Server { mut tables } = self;
+        let outs = calls::scavenge(&mut tables, fid)?;
+        let outs = outs.into_vec();
+        Ok((Server { tables }, outs))
+    }
+
+    /// What holds of every server, whatever was asked of it. Where a lease caches writes, every open on a
+    /// file where its key has one has that key. No two opens on a file conflict. An open that isn't
+    /// connected is durable, and its lease holds `HANDLE_CACHING` and isn't breaking. A state that a lease
+    /// is broken to is a proper part of its state. Does nothing.
+    pub fn laws(&self)
+        ensures one_writer { HasOneWriter self.now }
+        ensures no_conflict { HasNoConflict self.now }
+        ensures lasting { KeepsWhatLasts self.now }
+        ensures broken_to { BreaksToLess self.now }
+    {
+        let _tables = &self.tables;
+    }
+
+    /// What the server may grant (own): the granted form of the wanted state, without
+    /// `WRITE_CACHING` where an open on the file has another key than this one of the client's. With
+    /// no key every open on the file has another one.
+    pub fn allowed(
+        &self,
+        client: ClientNo,
+        key: Option<LeaseKey>,
+        file: FileNo,
+        want: LeaseState,
+    ) -> LeaseState
+        ensures { state_of result ≡ grants.allowed (server_of self.now)
+            (key_under client.0 (option_map (λ bytes. bytes.0) key)) file.0 (state_of want) }
+    {
+        self.tables.allowed(own_key(client, key), file, want)
+    }
+
+    /// Whether a break of the client's lease of this key waits for its acknowledgment (MS-SMB2
+    /// 3.3.1.12, Breaking). False where the key has no lease.
+    pub fn breaking(&self, client: ClientNo, key: LeaseKey) -> bool
+        ensures { result ≡ queries.breaking (server_of self.now) (key_of client.0 key.0) }
+    {
+        self.tables.lease(Key { client, bytes: key }).is_breaking()
+    }
+
+    /// The FileId of the client's oldest durable open on the file that waits to be connected again
+    /// (own); `None` where there is none.
+    pub fn kept(&self, client: ClientNo, file: FileNo) -> Option<FileId>
+        ensures { option_map (λ file_id. file_id.0) result ≡ queries.kept (server_of self.now) client.0 file.0 }
+    {
+        self.tables.kept(client, file)
+    }
+
+    /// The bytes of a file; `None` where the server has no file of this number.
+    pub fn content(&self, file: FileNo) -> Option<&[u8]>
+        ensures { option_map (λ bytes. bytes.now) result ≡ queries.content (server_of self.now) file.0 }
+    {
+        self.tables.content(file)
+    }
+}
+
+// The key of a request, from its client and its RqLs context.
+fn own_key(client: ClientNo, bytes: Option<LeaseKey>) -> Option<Key>
+    ensures { result ≡ key_under client.0 (option_map (λ bytes. bytes.0) bytes) }
+{
+    bytes.map(|bytes| Key { client, bytes })
+}

@@ -1,0 +1,329 @@
+ghost use Rattle.std.specs.Prelude.{◌≡◌, ◌≤◌, ◌<◌, ℕ, ◌==◌, ◌++◌, [], ◌∷◌, IfOk, OnOk, map, filter, not, length, vec_len};
+ghost use Rattle.std.specs.List.{remove, slice_get};
+ghost use Rattle.std.specs.Prelude.{Some};
+ghost use Rattle.lease_model.specs.values.Tables.{numbered};
+ghost use Rattle.lease_state.specs.Content.{patch as patched};
+ghost use Rattle.lease_model.specs.values.Lists.{without};
+ghost use Rattle.plain_server.specs.Table.{no_file, file_in, fresh_file};
+
+use crate::key::Key;
+use crate::lease::Lease;
+use crate::leases::Leases;
+use crate::open::Open;
+use crate::request::Held;
+use crate::state::without_write;
+use lease_state::{Access, ClientNo, Content, FileId, FileNo, LeaseState, Memory, Patch, Share};
+use std::alloc::{AllocError, Global};
+use std::marker::Model;
+
+mod changes;
+mod looks;
+mod wants;
+
+/// The last number that a file can have (own): those of one byte.
+const LAST_FILE_NUMBER: usize = 255;
+
+/// As many places as there are numbers of one byte.
+const PLACES: usize = 256;
+
+/// A file: its bytes, and the requests that wait there, in order of arrival.
+#[derive(Debug, Drop)]
+pub struct File {
+    pub content: Content,
+    pub held: Vec<Held>,
+}
+
+impl Model for File {
+    ghost use Rattle.plain_server.specs.Table as table;
+
+    ghost Value = { table.File };
+
+    ghost view = { λ file. record { content = file.content; held = file.held.items } };
+}
+
+impl File {
+    /// A file of these bytes where nothing waits. No memory is taken.
+    pub fn new(alloc: Global, content: Content) -> File
+        ensures { result ≡ fresh_file content }
+    {
+        File {
+            content,
+            held: Vec::new(alloc),
+        }
+    }
+
+    /// What a number has that is no file's.
+    fn empty(alloc: Global) -> Result<File, Memory>
+        ensures { IfOk result (λ file. file ≡ no_file) }
+    {
+        match Content::new(Vec::new(alloc)) {
+            Ok(content) => Ok(File::new(alloc, content)),
+            Err(_) => Err(Memory),
+        }
+    }
+
+    /// The request waits behind the others.
+    fn hold(&mut self, one: Held) -> Result<(), Memory>
+        ensures { OnOk result (self.new ≡ record self.old { held = self.old.held ++ one ∷ [] }) }
+    {
+        self.held.push(one)?;
+        Ok(())
+    }
+
+    /// The request at this place of the queue no longer waits.
+    fn release(&mut self, place: usize) -> Held
+        requires { place < length self.old.held }
+        ensures left { self.new ≡ record self.old { held = remove self.old.held place } }
+        ensures taken { slice_get self.old.held place ≡ Some result }
+    {
+        self.held.remove(place)
+    }
+
+    /// The requests of the client no longer wait.
+    fn forget(&mut self, client: ClientNo)
+        ensures { self.new ≡ record self.old { held = without (λ one. one.client == client.0) self.old.held } }
+    {
+        forget_held(&mut self.held, client);
+    }
+
+    /// The patch is put over the bytes.
+    fn change(&mut self, patch: &Patch) -> Result<(), Memory>
+        ensures { OnOk result (self.new ≡ record self.old { content = patched self.old.content patch.now }) }
+    {
+        // A patch that ends past the limit was refused before.
+        match self.content.apply(patch) {
+            Ok(()) => Ok(()),
+            Err(_) => Err(Memory),
+        }
+    }
+}
+
+/// What a server knows.
+#[derive(Debug, Drop)]
+pub struct Tables {
+    /// A place for each number that a file can be asked by: its number is its place.
+    files: Vec<File>,
+    /// How many of them are files: those from 1 on.
+    count: u8,
+    opens: Vec<Open>,
+    leases: Leases,
+    /// The clients whose connection the server has.
+    present: Vec<ClientNo>,
+    /// The keys whose break timer ran out since their client joined.
+    expired: Vec<Key>,
+    /// The FileId given last.
+    last_id: u64,
+}
+
+impl Model for Tables {
+    ghost use Rattle.std.specs.Prelude.{◌≡◌, vec_len};
+    ghost use Rattle.plain_server.specs.Table as table;
+
+    ghost Value = { table.Table };
+
+    ghost view = { λ tables. record {
+      files = tables.files.items;
+      count = tables.count;
+      opens = tables.opens.items;
+      leases = tables.leases;
+      present = tables.present.items;
+      expired = tables.expired.items;
+      last_id = tables.last_id;
+    } };
+
+    ghost invariant = { λ tables. vec_len tables.files ≡ 256 };
+}
+
+impl Tables {
+    ghost use Rattle.std.specs.Prelude.{◌≡◌, [], IfOk, OnOk};
+    ghost use Rattle.std.specs.List.{list_any};
+    ghost use Rattle.std.specs.Option.{option_map};
+    ghost use Rattle.lease_state.specs.State.{state_of};
+    ghost use Rattle.lease_model.specs.server.Allowed as allowed;
+    ghost use Rattle.lease_model.specs.server.Calls.{joined};
+    ghost use Rattle.lease_model.specs.server.Queries as queries;
+    ghost use Rattle.lease_model.specs.server.State.{has_file, new_server};
+    ghost use Rattle.plain_server.specs.Leases.{lease_of};
+    ghost use Rattle.plain_server.specs.Outs.{progress_of};
+    ghost use Rattle.plain_server.specs.Table.{server_of, file_in};
+
+    /// The tables of files with these contents, in order, of which those past the last file number
+    /// have none.
+    pub fn new(alloc: Global, mut contents: Vec<Content>) -> Result<Tables, Memory>
+        ensures { IfOk result (λ tables. server_of tables ≡ new_server contents.items) }
+    {
+        contents.truncate(LAST_FILE_NUMBER);
+        let count = contents.len() as u8;
+        Ok(Tables {
+            files: places_of(alloc, contents)?,
+            count,
+            opens: Vec::new(alloc),
+            leases: Leases::new(alloc),
+            present: Vec::new(alloc),
+            expired: Vec::new(alloc),
+            last_id: 0,
+        })
+    }
+
+    /// The allocator of the tables.
+    pub fn alloc(&self) -> Global {
+        *self.opens.allocator()
+    }
+
+    /// How many files there are.
+    pub fn count(&self) -> u8
+        ensures { result ≡ (server_of self.now).files }
+    {
+        self.count
+    }
+
+    /// Whether there is a file of the number.
+    pub fn has_file(&self, file: FileNo) -> bool
+        ensures { result ≡ has_file (server_of self.now) file.0 }
+    {
+        1 <= file.0 && file.0 <= self.count
+    }
+
+    /// Whether the server has the client's connection.
+    pub fn is_present(&self, client: ClientNo) -> bool
+        ensures { result ≡ (server_of self.now).present client.0 }
+    {
+        self.present.iter().any(|one| one.0 == client.0)
+    }
+
+    /// The client's connection comes, and its keys are no longer expired.
+    ///
+    /// # Errors
+    ///
+    /// `Memory` where there is none left for the list of connections.
+    pub fn join(&mut self, client: ClientNo) -> Result<(), Memory>
+        ensures { OnOk result (progress_of self.new [] ≡ joined client.0 (progress_of self.old [])) }
+    {
+        self.present.push(client)?;
+        forget_expired(&mut self.expired, client);
+        Ok(())
+    }
+
+    /// What is in the place of a number.
+    #[tactic(auto, using(crate::proofs::Places::file_there))]
+    fn place(&self, file: FileNo) -> &File
+        ensures { result.now ≡ file_in self.now.files file.0 }
+    {
+        &self.files[usize::from(file.0)]
+    }
+
+    /// The bytes of a file, and none where there is no file of this number.
+    pub fn bytes(&self, file: FileNo) -> &[u8]
+        ensures { result.now ≡ (server_of self.now).contents file.0 }
+    {
+        self.place(file).content.bytes()
+    }
+
+    /// The bytes of a file; `None` where there is no file of this number.
+    pub fn content(&self, file: FileNo) -> Option<&[u8]>
+        ensures { option_map (λ bytes. bytes.now) result ≡ queries.content (server_of self.now) file.0 }
+    {
+        if self.has_file(file) {
+            Some(self.bytes(file))
+        } else {
+            None
+        }
+    }
+
+    /// The lease of a key.
+    pub fn lease(&self, key: Key) -> Lease
+        ensures { lease_of result ≡ (server_of self.now).leases key }
+    {
+        self.leases.of(key)
+    }
+
+    /// Whether an open on the file has another key than the request.
+    pub fn has_other_on(&self, own: Option<Key>, file: FileNo) -> bool
+        ensures { result ≡ list_any (allowed.is_other_on own file.0) (server_of self.now).opens }
+    {
+        self.opens.iter().any(|one| one.is_other_on(own, file))
+    }
+
+    /// Whether an open on the file conflicts with this access and share.
+    pub fn has_conflict_on(&self, file: FileNo, access: Access, share: Share) -> bool
+        ensures { result ≡ list_any (allowed.conflicts_on file.0 access share) (server_of self.now).opens }
+    {
+        self.opens
+            .iter()
+            .any(|one| one.conflicts_on(file, access, share))
+    }
+
+    /// What may be granted of a wanted state.
+    #[tactic(auto, unfolding(lease_model::specs::server::Allowed::allowed))]
+    pub fn allowed(&self, own: Option<Key>, file: FileNo, want: LeaseState) -> LeaseState
+        ensures { state_of result ≡ allowed.allowed (server_of self.now) own file.0 (state_of want) }
+    {
+        if self.has_other_on(own, file) {
+            without_write(want.granted_form())
+        } else {
+            want.granted_form()
+        }
+    }
+
+    /// The lowest disconnected open of the client on the file.
+    pub fn kept(&self, client: ClientNo, file: FileNo) -> Option<FileId>
+        ensures { option_map (λ file_id. file_id.0) result ≡ queries.kept (server_of self.now) client.0 file.0 }
+    {
+        for one in &self.opens {
+            if one.is_left_by(client, file) {
+                return Some(one.file_id);
+            }
+        }
+        None
+    }
+}
+
+// A place for each number, and the contents from 1 on.
+fn places_of(alloc: Global, contents: Vec<Content>) -> Result<Vec<File>, Memory>
+    requires { length contents.items ≤ 255 }
+    ensures len { IfOk result (λ files. vec_len files ≡ 256) }
+    ensures places { IfOk result (λ files. (n : ℕ)
+        → file_in files.items n ≡ fresh_file (numbered [] contents.items n)) }
+{
+    let mut files = first_places(alloc, contents)?;
+    fill_up(alloc, &mut files)?;
+    Ok(files)
+}
+
+// An empty place, and then the contents.
+fn first_places(alloc: Global, contents: Vec<Content>) -> Result<Vec<File>, Memory>
+    ensures { IfOk result (λ files. files.items ≡ no_file ∷ map fresh_file contents.items) }
+{
+    let mut files = Vec::new(alloc);
+    files.push(File::empty(alloc)?)?;
+    for content in contents {
+        files.push(File::new(alloc, content))?;
+    }
+    Ok(files)
+}
+
+// Empty places, until there are enough.
+fn fill_up(alloc: Global, files: &mut Vec<File>) -> Result<(), Memory>
+    requires { vec_len files.old ≤ 256 }
+    ensures len { OnOk result (vec_len files.new ≡ 256) }
+    ensures places { OnOk result ((n : ℕ) → file_in files.new.items n ≡ file_in files.old.items n) }
+{
+    while files.len() < PLACES {
+        files.push(File::empty(alloc)?)?;
+    }
+    Ok(())
+}
+
+// Keeps the requests of other clients.
+fn forget_held(held: &mut Vec<Held>, client: ClientNo)
+    ensures { held.new.items ≡ without (λ one. one.client == client.0) held.old.items }
+{
+    held.retain(|one| one.client != client);
+}
+
+// Keeps the keys of other clients.
+fn forget_expired(expired: &mut Vec<Key>, client: ClientNo)
+    ensures { expired.new.items ≡ filter (λ key. not (key.client == client.0)) expired.old.items }
+{
+    expired.retain(|key| key.client != client);
+}

@@ -1,0 +1,124 @@
+ghost use Rattle.std.specs.Prelude.{◌≡◌, IfOk};
+ghost use Rattle.std.specs.List.{list_any};
+ghost use Rattle.std.specs.Option.{option_map};
+ghost use Rattle.lease_model.specs.server.Calls.{is_left_behind};
+ghost use Rattle.lease_model.specs.server.Findings as findings;
+ghost use Rattle.lease_model.specs.server.Naming as naming;
+ghost use Rattle.lease_model.specs.server.State.{has_lease};
+ghost use Rattle.plain_server.specs.Leases.{lease_of};
+ghost use Rattle.plain_server.specs.Looks.{is_elsewhere};
+ghost use Rattle.plain_server.specs.Table.{server_of};
+
+use crate::key::Key;
+use crate::lease::Lease;
+use crate::open::Open;
+use crate::request::Held;
+use crate::tables::Tables;
+use lease_state::{Bytes, ClientNo, FileId, FileNo, Memory};
+
+impl Tables {
+    /// The client's connected open of this FileId.
+    pub fn connected_open(&self, client: ClientNo, fid: FileId) -> Option<&Open>
+        ensures { option_map (λ one. one.now) result ≡ findings.connected_open (server_of self.now) client.0 fid.0 }
+    {
+        for one in &self.opens {
+            if one.is_connected_as(client, fid) {
+                return Some(one);
+            }
+        }
+        None
+    }
+
+    /// The file of the client's connected open of this FileId.
+    pub fn open_file(&self, client: ClientNo, fid: FileId) -> Option<FileNo>
+        ensures { option_map (λ file. file.0) result
+            ≡ option_map (λ one. one.file) (findings.connected_open (server_of self.now) client.0 fid.0) }
+    {
+        match self.connected_open(client, fid) {
+            Some(one) => Some(one.file),
+            None => None,
+        }
+    }
+
+    /// A copy of the bytes of a file.
+    ///
+    /// # Errors
+    ///
+    /// `Memory` where there is none left for it.
+    pub fn copy(&self, file: FileNo) -> Result<Bytes, Memory>
+        ensures { IfOk result (λ bytes. bytes ≡ (server_of self.now).contents file.0) }
+    {
+        let bytes = Vec::from_slice(self.alloc(), self.bytes(file))?;
+        Ok(Bytes::new(bytes))
+    }
+
+    /// Whether the key has a lease, and on another file.
+    #[tactic(auto, unfolding(lease_model::specs::server::Findings::is_leased_elsewhere))]
+    pub fn is_leased_elsewhere(&self, own: Option<Key>, file: FileNo) -> bool
+        ensures { result ≡ findings.is_leased_elsewhere (server_of self.now) own file.0 }
+    {
+        match own {
+            Some(key) => self.has_open_elsewhere(key, file),
+            None => false,
+        }
+    }
+
+    fn has_open_elsewhere(&self, key: Key, file: FileNo) -> bool
+        ensures { result ≡ list_any (is_elsewhere key file.0) (server_of self.now).opens }
+    {
+        self.opens.iter().any(|one| one.is_elsewhere(key, file))
+    }
+
+    /// Whether a durable open waits for this reconnect.
+    pub fn has_awaiting(
+        &self,
+        client: ClientNo,
+        file: FileNo,
+        own: Option<Key>,
+        fid: FileId,
+    ) -> bool
+        ensures { result ≡ list_any (findings.awaits client.0 file.0 own fid.0) (server_of self.now).opens }
+    {
+        self.opens
+            .iter()
+            .any(|one| one.awaits(client, file, own, fid))
+    }
+
+    /// Whether an open has the key.
+    pub fn has_lease(&self, key: Key) -> bool
+        ensures { result ≡ has_lease (server_of self.now) key }
+    {
+        self.opens.iter().any(|one| one.has_key(key))
+    }
+
+    /// Whether a disconnected open has this FileId.
+    pub fn has_left_behind(&self, fid: FileId) -> bool
+        ensures { result ≡ list_any (is_left_behind fid.0) (server_of self.now).opens }
+    {
+        self.opens.iter().any(|one| one.is_left_behind(fid))
+    }
+
+    /// Whether the timer of the key ran out since its client joined.
+    pub fn is_expired(&self, key: Key) -> bool
+        ensures { result ≡ (server_of self.now).expired key }
+    {
+        self.expired.iter().any(|other| key.is(*other))
+    }
+
+    /// The requests that wait on the file, in order of arrival.
+    pub fn held(&self, file: FileNo) -> &[Held]
+        ensures { result.now ≡ (server_of self.now).held file.0 }
+    {
+        self.place(file).held.as_slice()
+    }
+
+    /// The lease under which an open stands.
+    pub fn lease_of(&self, one: &Open) -> Lease
+        ensures { lease_of result ≡ naming.lease_of (server_of self.now) one.now }
+    {
+        match one.key() {
+            Some(key) => self.lease(key),
+            None => Lease::none(),
+        }
+    }
+}

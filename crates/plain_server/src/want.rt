@@ -1,0 +1,57 @@
+ghost use Rattle.std.specs.Prelude.{◌≡◌};
+ghost use Rattle.lease_state.specs.State.{state_of};
+ghost use Rattle.plain_server.specs.Wishes.{lowered_for};
+
+use crate::key::Key;
+use crate::state::{without_handle, without_write};
+use lease_state::{Access, FileNo, LeaseState, Share};
+use std::marker::Model;
+
+/// What a request wishes of the leases of other keys on its file (own, but for handles: MS-SMB2
+/// 3.3.4.7).
+#[derive(Clone, Copy, Debug)]
+pub enum Wish {
+    /// That opens which conflict with this access and share give up their handles.
+    NoHandles { access: Access, share: Share },
+    /// That writes are no longer cached.
+    NoWrites,
+    /// That nothing is cached any longer.
+    Nothing,
+}
+
+impl Wish {
+    /// What a state is lowered to.
+    pub fn lowered(self, state: LeaseState) -> LeaseState
+        ensures { state_of result ≡ lowered_for self (state_of state) }
+    {
+        match self {
+            Wish::NoHandles { .. } => without_handle(state),
+            Wish::NoWrites => without_write(state),
+            Wish::Nothing => LeaseState::NONE,
+        }
+    }
+}
+
+/// A wish of a request under this key, or under none, for its file.
+#[derive(Debug, Drop)]
+pub struct Demand {
+    pub wish: Wish,
+    pub own: Option<Key>,
+    pub file: FileNo,
+}
+
+/// A lease to be broken, and the state that it is to be lowered to.
+#[derive(Debug, Drop)]
+pub struct Want {
+    pub key: Key,
+    pub lowered: LeaseState,
+}
+
+impl Model for Want {
+    ghost use Rattle.lease_state.specs.State.{state_of};
+    ghost use Rattle.lease_model.specs.server.Wants as model;
+
+    ghost Value = { model.Want };
+
+    ghost view = { λ want. record { key = want.key; lowered = state_of want.lowered } };
+}
