@@ -21,9 +21,9 @@ fn acknowledgment(file: u8) -> [u8; 36] {
     ack_message(&key_of(file), 3)
 }
 
-fn request(step: u32, file: u8, turn: u32) -> (u8, Request) {
+fn request(step: u32, file: u8, turn: u32, standing: u32) -> (u8, Request) {
     let (first, second) = (file, file % 8 + 1);
-    let mine = u64::from(turn) * 16 + u64::from(file);
+    let mine = u64::from(standing) + u64::from(turn) * 16 + u64::from(file);
     let create = |contexts| Request::Create { file, access: Access::ReadWrite, share: Share::ReadWrite, contexts };
     match step {
         0 => (first, create(lease_ask(file))),
@@ -56,17 +56,21 @@ fn weight(out: &Out) -> u64 {
     }
 }
 
-fn session(calls: u32) -> u64 {
+fn session(calls: u32, standing: u32) -> u64 {
     let mut files: Vec<File> = (0..256).map(|_| File { content: Vec::new(), held: Vec::new() }).collect();
-    for file in &mut files[1..=8] {
+    for file in &mut files[1..=9] {
         file.content.extend_from_slice(b"abc");
     }
     let present = (1..=8).collect();
     let (opens, leases, expired) = (Vec::new(), Vec::new(), Vec::new());
-    let mut server = Server { files, count: 8, opens, leases, present, expired, last_id: 0 };
+    let mut server = Server { files, count: 9, opens, leases, present, expired, last_id: 0 };
+    for _ in 0..standing {
+        let (access, share) = (Access::ReadWrite, Share::ReadWrite);
+        server.receive(8, Request::Create { file: 9, access, share, contexts: Vec::new() });
+    }
     let mut sum = 0u64;
     for number in 0..calls {
-        let (client, asked) = request(number / 8 % 7, (number % 8 + 1) as u8, number / 56);
+        let (client, asked) = request(number / 8 % 7, (number % 8 + 1) as u8, number / 56, standing);
         for out in server.receive(client, asked) {
             sum = sum.wrapping_add(weight(&out));
         }
@@ -76,5 +80,6 @@ fn session(calls: u32) -> u64 {
 
 fn main() {
     let Some(calls) = env::args().nth(1).and_then(|word| word.parse().ok()) else { exit(2) };
-    println!("{}", session(calls));
+    let standing = env::args().nth(2).and_then(|word| word.parse().ok()).unwrap_or(0);
+    println!("{}", session(calls, standing));
 }

@@ -1,6 +1,7 @@
 //! A session of a file server with eight clients on eight files, for `bench/server` to time from outside:
 //! each client opens a file, writes and reads it; another opens it too, which breaks the first one's lease;
-//! the first acknowledges that, and both close.
+//! the first acknowledges that, and both close. A second word is how many opens stand on a ninth file all the
+//! while.
 #![tactic(auto)]
 
 use lease_state::{
@@ -28,7 +29,7 @@ const ACKNOWLEDGMENT: [u8; 36] = *b"\x24\0\0\0\0\0\0\0\
 
 fn new_server(alloc: Global) -> Result<Server, Memory> {
     let mut files = Vec::new(alloc);
-    for _file in 0..COUNT {
+    for _file in 0..COUNT + 1 {
         match Content::new(Vec::from_slice(alloc, b"abc")?) {
             Ok(content) => files.push(content)?,
             Err(_) => return Err(Memory),
@@ -37,10 +38,14 @@ fn new_server(alloc: Global) -> Result<Server, Memory> {
     Server::new(alloc, files)
 }
 
-fn joined(alloc: Global) -> Result<Server, Memory> {
+fn joined(alloc: Global, standing: u32) -> Result<Server, Memory> {
     let mut server = new_server(alloc)?;
     for client in 1..=8u8 {
         let (next, _) = server.join(ClientNo(client))?;
+        server = next;
+    }
+    for _open in 0..standing {
+        let (next, _) = server.receive(ClientNo(8), create(alloc, 9, b"")?)?;
         server = next;
     }
     Ok(server)
@@ -81,10 +86,16 @@ fn write(alloc: Global, fid: FileId, turn: u32) -> Result<Request, Memory> {
 }
 
 // The request of this step of a round, by its client on the file, and who asks it.
-fn request(alloc: Global, step: u32, file: u8, turn: u32) -> Result<(ClientNo, Request), Memory> {
+fn request(
+    alloc: Global,
+    step: u32,
+    file: u8,
+    turn: u32,
+    standing: u32,
+) -> Result<(ClientNo, Request), Memory> {
     let first = ClientNo(file);
     let second = ClientNo(file % 8 + 1);
-    let mine = FileId(u64::from(turn) * 16 + u64::from(file));
+    let mine = FileId(u64::from(standing) + u64::from(turn) * 16 + u64::from(file));
     let theirs = FileId(mine.0 + 8);
     Ok(match step {
         0 => (first, lease_create(alloc, file)?),
@@ -130,23 +141,29 @@ fn weights(outs: &[Out]) -> u64 {
     sum
 }
 
-fn call(alloc: Global, server: Server, number: u32) -> Result<(Server, u64), Memory> {
+fn call(
+    alloc: Global,
+    server: Server,
+    number: u32,
+    standing: u32,
+) -> Result<(Server, u64), Memory> {
     let file = (number % COUNT + 1) as u8;
     let (client, asked) = request(
         alloc,
         number / COUNT % STEPS,
         file,
         number / (COUNT * STEPS),
+        standing,
     )?;
     let (server, outs) = server.receive(client, asked)?;
     Ok((server, weights(&outs)))
 }
 
-fn session(alloc: Global, calls: u32) -> Result<u64, Memory> {
-    let mut server = joined(alloc)?;
+fn session(alloc: Global, calls: u32, standing: u32) -> Result<u64, Memory> {
+    let mut server = joined(alloc, standing)?;
     let mut sum = 0u64;
     for number in 0..calls {
-        let (next, more) = call(alloc, server, number)?;
+        let (next, more) = call(alloc, server, number, standing)?;
         server = next;
         sum = sum.wrapping_add(more);
     }
@@ -160,7 +177,11 @@ fn words_given<R: Env + AllocGlobal>(rt: &R) -> io::Result<Vec<String>> {
 
 fn sum_of(alloc: Global, words: &[String]) -> Option<u64> {
     let calls = words.first()?.as_str().parse::<u32>().ok()?;
-    session(alloc, calls).ok()
+    let standing = match words.get(1) {
+        Some(word) => word.as_str().parse::<u32>().ok()?,
+        None => 0,
+    };
+    session(alloc, calls, standing).ok()
 }
 
 fn main(rt: HostRuntime) -> ExitCode {
