@@ -464,3 +464,58 @@ pub opened_now : (opens now : List Open) (one : Open) (summaries after : Summari
 opened_now opens now one summaries after last kept is same agree =
     subst (λ xs. AreKept xs after one.file_id) (sym same)
     (kept_opened opens one summaries after last kept is (subst (Agrees after) same agree))
+
+-- ---- the one open that may be closed
+
+abbrev picked : (Open → Bool) → Option Open → List Open
+picked test None = []
+picked test (Some one) = if test one then one ∷ [] else []
+
+filter_none : (test : Open → Bool) (opens : List Open) → list_any test opens ≡ false → filter test opens ≡ []
+filter_none test [] none = refl
+filter_none test (one ∷ opens) none = either (test one)
+    (λ t. absurd (cc (rw t at none)))
+    (λ t. rw t (filter_none test opens (rw t at none)))
+
+filter_one : (n : ℕ) (test : Open → Bool) (opens : List Open)
+    → ((one : Open) → test one ≡ true → has_id n one ≡ true) → AreInOrder opens
+    → filter test opens ≡ picked test (find (has_id n) opens)
+filter_one n test [] only order = refl
+filter_one n test (one ∷ opens) only order = either (has_id n one)
+    (λ its.
+        let is = (Decides-eqb one.file_id n).0 its in
+        let none = none_above n test opens only (λ other a. apart_behind n one other is (order.0 other a)) in
+        rw (its, filter_none test opens none) refl)
+    (λ its.
+        let here = not_true (test one) (λ t. clash (has_id n one) (only one t) its) in
+        rw (its, here) (filter_one n test opens only order.1))
+
+picked_so : (test : Open → Bool) (one : Open) → test one ≡ true → picked test (Some one) ≡ one ∷ []
+picked_so test one is = rw is refl
+
+picked_not : (test : Open → Bool) (one : Open) → test one ≡ false → picked test (Some one) ≡ []
+picked_not test one is = rw is refl
+
+pub ids_picked : (n : ℕ) (test : Open → Bool) (opens : List Open) (one : Open)
+    → ((other : Open) → test other ≡ true → has_id n other ≡ true) → AreInOrder opens
+    → Some one ≡ find (has_id n) opens → test one ≡ true
+    → n ∷ [] ≡ map (λ o. o.file_id) (filter test opens)
+ids_picked n test opens one only order found is =
+    let chosen_one : filter test opens ≡ one ∷ [] =
+    filter_one n test opens only order ∙ (ap (picked test) (sym found) ∙ picked_so test one is) in
+    sym (ap (map (λ (o : Open). o.file_id)) chosen_one ∙ ap (λ m. m ∷ []) ((Decides-eqb one.file_id n).0 (only one is)))
+
+pub ids_unpicked : (n : ℕ) (test : Open → Bool) (opens : List Open) (one : Open)
+    → ((other : Open) → test other ≡ true → has_id n other ≡ true) → AreInOrder opens
+    → Some one ≡ find (has_id n) opens → test one ≡ false
+    → [] ≡ map (λ o. o.file_id) (filter test opens)
+ids_unpicked n test opens one only order found is =
+    let chosen_none : filter test opens ≡ [] =
+    filter_one n test opens only order ∙ (ap (picked test) (sym found) ∙ picked_not test one is) in
+    sym (ap (map (λ (o : Open). o.file_id)) chosen_none)
+
+pub ids_none : (n : ℕ) (test : Open → Bool) (opens : List Open)
+    → ((other : Open) → test other ≡ true → has_id n other ≡ true) → AreInOrder opens
+    → None ≡ find (has_id n) opens → [] ≡ map (λ o. o.file_id) (filter test opens)
+ids_none n test opens only order found =
+    sym (ap (map (λ o. o.file_id)) (filter_one n test opens only order ∙ ap (picked test) (sym found)))

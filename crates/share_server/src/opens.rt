@@ -1,4 +1,4 @@
-ghost use Rattle.std.specs.Prelude.{◌≡◌, ◌<◌, ◌^◌, ◌++◌, [], ◌∷◌, OnOk, IfOk, IfSome, length, map, filter, find};
+ghost use Rattle.std.specs.Prelude.{◌≡◌, ◌<◌, ◌^◌, ◌++◌, [], ◌∷◌, true, OnOk, IfOk, IfSome, length, map, filter, find};
 ghost use Rattle.std.specs.Option.{option_map};
 ghost use Rattle.lease_laws.specs.server.Laws.{Among, AreInOrder};
 ghost use Rattle.lease_model.specs.server.State.{Open as ModelOpen};
@@ -92,6 +92,52 @@ impl Opens {
     ///
     /// `Memory` where there is none left for the list.
     pub fn closed(
+        &self,
+        alloc: Global,
+        closing: &Closing,
+        leases: &Summaries,
+    ) -> Result<Vec<FileId>, Memory>
+        ensures ids { IfOk result (λ ids. map (λ file_id. file_id.0) ids.items
+            ≡ map (λ one. one.file_id) (filter (closes closing.now (lease_in leases.now)) self.now)) }
+        ensures in_order { AreInOrder self.now }
+    {
+        match closing {
+            Closing::Named(fid) => self.closed_at(alloc, *fid, closing, leases),
+            Closing::LeftBehind(fid) => self.closed_at(alloc, *fid, closing, leases),
+            Closing::Of(_) | Closing::LeftOf(_) | Closing::LostBy(_) => {
+                self.closed_among(alloc, closing, leases)
+            }
+        }
+    }
+
+    // The same, where only the open of this FileId can be closed.
+    fn closed_at(
+        &self,
+        alloc: Global,
+        fid: FileId,
+        closing: &Closing,
+        leases: &Summaries,
+    ) -> Result<Vec<FileId>, Memory>
+        requires { (one : ModelOpen) → closes closing.now (lease_in leases.now) one ≡ true → has_id fid.0 one ≡ true }
+        ensures ids { IfOk result (λ ids. map (λ file_id. file_id.0) ids.items
+            ≡ map (λ one. one.file_id) (filter (closes closing.now (lease_in leases.now)) self.now)) }
+        ensures in_order { AreInOrder self.now }
+    {
+        let mut ids = Vec::new(alloc);
+        match self.find(fid) {
+            Some(one) => {
+                if !closing.closes(leases, one) {
+                    return Ok(ids);
+                }
+                ids.push(fid)?;
+                Ok(ids)
+            }
+            None => Ok(ids),
+        }
+    }
+
+    // The same, by a look at all opens.
+    fn closed_among(
         &self,
         alloc: Global,
         closing: &Closing,

@@ -1,7 +1,7 @@
 use Rattle.std.proofs.Common.{◌≡◌, ◌++◌, map, filter}
 use Rattle.share_server.specs.Closing.{closes}
 use Rattle.share_server.specs.Summaries.{lease_in}
-use Rattle.share_server.proofs.opens.Opens.closed.Given as goal
+use Rattle.share_server.proofs.opens.Opens.closed_among.Given as goal
 
 abbrev pub invariant-loop-one : goal.invariant-loop-one
 invariant-loop-one l =
