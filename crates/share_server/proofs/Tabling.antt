@@ -150,10 +150,6 @@ map_alike f g (one ∷ opens) same =
 
 -- ---- opens that are closed
 
-not_either : (a b : Bool) → not (a || b) ≡ (not a && not b)
-not_either true b = refl
-not_either false b = refl
-
 one_more : (ids : List ℕ) (id : ℕ) (one : Open) → is_one_of (ids ++ id ∷ []) one ≡ (is_one_of ids one || has_id id one)
 one_more [] id one = or_false (has_id id one)
   where
@@ -399,13 +395,6 @@ awaits_only client file (Some key) n one is =
     let d = and_parts (has_id n one && not one.connected) (one.client == client) b.0 in
     (and_parts (has_id n one) (not one.connected) d.0).0
 
-pub kept_none : (last : ℕ) (summaries : Summaries) (opens : List Open) → opens ≡ [] → Agrees summaries []
-    → AreKept opens summaries last
-kept_none last summaries opens none agree = record {
-  agree = subst (Agrees summaries) (sym none) agree;
-  numbered = λ one a. absurd (subst (Among one) none a);
-}
-
 pub leased_by : (server : Server) (own : Option Key) (key : Key) (file : ℕ) (b : Bool) → own ≡ Some key
     → b ≡ list_any (is_elsewhere key file) server.opens → b ≡ is_leased_elsewhere server own file
 unfolding is_leased_elsewhere
@@ -483,12 +472,12 @@ filter_one : (n : ℕ) (test : Open → Bool) (opens : List Open)
 filter_one n test [] only order = refl
 filter_one n test (one ∷ opens) only order = either (has_id n one)
     (λ its.
-        let is = (Decides-eqb one.file_id n).0 its in
-        let none = none_above n test opens only (λ other a. apart_behind n one other is (order.0 other a)) in
-        rw (its, filter_none test opens none) refl)
+    let is = (Decides-eqb one.file_id n).0 its in
+    let none = none_above n test opens only (λ other a. apart_behind n one other is (order.0 other a)) in
+    rw (its, filter_none test opens none) refl)
     (λ its.
-        let here = not_true (test one) (λ t. clash (has_id n one) (only one t) its) in
-        rw (its, here) (filter_one n test opens only order.1))
+    let here = not_true (test one) (λ t. clash (has_id n one) (only one t) its) in
+    rw (its, here) (filter_one n test opens only order.1))
 
 picked_so : (test : Open → Bool) (one : Open) → test one ≡ true → picked test (Some one) ≡ one ∷ []
 picked_so test one is = rw is refl

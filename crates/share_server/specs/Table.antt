@@ -1,10 +1,10 @@
 -- What a server knows as plain lists, and the server of the rules that they stand for.
-use Rattle.std.specs.Prelude.{ℕ, Bool, not, List, [], ◌∷◌, if◌then◌else◌, ◌==◌, unwrap_or}
+use Rattle.std.specs.Prelude.{ℕ, List, [], ◌∷◌, if◌then◌else◌, ◌==◌, unwrap_or}
 use Rattle.std.specs.List.{list_any, slice_get}
 use Rattle.lease_state.specs.declared.number.ClientNo.{ClientNo}
 use Rattle.lease_model.specs.values.Keys.{Key, key_eq}
 use Rattle.lease_model.specs.values.Lists.{without}
-use Rattle.lease_model.specs.server.State.{Server, Open, Lease, Held, no_lease, has_key}
+use Rattle.lease_model.specs.server.State.{Server, Open, Lease, Held, no_lease}
 
 -- a file: its bytes, and the requests that wait there
 pub record File : Type 0 where
@@ -39,17 +39,6 @@ file_in files n = unwrap_or (slice_get files n) no_file
 abbrev pub lease_at : List KeyedLease → Key → Lease
 lease_at [] key = no_lease
 lease_at (one ∷ leases) key = if key_eq key one.key then one.lease else lease_at leases key
-
--- the leases of which an open has the key, as they stand; any other key has none
-abbrev pub leases_under : List Open → (Key → Lease) → Key → Lease
-leases_under opens leases key = if list_any (has_key key) opens then leases key else no_lease
-
-abbrev pub has_another_key : Key → KeyedLease → Bool
-has_another_key key one = not (key_eq key one.key)
-
--- an open has the key
-abbrev pub is_under : List Open → KeyedLease → Bool
-is_under opens one = list_any (has_key one.key) opens
 
 -- the server that the lists stand for
 abbrev pub server_of : Table → Server

@@ -2,7 +2,6 @@
 use Rattle.std.specs.Prelude.{ℕ, Bool, Option, Some, None, List, ◌&&◌, if◌then◌else◌}
 use Rattle.lease_state.specs.State.{State, nothing_cached, needs_acknowledgment}
 use Rattle.lease_model.specs.server.Allowed.{is_other_on, conflicts_on}
-use Rattle.lease_model.specs.server.KeyOrder.{open_key_added}
 use Rattle.lease_model.specs.server.Naming.{lease_of}
 use Rattle.lease_model.specs.server.State.{Server, Open, Lease}
 use Rattle.lease_model.specs.server.Wants.{Want, handle_wants, write_wants, all_wants}
@@ -33,10 +32,6 @@ abbrev pub wants_for : Wish → Server → Option Key → ℕ → List Want
 wants_for (NoHandles access share) server own file = handle_wants server own file access share
 wants_for NoWrites server own file = write_wants server own file
 wants_for Nothing server own file = all_wants server own file
-
--- the keys with that of the open, if it passes the test
-abbrev pub with_wanted : (Open → Bool) → Open → List Key → List Key
-with_wanted test one keys = if test one then open_key_added one.client one.lease_key keys else keys
 
 -- what is wanted of a key
 abbrev pub want_of : Wish → Server → Key → Want

@@ -1,13 +1,12 @@
 ghost use Rattle.std.specs.Prelude.{◌≡◌};
-ghost use Rattle.lease_model.specs.server.State.{has_key, has_own_key};
-ghost use Rattle.lease_model.specs.server.Allowed.{is_other_on, conflicts_on};
+ghost use Rattle.lease_model.specs.server.State.{has_key};
 ghost use Rattle.lease_model.specs.server.Attempt.{is_left_open};
 ghost use Rattle.lease_model.specs.server.Calls.{is_left_behind};
 ghost use Rattle.lease_model.specs.server.Findings.{awaits};
 ghost use Rattle.lease_model.specs.server.Naming.{key_of_open};
 ghost use Rattle.share_server.specs.Closing.{outlives_under};
 ghost use Rattle.share_server.specs.Leases.{lease_of};
-ghost use Rattle.share_server.specs.Looks.{is_left_by, is_connected_as, is_elsewhere};
+ghost use Rattle.share_server.specs.Looks.{is_left_by, is_connected_as};
 
 use crate::key::Key;
 use crate::lease::Lease;
@@ -58,32 +57,6 @@ impl Open {
         }
     }
 
-    /// Whether the open has the key of a request; `None` for a request without one.
-    pub fn has_own_key(&self, own: Option<Key>) -> bool
-        ensures { result ≡ has_own_key own self.now }
-    {
-        match own {
-            Some(key) => self.has_key(key),
-            None => false,
-        }
-    }
-
-    /// Whether the open is on the file and has another key than the request.
-    #[tactic(auto, unfolding(lease_model::specs::server::Allowed::is_other_on))]
-    pub fn is_other_on(&self, own: Option<Key>, file: FileNo) -> bool
-        ensures { result ≡ is_other_on own file.0 self.now }
-    {
-        self.file == file && !self.has_own_key(own)
-    }
-
-    /// Whether the open is on the file and conflicts with this access and share (MS-SMB2 3.3.5.9).
-    #[tactic(auto, unfolding(lease_model::specs::server::Allowed::conflicts_on))]
-    pub fn conflicts_on(&self, file: FileNo, access: Access, share: Share) -> bool
-        ensures { result ≡ conflicts_on file.0 access share self.now }
-    {
-        self.file == file && access.conflicts(share, self.access, self.share)
-    }
-
     /// Whether the open is one of the client on the file, and waits for its client.
     pub fn is_left_by(&self, client: ClientNo, file: FileNo) -> bool
         ensures { result ≡ is_left_by client.0 file.0 self.now }
@@ -126,13 +99,6 @@ impl Open {
             }
             None => false,
         }
-    }
-
-    /// Whether the open has the key and is on another file.
-    pub fn is_elsewhere(&self, key: Key, file: FileNo) -> bool
-        ensures { result ≡ is_elsewhere key file.0 self.now }
-    {
-        self.has_key(key) && self.file != file
     }
 
     /// Whether the open has the key and its client is away.

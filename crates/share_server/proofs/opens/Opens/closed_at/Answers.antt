@@ -1,5 +1,4 @@
-use Rattle.std.proofs.Common.{◌∙◌, ap, sym, map}
-use Rattle.lease_state.specs.declared.number.FileId.{FileId}
+use Rattle.std.proofs.Common.{◌∙◌, sym}
 use Rattle.share_server.specs.Closing.{closes}
 use Rattle.share_server.specs.Summaries.{lease_in}
 use Rattle.share_server.proofs.Tabling.{ids_picked, ids_unpicked, ids_none}
