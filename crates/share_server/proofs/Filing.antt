@@ -16,10 +16,10 @@ use Rattle.lease_state.specs.declared.number.FileId.{FileId}
 use Rattle.share_server.specs.Filed.{has_id, file_id_order, AreFiled}
 use Rattle.share_server.specs.Summaries.{IsOneMore}
 
-abbrev test_at : ℕ → FileId → Bool
+abbrev pub test_at : ℕ → FileId → Bool
 test_at n = is_at (file_id_order (record { 0 = n }))
 
-at_id : (n m : ℕ) → is_eq (nat_cmp n m) ≡ (m == n)
+pub at_id : (n m : ℕ) → is_eq (nat_cmp n m) ≡ (m == n)
 at_id n m = grind (arith, nat_tests)
 
 here : (n : ℕ) (e : FileId × Open) → e.1.file_id ≡ e.0.0 → test_at n e.0 ≡ has_id n e.1
@@ -38,7 +38,7 @@ filed_removed n (e ∷ entries) filed = either (test_at n e.0)
     (λ at. rw at filed.1)
     (λ at. rw at (filed.0, filed_removed n entries filed.1))
 
-some_same : {x y : Open} → Some x ≡ Some y → x ≡ y
+pub some_same : {x y : Open} → Some x ≡ Some y → x ≡ y
 some_same e = cc e
 
 pub one_removed : (n : ℕ) (entries : List (FileId × Open)) (one : Open) → AreFiled entries
@@ -65,7 +65,7 @@ one_removed n (e ∷ entries) one filed found = either (test_at n e.0)
 
 -- ---- order
 
-none_behind : (n : ℕ) (opens : List Open) → ((other : Open) → Among other opens → n < other.file_id)
+pub none_behind : (n : ℕ) (opens : List Open) → ((other : Open) → Among other opens → n < other.file_id)
     → without (has_id n) opens ≡ opens
 none_behind n [] above = refl
 none_behind n (one ∷ opens) above =
@@ -109,7 +109,7 @@ in_order (e ∷ entries) filed sorted = (
 
 -- ---- one more, the last
 
-greater : (n m : ℕ) → m < n → nat_cmp n m ≡ Greater
+pub greater : (n m : ℕ) → m < n → nat_cmp n m ≡ Greater
 greater n m less = grind (arith, nat_tests, less)
 
 pub inserted_last : (n : ℕ) (one : Open) (entries : List (FileId × Open)) → AreFiled entries
@@ -138,7 +138,7 @@ values_last n one (e ∷ entries) = rw (values_last n one entries) refl
 abbrev changed_at : ℕ → (Open → Open) → Open → Open
 changed_at n change one = if has_id n one then change one else one
 
-none_changed : (n : ℕ) (change : Open → Open) (opens : List Open)
+pub none_changed : (n : ℕ) (change : Open → Open) (opens : List Open)
     → ((other : Open) → Among other opens → n < other.file_id) → map (changed_at n change) opens ≡ opens
 none_changed n change [] above = refl
 none_changed n change (one ∷ opens) above =

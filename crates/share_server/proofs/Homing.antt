@@ -16,10 +16,12 @@ use Rattle.lease_model.specs.server.Grant.{asked_key}
 use Rattle.lease_model.specs.server.Naming.{own_key, key_under}
 use Rattle.lease_model.specs.server.Progress.{Progress}
 use Rattle.lease_model.specs.server.Ready.{is_ready}
-use Rattle.lease_model.specs.server.State.{Server, has_key}
+use Rattle.lease_model.specs.server.State.{Server, Open, has_key}
 use Rattle.lease_model.specs.values.Keys.{Key}
 use Rattle.share_server.specs.Kept.{IsAtHomeFor, IsCreateAtHome}
-use Rattle.share_server.specs.Summaries.{IsAtHome}
+use Rattle.share_server.specs.Looks.{is_elsewhere}
+use Rattle.share_server.specs.Summaries.{IsAtHome, RecordFits}
+use Rattle.share_server.specs.declared.summaries.LeaseRecord.{LeaseRecord}
 
 -- where a try ends ready, a look at the request finds it so
 abbrev EndsReady : ℕ → FileRequest → Tried → Type 0
@@ -105,3 +107,13 @@ home_asked server client file None bytes same home =
     subst (λ b. IsAtHome (key_under client b) file server.opens) (sym same) tt
 home_asked server client file (Some asked) bytes same home =
     subst (λ b. IsAtHome (key_under client b) file server.opens) (sym same) home
+
+-- ---- the file of a key
+
+pub home_known : (key : Key) (opens : List Open) (found : Option LeaseRecord) (known : LeaseRecord)
+    → found ≡ Some known → RecordFits key opens found → list_any (is_elsewhere key known.file.0) opens ≡ false
+home_known key opens found known is fits = (subst (RecordFits key opens) is fits).one_file
+
+pub home_none : (key : Key) (opens : List Open) (found : Option LeaseRecord)
+    → found ≡ None → RecordFits key opens found → list_any (has_key key) opens ≡ false
+home_none key opens found is fits = subst (RecordFits key opens) is fits

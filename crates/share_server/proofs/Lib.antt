@@ -11,10 +11,12 @@ pub mod Homing
 pub mod Joining
 pub mod Kept
 pub mod KeyOrder
+pub mod LeftOpens
 pub mod Losing
 pub mod Mapping
 pub mod NewTables
 pub mod Ordering
+pub mod Owners
 pub mod Passing
 pub mod Places
 pub mod Recording

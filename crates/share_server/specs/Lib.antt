@@ -5,6 +5,7 @@ pub mod Kept
 pub mod KeyOrder
 pub mod Laws
 pub mod Leases
+pub mod LeftOpens
 pub mod Looks
 pub mod Outs
 pub mod Passing

@@ -148,6 +148,11 @@ abbrev pub IsAtHome : Option Key → ℕ → List Open → Type 0
 IsAtHome None file opens = ⊤
 IsAtHome (Some key) file opens = list_any (is_elsewhere key file) opens ≡ false
 
+-- the opens of the key are on this file; where there is none, no open has the key
+abbrev pub IsHome : Key → List Open → Option ℕ → Type 0
+IsHome key opens None = list_any (has_key key) opens ≡ false
+IsHome key opens (Some file) = list_any (is_elsewhere key file) opens ≡ false
+
 -- Records and summaries stand for the opens and leases of a server.
 pub record StandFor (summaries : Summaries) (server : Server) : Type 0 where
   pub agree : Agrees summaries server.opens

@@ -41,6 +41,7 @@ mod grant;
 mod key;
 mod laws;
 mod lease;
+mod left_opens;
 mod open;
 mod opens;
 mod out;

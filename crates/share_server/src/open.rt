@@ -6,10 +6,11 @@ ghost use Rattle.lease_model.specs.server.Findings.{awaits};
 ghost use Rattle.lease_model.specs.server.Naming.{key_of_open};
 ghost use Rattle.share_server.specs.Closing.{outlives_under};
 ghost use Rattle.share_server.specs.Leases.{lease_of};
-ghost use Rattle.share_server.specs.Looks.{is_left_by, is_connected_as};
+ghost use Rattle.share_server.specs.Looks.{is_connected_as};
 
 use crate::key::Key;
 use crate::lease::Lease;
+use crate::left_opens::Owner;
 use lease_state::{Access, ClientNo, FileId, FileNo, LeaseKey, Share};
 use std::marker::Model;
 
@@ -57,11 +58,15 @@ impl Open {
         }
     }
 
-    /// Whether the open is one of the client on the file, and waits for its client.
-    pub fn is_left_by(&self, client: ClientNo, file: FileNo) -> bool
-        ensures { result ≡ is_left_by client.0 file.0 self.now }
+    /// Its client and its file.
+    pub fn owner(&self) -> Owner
+        ensures client { result.client.0 ≡ self.now.client }
+        ensures file { result.file.0 ≡ self.now.file }
     {
-        self.client == client && self.file == file && !self.connected
+        Owner {
+            client: self.client,
+            file: self.file,
+        }
     }
 
     /// The key of the open; `None` for an open without an RqLs context.

@@ -5,22 +5,30 @@ ghost use Rattle.lease_model.specs.server.State.{Open as ModelOpen};
 ghost use Rattle.lease_model.specs.values.Lists.{without};
 ghost use Rattle.share_server.specs.Closing.{closes};
 ghost use Rattle.lease_model.specs.server.Grant.{connected_again};
-ghost use Rattle.share_server.specs.Filed.{has_id, is_of, connected_at, disconnected_at};
+ghost use Rattle.lease_model.specs.server.Attempt.{is_left_open};
+ghost use Rattle.lease_model.specs.server.State.{has_key};
+ghost use Rattle.share_server.specs.Filed.{AreFiled, has_id, is_of, connected_at, disconnected_at};
+ghost use Rattle.share_server.specs.LeftOpens.{has_key_in};
 ghost use Rattle.share_server.specs.Looks.{is_left_by};
-ghost use Rattle.share_server.specs.Summaries.{IsOneMore, lease_in};
+ghost use Rattle.share_server.specs.Summaries.{Agrees, IsOneMore, lease_in};
+ghost use Rattle.std.specs.Map.{values_of};
 
 use crate::closing::Closing;
+use crate::key::Key;
+use crate::left_opens::{LeftOpens, Owner};
 use crate::open::Open;
 use crate::summaries::Summaries;
 use lease_state::{ClientNo, FileId, FileNo, Memory};
 use std::alloc::Global;
-use std::collections::BTreeMap;
+use std::collections::{BTreeMap, BTreeSet};
 use std::marker::Model;
 
 /// The opens of a server, by their FileIds.
 #[derive(Debug, Drop)]
 pub struct Opens {
     by_id: BTreeMap<FileId, Open>,
+    /// Those of them that wait for their clients.
+    left: LeftOpens,
 }
 
 impl Model for Opens {
@@ -29,12 +37,14 @@ impl Model for Opens {
     ghost use Rattle.lease_model.specs.server.State as model;
     ghost use Rattle.lease_laws.specs.server.Laws.{AreInOrder};
     ghost use Rattle.share_server.specs.Filed.{AreFiled};
+    ghost use Rattle.share_server.specs.LeftOpens.{AreWaiting};
 
     ghost Value = { List model.Open };
 
     ghost view = { λ opens. values_of opens.by_id.entries };
 
-    ghost invariant = { λ opens. AreFiled opens.by_id.entries × AreInOrder (values_of opens.by_id.entries) };
+    ghost invariant = { λ opens. AreFiled opens.by_id.entries × AreInOrder (values_of opens.by_id.entries)
+        × AreWaiting opens.left (values_of opens.by_id.entries) };
 }
 
 impl Opens {
@@ -44,6 +54,7 @@ impl Opens {
     {
         Opens {
             by_id: BTreeMap::new(alloc),
+            left: LeftOpens::new(alloc),
         }
     }
 
@@ -56,13 +67,14 @@ impl Opens {
         self.by_id.len()
     }
 
-    /// One more open, whose FileId is above those of all others.
+    /// One more open, whose client is there, and whose FileId is above those of all others.
     ///
     /// # Errors
     ///
     /// `Memory` where there is none left.
     pub fn push(&mut self, one: Open) -> Result<(), Memory>
-        requires { (other : ModelOpen) → Among other self.old → other.file_id < one.file_id }
+        requires here { one.connected ≡ true }
+        requires last { (other : ModelOpen) → Among other self.old → other.file_id < one.file_id }
         ensures { OnOk result (self.new ≡ self.old ++ one ∷ []) }
     {
         self.by_id.insert(one.file_id, one)?;
@@ -83,7 +95,13 @@ impl Opens {
         ensures one_less { IfSome result (λ one. IsOneMore one self.new self.old) }
         ensures left { self.new ≡ without (has_id fid.0) self.old }
     {
-        self.by_id.remove(&fid)
+        match self.by_id.remove(&fid) {
+            Some(one) => {
+                self.left.remove(one.owner(), fid);
+                Some(one)
+            }
+            None => None,
+        }
     }
 
     /// The FileIds of the opens that are closed, where these are the leases.
@@ -97,6 +115,7 @@ impl Opens {
         closing: &Closing,
         leases: &Summaries,
     ) -> Result<Vec<FileId>, Memory>
+        requires { Agrees leases.now self.now }
         ensures ids { IfOk result (λ ids. map (λ file_id. file_id.0) ids.items
             ≡ map (λ one. one.file_id) (filter (closes closing.now (lease_in leases.now)) self.now)) }
         ensures in_order { AreInOrder self.now }
@@ -104,9 +123,69 @@ impl Opens {
         match closing {
             Closing::Named(fid) => self.closed_at(alloc, *fid, closing, leases),
             Closing::LeftBehind(fid) => self.closed_at(alloc, *fid, closing, leases),
-            Closing::Of(_) | Closing::LeftOf(_) | Closing::LostBy(_) => {
-                self.closed_among(alloc, closing, leases)
+            Closing::LeftOf(key) => self.left_of(alloc, *key, leases),
+            Closing::Of(_) | Closing::LostBy(_) => self.closed_among(alloc, closing, leases),
+        }
+    }
+
+    // The FileIds of the opens of the key that wait for its client.
+    fn left_of(&self, alloc: Global, key: Key, leases: &Summaries) -> Result<Vec<FileId>, Memory>
+        requires { Agrees leases.now self.now }
+        ensures ids { IfOk result (λ ids. map (λ file_id. file_id.0) ids.items
+            ≡ map (λ one. one.file_id) (filter (is_left_open key) self.now)) }
+        ensures in_order { AreInOrder self.now }
+    {
+        let _ = &self.left;
+        match leases.home(key) {
+            Some(file) => {
+                let ids = self.left_on(alloc, key, file)?;
+                Ok(ids)
             }
+            None => Ok(Vec::new(alloc)),
+        }
+    }
+
+    // The same, of the opens that its client left on the file.
+    fn left_on(&self, alloc: Global, key: Key, file: FileNo) -> Result<Vec<FileId>, Memory>
+        ensures ids { IfOk result (λ ids. map (λ file_id. file_id.0) ids.items
+            ≡ map (λ one. one.file_id) (filter (has_key key) (filter (is_left_by key.client file.0) self.now))) }
+        ensures in_order { AreInOrder self.now }
+    {
+        let client = key.client;
+        match self.left.at(Owner { client, file }) {
+            Some(left) => {
+                let ids = self.with_key(alloc, key, left)?;
+                Ok(ids)
+            }
+            None => Ok(Vec::new(alloc)),
+        }
+    }
+
+    // Those of the FileIds whose opens have the key.
+    fn with_key(
+        &self,
+        alloc: Global,
+        key: Key,
+        left: &BTreeSet<FileId>,
+    ) -> Result<Vec<FileId>, Memory>
+        ensures { IfOk result (λ ids. ids.items ≡ filter (has_key_in self.now key) left.now.keys) }
+    {
+        let mut ids = Vec::new(alloc);
+        for fid in left {
+            if self.is_of_key(*fid, key) {
+                ids.push(*fid)?;
+            }
+        }
+        Ok(ids)
+    }
+
+    // Whether the open of this FileId has the key.
+    fn is_of_key(&self, fid: FileId, key: Key) -> bool
+        ensures { result ≡ has_key_in self.now key fid }
+    {
+        match self.find(fid) {
+            Some(one) => one.has_key(key),
+            None => false,
         }
     }
 
@@ -161,12 +240,15 @@ impl Opens {
         ensures { option_map (λ file_id. file_id.0) result
             ≡ option_map (λ one. one.file_id) (find (is_left_by client.0 file.0) self.now) }
     {
-        for one in self.by_id.values() {
-            if one.is_left_by(client, file) {
-                return Some(one.file_id);
+        match self.left.at(Owner { client, file }) {
+            Some(left) => {
+                match left.first() {
+                    Some(fid) => Some(*fid),
+                    None => None,
+                }
             }
+            None => None,
         }
-        None
     }
 
     /// The FileIds of the client's opens.
@@ -189,26 +271,49 @@ impl Opens {
     }
 
     /// The open of this FileId is no longer connected.
-    pub fn disconnect(&mut self, fid: FileId)
-        ensures { self.new ≡ map (disconnected_at fid.0) self.old }
+    ///
+    /// # Errors
+    ///
+    /// `Memory` where there is none left for the list of those that wait.
+    pub fn disconnect(&mut self, alloc: Global, fid: FileId) -> Result<(), Memory>
+        ensures { OnOk result (self.new ≡ map (disconnected_at fid.0) self.old) }
     {
-        self.set_connected(fid, false);
+        match self.by_id.get(&fid) {
+            Some(one) => {
+                let owner = one.owner();
+                self.left.insert(alloc, owner, fid)?;
+                set_connected(&mut self.by_id, fid, false);
+                Ok(())
+            }
+            None => Ok(()),
+        }
     }
 
     /// The open of this FileId is connected again.
     pub fn connect_again(&mut self, fid: FileId)
         ensures { self.new ≡ map (connected_again fid.0) self.old }
     {
-        self.set_connected(fid, true);
-    }
-
-    // The open of this FileId is connected, or isn't.
-    fn set_connected(&mut self, fid: FileId, connected: bool)
-        ensures { self.new ≡ map (connected_at fid.0 connected) self.old }
-    {
-        match self.by_id.get_mut(&fid) {
-            Some(one) => one.set_connected(connected),
+        match self.by_id.get(&fid) {
+            Some(one) => {
+                let owner = one.owner();
+                self.left.remove(owner, fid);
+                set_connected(&mut self.by_id, fid, true);
+            }
             None => {}
         }
+    }
+}
+
+// The open of this FileId is connected, or isn't.
+fn set_connected(by_id: &mut BTreeMap<FileId, Open>, fid: FileId, connected: bool)
+    requires filed { AreFiled by_id.old.entries }
+    requires in_order { AreInOrder (values_of by_id.old.entries) }
+    ensures still_filed { AreFiled by_id.new.entries }
+    ensures still_in_order { AreInOrder (values_of by_id.new.entries) }
+    ensures opens { values_of by_id.new.entries ≡ map (connected_at fid.0 connected) (values_of by_id.old.entries) }
+{
+    match by_id.get_mut(&fid) {
+        Some(one) => one.set_connected(connected),
+        None => {}
     }
 }

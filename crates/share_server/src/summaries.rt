@@ -17,7 +17,8 @@ ghost use Rattle.share_server.specs.Wanted.{is_wanted_key, is_own_key};
 ghost use Rattle.share_server.specs.Wishes.{is_demanded};
 ghost use Rattle.share_server.specs.Closing.{lease_under};
 ghost use Rattle.share_server.specs.Looks.{is_elsewhere};
-ghost use Rattle.share_server.specs.Summaries.{Agrees, IsOneMore, AreAfter, SummaryFits, summary_at};
+ghost use Rattle.share_server.specs.Summaries.{Agrees, IsOneMore, AreAfter, IsHome, SummaryFits, summary_at};
+ghost use Rattle.std.specs.Option.{option_map};
 
 use crate::file_summary::FileSummary;
 use crate::key::Key;
@@ -262,6 +263,16 @@ impl Summaries {
         ensures { (server : Server) → StandFor self.now server → result ≡ has_lease server key }
     {
         self.leases.contains_key(&key)
+    }
+
+    /// The file of the key's opens; `None` where no open has the key.
+    pub fn home(&self, key: Key) -> Option<FileNo>
+        ensures { (opens : List ModelOpen) → Agrees self.now opens → IsHome key opens (option_map (λ file. file.0) result) }
+    {
+        match self.leases.get(&key) {
+            Some(known) => Some(known.file),
+            None => None,
+        }
     }
 
     /// Whether an open of the key is on another file.

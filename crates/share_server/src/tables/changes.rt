@@ -135,13 +135,14 @@ impl Tables {
         self.last_id
     }
 
-    /// One more open, which has the next FileId, and whose key has no open on another file. The
-    /// lease of its key becomes this one.
+    /// One more open, whose client is there, which has the next FileId, and whose key has no open on
+    /// another file. The lease of its key becomes this one.
     ///
     /// # Errors
     ///
     /// `Memory` where there is none left; no open is left then.
     pub fn open(&mut self, one: Open, lease: Lease) -> Result<(), Memory>
+        requires here { one.connected ≡ true }
         requires next { one.file_id ≡ (server_of self.old).last_id + 1 }
         requires home { IsAtHome (key_of_open one) one.file (server_of self.old).opens }
         ensures { OnOk result (server_of self.new ≡ opened_with (server_of self.old) one (lease_of lease)) }
@@ -161,7 +162,8 @@ impl Tables {
     ///
     /// # Errors
     ///
-    /// `Memory` where there is none left for the list of FileIds.
+    /// `Memory` where there is none left for the lists of FileIds; no open is left then, or nothing
+    /// has changed.
     pub fn disconnect(&mut self, client: ClientNo) -> Result<(), Memory>
         ensures { OnOk result (server_of self.new ≡ record (server_of self.old) {
           opens = map (disconnected client.0) (server_of self.old).opens;
@@ -169,8 +171,13 @@ impl Tables {
     {
         let alloc = self.alloc();
         let ids = self.opens.of_client(alloc, client)?;
-        disconnect_all(&mut self.opens, &ids);
-        Ok(())
+        match disconnect_all(&mut self.opens, alloc, &ids) {
+            Ok(()) => Ok(()),
+            Err(memory) => {
+                forget_opens(&mut self.opens, &mut self.summaries, alloc);
+                Err(memory)
+            }
+        }
     }
 
     /// The open of this FileId is connected again.
@@ -193,12 +200,13 @@ fn forget_opens(opens: &mut Opens, summaries: &mut Summaries, alloc: Global)
 }
 
 // The opens of these FileIds are no longer connected.
-fn disconnect_all(opens: &mut Opens, ids: &[FileId])
-    ensures { opens.new ≡ map (disconnected_where (is_one_of (map (λ id. id.0) ids.now))) opens.old }
+fn disconnect_all(opens: &mut Opens, alloc: Global, ids: &[FileId]) -> Result<(), Memory>
+    ensures { OnOk result (opens.new ≡ map (disconnected_where (is_one_of (map (λ id. id.0) ids.now))) opens.old) }
 {
     for id in ids {
-        opens.disconnect(*id);
+        opens.disconnect(alloc, *id)?;
     }
+    Ok(())
 }
 
 // Closes the opens of these FileIds.
@@ -232,7 +240,8 @@ fn add(
     one: Open,
     lease: Lease,
 ) -> Result<(), Memory>
-    requires { (other : ModelOpen) → Among other opens.old → other.file_id < one.file_id }
+    requires here { one.connected ≡ true }
+    requires last { (other : ModelOpen) → Among other opens.old → other.file_id < one.file_id }
     ensures opens { OnOk result (opens.new ≡ opens.old ++ one ∷ []) }
     ensures agrees { OnOk result (IsAtHome (key_of_open one) one.file opens.old → Agrees summaries.old opens.old
         → Agrees summaries.new opens.new) }

@@ -7,9 +7,11 @@ use Rattle.share_server.proofs.Tabling.{table_opened, below_new, opened_now}
 use Rattle.share_server.proofs.tables.Tables.open.Goals as goal
 
 pub add-requires : goal.add-requires
-add-requires c =
-    below_new c.self.inside.opens c.self.inside.summaries c.self.inside.last_id c.args.one.file_id c.self.invariant.1
-    (rw (← c.self.view_is) at c.requires.next)
+add-requires c = record {
+  here = c.requires.here;
+  last = below_new c.self.inside.opens c.self.inside.summaries c.self.inside.last_id c.args.one.file_id c.self.invariant.1
+      (rw (← c.self.view_is) at c.requires.next);
+}
 
 pub invariant_of-self : goal.invariant_of-self
 invariant_of-self c = (

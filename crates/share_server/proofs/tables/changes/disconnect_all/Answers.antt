@@ -10,7 +10,7 @@ loop-id-init c = disconnected_none c.args.opens.now
 pub loop-id-preserved : goal.loop-id-preserved
 loop-id-preserved c =
     rw (ids_more c.args.ids.now c.loop-id.id-index (record { 0 = 0 }) c.loop-id-test.true)
-    (c.disconnect.ensures ∙ (ap (map (disconnected_at _)) c.loop-id.invariant ∙ disconnected_more _ _ c.args.opens.now))
+    (c.in_ok-disconnect.ensures ∙ (ap (map (disconnected_at _)) c.loop-id.invariant ∙ disconnected_more _ _ c.args.opens.now))
 
 pub returns : goal.returns
 returns c =
