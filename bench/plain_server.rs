@@ -1,4 +1,5 @@
-// A file server written by hand in plain Rust over the same lists as crates/share_server, for bench/server.rs.
+// A file server written by hand in plain Rust, for bench/server.rs, over the tables of plain_lists.rs or of
+// plain_records.rs.
 
 type Key = (u8, [u8; 16]);
 
@@ -9,12 +10,17 @@ enum Access { Read, Write, ReadWrite }
 #[allow(dead_code)]
 enum Share { Nothing, Read, Write, ReadWrite }
 
+impl Share {
+    fn reads(self) -> bool { matches!(self, Share::Read | Share::ReadWrite) }
+    fn writes(self) -> bool { matches!(self, Share::Write | Share::ReadWrite) }
+}
+
 impl Access {
     fn reads(self) -> bool { self != Access::Write }
     fn writes(self) -> bool { self != Access::Read }
+    #[allow(dead_code)]
     fn within(self, share: Share) -> bool {
-        (!self.reads() || matches!(share, Share::Read | Share::ReadWrite))
-            && (!self.writes() || matches!(share, Share::Write | Share::ReadWrite))
+        (!self.reads() || share.reads()) && (!self.writes() || share.writes())
     }
 }
 
@@ -92,8 +98,7 @@ struct File { content: Vec<u8>, held: Vec<Held> }
 struct Server {
     files: Vec<File>,
     count: u8,
-    opens: Vec<Open>,
-    leases: Vec<(Key, Lease)>,
+    tables: Tables,
     present: Vec<u8>,
     expired: Vec<Key>,
     last_id: u64,
@@ -135,61 +140,10 @@ impl FileRequest {
 }
 
 impl Server {
-    fn lease(&self, key: Key) -> Lease {
-        self.leases.iter().find(|one| one.0 == key).map_or(NONE, |one| one.1)
-    }
-
-    fn lease_of(&self, one: &Open) -> Lease { one.key().map_or(NONE, |key| self.lease(key)) }
-
-    fn put_lease(&mut self, key: Key, lease: Lease) {
-        self.leases.retain(|one| one.0 != key);
-        self.leases.push((key, lease));
-    }
-
-    fn has_lease(&self, key: Key) -> bool { self.opens.iter().any(|one| one.has(key)) }
-
-    fn close_where(&mut self, closes: impl Fn(&Open) -> bool) {
-        self.opens.retain(|one| !closes(one));
-        let opens = &self.opens;
-        self.leases.retain(|lease| opens.iter().any(|one| one.has(lease.0)));
-    }
-
-    fn connected(&self, client: u8, fid: u64) -> Option<&Open> {
-        self.opens.iter().find(|one| one.fid == fid && one.client == client && one.connected)
-    }
-
-    fn other_on(&self, own: Option<Key>, file: u8) -> bool {
-        self.opens.iter().any(|one| one.file == file && !one.has_own(own))
-    }
-
-    fn conflicts(one: &Open, file: u8, access: Access, share: Share) -> bool {
-        one.file == file && !(access.within(one.share) && one.access.within(share))
-    }
-
-    fn is_wanted(&self, wish: Wish, own: Option<Key>, file: u8, one: &Open) -> bool {
-        let state = self.lease_of(one).state;
-        let other = one.file == file && !one.has_own(own);
-        match wish {
-            Wish::NoHandles(access, share) => Server::conflicts(one, file, access, share) && other && state & 2 != 0,
-            Wish::NoWrites => other && state & 4 != 0,
-            Wish::Nothing => other && state != 0,
-        }
-    }
-
     fn wants(&self, wish: Wish, own: Option<Key>, file: u8) -> Vec<Want> {
-        let mut keys: Vec<Key> = Vec::new();
-        for one in self.opens.iter().rev() {
-            if self.is_wanted(wish, own, file, one) {
-                if let Some(key) = one.key() {
-                    if let Err(place) = keys.binary_search(&key) {
-                        keys.insert(place, key);
-                    }
-                }
-            }
-        }
         let mut wants = Vec::new();
-        for key in keys {
-            let state = self.lease(key).state;
+        for key in self.tables.wanted(wish, own, file) {
+            let state = self.tables.lease(key).state;
             let lowered = match wish {
                 Wish::NoHandles(..) => state & 5,
                 Wish::NoWrites => state & 3,
@@ -201,10 +155,10 @@ impl Server {
     }
 
     fn open_finding(&self, own: Option<Key>, file: u8, access: Access, share: Share) -> Finding {
-        if own.is_some_and(|key| self.opens.iter().any(|one| one.has(key) && one.file != file)) {
+        if own.is_some_and(|key| self.tables.is_elsewhere(key, file)) {
             return Finding::Fails(Status::InvalidParameter);
         }
-        if !self.opens.iter().any(|one| Server::conflicts(one, file, access, share)) {
+        if !self.tables.has_conflict_on(file, access, share) {
             return Finding::Needs(self.wants(Wish::NoWrites, own, file));
         }
         let wants = self.wants(Wish::NoHandles(access, share), own, file);
@@ -222,9 +176,9 @@ impl Server {
                     None => self.open_finding(own, file, access, share),
                     Some(fid) => {
                         let awaits = |one: &Open| {
-                            one.fid == fid && !one.connected && one.client == client && one.file == file && one.has_own(own)
+                            !one.connected && one.client == client && one.file == file && one.has_own(own)
                         };
-                        if self.opens.iter().any(awaits) {
+                        if self.tables.open(fid).is_some_and(awaits) {
                             Finding::Needs(Vec::new())
                         } else {
                             Finding::Fails(Status::NotFound)
@@ -251,9 +205,9 @@ impl Server {
     }
 
     fn meet(&mut self, outs: &mut Vec<Out>, want: &Want) {
-        self.close_where(|one| one.has(want.key) && !one.connected);
-        let lease = self.lease(want.key);
-        if !self.has_lease(want.key) || lease.broken_to.is_some() {
+        self.tables.close_left(want.key);
+        let lease = self.tables.lease(want.key);
+        if !self.tables.has_lease(want.key) || lease.broken_to.is_some() {
             return;
         }
         let needs_ack = lease.state & 6 != 0;
@@ -262,7 +216,7 @@ impl Server {
         } else {
             Lease { state: want.lowered, broken_to: None }
         };
-        self.put_lease(want.key, after);
+        self.tables.put_lease(want.key, after);
         let mut message = [0; 44];
         message[0] = 44;
         message[4] = u8::from(needs_ack);
@@ -279,7 +233,7 @@ impl Server {
                 Finding::Fails(status) => return Outcome::Refused(status),
                 Finding::Needs(wants) => wants,
             };
-            let to_nothing = |want: &Want| self.lease(want.key).broken_to == Some(0);
+            let to_nothing = |want: &Want| self.tables.lease(want.key).broken_to == Some(0);
             let ready = if writes { wants.iter().all(to_nothing) } else { wants.is_empty() };
             if ready {
                 return Outcome::Ready;
@@ -288,7 +242,7 @@ impl Server {
                 self.meet(outs, want);
             }
             let waits = |lease: Lease| lease.broken_to.is_some_and(|state| !writes || state != 0);
-            if wants.iter().any(|want| waits(self.lease(want.key))) {
+            if wants.iter().any(|want| waits(self.tables.lease(want.key))) {
                 return Outcome::Waits;
             }
         }
@@ -296,23 +250,19 @@ impl Server {
     }
 
     fn lease_after(&self, key: Key, file: u8, want: u8) -> Lease {
-        let lease = self.lease(key);
+        let lease = self.tables.lease(key);
         let form = granted(want);
         if lease.broken_to.is_some() || lease.state & !form != 0 {
             return lease;
         }
-        let state = if self.expired.contains(&key) { 0 } else if self.other_on(Some(key), file) { form & 3 } else { form };
+        let state = if self.expired.contains(&key) { 0 } else if self.tables.has_other_on(Some(key), file) { form & 3 } else { form };
         Lease { state, broken_to: None }
     }
 
     fn create(&mut self, outs: &mut Vec<Out>, client: u8, file: u8, access: Access, share: Share, ask: CreateAsk) {
         if let Some(fid) = ask.reconnect {
-            let lease = ask.lease.map(|asked| (asked.0, self.lease((client, asked.0))));
-            for one in &mut self.opens {
-                if one.fid == fid {
-                    one.connected = true;
-                }
-            }
+            let lease = ask.lease.map(|asked| (asked.0, self.tables.lease((client, asked.0))));
+            self.tables.connect_again(fid);
             outs.push(Out::Sent(client, Reply::Created { file, fid, contexts: answer(lease, false) }));
             return;
         }
@@ -324,11 +274,9 @@ impl Server {
         let durable = ask.durable && lease.is_some_and(|lease| lease.1.state & 2 != 0);
         self.last_id += 1;
         let fid = self.last_id;
-        if let Some((bytes, lease)) = lease {
-            self.put_lease((client, bytes), lease);
-        }
         let key = ask.lease.map(|asked| asked.0);
-        self.opens.push(Open { fid, client, file, key, access, share, durable, connected: true });
+        let one = Open { fid, client, file, key, access, share, durable, connected: true };
+        self.tables.push(one, lease.map_or(NONE, |lease| lease.1));
         outs.push(Out::Opened(file, client));
         outs.push(Out::Sent(client, Reply::Created { file, fid, contexts: answer(lease, durable) }));
     }
@@ -354,7 +302,7 @@ impl Server {
             }
             FileRequest::Close { fid } => {
                 if self.connected(client, fid).is_some() {
-                    self.close_where(|one| one.fid == fid);
+                    self.tables.close(fid);
                     outs.push(Out::Sent(client, Reply::Closed { fid }));
                 }
             }
@@ -367,6 +315,10 @@ impl Server {
             Outcome::Waits => {}
             Outcome::Ready => self.answer(outs, client, request),
         }
+    }
+
+    fn connected(&self, client: u8, fid: u64) -> Option<&Open> {
+        self.tables.open(fid).filter(|one| one.client == client && one.connected)
     }
 
     fn pass(&mut self, outs: &mut Vec<Out>, file: usize) -> bool {
@@ -428,15 +380,15 @@ impl Server {
         }
         let key = (client, message[8..24].try_into().unwrap());
         let state = message[24] & 7;
-        if !self.has_lease(key) {
+        if !self.tables.has_lease(key) {
             outs.push(fail(Status::NotFound));
             return;
         }
-        match self.lease(key).broken_to {
+        match self.tables.lease(key).broken_to {
             None => outs.push(fail(Status::Unsuccessful)),
             Some(lowered) if state & !lowered == 0 => {
                 let state = granted(state);
-                self.put_lease(key, Lease { state, broken_to: None });
+                self.tables.put_lease(key, Lease { state, broken_to: None });
                 outs.push(Out::Sent(client, Reply::AckDone(ack_message(&key.1, state))));
             }
             Some(_) => outs.push(fail(Status::NotAccepted)),

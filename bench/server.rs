@@ -3,6 +3,10 @@ use std::env;
 use std::process::exit;
 
 include!("plain_server.rs");
+#[cfg(not(records))]
+include!("plain_lists.rs");
+#[cfg(records)]
+include!("plain_records.rs");
 
 fn key_of(file: u8) -> [u8; 16] {
     [file, 1, 2, 3, 4, 5, 6, 7, 8, 9, 10, 11, 12, 13, 14, 15]
@@ -56,17 +60,17 @@ fn weight(out: &Out) -> u64 {
     }
 }
 
-fn session(calls: u32, standing: u32) -> u64 {
+fn session(calls: u32, standing: u32, same: bool) -> u64 {
     let mut files: Vec<File> = (0..256).map(|_| File { content: Vec::new(), held: Vec::new() }).collect();
     for file in &mut files[1..=9] {
         file.content.extend_from_slice(b"abc");
     }
     let present = (1..=8).collect();
-    let (opens, leases, expired) = (Vec::new(), Vec::new(), Vec::new());
-    let mut server = Server { files, count: 9, opens, leases, present, expired, last_id: 0 };
-    for _ in 0..standing {
+    let mut server = Server { files, count: 9, tables: Tables::new(), present, expired: Vec::new(), last_id: 0 };
+    for number in 0..standing {
         let (access, share) = (Access::ReadWrite, Share::ReadWrite);
-        server.receive(8, Request::Create { file: 9, access, share, contexts: Vec::new() });
+        let file = if same { (number % 8 + 1) as u8 } else { 9 };
+        server.receive(8, Request::Create { file, access, share, contexts: Vec::new() });
     }
     let mut sum = 0u64;
     for number in 0..calls {
@@ -81,5 +85,6 @@ fn session(calls: u32, standing: u32) -> u64 {
 fn main() {
     let Some(calls) = env::args().nth(1).and_then(|word| word.parse().ok()) else { exit(2) };
     let standing = env::args().nth(2).and_then(|word| word.parse().ok()).unwrap_or(0);
-    println!("{}", session(calls, standing));
+    let same = env::args().nth(3).is_some_and(|word| word == "same");
+    println!("{}", session(calls, standing, same));
 }

@@ -1,7 +1,7 @@
 //! A session of a file server with eight clients on eight files, for `bench/server` to time from outside:
 //! each client opens a file, writes and reads it; another opens it too, which breaks the first one's lease;
-//! the first acknowledges that, and both close. A second word is how many opens stand on a ninth file all the
-//! while.
+//! the first acknowledges that, and both close. A second word is how many opens stand all the while: on a ninth
+//! file, or, where the third word is `same`, on the session's files.
 #![tactic(auto)]
 
 use lease_state::{
@@ -38,14 +38,33 @@ fn new_server(alloc: Global) -> Result<Server, Memory> {
     Server::new(alloc, files)
 }
 
-fn joined(alloc: Global, standing: u32) -> Result<Server, Memory> {
+// The opens that stand all the while.
+#[derive(Clone, Copy)]
+struct Standing {
+    count: u32,
+    /// Whether they are on the session's files, and not on the ninth.
+    same_files: bool,
+}
+
+impl Standing {
+    fn file(self, number: u32) -> u8 {
+        if self.same_files {
+            (number % COUNT + 1) as u8
+        } else {
+            9
+        }
+    }
+}
+
+fn joined(alloc: Global, standing: Standing) -> Result<Server, Memory> {
     let mut server = new_server(alloc)?;
     for client in 1..=8u8 {
         let (next, _) = server.join(ClientNo(client))?;
         server = next;
     }
-    for _open in 0..standing {
-        let (next, _) = server.receive(ClientNo(8), create(alloc, 9, b"")?)?;
+    for number in 0..standing.count {
+        let asked = create(alloc, standing.file(number), b"")?;
+        let (next, _) = server.receive(ClientNo(8), asked)?;
         server = next;
     }
     Ok(server)
@@ -159,11 +178,11 @@ fn call(
     Ok((server, weights(&outs)))
 }
 
-fn session(alloc: Global, calls: u32, standing: u32) -> Result<u64, Memory> {
+fn session(alloc: Global, calls: u32, standing: Standing) -> Result<u64, Memory> {
     let mut server = joined(alloc, standing)?;
     let mut sum = 0u64;
     for number in 0..calls {
-        let (next, more) = call(alloc, server, number, standing)?;
+        let (next, more) = call(alloc, server, number, standing.count)?;
         server = next;
         sum = sum.wrapping_add(more);
     }
@@ -177,10 +196,15 @@ fn words_given<R: Env + AllocGlobal>(rt: &R) -> io::Result<Vec<String>> {
 
 fn sum_of(alloc: Global, words: &[String]) -> Option<u64> {
     let calls = words.first()?.as_str().parse::<u32>().ok()?;
-    let standing = match words.get(1) {
+    let count = match words.get(1) {
         Some(word) => word.as_str().parse::<u32>().ok()?,
         None => 0,
     };
+    let same_files = match words.get(2) {
+        Some(word) => word.as_str() == "same",
+        None => false,
+    };
+    let standing = Standing { count, same_files };
     session(alloc, calls, standing).ok()
 }
 
