@@ -1,7 +1,6 @@
 -- The opens that wait for their clients, as opens come, go, are left and are connected again.
 use Rattle.std.proofs.Common.{◌≡◌, inl, inr, ℕ, ◌<◌, Bool, true, false, not, List, [], ◌∷◌, ◌++◌, map, filter, length, drop, get_or, refl, ap, ap₂, sym, ◌∙◌, arith, subst, true≢false}
 use Rattle.std.specs.Prelude.{bytes_eq, if◌then◌else◌, ◌==◌, ◌&&◌, Option, Some, None, find}
-use Rattle.std.specs.BTreeMap.{is_at}
 use Rattle.std.specs.BTreeSet.{insert_key}
 use Rattle.std.specs.List.{list_any, slice_get}
 use Rattle.std.specs.Option.{option_map}

@@ -1,6 +1,6 @@
 -- The map of the opens that wait, as it changes at one client and file.
-use Rattle.std.proofs.Common.{◌≡◌, ℕ, Bool, true, false, [], refl, ap₂, sym, ◌∙◌, arith, subst}
-use Rattle.std.specs.Prelude.{if◌then◌else◌, ◌==◌, ◌&&◌, Option, Some, None}
+use Rattle.std.proofs.Common.{◌≡◌, true, [], refl, ap₂, sym, arith, subst}
+use Rattle.std.specs.Prelude.{if◌then◌else◌, ◌==◌, Some, None}
 use Rattle.std.specs.BTreeMap.{BTreeMap, Updates, get, is_at}
 use Rattle.std.specs.BTreeSet.{BTreeSet, insert_key}
 use Rattle.std.proofs.lemmas.Bool.Decides.{nat_tests, Decides-eqb}
