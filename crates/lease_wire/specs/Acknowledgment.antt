@@ -1,9 +1,10 @@
 -- The lease break acknowledgment (MS-SMB2 2.2.24.2) and the lease break response (2.2.25.2): which
 -- 36 bytes stand for which value. Their two layouts are one, field by field.
-use Rattle.std.specs.Prelude.{◌≡◌, ℕ, ◌≤◌, ◌++◌, List, length, take, drop}
+use Rattle.std.specs.Prelude.{◌≡◌, ℕ, ◌≤◌, ◌++◌, List, length, take, drop, Option, Some, None, if◌then◌else◌}
 use Rattle.byteorder.specs.Endian.{little_bytes}
 use Rattle.lease_state.specs.State.{State, state_of, state_of_bits, bits_of_state}
 use Rattle.lease_wire.specs.Field.{number_at, bytes_at}
+use Rattle.lease_wire.specs.Notification.{Notice}
 use Rattle.lease_wire.specs.declared.acknowledgment.Acknowledgment.{Acknowledgment}
 use Rattle.lease_wire.specs.declared.acknowledgment.BreakResponse.{BreakResponse}
 
@@ -17,6 +18,10 @@ acknowledged_of message = record { key = message.key.0; state = state_of message
 
 abbrev pub responded_of : BreakResponse → KeyAndState
 responded_of message = record { key = message.key.0; state = state_of message.state }
+
+-- 3.2.5.19.2: the acknowledgment keeps what the break leaves; without ACK_REQUIRED none is due
+abbrev pub acknowledgment_due : Notice → Option KeyAndState
+acknowledgment_due v = if v.ack_required then Some (record { key = v.key; state = v.new }) else None
 
 -- The bytes hold the value. Reserved, Flags and LeaseDuration are free: nothing is said of them.
 pub record IsAcknowledgment (bytes : List ℕ) (v : KeyAndState) : Type 0 where

@@ -6,6 +6,7 @@ ghost use Rattle.lease_wire.specs.WireFaults.{message_fault};
 
 use crate::fault::WireFault;
 use crate::field::{key_at, state_at};
+use crate::notification::Notification;
 use byteorder::{ByteOrder, LittleEndian};
 use lease_state::{LeaseKey, LeaseState};
 
@@ -25,7 +26,23 @@ pub struct Acknowledgment {
 }
 
 impl Acknowledgment {
-    ghost use Rattle.lease_wire.specs.Acknowledgment.{acknowledged_of};
+    ghost use Rattle.std.specs.Option.{option_map};
+    ghost use Rattle.lease_wire.specs.Acknowledgment.{acknowledged_of, acknowledgment_due};
+    ghost use Rattle.lease_wire.specs.Notification.{notice_of};
+
+    /// The acknowledgment that a break asks for (MS-SMB2 3.2.5.19.2): of the notification's key,
+    /// with the state that the lease is broken to. None where ACK_REQUIRED is not set.
+    pub fn due(notification: &Notification) -> Option<Acknowledgment>
+        ensures { option_map acknowledged_of result ≡ acknowledgment_due (notice_of notification.now) }
+    {
+        if !notification.ack_required {
+            return None;
+        }
+        Some(Acknowledgment {
+            key: notification.key,
+            state: notification.new,
+        })
+    }
 
     /// How many bytes an acknowledgment takes, without the SMB2 header.
     pub const SIZE: usize = SIZE;

@@ -1,7 +1,8 @@
-ghost use Rattle.std.specs.Prelude.{[], ◌∷◌, ◌≡◌, ◌≢◌, ◌+◌, ◌^◌, ◌<◌, ◌≤◌, length, IfOk, MatchResult};
+ghost use Rattle.std.specs.Prelude.{[], ◌∷◌, ◌≡◌, ◌≢◌, ◌+◌, ◌^◌, ◌<◌, ◌≤◌, length, drop, IfOk, MatchResult};
+ghost use Rattle.std.specs.Result.{result_err};
 ghost use Rattle.lease_wire.specs.Field.{bytes_at};
 ghost use Rattle.lease_wire.specs.Chain.{next_of};
-ghost use Rattle.lease_wire.specs.Reading.{items_of, items_behind, items_after};
+ghost use Rattle.lease_wire.specs.Reading.{items_of, items_behind, items_after, context_at, layout_fault};
 ghost use Rattle.lease_wire.specs.Contexts.{view_of, items_left};
 ghost use Rattle.lease_wire.specs.Faults.{AreItemsOf};
 
@@ -145,7 +146,10 @@ pub(crate) fn read_context<'a>(
     ensures items { MatchResult result
         (λ r. items_behind place 0 bytes.now ≡ Ok (view_of r.0) ∷ items_after place r.1 bytes.now)
         (λ fault. items_behind place 0 bytes.now ≡ Err fault ∷ []) }
+    ensures fault { result_err result ≡ layout_fault place bytes.now }
+    ensures parts { IfOk result (λ r. (view_of r.0 ≡ context_at place bytes.now) × (r.1 ≡ next_of bytes.now)) }
     ensures next { IfOk result (λ r. r.1 ≤ length bytes.now) }
+    ensures header { IfOk result (λ r. 16 ≤ length bytes.now) }
 {
     if bytes.len() < 16 {
         return Err(WireFault::Short(place));
@@ -160,4 +164,32 @@ pub(crate) fn read_context<'a>(
         body: part(bytes, header.data_offset, header.data_length),
     };
     Ok((context, header.next))
+}
+
+// The bytes from a place on: none where there are no more.
+fn bytes_from(bytes: &[u8], place: usize) -> &[u8]
+    ensures { result.now ≡ drop place bytes.now }
+{
+    bytes.get(place..).unwrap_or(&[])
+}
+
+/// The context that begins at a place of the text, for those who keep the place themselves in the
+/// stead of an iterator: with it its Next, from this context's start to the next one's, or 0 in
+/// the last.
+///
+/// # Errors
+///
+/// The first test of the layout that it fails, with the place; `Short` where the text ends before
+/// the place.
+pub fn read_context_at(bytes: &[u8], place: usize) -> Result<(Context<'_>, usize), WireFault>
+    ensures items { MatchResult result
+        (λ r. items_behind place 0 (drop place bytes.now) ≡ Ok (view_of r.0) ∷ items_after place r.1 (drop place bytes.now))
+        (λ fault. items_behind place 0 (drop place bytes.now) ≡ Err fault ∷ []) }
+    ensures fault { result_err result ≡ layout_fault place (drop place bytes.now) }
+    ensures parts { IfOk result (λ r. (view_of r.0 ≡ context_at place (drop place bytes.now)) × (r.1 ≡ next_of (drop place bytes.now))) }
+    ensures within { IfOk result (λ r. (16 + place ≤ length bytes.now) × (place + r.1 ≤ length bytes.now)) }
+{
+    let rest = bytes_from(bytes, place);
+    let (context, next) = read_context(place, rest)?;
+    Ok((context, next))
 }

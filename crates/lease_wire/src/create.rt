@@ -2,11 +2,14 @@ use lease_state::{FileId, LeaseKey, LeaseState};
 
 mod meaning;
 mod reading;
+mod text;
 mod writing;
 
 pub use meaning::Lease;
 pub use reading::{ContextValues, read_create, read_create_reply, reading_laws};
-pub use writing::{canonical_laws, write_create_ask, write_create_reply};
+pub use writing::{
+    canonical_laws, fill_create_ask, fill_create_reply, write_create_ask, write_create_reply,
+};
 
 /// What the create contexts of a CREATE request ask for (MS-SMB2 2.2.13.2).
 #[derive(Clone, Copy, Debug, PartialEq, Eq)]

@@ -32,10 +32,11 @@ mod notification;
 mod tests;
 
 pub use acknowledgment::{Acknowledgment, BreakResponse, acknowledgment_laws};
-pub use chain::{Context, Contexts, contexts, contexts_laws};
+pub use chain::{Context, Contexts, contexts, contexts_laws, read_context_at};
 pub use create::{
-    ContextValues, CreateAnswer, CreateAsk, Direction, Lease, canonical_laws, read_create,
-    read_create_reply, reading_laws, write_create_ask, write_create_reply,
+    ContextValues, CreateAnswer, CreateAsk, Direction, Lease, canonical_laws, fill_create_ask,
+    fill_create_reply, read_create, read_create_reply, reading_laws, write_create_ask,
+    write_create_reply,
 };
 pub use fault::WireFault;
 pub use notification::{Notification, notification_laws};

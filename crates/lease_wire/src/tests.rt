@@ -1,6 +1,7 @@
 use crate::{
     Acknowledgment, BreakResponse, Context, CreateAnswer, CreateAsk, Notification, WireFault,
-    contexts, read_create, read_create_reply, write_create_ask, write_create_reply,
+    contexts, fill_create_ask, fill_create_reply, read_context_at, read_create, read_create_reply,
+    write_create_ask, write_create_reply,
 };
 use lease_state::{FileId, LeaseKey, LeaseState};
 use std::test::Fail;
@@ -91,6 +92,58 @@ fn writes_a_response(rt: HostRuntime) -> Result<(), Fail> {
     let text = b"\0\0\0\0\x10\0\x04\0\0\0\x18\0\x08\0\0\0DHnQ\0\0\0\0\0\0\0\0\0\0\0\0";
     assert_eq!(&rt; out.as_slice(), text.as_slice());
     Ok(())
+}
+
+#[test]
+fn fills_room_that_is_long_enough(rt: HostRuntime) {
+    let ask = CreateAsk {
+        lease: Some((KEY, LeaseState::from_wire(3))),
+        durable: true,
+        reconnect: None,
+    };
+    let mut room = [7u8; 98];
+    assert_eq!(rt; fill_create_ask(&ask, &mut room[..95]), 96);
+    assert!(rt; room == [7; 98]);
+    assert_eq!(rt; fill_create_ask(&ask, &mut room[..96]), 96);
+    assert_eq!(rt; &room[..96], ASK.as_slice());
+    assert_eq!(rt; &room[96..], [7, 7].as_slice());
+    let durable = CreateAnswer {
+        lease: None,
+        durable: true,
+    };
+    assert_eq!(rt; fill_create_reply(&durable, &mut room), 32);
+    let text = b"\0\0\0\0\x10\0\x04\0\0\0\x18\0\x08\0\0\0DHnQ\0\0\0\0\0\0\0\0\0\0\0\0";
+    assert_eq!(rt; &room[..32], text.as_slice());
+}
+
+#[test]
+fn reads_the_context_at_a_place(rt: HostRuntime) {
+    let text = ASK.as_slice();
+    let durable = Context {
+        place: 56,
+        name: b"DHnQ",
+        body: &text[80..],
+    };
+    assert_eq!(rt; read_context_at(text, 56), Ok((durable, 0)));
+    assert_eq!(rt; read_context_at(text, 97), Err(WireFault::Short(97)));
+    assert_eq!(rt; read_context_at(text, 0).ok().map(|read| read.1), Some(56));
+}
+
+#[test]
+fn answers_a_break_that_asks_for_it(rt: HostRuntime) {
+    let mut message = Notification {
+        ack_required: true,
+        key: KEY,
+        current: LeaseState::from_wire(7),
+        new: LeaseState::from_wire(3),
+    };
+    let state = LeaseState::from_wire(3);
+    assert_eq!(rt;
+        Acknowledgment::due(&message),
+        Some(Acknowledgment { key: KEY, state })
+    );
+    message.ack_required = false;
+    assert_eq!(rt; Acknowledgment::due(&message), None);
 }
 
 #[test]

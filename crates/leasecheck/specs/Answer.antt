@@ -1,13 +1,9 @@
 -- What a break notification is answered with (MS-SMB2 3.2.5.19.2), and the line that tells it.
-use Rattle.std.specs.Prelude.{◌≡◌, ℕ, ◌-◌, ◌==◌, ◌++◌, List, [], ◌∷◌, length, take, codes, if◌then◌else◌, Option, Some, None}
+use Rattle.std.specs.Prelude.{◌≡◌, ℕ, ◌-◌, ◌==◌, ◌++◌, List, [], ◌∷◌, length, take, codes, if◌then◌else◌}
 use Rattle.std.specs.Fmt.{decimal}
 use Rattle.hex.specs.Hex.{encode_lower}
 use Rattle.lease_wire.specs.Notification.{Notice, IsNotification}
-use Rattle.lease_wire.specs.Acknowledgment.{KeyAndState, acknowledgment_bytes}
-
--- the acknowledgment keeps what the break leaves; without ACK_REQUIRED none is sent
-abbrev pub answer_of : Notice → Option KeyAndState
-answer_of v = if v.ack_required then Some (record { key = v.key; state = v.new }) else None
+use Rattle.lease_wire.specs.Acknowledgment.{acknowledgment_bytes}
 
 -- its 36 bytes as digits, or that none is due; a line feed ends it
 abbrev pub answer_line : Notice → List ℕ

@@ -1,35 +1,19 @@
 ghost use Rattle.std.specs.Prelude.{◌≡◌, ◌++◌, IfOk, OnOk};
-ghost use Rattle.std.specs.Option.{option_map};
 ghost use Rattle.std.specs.String.{string_bytes};
-ghost use Rattle.lease_wire.specs.Acknowledgment.{acknowledged_of};
 ghost use Rattle.lease_wire.specs.Notification.{notice_of};
 ghost use Rattle.lease_wire.specs.WireFaults.{message_fault};
-ghost use Rattle.leasecheck.specs.Answer.{answer_of, answer_line, rest_line, AnswersWith};
+ghost use Rattle.leasecheck.specs.Answer.{answer_line, rest_line, AnswersWith};
 ghost use Rattle.leasecheck.specs.Refusals.{RefusesExactly};
 
 use crate::failure::Failure;
 use lease_wire::{Acknowledgment, Notification};
 use std::alloc::{AllocError, Global};
 
-/// The acknowledgment that a break asks for (MS-SMB2 3.2.5.19.2): of the notification's key, with
-/// the state that the lease is broken to. None where ACK_REQUIRED is not set.
-pub fn answer(notification: &Notification) -> Option<Acknowledgment>
-    ensures { option_map acknowledged_of result ≡ answer_of (notice_of notification.now) }
-{
-    if !notification.ack_required {
-        return None;
-    }
-    Some(Acknowledgment {
-        key: notification.key,
-        state: notification.new,
-    })
-}
-
 // The line of the acknowledgment, or that none is due.
 fn answer_text(alloc: Global, notification: &Notification) -> Result<String, AllocError>
     ensures { IfOk result (λ text. string_bytes text ≡ answer_line (notice_of notification.now)) }
 {
-    match answer(notification) {
+    match Acknowledgment::due(notification) {
         Some(acknowledgment) => {
             let digits = hex::encode(alloc, acknowledgment.encode())?;
             format!(in alloc; "{digits}\n")

@@ -8,6 +8,10 @@ pub returns-then-bytes-lt16-clause-items : goal.returns-then-bytes-lt16-clause-i
 unfolding layout_fault
 returns-then-bytes-lt16-clause-items c = items_behind-fault c.args.place _ _ (short_fault c.args.place _ _ c.if-bytes-lt16.true)
 
+pub returns-then-bytes-lt16-clause-fault : goal.returns-then-bytes-lt16-clause-fault
+unfolding layout_fault
+returns-then-bytes-lt16-clause-fault c = sym (short_fault c.args.place _ _ c.if-bytes-lt16.true)
+
 pub part-requires-clause-within : goal.part-requires-clause-within
 part-requires-clause-within c = λ more. name_inside c.args.place _ c.read-header.result (sym c.fault.ensures ∙ c.in_default.is)
 

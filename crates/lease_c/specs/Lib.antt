@@ -1,0 +1,4 @@
+pub mod Flag
+pub mod Told
+pub mod Create
+pub mod Messages
