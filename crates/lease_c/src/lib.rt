@@ -4,10 +4,14 @@
 //! any number in any field. A fault is told by the result, and nothing is written then.
 #![tactic(auto)]
 
+mod context;
 mod create;
 mod fault;
 mod messages;
+#[cfg(test)]
+mod tests;
 
+pub use context::LeaseContext;
 pub use create::{LeaseCreateAnswer, LeaseCreateAsk};
 pub use fault::LeaseFault;
 pub use messages::{LeaseAcknowledgment, LeaseNotification, LeaseResponse};

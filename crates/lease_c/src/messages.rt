@@ -159,7 +159,8 @@ pub extern "C" fn lease_write_notification(message: &LeaseNotification, room: &m
     ensures written { 44 ≤ length room.old → room.new ≡ notification_bytes (notice_held message.now) ++ drop 44 room.old }
     ensures no_room { length room.old < 44 → room.new ≡ room.old }
 {
-    fill(room, &message.value().encode())
+    let notification = message.value();
+    fill(room, &notification.encode())
 }
 
 /// Reads a lease break acknowledgment (MS-SMB2 2.2.24.2) from the front of `bytes` into `out`. Other
@@ -197,7 +198,8 @@ pub extern "C" fn lease_write_acknowledgment(
     ensures written { 36 ≤ length room.old → room.new ≡ acknowledgment_bytes (acknowledged_held message.now) ++ drop 36 room.old }
     ensures no_room { length room.old < 36 → room.new ≡ room.old }
 {
-    fill(room, &message.value().encode())
+    let acknowledgment = message.value();
+    fill(room, &acknowledgment.encode())
 }
 
 /// Reads a lease break response (MS-SMB2 2.2.25.2), as [`lease_read_acknowledgment`] an
@@ -227,7 +229,8 @@ pub extern "C" fn lease_write_response(message: &LeaseResponse, room: &mut [u8])
     ensures written { 36 ≤ length room.old → room.new ≡ acknowledgment_bytes (responded_held message.now) ++ drop 36 room.old }
     ensures no_room { length room.old < 36 → room.new ≡ room.old }
 {
-    fill(room, &message.value().encode())
+    let response = message.value();
+    fill(room, &response.encode())
 }
 
 /// Gives whether a break asks for an acknowledgment (MS-SMB2 3.2.5.19.2), and writes it to `out`
