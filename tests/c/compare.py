@@ -1,20 +1,14 @@
 #!/usr/bin/env python3
-"""Compares two C programs with leasecheck over 2,000 damaged texts: compare.py ACK SHOW.
+"""Compares two C programs with leasecheck over 2,000 damaged texts: compare.py ACK SHOW LEASECHECK.
 
 ACK is examples/c/ack.c and SHOW is tests/c/show.c, as they were built. For each text what goes to standard
-output and to standard error has to be the same, and so has the exit status. leasecheck is built from its sources
-without a proof, which `rt ci` makes.
+output and to standard error has to be the same, and so has the exit status.
 """
-import os
-import pathlib
 import random
-import re
 import subprocess
 import sys
-import tempfile
 
 COUNT = 2000
-TOP = pathlib.Path(__file__).resolve().parents[2]
 KEY = bytes(range(16))
 
 
@@ -83,48 +77,26 @@ def cases():
         digits = damaged(rng, message(rng, kind)).hex()
         if kind == "acknowledge" and turn % 10 == 0:
             digits = digits[:-1] if turn % 20 == 0 else digits.upper() + rng.choice(["g ", "0G", "AA"])
-        yield "%04d" % turn, ["ack", digits] if kind == "acknowledge" else ["show", kind, digits]
+        yield ["ack", digits] if kind == "acknowledge" else ["show", kind, digits]
 
 
-def by_leasecheck(all_cases):
-    """For each case what leasecheck printed, told as a fault, and its status."""
-    with tempfile.TemporaryDirectory() as folder:
-        for name, words in all_cases:
-            pathlib.Path(folder, name).write_bytes(b"")
-            pathlib.Path(folder, name + ".args").write_text("\n".join(words) + "\n")
-        done = subprocess.run(["rt", "try", "--cases", folder], cwd=TOP / "crates/leasecheck", capture_output=True,
-                              text=True, check=False)
-    printed = {}
-    for part in re.split(r"^== ", done.stdout, flags=re.M)[1:]:
-        name, _, text = part.partition("\n")
-        printed[name] = text
-    answers, told = {}, ""
-    for line in done.stderr.splitlines(keepends=True):
-        ended = re.match(r"case=(\d+) run=ended status=(\d+) ", line)
-        if ended:
-            answers[ended[1]] = (printed.get(ended[1], ""), told, int(ended[2]))
-            told = ""
-        elif line.startswith("fault "):
-            told += line
-    if len(answers) != len(all_cases):
-        sys.exit("leasecheck answered %d of %d texts:\n%s" % (len(answers), len(all_cases), done.stderr[-2000:]))
-    return answers
+def answer(command):
+    """What a program prints on its two streams, and its exit status."""
+    done = subprocess.run(command, capture_output=True, text=True, check=False)
+    return done.stdout, done.stderr, done.returncode
 
 
 def main():
-    ack, show = sys.argv[1:3]
-    all_cases = list(cases())
-    expected = by_leasecheck(all_cases)
+    ack, show, leasecheck = sys.argv[1:4]
     differing, faults = 0, 0
-    for name, words in all_cases:
-        command = [ack, words[1]] if words[0] == "ack" else [show, *words[1:]]
-        done = subprocess.run(command, capture_output=True, text=True, check=False, env=os.environ)
-        answer = (done.stdout, done.stderr, done.returncode)
-        faults += expected[name][2] != 0
-        if answer != expected[name]:
+    for words in cases():
+        expected = answer([leasecheck, *words])
+        given = answer([ack, words[1]] if words[0] == "ack" else [show, *words[1:]])
+        faults += expected[2] != 0
+        if given != expected:
             differing += 1
-            print("differs at", *words, "\n  C:", answer, "\n  leasecheck:", expected[name], file=sys.stderr)
-    print("%d texts compared, %d of them with a fault, %d differ" % (len(all_cases), faults, differing))
+            print("differs at", *words, "\n  C:", given, "\n  leasecheck:", expected, file=sys.stderr)
+    print("%d texts compared, %d of them with a fault, %d differ" % (COUNT, faults, differing))
     sys.exit(differing != 0)
 
 

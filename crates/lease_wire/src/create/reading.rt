@@ -78,6 +78,7 @@ impl ContextValues {
 }
 
 // What the contexts of a text ask for or grant, or the first fault.
+#[inline(always)]
 #[tactic(auto, unfolding(crate::specs::Gathering::gathered))]
 fn gather(direction: Direction, bytes: &[u8]) -> Result<ContextValues, WireFault>
     ensures { values_result result ≡ value_of direction bytes.now }

@@ -1,0 +1,44 @@
+/* Reads or writes create contexts many times by the calls of lease.h, as the program wire_bench does:
+   contexts read|write COUNT. */
+#include <lease.h>
+#include <stdio.h>
+#include <stdlib.h>
+#include <string.h>
+
+/* A request with a lease of RWH, a foreign context and a durable open. */
+static const char chain[] =
+    "\x38\0\0\0\x10\0\x04\0\0\0\x18\0\x20\0\0\0RqLs\0\0\0\0"
+    "\0\x01\x02\x03\x04\x05\x06\x07\x08\x09\x0a\x0b\x0c\x0d\x0e\x0f\x07\0\0\0\0\0\0\0\0\0\0\0\0\0\0\0"
+    "\x18\0\0\0\x10\0\x04\0\xff\xff\0\0\0\0\0\0MxAc\0\0\0\0"
+    "\0\0\0\0\x10\0\x04\0\0\0\x18\0\x10\0\0\0DHnQ\0\0\0\0\0\0\0\0\0\0\0\0\0\0\0\0\0\0\0\0";
+
+static uint64_t read_many(uint32_t count) {
+    uint8_t text[120];
+    uint64_t sum = 0;
+    struct lease_create_ask ask = {{0}, 0, 0, 0, 0, 0};
+    memcpy(text, chain, sizeof text);
+    for (uint32_t turn = 0; turn < count; turn++) {
+        text[24] = (uint8_t)turn;
+        if (lease_read_create_ask(text, sizeof text, &ask).kind == LEASE_NO_FAULT && ask.has_lease) sum += ask.key[0];
+    }
+    return sum;
+}
+
+static uint64_t write_many(uint32_t count) {
+    uint8_t room[LEASE_CREATE_ASK_MOST] = {0};
+    uint64_t sum = 0;
+    for (uint32_t turn = 0; turn < count; turn++) {
+        struct lease_create_ask ask = {{0}, 0, 3, 1, 1, 0};
+        memset(ask.key, (uint8_t)turn, sizeof ask.key);
+        if (lease_write_create_ask(&ask, room, sizeof room) > 30) sum += room[30];
+    }
+    return sum;
+}
+
+int main(int argc, char **argv) {
+    if (argc != 3) return 2;
+    uint32_t count = (uint32_t)strtoul(argv[2], NULL, 10);
+    uint64_t sum = strcmp(argv[1], "read") == 0 ? read_many(count) : write_many(count);
+    printf("%llu\n", (unsigned long long)sum);
+    return 0;
+}
