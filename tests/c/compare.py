@@ -17,21 +17,22 @@ def number(value, size):
 
 
 def context(name, data, more):
-    length = 24 + len(data)
+    padding = -len(data) % 8 if more else 0
+    length = 24 + len(data) + padding
     return (number(length if more else 0, 4) + number(16, 2) + number(4, 2) + number(0, 2) + number(24, 2)
-            + number(len(data), 4) + name + bytes(4) + data)
+            + number(len(data), 4) + name + bytes(4) + data + bytes(padding))
 
 
 def create(rng, durable_size):
-    """Contexts in some order, mostly as they should be."""
+    """Contexts in some order: mostly each once, and of the length that they should have."""
     known = [
         (b"RqLs", KEY + number(rng.randrange(8), 4) + number(rng.randrange(4), 4) + bytes(8)),
-        (b"DHnQ", bytes(durable_size)),
+        (b"DHnQ", bytes(durable_size if rng.randrange(8) else rng.choice([0, 8, 16, 24]))),
         (b"DHnC", number(rng.getrandbits(64), 8) + bytes(8)),
         (b"MxAc", b""),
         (b"RqLs", KEY + bytes(36)),
     ]
-    chosen = rng.sample(known, rng.randrange(1, 5))
+    chosen = rng.sample(known, rng.randrange(1, 5)) if rng.randrange(4) else rng.choices(known, k=4)
     return b"".join(context(name, data, at + 1 < len(chosen)) for at, (name, data) in enumerate(chosen))
 
 
