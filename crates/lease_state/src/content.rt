@@ -209,6 +209,26 @@ mod tests {
         Ok(())
     }
 
+    // Where a patch is refused memory, the content is as it was. `tests/refused_growths` runs this with each growth refused.
+    #[test]
+    fn a_refused_patch_leaves_the_content(rt: HostRuntime) -> Result<(), Fail> {
+        let alloc = rt.alloc();
+        let mut abc = content(alloc, b"abc")?;
+        let longer = patch(alloc, 70_000, b"XY")?;
+        match abc.apply(&longer) {
+            Ok(()) => assert_eq!(rt; abc.bytes().len(), 70_002),
+            Err(fault) => {
+                assert_eq!(rt; fault, ContentFault::Memory);
+                assert_eq!(rt; abc.bytes(), b"abc".as_slice());
+            }
+        }
+        // What ends within the content takes no memory.
+        let within = patch(alloc, 1, b"Z")?;
+        assert!(rt; abc.apply(&within).is_ok());
+        assert!(rt; abc.bytes().starts_with(b"aZc"));
+        Ok(())
+    }
+
     #[test]
     fn faults_have_numbers(rt: HostRuntime) -> Result<(), Fail> {
         let alloc = rt.alloc();

@@ -269,3 +269,31 @@ fn faults_tell_number_name_and_place(rt: HostRuntime) -> Result<(), Fail> {
     );
     Ok(())
 }
+
+// A vector that a writer appends to: where the writer is refused memory, nothing was appended. `tests/refused_growths` runs this
+// with each growth refused.
+#[test]
+fn a_refused_writer_leaves_the_vector(rt: HostRuntime) -> Result<(), Fail> {
+    let ask = CreateAsk {
+        lease: Some((KEY, LeaseState::from_wire(3))),
+        durable: true,
+        reconnect: None,
+    };
+    let answer = CreateAnswer {
+        lease: Some((KEY, LeaseState::from_wire(3), true)),
+        durable: true,
+    };
+    let mut asked = Vec::new(rt.alloc());
+    asked.push(7)?;
+    match write_create_ask(&ask, &mut asked) {
+        Ok(()) => assert_eq!(&rt; &asked[1..], ASK.as_slice()),
+        Err(_) => assert_eq!(&rt; asked.as_slice(), [7].as_slice()),
+    }
+    let mut answered = Vec::new(rt.alloc());
+    answered.push(7)?;
+    match write_create_reply(&answer, &mut answered) {
+        Ok(()) => assert_eq!(&rt; read_create_reply(&answered[1..]).ok(), Some(answer)),
+        Err(_) => assert_eq!(&rt; answered.as_slice(), [7].as_slice()),
+    }
+    Ok(())
+}

@@ -89,14 +89,11 @@ fn events_have_a_limit(rt: HostRuntime) -> Result<(), Fail> {
 #[test]
 fn a_run_without_events_has_its_starts(rt: HostRuntime) -> Result<(), Fail> {
     let alloc = rt.alloc();
-    let facts = match run(
+    let facts = run(
         alloc,
         &setup(alloc, 2, 1)?,
         &[Event::ServerTakes(ClientNo(9))],
-    ) {
-        Ok(facts) => facts,
-        Err(_) => Vec::new(alloc),
-    };
+    )?;
     let wanted = [start(alloc, 1, &[0, 7])?, start(alloc, 2, &[1, 7])?];
     assert!(rt; facts.as_slice() == wanted.as_slice());
     Ok(())
@@ -124,10 +121,7 @@ fn two_clients_take_turns(rt: HostRuntime) -> Result<(), Fail> {
         Event::ClientTakes(two),
         Event::App(two, Command::Read { file: FileNo(1) }),
     ];
-    let facts = match run(alloc, &setup(alloc, 1, 2)?, &events) {
-        Ok(facts) => facts,
-        Err(_) => Vec::new(alloc),
-    };
+    let facts = run(alloc, &setup(alloc, 1, 2)?, &events)?;
     let wanted = [
         start(alloc, 1, &[0, 7])?,
         joined(1),
