@@ -328,3 +328,24 @@ fn reads_cut_texts(rt: HostRuntime) {
         );
     }
 }
+
+// Of a break message each length below its own is short, whatever bytes are there.
+#[test]
+fn refuses_cut_break_messages(rt: HostRuntime) {
+    let notification =
+        "2c00000001000000000102030405060708090a0b0c0d0e0f0700000003000000000000000000000000000000";
+    let message = "2400000000000000000102030405060708090a0b0c0d0e0f030000000000000000000000";
+    let short = "fault 1 Short at 0\n";
+    for length in 0..44usize {
+        let digits = notification
+            .get(..2 * length)
+            .expect(&rt, "a part of the text");
+        expect(&rt, rt.alloc(), &["ack", digits], 1, "", short);
+        refuses(&rt, rt.alloc(), "break", digits, short);
+    }
+    for length in 0..36usize {
+        let digits = message.get(..2 * length).expect(&rt, "a part of the text");
+        refuses(&rt, rt.alloc(), "ack", digits, short);
+        refuses(&rt, rt.alloc(), "response", digits, short);
+    }
+}
