@@ -105,7 +105,7 @@ fn fills_room_that_is_long_enough(rt: HostRuntime) {
     assert_eq!(rt; fill_create_ask(&ask, &mut room[..95]), 96);
     assert!(rt; room == [7; 98]);
     assert_eq!(rt; fill_create_ask(&ask, &mut room[..96]), 96);
-    assert_eq!(rt; &room[..96], ASK.as_slice());
+    assert!(rt; room.starts_with(ASK.as_slice()));
     assert_eq!(rt; &room[96..], [7, 7].as_slice());
     let durable = CreateAnswer {
         lease: None,
@@ -113,7 +113,7 @@ fn fills_room_that_is_long_enough(rt: HostRuntime) {
     };
     assert_eq!(rt; fill_create_reply(&durable, &mut room), 32);
     let text = b"\0\0\0\0\x10\0\x04\0\0\0\x18\0\x08\0\0\0DHnQ\0\0\0\0\0\0\0\0\0\0\0\0";
-    assert_eq!(rt; &room[..32], text.as_slice());
+    assert!(rt; room.starts_with(text.as_slice()));
 }
 
 #[test]
