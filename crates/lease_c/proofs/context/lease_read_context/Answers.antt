@@ -1,5 +1,4 @@
-use Rattle.std.proofs.Common.{◌≡◌, ◌+◌, ◌≤◌, length, None, sym, arith}
-use Rattle.lease_c.specs.Context.{fault_at}
+use Rattle.std.proofs.Common.{sym, arith}
 use Rattle.lease_c.proofs.Contexts.{context_is_held, name_is_within, data_is_within, items_are_read}
 use Rattle.lease_c.proofs.context.lease_read_context.Goals as goal
 
