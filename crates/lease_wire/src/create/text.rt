@@ -110,16 +110,16 @@ fn push_reconnect(text: &mut ArrayVec<u8, 136>, reconnect: Option<FileId>)
     }
 }
 
-/// The canonical text of what is asked for or granted: 136 bytes at most, where it has a lease, a
-/// durable open and a reconnect.
+/// Puts the canonical text of what is asked for or granted into a text of no bytes: 136 bytes at
+/// most, where it has a lease, a durable open and a reconnect.
+#[inline(always)]
 #[tactic(auto, unfolding(crate::specs::Canonical::canonical_text))]
-pub(crate) fn text_of(direction: Direction, values: &ContextValues) -> ArrayVec<u8, 136>
-    ensures { result.items ≡ canonical_text direction (values_of values.now) }
+pub(crate) fn push_text(text: &mut ArrayVec<u8, 136>, direction: Direction, values: &ContextValues)
+    requires { array_vec_len text.old ≡ 0 }
+    ensures { text.new.items ≡ canonical_text direction (values_of values.now) }
 {
     let reconnects = values.reconnect.is_some();
-    let mut text = ArrayVec::new();
-    push_lease(&mut text, values.durable || reconnects, &values.lease);
-    push_durable(&mut text, direction, reconnects, values.durable);
-    push_reconnect(&mut text, values.reconnect);
-    text
+    push_lease(text, values.durable || reconnects, &values.lease);
+    push_durable(text, direction, reconnects, values.durable);
+    push_reconnect(text, values.reconnect);
 }

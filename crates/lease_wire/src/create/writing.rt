@@ -7,29 +7,36 @@ ghost use Rattle.lease_wire.specs.Create.{ask_of, answer_of, WrittenHoldsValue, 
 
 use crate::create::meaning::Lease;
 use crate::create::reading::ContextValues;
-use crate::create::text::text_of;
+use crate::create::text::push_text;
 use crate::create::{CreateAnswer, CreateAsk, Direction};
+use arrayvec::ArrayVec;
 use lease_state::Memory;
 
-// Appends all of the text, or nothing.
-fn append(out: &mut Vec<u8>, text: &[u8]) -> Result<(), Memory>
-    ensures ok { OnOk result (out.new.items ≡ out.old.items ++ text.now) }
+// Appends all of the canonical text, or nothing.
+#[inline(always)]
+fn append(out: &mut Vec<u8>, direction: Direction, values: &ContextValues) -> Result<(), Memory>
+    ensures ok { OnOk result (out.new.items ≡ out.old.items ++ canonical_text direction (values_of values.now)) }
     ensures err { OnErr result (out.new.items ≡ out.old.items) }
 {
-    match out.extend_from_slice(text) {
+    let mut text = ArrayVec::new();
+    push_text(&mut text, direction, values);
+    match out.extend_from_slice(text.as_slice()) {
         Ok(()) => Ok(()),
         Err(_) => Err(Memory),
     }
 }
 
-// Writes all of the text to the front of the room, or nothing; tells how long the text is.
-fn fill(room: &mut [u8], text: &[u8]) -> usize
-    ensures length { result ≡ length text.now }
-    ensures written { length text.now ≤ length room.old → room.new ≡ text.now ++ drop (length text.now) room.old }
-    ensures no_room { length room.old < length text.now → room.new ≡ room.old }
+// Writes all of the canonical text to the front of the room, or nothing; tells how long the text is.
+#[inline(always)]
+fn fill(room: &mut [u8], direction: Direction, values: &ContextValues) -> usize
+    ensures length { result ≡ length (canonical_text direction (values_of values.now)) }
+    ensures written { result ≤ length room.old → room.new ≡ canonical_text direction (values_of values.now) ++ drop result room.old }
+    ensures no_room { length room.old < result → room.new ≡ room.old }
 {
+    let mut text = ArrayVec::new();
+    push_text(&mut text, direction, values);
     if text.len() <= room.len() {
-        room[..text.len()].copy_from_slice(text);
+        room[..text.len()].copy_from_slice(text.as_slice());
     }
     text.len()
 }
@@ -90,10 +97,7 @@ pub fn write_create_ask(ask: &CreateAsk, out: &mut Vec<u8>) -> Result<(), Memory
     ensures ok { OnOk result (out.new.items ≡ out.old.items ++ canonical_text Request (ask_of ask.now)) }
     ensures err { OnErr result (out.new.items ≡ out.old.items) }
 {
-    append(
-        out,
-        text_of(Direction::Request, &values_asked(ask)).as_slice(),
-    )
+    append(out, Direction::Request, &values_asked(ask))
 }
 
 /// Appends the create contexts of a response (MS-SMB2 2.2.14.2) in their canonical text: `RqLs`,
@@ -106,10 +110,7 @@ pub fn write_create_reply(answer: &CreateAnswer, out: &mut Vec<u8>) -> Result<()
     ensures ok { OnOk result (out.new.items ≡ out.old.items ++ canonical_text Reply (answer_of answer.now)) }
     ensures err { OnErr result (out.new.items ≡ out.old.items) }
 {
-    append(
-        out,
-        text_of(Direction::Reply, &values_granted(answer)).as_slice(),
-    )
+    append(out, Direction::Reply, &values_granted(answer))
 }
 
 /// Writes what [`write_create_ask`] appends to the front of `room`, and takes no memory. Gives the
@@ -119,8 +120,7 @@ pub fn fill_create_ask(ask: &CreateAsk, room: &mut [u8]) -> usize
     ensures written { result ≤ length room.old → room.new ≡ canonical_text Request (ask_of ask.now) ++ drop result room.old }
     ensures no_room { length room.old < result → room.new ≡ room.old }
 {
-    let text = text_of(Direction::Request, &values_asked(ask));
-    fill(room, text.as_slice())
+    fill(room, Direction::Request, &values_asked(ask))
 }
 
 /// Writes what [`write_create_reply`] appends to the front of `room`, and takes no memory. Gives the
@@ -130,8 +130,7 @@ pub fn fill_create_reply(answer: &CreateAnswer, room: &mut [u8]) -> usize
     ensures written { result ≤ length room.old → room.new ≡ canonical_text Reply (answer_of answer.now) ++ drop result room.old }
     ensures no_room { length room.old < result → room.new ≡ room.old }
 {
-    let text = text_of(Direction::Reply, &values_granted(answer));
-    fill(room, text.as_slice())
+    fill(room, Direction::Reply, &values_granted(answer))
 }
 
 /// Laws of the canonical text: it holds the value that it was written for, and so is read back.
