@@ -1,5 +1,5 @@
 /* Reads or writes create contexts many times by the calls of lease.h, as the program wire_bench does:
-   contexts read|write COUNT. */
+   contexts read|write|write_others COUNT. */
 #include <lease.h>
 #include <stdio.h>
 #include <stdlib.h>
@@ -24,12 +24,25 @@ static uint64_t read_many(uint32_t count) {
     return sum;
 }
 
-static uint64_t write_many(uint32_t count) {
+/* The ask of 96 bytes that is written each time. */
+static struct lease_create_ask same_ask(uint32_t turn) {
+    struct lease_create_ask ask = {{0}, 0, 3, 1, 1, 0};
+    memset(ask.key, (uint8_t)turn, sizeof ask.key);
+    return ask;
+}
+
+/* Asks for other contexts from turn to turn, of none to 136 bytes. */
+static struct lease_create_ask other_ask(uint32_t turn) {
+    struct lease_create_ask ask = {{0}, turn, turn, turn % 4 != 0, turn % 3 == 0, turn % 8 == 3};
+    memset(ask.key, (uint8_t)turn, sizeof ask.key);
+    return ask;
+}
+
+static uint64_t write_many(uint32_t count, struct lease_create_ask (*ask_at)(uint32_t)) {
     uint8_t room[LEASE_CREATE_ASK_MOST] = {0};
     uint64_t sum = 0;
     for (uint32_t turn = 0; turn < count; turn++) {
-        struct lease_create_ask ask = {{0}, 0, 3, 1, 1, 0};
-        memset(ask.key, (uint8_t)turn, sizeof ask.key);
+        struct lease_create_ask ask = ask_at(turn);
         if (lease_write_create_ask(&ask, room, sizeof room) > 30) sum += room[30];
     }
     return sum;
@@ -38,7 +51,9 @@ static uint64_t write_many(uint32_t count) {
 int main(int argc, char **argv) {
     if (argc != 3) return 2;
     uint32_t count = (uint32_t)strtoul(argv[2], NULL, 10);
-    uint64_t sum = strcmp(argv[1], "read") == 0 ? read_many(count) : write_many(count);
+    uint64_t sum = strcmp(argv[1], "read") == 0    ? read_many(count)
+                   : strcmp(argv[1], "write") == 0 ? write_many(count, same_ask)
+                                                   : write_many(count, other_ask);
     printf("%llu\n", (unsigned long long)sum);
     return 0;
 }

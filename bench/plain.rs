@@ -136,13 +136,27 @@ fn read_many(count: u32) -> u64 {
     sum
 }
 
-fn write_many(count: u32) -> u64 {
+// The ask of 96 bytes that is written each time.
+fn same_ask(turn: u32) -> Ask {
+    Ask { lease: Some(([(turn % 256) as u8; 16], 3)), durable: true, reconnect: None }
+}
+
+// Asks for other contexts from turn to turn, of none to 136 bytes.
+fn other_ask(turn: u32) -> Ask {
+    let key = [(turn % 256) as u8; 16];
+    Ask {
+        lease: (turn % 4 != 0).then_some((key, (turn & 7) as u8)),
+        durable: turn % 3 == 0,
+        reconnect: (turn % 8 == 3).then_some(u64::from(turn)),
+    }
+}
+
+fn write_many<F: Fn(u32) -> Ask>(count: u32, ask_at: F) -> u64 {
     let mut out = Vec::new();
     let mut sum = 0u64;
     for turn in 0..count {
-        let ask = Ask { lease: Some(([(turn % 256) as u8; 16], 3)), durable: true, reconnect: None };
         out.clear();
-        write(&ask, &mut out);
+        write(&ask_at(turn), &mut out);
         sum = sum.wrapping_add(u64::from(out.get(30).copied().unwrap_or(0)));
     }
     sum
@@ -153,7 +167,8 @@ fn main() {
     let count = words.get(1).and_then(|word| word.parse().ok()).unwrap_or(0);
     match words.first().map(String::as_str) {
         Some("read") => println!("{}", read_many(count)),
-        Some("write") => println!("{}", write_many(count)),
+        Some("write") => println!("{}", write_many(count, same_ask)),
+        Some("write_others") => println!("{}", write_many(count, other_ask)),
         _ => exit(2),
     }
 }

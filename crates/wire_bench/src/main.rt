@@ -1,7 +1,7 @@
 //! Reads or writes create contexts many times, for `bench/contexts` to time from outside.
 #![tactic(auto)]
 
-use lease_state::{LeaseKey, LeaseState, Memory};
+use lease_state::{FileId, LeaseKey, LeaseState, Memory};
 use lease_wire::{CreateAsk, read_create, write_create_ask};
 use std::alloc::{AllocError, Global};
 use std::process::ExitCode;
@@ -28,17 +28,33 @@ fn read_many(count: u32) -> u64 {
     sum
 }
 
-fn write_many(alloc: Global, count: u32) -> Result<u64, Memory> {
+// The ask of 96 bytes that is written each time.
+fn same_ask(turn: u32) -> CreateAsk {
+    CreateAsk {
+        lease: Some((LeaseKey([(turn % 256) as u8; 16]), LeaseState::from_wire(3))),
+        durable: true,
+        reconnect: None,
+    }
+}
+
+// Asks for other contexts from turn to turn, of none to 136 bytes.
+fn other_ask(turn: u32) -> CreateAsk {
+    let key = LeaseKey([(turn % 256) as u8; 16]);
+    CreateAsk {
+        lease: (turn % 4 != 0).then_some((key, LeaseState::from_wire(turn))),
+        durable: turn % 3 == 0,
+        reconnect: (turn % 8 == 3).then_some(FileId(u64::from(turn))),
+    }
+}
+
+fn write_many<F: Fn(u32) -> CreateAsk>(alloc: Global, count: u32, ask_at: F) -> Result<u64, Memory>
+    requires { F.IsAlwaysCallable ask_at }
+{
     let mut out = Vec::new(alloc);
     let mut sum = 0u64;
     for turn in 0..count {
-        let ask = CreateAsk {
-            lease: Some((LeaseKey([(turn % 256) as u8; 16]), LeaseState::from_wire(3))),
-            durable: true,
-            reconnect: None,
-        };
         out.clear();
-        write_create_ask(&ask, &mut out)?;
+        write_create_ask(&ask_at(turn), &mut out)?;
         sum = sum.wrapping_add(u64::from(out.get(30).copied().unwrap_or(0)));
     }
     Ok(sum)
@@ -53,7 +69,8 @@ fn sum_of(alloc: Global, words: &[String]) -> Option<u64> {
     let count = words.get(1)?.as_str().parse::<u32>().ok()?;
     match words.first()?.as_str() {
         "read" => Some(read_many(count)),
-        "write" => write_many(alloc, count).ok(),
+        "write" => write_many(alloc, count, same_ask).ok(),
+        "write_others" => write_many(alloc, count, other_ask).ok(),
         _ => None,
     }
 }
