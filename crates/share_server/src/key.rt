@@ -54,9 +54,10 @@ impl Ord for Key {
     ghost matches_eq = { Prim.search (comparing, rules) };
 
     fn cmp(&self, other: &Key) -> Ordering {
-        self.client
-            .cmp(&other.client)
-            .then(self.bytes.cmp(&other.bytes))
+        match self.client.cmp(&other.client) {
+            Ordering::Equal => self.bytes.cmp(&other.bytes),
+            apart => apart,
+        }
     }
 }
 

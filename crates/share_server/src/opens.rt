@@ -135,6 +135,7 @@ impl Opens {
             ≡ map (λ one. one.file_id) (filter (is_left_open key) self.now)) }
         ensures in_order { AreInOrder self.now }
     {
+        // The invariant, which says what is in the sets, is known of what is looked at.
         let _ = &self.left;
         match leases.home(key) {
             Some(file) => {
