@@ -1,7 +1,7 @@
 //! Runs: which are refused, and the records of the others.
 
 use crate::tests::words::{
-    believes, buffered, changed, joined, opened, patch, sent, settled, start, took,
+    believes, buffered, changed, joined, opened, patch, record, sent, settled, start, took,
 };
 use crate::{Event, RunFault, Setup, Verdict, judge, run};
 use lease_client::{Command, Settlement};
@@ -94,7 +94,7 @@ fn a_run_without_events_has_its_starts(rt: HostRuntime) -> Result<(), Fail> {
         &setup(alloc, 2, 1)?,
         &[Event::ServerTakes(ClientNo(9))],
     )?;
-    let wanted = [start(alloc, 1, &[0, 7])?, start(alloc, 2, &[1, 7])?];
+    let wanted = record(alloc, [start(alloc, 1, &[0, 7]), start(alloc, 2, &[1, 7])])?;
     assert!(rt; facts.as_slice() == wanted.as_slice());
     Ok(())
 }
@@ -122,28 +122,31 @@ fn two_clients_take_turns(rt: HostRuntime) -> Result<(), Fail> {
         Event::App(two, Command::Read { file: FileNo(1) }),
     ];
     let facts = run(alloc, &setup(alloc, 1, 2)?, &events)?;
-    let wanted = [
-        start(alloc, 1, &[0, 7])?,
-        joined(1),
-        joined(2),
-        opened(1, 1),
-        sent(1),
-        took(1),
-        believes(1, 1, 7),
-        buffered(alloc, 1, 1, 1, 0, 9)?,
-        sent(1),
-        took(1),
-        believes(1, 1, 3),
-        changed(alloc, 1, 1, 1, 0, 9)?,
-        sent(1),
-        sent(1),
-        opened(1, 2),
-        sent(2),
-        took(1),
-        settled(1, 1, Settlement::Done),
-        took(2),
-        believes(2, 1, 1),
-    ];
+    let wanted = record(
+        alloc,
+        [
+            start(alloc, 1, &[0, 7]),
+            joined(1),
+            joined(2),
+            opened(1, 1),
+            sent(1),
+            took(1),
+            believes(1, 1, 7),
+            buffered(alloc, 1, 1, 1, 0, 9),
+            sent(1),
+            took(1),
+            believes(1, 1, 3),
+            changed(alloc, 1, 1, 1, 0, 9),
+            sent(1),
+            sent(1),
+            opened(1, 2),
+            sent(2),
+            took(1),
+            settled(1, 1, Settlement::Done),
+            took(2),
+            believes(2, 1, 1),
+        ],
+    )?;
     assert!(rt; facts.as_slice() == wanted.as_slice());
     assert_eq!(rt; judge(alloc, &facts)?, Verdict::Safe);
     Ok(())

@@ -2,47 +2,58 @@
 
 use crate::Fact;
 use lease_client::Settlement;
-use lease_state::{Bytes, ClientNo, FileNo, LeaseState, Patch};
+use lease_state::{Bytes, ClientNo, FileNo, LeaseState, Memory, Patch};
 use std::alloc::Global;
-use std::test::Fail;
 
-pub fn bytes(alloc: Global, bytes: &[u8]) -> Result<Bytes, Fail> {
+/// The facts in order, or why one of them couldn't be made.
+pub fn record<const N: usize>(
+    alloc: Global,
+    facts: [Result<Fact, Memory>; N],
+) -> Result<Vec<Fact>, Memory> {
+    let mut record = Vec::new(alloc);
+    for fact in Vec::from_array(alloc, facts)? {
+        record.push(fact?)?;
+    }
+    Ok(record)
+}
+
+pub fn bytes(alloc: Global, bytes: &[u8]) -> Result<Bytes, Memory> {
     Ok(Bytes::new(Vec::from_slice(alloc, bytes)?))
 }
 
-pub fn patch(alloc: Global, offset: u32, added: &[u8]) -> Result<Patch, Fail> {
+pub fn patch(alloc: Global, offset: u32, added: &[u8]) -> Result<Patch, Memory> {
     Ok(Patch {
         offset,
         bytes: bytes(alloc, added)?,
     })
 }
 
-pub fn start(alloc: Global, file: u8, first: &[u8]) -> Result<Fact, Fail> {
+pub fn start(alloc: Global, file: u8, first: &[u8]) -> Result<Fact, Memory> {
     Ok(Fact::Start(FileNo(file), bytes(alloc, first)?))
 }
 
-pub fn joined(client: u8) -> Fact {
-    Fact::Joined(ClientNo(client))
+pub fn joined(client: u8) -> Result<Fact, Memory> {
+    Ok(Fact::Joined(ClientNo(client)))
 }
 
-pub fn dropped(client: u8) -> Fact {
-    Fact::Dropped(ClientNo(client))
+pub fn dropped(client: u8) -> Result<Fact, Memory> {
+    Ok(Fact::Dropped(ClientNo(client)))
 }
 
-pub fn expired(client: u8, file: u8) -> Fact {
-    Fact::Expired(ClientNo(client), FileNo(file))
+pub fn expired(client: u8, file: u8) -> Result<Fact, Memory> {
+    Ok(Fact::Expired(ClientNo(client), FileNo(file)))
 }
 
-pub fn sent(client: u8) -> Fact {
-    Fact::Sent(ClientNo(client))
+pub fn sent(client: u8) -> Result<Fact, Memory> {
+    Ok(Fact::Sent(ClientNo(client)))
 }
 
-pub fn took(client: u8) -> Fact {
-    Fact::Took(ClientNo(client))
+pub fn took(client: u8) -> Result<Fact, Memory> {
+    Ok(Fact::Took(ClientNo(client)))
 }
 
-pub fn opened(file: u8, client: u8) -> Fact {
-    Fact::Opened(FileNo(file), ClientNo(client))
+pub fn opened(file: u8, client: u8) -> Result<Fact, Memory> {
+    Ok(Fact::Opened(FileNo(file), ClientNo(client)))
 }
 
 /// The file is changed by the client's write of this number, one byte at the offset.
@@ -53,7 +64,7 @@ pub fn changed(
     number: u64,
     offset: u32,
     byte: u8,
-) -> Result<Fact, Fail> {
+) -> Result<Fact, Memory> {
     let patch = patch(alloc, offset, &[byte])?;
     Ok(Fact::Changed(FileNo(file), ClientNo(client), number, patch))
 }
@@ -66,7 +77,7 @@ pub fn buffered(
     number: u64,
     offset: u32,
     byte: u8,
-) -> Result<Fact, Fail> {
+) -> Result<Fact, Memory> {
     let patch = patch(alloc, offset, &[byte])?;
     Ok(Fact::Wrote(ClientNo(client), FileNo(file), number, patch, true))
 }
@@ -79,24 +90,24 @@ pub fn through(
     number: u64,
     offset: u32,
     byte: u8,
-) -> Result<Fact, Fail> {
+) -> Result<Fact, Memory> {
     let patch = patch(alloc, offset, &[byte])?;
     Ok(Fact::Wrote(ClientNo(client), FileNo(file), number, patch, false))
 }
 
-pub fn settled(client: u8, number: u64, outcome: Settlement) -> Fact {
-    Fact::Settled(ClientNo(client), number, outcome)
+pub fn settled(client: u8, number: u64, outcome: Settlement) -> Result<Fact, Memory> {
+    Ok(Fact::Settled(ClientNo(client), number, outcome))
 }
 
 /// The client believes the state that the wire's number names: 1 reads, 2 handles, 4 writes.
-pub fn believes(client: u8, file: u8, state: u32) -> Fact {
-    Fact::Believes(ClientNo(client), FileNo(file), LeaseState::from_wire(state))
+pub fn believes(client: u8, file: u8, state: u32) -> Result<Fact, Memory> {
+    Ok(Fact::Believes(ClientNo(client), FileNo(file), LeaseState::from_wire(state)))
 }
 
-pub fn read(alloc: Global, client: u8, file: u8, seen: &[u8]) -> Result<Fact, Fail> {
+pub fn read(alloc: Global, client: u8, file: u8, seen: &[u8]) -> Result<Fact, Memory> {
     Ok(Fact::CachedRead(ClientNo(client), FileNo(file), bytes(alloc, seen)?))
 }
 
-pub fn strayed(client: u8) -> Fact {
-    Fact::Strayed(ClientNo(client))
+pub fn strayed(client: u8) -> Result<Fact, Memory> {
+    Ok(Fact::Strayed(ClientNo(client)))
 }
