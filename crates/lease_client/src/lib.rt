@@ -51,8 +51,6 @@ mod requests;
 mod searches;
 mod state;
 mod step;
-#[cfg(test)]
-mod tests;
 mod turn;
 mod writes;
 

@@ -1,4 +1,6 @@
 pub mod Clients
+pub mod Lone
+pub mod Meets
 pub mod Moves
 pub mod Runs
 pub mod Servers

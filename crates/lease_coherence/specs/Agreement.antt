@@ -4,6 +4,7 @@ use Rattle.lease_state.specs.State.{State, nothing_cached, is_state_within}
 use Rattle.lease_state.specs.declared.patch.Patch.{Patch}
 use Rattle.lease_model.specs.client.Calls.{ClientCall, client_called}
 use Rattle.lease_model.specs.client.State.{Client, LiveEntry, Parted, Phase, belief, lease_key}
+use Rattle.lease_model.specs.client.Taken.{taken}
 use Rattle.lease_model.specs.messages.Replies.{Reply, BreakNotice, CreateAnswer, LeaseGiven}
 use Rattle.lease_model.specs.messages.Requests.{FileRequest, Request}
 use Rattle.lease_model.specs.records.Facts.{Fact}
@@ -13,6 +14,7 @@ use Rattle.lease_model.specs.server.State.{Open, Held, Lease, is_breaking, has_k
 use Rattle.lease_model.specs.world.Allowed.{is_allowed_setup}
 use Rattle.lease_model.specs.world.Events.{Event, after, machine_key}
 use Rattle.lease_model.specs.world.World.{World, Setup, first_world}
+use Rattle.lease_laws.specs.client.Laws.{unsent_in}
 use Rattle.lease_laws.specs.server.Laws.{Among}
 use Rattle.lease_laws.specs.world.Links.{is_up}
 use Rattle.lease_coherence.specs.Creates.{held_by}
@@ -56,14 +58,25 @@ as_requests (one ∷ held) = Request.OnFile one.request ∷ as_requests held
 abbrev pub asked_of : World → ℕ → ℕ → List Request
 asked_of world client file = as_requests (held_by client (world.server.held file)) ++ world.requests client
 
+-- a client that has taken these replies, in order, and did nothing else
+abbrev pub taken_all : Client → List Reply → Client
+taken_all client [] = client
+taken_all client (reply ∷ queue) = taken_all (taken client reply).client queue
+
 -- ---- breaks and acknowledgments
 
--- its break is on its way
+-- Its break is on its way: it tells the state that the lease is broken to and asks for an acknowledgment, and once the
+-- client has taken what comes before it, a live entry meets it.
 pub record IsTold (world : World) (client file : ℕ) : Type 0 where
+  pub before : List Reply
   pub notice : BreakNotice
+  pub behind : List Reply
+  pub sent : world.replies client ≡ before ++ Reply.Break (Some notice) ∷ behind
   pub key : notice.key ≡ key_of_file world client file
   pub asks : notice.ack_required ≡ true
-  pub sent : Among (Reply.Break (Some notice)) (world.replies client)
+  pub tells : (lease_of world client file).broken_to ≡ Some notice.lowered
+  pub live : LiveEntry
+  pub meets : ((taken_all (world.clients client) before).entries file).phase ≡ Phase.Live live
 
 -- an acknowledgment of it is on its way
 pub record IsAnswered (world : World) (client file : ℕ) : Type 0 where
@@ -77,7 +90,7 @@ pub record IsGivenUp (world : World) (client file : ℕ) : Type 0 where
   pub under : has_key (machine_key world client file) one ≡ true
   pub asked : Among (Request.OnFile (FileRequest.Close one.file_id)) (asked_of world client file)
 
--- While a lease is breaking, its break, the acknowledgment or a Close is on its way.
+-- While a lease is breaking, its break is on its way and a live entry will meet it, or the acknowledgment or a Close is.
 abbrev pub BreakingIsAnswered : World → ℕ → ℕ → Type 0
 BreakingIsAnswered world client file = is_breaking (lease_of world client file) ≡ true
     → IsTold world client file ⊎ (IsAnswered world client file ⊎ IsGivenUp world client file)
@@ -96,18 +109,17 @@ AcknowledgmentsAreDue world client file = (state : State)
 
 -- ---- buffered writes go first
 
--- no buffered write of the file, by an open that is there, stands among the requests
+-- no buffered write of the file stands among the requests, whether or not its open is there
 abbrev pub NoneBuffered : World → ℕ → ℕ → List Request → Type 0
 NoneBuffered world client file requests = (file_id number : ℕ) (patch : Patch)
     → Among (Request.OnFile (FileRequest.Write file_id number patch)) requests
-    → (one : Open) → Among one world.server.opens → one.client ≡ client → one.file_id ≡ file_id → one.file ≡ file
     → has_buffered client file number world.past ≡ false
 
 pub record HasFlushed (world : World) (client file : ℕ) (behind : List Request) : Type 0 where
   pub sent : NoneBuffered world client file behind
-  pub unsent : (live : LiveEntry) → IsLive world client file live → live.unsent ≡ []
+  pub unsent : unsent_in ((world.clients client).entries file).phase ≡ []
 
--- Behind an acknowledgment that gives writes up no buffered write of its file stands, and none is unsent.
+-- Behind an acknowledgment that gives writes up no buffered write of its file stands, and none is unsent or kept.
 abbrev pub FlushedBeforeAcknowledgments : World → ℕ → ℕ → Type 0
 FlushedBeforeAcknowledgments world client file = (state : State) (before behind : List Request)
     → world.requests client ≡ before ++ acknowledgment_of (key_of_file world client file) state ∷ behind
@@ -145,10 +157,29 @@ BeliefsAreHeld world client file = (live : LiveEntry) → IsLive world client fi
 
 -- ---- cached bytes
 
--- Once all that was sent to the client is taken, each base that it holds is the server's content.
+-- Where the client would still hold a base after taking its whole queue, that base is the server's content.
 abbrev pub BasesAreCurrent : World → ℕ → ℕ → Type 0
-BasesAreCurrent world client file = world.replies client ≡ [] → (live : LiveEntry) → IsLive world client file live
+BasesAreCurrent world client file = (live : LiveEntry)
+    → ((taken_all (world.clients client) (world.replies client)).entries file).phase ≡ Phase.Live live
     → (bytes : List ℕ) → live.base ≡ Some bytes → bytes ≡ world.server.contents file
+
+-- ---- held requests
+
+-- Where the lease of a client's file holds writes, nothing that the client asks of the file is held: no second create of it,
+-- and so nothing behind one.
+abbrev pub WritersAreNotHeld : World → ℕ → Type 0
+WritersAreNotHeld world client = (file : ℕ) → (lease_of world client file).state.write ≡ true
+    → held_by client (world.server.held file) ≡ []
+
+-- Nor is anything where a live entry of it believes that it may cache writes.
+abbrev pub BelieversAreNotHeld : World → ℕ → ℕ → Type 0
+BelieversAreNotHeld world client file = (live : LiveEntry) → IsLive world client file live → live.belief.write ≡ true
+    → held_by client (world.server.held file) ≡ []
+
+-- And no write of the client that is held was buffered.
+abbrev pub HeldWritesAreThrough : World → ℕ → ℕ → Type 0
+HeldWritesAreThrough world client file =
+    NoneBuffered world client file (as_requests (held_by client (world.server.held file)))
 
 -- at every point of a run of an allowed setup
 abbrev pub OfAllowedRuns : (World → ℕ → Type 0) → Type 0

@@ -4,6 +4,7 @@ pub mod Blocked
 pub mod Breaking
 pub mod Breaks
 pub mod Calls
+pub mod Changes
 pub mod ContentSteps
 pub mod EnoughPasses
 pub mod EnoughRounds

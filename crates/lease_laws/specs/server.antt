@@ -1,3 +1,4 @@
+pub mod Changes
 pub mod Enough
 pub mod Laws
 pub mod Outs

@@ -28,8 +28,6 @@ mod create;
 mod fault;
 mod field;
 mod notification;
-#[cfg(test)]
-mod tests;
 
 pub use acknowledgment::{Acknowledgment, BreakResponse, acknowledgment_laws};
 pub use chain::{Context, Contexts, contexts, contexts_laws, read_context_at};

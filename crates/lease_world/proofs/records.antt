@@ -13,6 +13,7 @@ pub mod Pending
 pub mod Reads
 pub mod Sendings
 pub mod Skips
+pub mod Telling
 pub mod Views
 pub mod Writes
 pub mod Written

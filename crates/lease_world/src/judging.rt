@@ -1,6 +1,11 @@
-ghost use Rattle.std.specs.Prelude.{◌≡◌, [], IfOk};
+ghost use Rattle.std.specs.Prelude.{◌≡◌, ◌↔◌, List, [], IfOk};
+ghost use Rattle.lease_model.specs.records.Facts as model;
+ghost use Rattle.lease_model.specs.records.Safe.{Safe};
+ghost use Rattle.lease_model.specs.records.Verdict.{verdict};
+ghost use Rattle.lease_laws.specs.records.Verdicts.{Says};
 ghost use Rattle.lease_world.specs.Facts.{fact_of};
-ghost use Rattle.lease_world.specs.judge.Judged.{HasJudged, JudgesOneMore, TellsVerdict};
+ghost use Rattle.lease_world.specs.Verdicts.{verdict_of};
+ghost use Rattle.lease_world.specs.judge.Judged.{HasJudged, JudgesOneMore};
 
 use crate::fact::Fact;
 use crate::judging::known::Known;
@@ -82,9 +87,12 @@ impl Judge {
         })
     }
 
-    /// The verdict on the record of the facts so far: safe, or the first bad place.
+    /// The verdict on the record of the facts so far: `Safe` exactly where that record is safe, and else the first bad place,
+    /// and there `Malformed` or the lowest rule that is broken.
     pub fn verdict(&self) -> Verdict
-        ensures { TellsVerdict self.now result }
+        ensures computed { (facts : List model.Fact) → HasJudged self.now facts → verdict_of result ≡ verdict facts }
+        ensures safe { (facts : List model.Fact) → HasJudged self.now facts → (result ≡ Verdict.Safe) ↔ Safe facts }
+        ensures first_bad { (facts : List model.Fact) → HasJudged self.now facts → Says facts (verdict_of result) }
     {
         self.verdict
     }

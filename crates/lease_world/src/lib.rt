@@ -20,8 +20,6 @@ mod fact;
 mod judging;
 mod running;
 mod setup;
-#[cfg(test)]
-mod tests;
 mod verdict;
 mod whole;
 mod world;

@@ -1,5 +1,6 @@
 ghost use Rattle.std.specs.Prelude.{◌≡◌, ◌≢◌, ◌↔◌, ◌≤◌, Ok, Err, true, false, map, length, IfOk};
 ghost use Rattle.lease_model.specs.records.Safe.{Safe};
+ghost use Rattle.lease_model.specs.records.Verdict.{Verdict, verdict};
 ghost use Rattle.lease_model.specs.world.Allowed.{is_allowed_setup, are_too_many};
 ghost use Rattle.lease_model.specs.world.Events.{after, recorded};
 ghost use Rattle.lease_model.specs.world.World.{first_world};
@@ -11,6 +12,7 @@ use crate::fact::Fact;
 use crate::setup::{Event, RunFault, Setup};
 use crate::world::World;
 use lease_coherence::coherent;
+use lease_laws::verdict_decides;
 use lease_state::Memory;
 use std::alloc::Global;
 
@@ -24,7 +26,7 @@ const EVENTS_LIMIT: usize = 10_000;
 /// timer run out since they connected, none caches writes of a file that another caches, and a cached read gives the file
 /// as it stood when the message that the client took last was sent, with its unanswered writes. And of clients that never
 /// strayed no write is told as done that wasn't accepted, nor a buffered one accepted after another client opened or
-/// changed the file.
+/// changed the file. So `judge` calls it safe.
 ///
 /// # Errors
 ///
@@ -37,8 +39,10 @@ pub fn run(alloc: Global, setup: &Setup, events: &[Event]) -> Result<Vec<Fact>, 
     ensures record { IfOk result (λ facts. map fact_of facts.items
         ≡ recorded (setup_of setup.now) (map event_of events.now)) }
     ensures safe { IfOk result (λ facts. Safe (map fact_of facts.items)) }
+    ensures judged { IfOk result (λ facts. verdict (map fact_of facts.items) ≡ Verdict.Safe) }
 {
     coherent();
+    verdict_decides();
     if !setup.is_allowed() {
         return Err(RunFault::BadSetup);
     }

@@ -1,24 +1,29 @@
--- A create that is ready has no open under its key on another file.
-use Rattle.std.proofs.Common.{◌≡◌, refl, sym, ap, ◌∙◌, subst, ℕ, zero, suc, false, not, List}
-use Rattle.std.specs.Prelude.{◌&&◌, ◌==◌, Option, Some, None}
+-- A create that is ready has no open under its key on another file, and a write that is ready ends within the limit of a file.
+use Rattle.std.proofs.Common.{◌≡◌, refl, sym, ap, ◌∙◌, subst, ℕ, zero, suc, Bool, true, false, not, List}
+use Rattle.std.specs.Prelude.{◌&&◌, ◌==◌, if◌then◌else◌, Option, Some, None}
 use Rattle.std.specs.List.{list_any}
 use Rattle.std.proofs.lemmas.Bool.Decides.{Decides-eqb}
 use Rattle.lease_state.specs.declared.access.Access.{Access}
 use Rattle.lease_state.specs.declared.access.Share.{Share}
+use Rattle.lease_state.specs.declared.patch.Patch.{Patch}
+use Rattle.lease_state.specs.declared.status.Status.{Status}
 use Rattle.lease_laws.proofs.server.Lists.{if_cases, either, has_none}
 use Rattle.lease_laws.proofs.server.Ready.{RequestFree, CreateFree, ready-free}
 use Rattle.lease_laws.proofs.server.Tries.{IsFoundReady}
 use Rattle.lease_laws.specs.server.SmallSteps.{IsFree}
 use Rattle.lease_model.specs.messages.Requests.{FileRequest, LeaseOf}
 use Rattle.lease_model.specs.server.Attempt.{Outcome, Tried, ended, must_wait, after_breaks, after_finding, tried_for, tried, wants_met}
-use Rattle.lease_model.specs.server.Findings.{Finding, finding, is_leased_elsewhere}
+use Rattle.lease_model.specs.server.Findings.{Finding, finding, by_open, connected_open, write_finding, is_leased_elsewhere}
 use Rattle.lease_model.specs.server.Grant.{asked_key}
-use Rattle.lease_model.specs.server.Naming.{own_key, key_under}
+use Rattle.lease_model.specs.server.Naming.{own_key, key_under, key_of_open}
 use Rattle.lease_model.specs.server.Progress.{Progress}
 use Rattle.lease_model.specs.server.Ready.{is_ready}
 use Rattle.lease_model.specs.server.State.{Server, Open, has_key}
+use Rattle.lease_model.specs.server.Wants.{Want, all_wants}
 use Rattle.lease_model.specs.values.Keys.{Key}
-use Rattle.share_server.specs.Kept.{IsAtHomeFor, IsCreateAtHome}
+use Rattle.lease_model.specs.values.Patches.{is_within_limit}
+use Rattle.lease_model.specs.values.Sharing.{may_write}
+use Rattle.share_server.specs.Kept.{CanBeAnswered, IsCreateAtHome}
 use Rattle.share_server.specs.Looks.{is_elsewhere}
 use Rattle.share_server.specs.Summaries.{IsAtHome, RecordFits}
 use Rattle.share_server.specs.declared.summaries.LeaseRecord.{LeaseRecord}
@@ -58,26 +63,43 @@ home_free server (Some key) file access share free =
     (λ has. rw (has, (Decides-eqb one.file file).1 (free.at_home one a has)) refl)
     (λ has. rw has refl))
 
-at_home : (server : Server) (client : ℕ) (request : FileRequest) → RequestFree server client request
-    → IsAtHomeFor client request server
-at_home server client (FileRequest.Create file access share None) free = tt
-at_home server client (FileRequest.Create file access share (Some ask)) free = contexts ask.reconnect free
+fits_where : (writes fits : Bool) (wants found : List Want) (long denied : Status)
+    → (if writes then (if fits then Finding.Needs found else Finding.Fails long) else Finding.Fails denied) ≡ Finding.Needs wants
+    → fits ≡ true
+fits_where true true wants found long denied e = refl
+fits_where true false wants found long denied e = absurd (cc)
+fits_where false fits wants found long denied e = absurd (cc)
+
+write_fits : (found : Option Open) (server : Server) (patch : Patch) (wants : List Want)
+    → by_open found (λ one. write_finding server one patch) ≡ Finding.Needs wants → is_within_limit patch ≡ true
+unfolding write_finding
+write_fits None server patch wants e = absurd (cc)
+write_fits (Some one) server patch wants e =
+    fits_where (may_write one.access) (is_within_limit patch) wants (all_wants server (key_of_open one) one.file) _ _ e
+
+at_home : (server : Server) (client : ℕ) (request : FileRequest) (wants : List Want)
+    → finding server client request ≡ Finding.Needs wants → RequestFree server client request → CanBeAnswered client request server
+unfolding finding
+at_home server client (FileRequest.Create file access share None) wants found free = tt
+at_home server client (FileRequest.Create file access share (Some ask)) wants found free = contexts ask.reconnect free
   where
     contexts : (again : Option ℕ) → CreateFree server client file access share ask.lease again
         → IsCreateAtHome (own_key client ask.lease) file again server
     contexts None f = home_free server (own_key client ask.lease) file access share f
     contexts (Some file_id) f = tt
-at_home server client (FileRequest.Read file_id) free = tt
-at_home server client (FileRequest.Write file_id number patch) free = tt
-at_home server client (FileRequest.Close file_id) free = tt
+at_home server client (FileRequest.Read file_id) wants found free = tt
+at_home server client (FileRequest.Write file_id number patch) wants found free =
+    write_fits (connected_open server client file_id) server patch wants found
+at_home server client (FileRequest.Close file_id) wants found free = tt
 
 pub ready_at_home : (client : ℕ) (request : FileRequest) (before after : Progress) (outcome : Outcome)
-    → ended after outcome ≡ tried client request before → outcome ≡ Outcome.Ready → IsAtHomeFor client request after.server
+    → ended after outcome ≡ tried client request before → outcome ≡ Outcome.Ready → CanBeAnswered client request after.server
 ready_at_home client request before after outcome end ready =
     let is : (tried client request before).outcome ≡ Outcome.Ready = ap (λ (t : Tried). t.outcome) (sym end) ∙ ready in
-    let free = ready-free client request (tried client request before).progress (tried_ready 3 client request before is) in
-    subst (λ (p : Progress). IsAtHomeFor client request p.server) (ap (λ (t : Tried). t.progress) (sym end))
-    (at_home (tried client request before).progress.server client request free)
+    let looked = tried_ready 3 client request before is in
+    let free = ready-free client request (tried client request before).progress looked in
+    subst (λ (p : Progress). CanBeAnswered client request p.server) (ap (λ (t : Tried). t.progress) (sym end))
+    (at_home (tried client request before).progress.server client request looked.wants looked.found free)
 
 elsewhere_same : (a b : Server) (own : Option Key) (file : ℕ) → a.opens ≡ b.opens
     → is_leased_elsewhere a own file ≡ is_leased_elsewhere b own file
@@ -87,7 +109,7 @@ elsewhere_same a b (Some key) file same = ap (list_any (λ one. has_key key one 
 
 -- what is held has no part in it
 pub home_kept : (a b : Server) (client : ℕ) (request : FileRequest) → a.opens ≡ b.opens
-    → IsAtHomeFor client request a → IsAtHomeFor client request b
+    → CanBeAnswered client request a → CanBeAnswered client request b
 home_kept a b client (FileRequest.Create file access share None) same home = tt
 home_kept a b client (FileRequest.Create file access share (Some ask)) same home = contexts ask.reconnect home
   where
@@ -96,7 +118,7 @@ home_kept a b client (FileRequest.Create file access share (Some ask)) same home
     contexts None h = sym (elsewhere_same a b (own_key client ask.lease) file same) ∙ h
     contexts (Some file_id) h = tt
 home_kept a b client (FileRequest.Read file_id) same home = tt
-home_kept a b client (FileRequest.Write file_id number patch) same home = tt
+home_kept a b client (FileRequest.Write file_id number patch) same home = home
 home_kept a b client (FileRequest.Close file_id) same home = tt
 
 pub home_asked : (server : Server) (client file : ℕ) (asked : Option LeaseOf) (bytes : Option (List ℕ)) → bytes ≡ asked_key asked

@@ -26,5 +26,6 @@ pub mod Sending
 pub mod Standing
 pub mod Summing
 pub mod Tabling
+pub mod TakenByHeld
 pub mod Tallies
 pub mod Wanting

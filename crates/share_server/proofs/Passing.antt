@@ -16,7 +16,7 @@ use Rattle.lease_model.specs.server.State.{Server, Held}
 use Rattle.lease_model.specs.values.Lists.{numbers_to}
 use Rattle.lease_model.specs.values.Tables.{put}
 use Rattle.share_server.proofs.Breaking.{silent}
-use Rattle.share_server.specs.Kept.{IsAtHomeFor}
+use Rattle.share_server.specs.Kept.{CanBeAnswered}
 use Rattle.share_server.specs.Outs.{progress_of}
 use Rattle.share_server.proofs.Homing.{ready_at_home, home_kept}
 use Rattle.share_server.specs.Passing.{pass_at, is_waiting}
@@ -228,12 +228,12 @@ pub home_again : (file place : ℕ) (before : Progress) (one again : Held) (duri
       held = put (server_of during).held file (remove ((server_of during).held file) place);
     }
     → slice_get ((server_of during).held file) place ≡ Some again
-    → outcome ≡ Outcome.Ready → IsAtHomeFor again.client again.request (server_of after)
+    → outcome ≡ Outcome.Ready → CanBeAnswered again.client again.request (server_of after)
 home_again file place before one again during after outs outcome is end left found ready =
     let same = same_held file one.client one.request before (progress_of during outs) outcome end in
     let there : one ≡ again = is ∙ got (before.server.held file) place again one (rw same at found) in
     let home = ready_at_home one.client one.request before (progress_of during outs) outcome end ready in
-    subst (λ (h : Held). IsAtHomeFor h.client h.request (server_of after)) there
+    subst (λ (h : Held). CanBeAnswered h.client h.request (server_of after)) there
     (home_kept (server_of during) (server_of after) one.client one.request (sym (ap (λ (s : Server). s.opens) left)) home)
 
 -- ---- the end of a pass

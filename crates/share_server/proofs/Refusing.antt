@@ -1,47 +1,47 @@
--- A try changes no content, and closes only opens that aren't connected.
-use Rattle.std.proofs.Common.{◌≡◌, ℕ, zero, suc, Bool, true, false, not, List, [], ◌∷◌, refl, ap, sym, ◌∙◌, subst}
-use Rattle.std.specs.Prelude.{if◌then◌else◌, ◌&&◌}
-use Rattle.lease_laws.proofs.server.Lists.{if_cases, among_filter, among_filtered}
+-- A try changes no content, and closes only opens that aren't connected, of keys that it wants.
+use Rattle.std.proofs.Common.{◌≡◌, ◌⊎◌, inl, inr, ⊎_elim, ℕ, zero, suc, Bool, true, false, not, Option, Some, None, Ok, Err, List, [], ◌∷◌, ◌++◌, refl, ap, sym, ◌∙◌, subst, true≢false}
+use Rattle.std.specs.Prelude.{if◌then◌else◌, ◌&&◌, Result}
+use Rattle.lease_laws.proofs.server.Lists.{if_cases, either, and_parts, not_parts, among_filter, among_filtered}
 use Rattle.lease_laws.proofs.server.Met.{lease_broken-opens}
 use Rattle.lease_laws.specs.server.Laws.{Among}
-use Rattle.lease_model.specs.messages.Requests.{FileRequest}
-use Rattle.lease_model.specs.server.Attempt.{Outcome, Tried, is_left_open, lease_broken, want_met, wants_met, ended, must_wait, after_breaks, after_finding, tried_for}
-use Rattle.lease_model.specs.server.Calls.{arrived_on}
-use Rattle.lease_model.specs.server.Findings.{Finding, finding}
-use Rattle.lease_model.specs.server.Progress.{Progress, opens_dropped, with_opens, break_begun, lease_lowered, refused}
+use Rattle.lease_model.specs.messages.Replies.{Reply, Out}
+use Rattle.lease_model.specs.messages.Requests.{FileRequest, Request}
+use Rattle.lease_model.specs.server.Acknowledge.{acknowledged, judged, break_ended}
+use Rattle.lease_model.specs.server.Answers.{concluded}
+use Rattle.lease_model.specs.server.Attempt.{Outcome, Tried, is_left_open, lease_broken, want_met, wants_met, ended, must_wait, after_breaks, after_finding, tried, tried_for}
+use Rattle.lease_model.specs.server.Calls.{after_first_try, arrived, arrived_on, file_asked, file_of_open, first_tried, receive}
+use Rattle.lease_model.specs.server.Findings.{Finding, by_open, connected_open, finding}
+use Rattle.lease_model.specs.server.Naming.{key_of}
+use Rattle.lease_model.specs.server.Passes.{all_passes, is_behind}
+use Rattle.lease_model.specs.server.Progress.{Progress, begun, opens_dropped, with_opens, break_begun, lease_lowered, refused, replied, refusal_of}
 use Rattle.lease_model.specs.server.Ready.{is_ready}
-use Rattle.lease_model.specs.server.State.{Open, has_key, has_lease, is_breaking}
+use Rattle.lease_model.specs.server.State.{Server, Open, has_key, has_lease, is_breaking}
 use Rattle.lease_model.specs.server.Wants.{Want}
 use Rattle.lease_model.specs.values.Keys.{Key}
-use Rattle.lease_state.specs.State.{State, needs_acknowledgment}
-use Rattle.share_server.specs.Laws.{IsLeftAlone, RefusedAsTheyCome, RefusedOnceTried}
+use Rattle.lease_state.specs.State.{State, needs_acknowledgment, granted_form_of, is_state_within}
+use Rattle.lease_state.specs.declared.status.Status.{Status}
+use Rattle.share_server.specs.Refusals.{NeedsRound, IsClosedByBreak, IsLeftAlone, RefusedAsTheyCome, RefusedOnceTried, ClosesAreRefusedAsTheyCome, RefusedAcknowledgments, passes_behind, CallsRefusedAsTheyCome, CallsOfRefusedAcknowledgments, CallsRefusedOnceTried}
 
-abbrev Alone : Progress → Progress → Type 0
-Alone before after = IsLeftAlone before.server after.server
+-- ---- what is met
 
-alone_same : (progress : Progress) → Alone progress progress
-alone_same progress = record { contents = refl; were = λ one a. a; stay = λ one a up. a }
+-- an open that isn't connected, of a key among the wants
+pub record IsOfWant (wants : List Want) (one : Open) : Type 0 where
+  pub want : Want
+  pub is_wanted : Among want wants
+  pub has_the_key : has_key want.key one ≡ true
+  pub is_left : one.connected ≡ false
 
-alone_twice : (a b c : Progress) → Alone a b → Alone b c → Alone a c
-alone_twice a b c x y = record {
-  contents = y.contents ∙ x.contents;
-  were = λ one m. x.were one (y.were one m);
-  stay = λ one m up. y.stay one (x.stay one m up) up;
-}
-
-connected_stays : (key : Key) (one : Open) → one.connected ≡ true → not (is_left_open key one) ≡ true
-connected_stays key one up = go (has_key key one) one.connected up where
-  go : (b up : Bool) → up ≡ true → not (b && not up) ≡ true
-  go true up e = rw e refl
-  go false up e = refl
-
-dropped_alone : (key : Key) (progress : Progress) → Alone progress (opens_dropped (is_left_open key) progress)
+dropped_alone : (key : Key) (progress : Progress)
+    → IsLeftAlone (λ one. (has_key key one ≡ true) × (one.connected ≡ false)) progress.server
+    (opens_dropped (is_left_open key) progress).server
 unfolding opens_dropped with_opens
 dropped_alone key progress = record {
   contents = refl;
   were = λ one a. (among_filter (λ o. not (is_left_open key o)) one progress.server.opens a).0;
-  stay = λ one a up. among_filtered (λ o. not (is_left_open key o)) one progress.server.opens a
-      (connected_stays key one up);
+  stay = λ one a. either (is_left_open key one)
+      (λ left. let parts = and_parts (has_key key one) (not one.connected) left in
+      inr (parts.0, not_parts one.connected parts.1))
+      (λ kept. inl (among_filtered (λ o. not (is_left_open key o)) one progress.server.opens a (ap not kept)));
 }
 
 broken_contents : (key : Key) (lowered : State) (progress : Progress)
@@ -57,51 +57,115 @@ broken_contents key lowered progress =
     (break_begun key lowered progress) (lease_lowered key lowered progress) (λ n. refl) (λ n. refl))
     (λ t. refl)
 
-broken_alone : (key : Key) (lowered : State) (progress : Progress) → Alone progress (lease_broken key lowered progress)
-broken_alone key lowered progress =
-    let same = lease_broken-opens key lowered progress in
-    record {
-      contents = broken_contents key lowered progress;
-      were = λ one a. subst (λ opens. Among one opens) same a;
-      stay = λ one a up. subst (λ opens. Among one opens) (sym same) a;
-    }
-
-met_alone : (want : Want) (progress : Progress) → Alone progress (want_met want progress)
+met_alone : (want : Want) (progress : Progress)
+    → IsLeftAlone (λ one. (has_key want.key one ≡ true) × (one.connected ≡ false)) progress.server
+    (want_met want progress).server
 unfolding want_met
 met_alone want progress =
-    alone_twice progress (opens_dropped (is_left_open want.key) progress)
-    (lease_broken want.key want.lowered (opens_dropped (is_left_open want.key) progress))
-    (dropped_alone want.key progress)
-    (broken_alone want.key want.lowered (opens_dropped (is_left_open want.key) progress))
+    let dropped = opens_dropped (is_left_open want.key) progress in
+    let same = lease_broken-opens want.key want.lowered dropped in
+    let d = dropped_alone want.key progress in record {
+      contents = broken_contents want.key want.lowered dropped ∙ d.contents;
+      were = λ one a. d.were one (subst (λ opens. Among one opens) same a);
+      stay = λ one a. ⊎_elim (λ there. inl (subst (λ opens. Among one opens) (sym same) there)) (λ goes. inr goes)
+          (d.stay one a);
+    }
 
-all_met_alone : (wants : List Want) (progress : Progress) → Alone progress (wants_met wants progress)
+all_met_alone : (wants : List Want) (progress : Progress)
+    → IsLeftAlone (IsOfWant wants) progress.server (wants_met wants progress).server
 unfolding wants_met
-all_met_alone [] progress = alone_same progress
+all_met_alone [] progress = record { contents = refl; were = λ one a. a; stay = λ one a. inl a }
 all_met_alone (want ∷ wants) progress =
-    alone_twice progress (want_met want progress) (wants_met wants (want_met want progress)) (met_alone want progress)
-    (all_met_alone wants (want_met want progress))
+    let first = met_alone want progress in
+    let rest = all_met_alone wants (want_met want progress) in record {
+      contents = rest.contents ∙ first.contents;
+      were = λ one a. first.were one (rest.were one a);
+      stay = λ one a. ⊎_elim
+          (λ there. ⊎_elim (λ still. inl still) (λ w. inr (record {
+            want = w.want;
+            is_wanted = inr w.is_wanted;
+            has_the_key = w.has_the_key;
+            is_left = w.is_left;
+          })) (rest.stay one there))
+          (λ goes. inr (record { want = want; is_wanted = inl refl; has_the_key = goes.0; is_left = goes.1 }))
+          (first.stay one a);
+    }
 
-found_alone : (again : Progress → Tried) (request : FileRequest) (progress : Progress) (found : Finding)
-    → ((next : Progress) → Alone next (again next).progress)
-    → Alone progress (after_finding again request progress found).progress
-found_alone again request progress (Finding.Fails status) more = alone_same progress
-found_alone again request progress (Finding.Needs wants) more =
-    if_cases (λ (t : Tried). Alone progress t.progress) (is_ready request progress.server.leases wants)
-    (ended progress Outcome.Ready) (after_breaks again request wants (wants_met wants progress))
-    (λ e. alone_same progress)
-    (λ e. if_cases (λ (t : Tried). Alone progress t.progress) (must_wait request (wants_met wants progress) wants)
-    (ended (wants_met wants progress) Outcome.Waits) (again (wants_met wants progress))
-    (λ w. all_met_alone wants progress)
-    (λ w. alone_twice progress (wants_met wants progress) (again (wants_met wants progress)).progress
-    (all_met_alone wants progress)
-    (more (wants_met wants progress))))
+-- ---- tries
 
-tried_alone : (rounds client : ℕ) (request : FileRequest) (progress : Progress)
-    → Alone progress (tried_for rounds client request progress).progress
+same_alone : (MayGo : Open → Type 0) (server : Server) → IsLeftAlone MayGo server server
+same_alone MayGo server = record { contents = refl; were = λ one a. a; stay = λ one a. inl a }
+
+-- a round closes what its breaks close
+round_alone : (client : ℕ) (request : FileRequest) (progress : Progress) (wants : List Want)
+    → NeedsRound client request progress wants
+    → IsLeftAlone (IsClosedByBreak client request progress) progress.server (wants_met wants progress).server
+round_alone client request progress wants needs = let m = all_met_alone wants progress in record {
+  contents = m.contents;
+  were = m.were;
+  stay = λ one a. ⊎_elim (λ there. inl there) (λ w. inr (record {
+    rounds = 0;
+    at = progress;
+    are_rounds = refl;
+    wants = wants;
+    needs = needs;
+    want = w.want;
+    is_wanted = w.is_wanted;
+    has_the_key = w.has_the_key;
+    is_left = w.is_left;
+  })) (m.stay one a);
+}
+
+-- and then the rest of the try
+then_alone : (client : ℕ) (request : FileRequest) (progress : Progress) (wants : List Want) (after : Server)
+    → NeedsRound client request progress wants → must_wait request (wants_met wants progress) wants ≡ false
+    → IsLeftAlone (IsClosedByBreak client request (wants_met wants progress)) (wants_met wants progress).server after
+    → IsLeftAlone (IsClosedByBreak client request progress) progress.server after
+then_alone client request progress wants after needs goes rest =
+    let first = round_alone client request progress wants needs in record {
+      contents = rest.contents ∙ first.contents;
+      were = λ one a. first.were one (rest.were one a);
+      stay = λ one a. ⊎_elim
+          (λ there. ⊎_elim (λ still. inl still) (λ w. inr (record {
+            rounds = suc w.rounds;
+            at = w.at;
+            are_rounds = (wants, needs, goes, w.are_rounds);
+            wants = w.wants;
+            needs = w.needs;
+            want = w.want;
+            is_wanted = w.is_wanted;
+            has_the_key = w.has_the_key;
+            is_left = w.is_left;
+          })) (rest.stay one there))
+          (λ w. inr w) (first.stay one a);
+    }
+
+found_alone : (again : Progress → Tried) (client : ℕ) (request : FileRequest) (progress : Progress) (found : Finding)
+    → finding progress.server client request ≡ found
+    → ((next : Progress) → IsLeftAlone (IsClosedByBreak client request next) next.server (again next).progress.server)
+    → IsLeftAlone (IsClosedByBreak client request progress) progress.server
+    (after_finding again request progress found).progress.server
+found_alone again client request progress (Finding.Fails status) is more =
+    same_alone (IsClosedByBreak client request progress) progress.server
+found_alone again client request progress (Finding.Needs wants) is more =
+    let next = wants_met wants progress in
+    if_cases (λ (t : Tried). IsLeftAlone (IsClosedByBreak client request progress) progress.server t.progress.server)
+    (is_ready request progress.server.leases wants)
+    (ended progress Outcome.Ready) (after_breaks again request wants next)
+    (λ ready. same_alone (IsClosedByBreak client request progress) progress.server)
+    (λ not_ready. let needs : NeedsRound client request progress wants = record { found = is; not_ready = not_ready } in
+    if_cases (λ (t : Tried). IsLeftAlone (IsClosedByBreak client request progress) progress.server t.progress.server)
+    (must_wait request next wants) (ended next Outcome.Waits) (again next)
+    (λ waits. round_alone client request progress wants needs)
+    (λ goes. then_alone client request progress wants (again next).progress.server needs goes (more next)))
+
+pub tried_alone : (rounds client : ℕ) (request : FileRequest) (progress : Progress)
+    → IsLeftAlone (IsClosedByBreak client request progress) progress.server
+    (tried_for rounds client request progress).progress.server
 unfolding tried_for
-tried_alone zero client request progress = alone_same progress
+tried_alone zero client request progress = same_alone (IsClosedByBreak client request progress) progress.server
 tried_alone (suc rounds) client request progress =
-    found_alone (tried_for rounds client request) request progress (finding progress.server client request)
+    found_alone (tried_for rounds client request) client request progress (finding progress.server client request) refl
     (λ next. tried_alone rounds client request next)
 
 pub refused_once_tried : RefusedOnceTried
@@ -112,3 +176,156 @@ pub refused_as_they_come : RefusedAsTheyCome
 unfolding refused
 refused_as_they_come client request progress status is =
     ap (λ asked. (arrived_on client request progress asked).server) is
+
+-- ---- closes
+
+pub closes_are_refused_as_they_come : ClosesAreRefusedAsTheyCome
+unfolding file_asked tried_for finding is_ready
+closes_are_refused_as_they_come client file_id progress status is =
+    by_found (connected_open progress.server client file_id) is
+  where
+    by_found : (found : Option Open)
+        → (after_finding (tried_for 2 client (FileRequest.Close file_id)) (FileRequest.Close file_id) progress
+        (by_open found (λ one. Finding.Needs []))).outcome ≡ Outcome.Refused status → file_of_open found ≡ Err status
+    by_found None e = ap as_result (status_of e)
+      where
+        as_result : Status → Result ℕ Status
+        as_result s = Err s
+
+        status_of : Outcome.Refused Status.FileClosed ≡ Outcome.Refused status → Status.FileClosed ≡ status
+        status_of e = cc
+    by_found (Some one) e = let never : ⊥ = cc in absurd never
+
+-- ---- acknowledgments
+
+-- what comes last
+last_same : {X : Type 0} (xs : List X) (x y : X) → xs ++ x ∷ [] ≡ xs ++ y ∷ [] → x ≡ y
+last_same [] x y e = cc
+last_same (z ∷ xs) x y e = last_same xs x y (tails e)
+  where
+    tails : z ∷ (xs ++ x ∷ []) ≡ z ∷ (xs ++ y ∷ []) → xs ++ x ∷ [] ≡ xs ++ y ∷ []
+    tails e = cc
+
+judged_alone : (key : Key) (state : State) (broken : Option State) (progress : Progress) (status : Status)
+    → (judged key state broken progress).outs ≡ progress.outs ++ Out.Sent key.client (Reply.AckFailed status) ∷ []
+    → (judged key state broken progress).server ≡ progress.server
+unfolding break_ended
+judged_alone key state None progress status e = refl
+judged_alone key state (Some lowered) progress status e = if_cases
+    (λ (p : Progress). p.outs ≡ progress.outs ++ Out.Sent key.client (Reply.AckFailed status) ∷ [] → p.server ≡ progress.server)
+    (is_state_within state lowered) (break_ended key state progress)
+    (replied key.client (Reply.AckFailed Status.RequestNotAccepted) progress)
+    (λ part x. absurd (done (last_same progress.outs _ _ x))) (λ other x. refl) e
+  where
+    done : Out.Sent key.client (Reply.AckDone (Some (record { key = key.bytes; state = granted_form_of state })))
+        ≡ Out.Sent key.client (Reply.AckFailed status) → ⊥
+    done e = cc
+
+pub refused_acknowledgments : RefusedAcknowledgments
+unfolding acknowledged
+refused_acknowledgments client None progress status e = refl
+refused_acknowledgments client (Some given) progress status e = if_cases
+    (λ (p : Progress). p.outs ≡ progress.outs ++ Out.Sent client (Reply.AckFailed status) ∷ [] → p.server ≡ progress.server)
+    (has_lease progress.server (key_of client given.key))
+    (judged (key_of client given.key) given.state (progress.server.leases (key_of client given.key)).broken_to progress)
+    (replied client (Reply.AckFailed Status.ObjectNameNotFound) progress)
+    (λ there x. judged_alone (key_of client given.key) given.state
+    (progress.server.leases (key_of client given.key)).broken_to progress status x)
+    (λ gone x. refl) e
+
+-- ---- whole calls
+
+present_so : {X : Type 0} (b : Bool) (x y : X) → b ≡ true → (if b then x else y) ≡ x
+present_so true x y e = refl
+present_so false x y e = absurd (true≢false (sym e))
+
+refused_first : (client : ℕ) (request : FileRequest) (progress : Progress) (status : Status)
+    → file_asked progress.server client request ≡ Err status
+    → first_tried client request progress ≡ replied client (refusal_of request status) progress
+unfolding refused
+refused_first client request progress status is = ap (arrived_on client request progress) is
+
+arrived_refused : (client : ℕ) (request : FileRequest) (progress : Progress) (status : Status)
+    → file_asked progress.server client request ≡ Err status
+    → arrived client (Request.OnFile request) progress
+    ≡ passes_behind request (replied client (refusal_of request status) progress)
+unfolding arrived
+arrived_refused client (FileRequest.Close file_id) progress status is =
+    ap all_passes (refused_first client (FileRequest.Close file_id) progress status is)
+arrived_refused client (FileRequest.Create file access share contexts) progress status is =
+    refused_first client (FileRequest.Create file access share contexts) progress status is
+arrived_refused client (FileRequest.Read file_id) progress status is =
+    refused_first client (FileRequest.Read file_id) progress status is
+arrived_refused client (FileRequest.Write file_id number patch) progress status is =
+    refused_first client (FileRequest.Write file_id number patch) progress status is
+
+pub calls_refused_as_they_come : CallsRefusedAsTheyCome
+unfolding receive
+calls_refused_as_they_come server client request status up is =
+    present_so (server.present client) (arrived client (Request.OnFile request) (begun server)) (begun server) up
+    ∙ arrived_refused client request (begun server) status is
+
+abbrev with_outs : Server → List Out → Progress
+with_outs server outs = record { server = server; outs = outs }
+
+progress_same : (one other : Progress) → one.server ≡ other.server → one.outs ≡ other.outs → one ≡ other
+progress_same one other e f = made one.server other.server one.outs other.outs e f
+  where
+    made : (s t : Server) (l m : List Out) → s ≡ t → l ≡ m → with_outs s l ≡ with_outs t m
+    made s t l m e f = rw (e, f) refl
+
+pub calls_of_refused_acknowledgments : CallsOfRefusedAcknowledgments
+unfolding receive arrived
+calls_of_refused_acknowledgments server client given status up is =
+    present_so (server.present client) (all_passes (acknowledged client given (begun server))) (begun server) up
+    ∙ ap all_passes (progress_same (acknowledged client given (begun server))
+    (replied client (Reply.AckFailed status) (begun server))
+    (refused_acknowledgments client given (begun server) status is) is)
+
+tried_so : (client file : ℕ) (request : FileRequest) (progress : Progress) (status : Status)
+    → file_asked progress.server client request ≡ Ok file → is_behind client (progress.server.held file) ≡ false
+    → (tried client request progress).outcome ≡ Outcome.Refused status
+    → first_tried client request progress
+    ≡ concluded client request (tried client request progress).progress (Outcome.Refused status)
+tried_so client file request progress status asked first is =
+    ap (arrived_on client request progress) asked
+    ∙ not_behind (is_behind client (progress.server.held file)) _ _ first
+    ∙ ap (after_first_try client file request (tried client request progress).progress) is
+  where
+    not_behind : {X : Type 0} (b : Bool) (x y : X) → b ≡ false → (if b then x else y) ≡ y
+    not_behind true x y e = absurd (true≢false e)
+    not_behind false x y e = refl
+
+calls_alone : (client file : ℕ) (request : FileRequest) (server : Server) (status : Status)
+    → file_asked server client request ≡ Ok file → is_behind client (server.held file) ≡ false
+    → (tried client request (begun server)).outcome ≡ Outcome.Refused status
+    → IsLeftAlone (IsClosedByBreak client request (begun server)) server
+    (arrived client (Request.OnFile request) (begun server)).server
+unfolding arrived
+calls_alone client file (FileRequest.Close file_id) server status asked first is =
+    absurd (never (sym asked ∙ closes_are_refused_as_they_come client file_id (begun server) status is))
+  where
+    never : Ok file ≡ Err status → ⊥
+    never e = cc
+calls_alone client file (FileRequest.Create at access share contexts) server status asked first is =
+    subst (λ (p : Progress). IsLeftAlone (IsClosedByBreak client (FileRequest.Create at access share contexts) (begun server))
+    server p.server)
+    (sym (tried_so client file (FileRequest.Create at access share contexts) (begun server) status asked first is))
+    (refused_once_tried client (FileRequest.Create at access share contexts) (begun server) status is)
+calls_alone client file (FileRequest.Read file_id) server status asked first is =
+    subst (λ (p : Progress). IsLeftAlone (IsClosedByBreak client (FileRequest.Read file_id) (begun server))
+    server p.server)
+    (sym (tried_so client file (FileRequest.Read file_id) (begun server) status asked first is))
+    (refused_once_tried client (FileRequest.Read file_id) (begun server) status is)
+calls_alone client file (FileRequest.Write file_id number patch) server status asked first is =
+    subst (λ (p : Progress). IsLeftAlone (IsClosedByBreak client (FileRequest.Write file_id number patch) (begun server))
+    server p.server)
+    (sym (tried_so client file (FileRequest.Write file_id number patch) (begun server) status asked first is))
+    (refused_once_tried client (FileRequest.Write file_id number patch) (begun server) status is)
+
+pub calls_refused_once_tried : CallsRefusedOnceTried
+unfolding receive
+calls_refused_once_tried server client file request status up asked first is =
+    subst (λ (p : Progress). IsLeftAlone (IsClosedByBreak client request (begun server)) server p.server)
+    (sym (present_so (server.present client) (arrived client (Request.OnFile request) (begun server)) (begun server) up))
+    (calls_alone client file request server status asked first is)

@@ -1,5 +1,5 @@
 -- What the tables keep beside the list of opens.
-use Rattle.std.specs.Prelude.{◌≡◌, ◌≤◌, ⊤, ℕ, Bool, false, Option, Some, None, List, [], ◌∷◌, ◌++◌, map, if◌then◌else◌}
+use Rattle.std.specs.Prelude.{◌≡◌, ◌≤◌, ⊤, ℕ, Bool, true, false, Option, Some, None, List, [], ◌∷◌, ◌++◌, map, if◌then◌else◌}
 use Rattle.std.specs.List.{list_any}
 use Rattle.lease_laws.specs.server.Laws.{Among}
 use Rattle.lease_model.specs.messages.Requests.{FileRequest, CreateAsk}
@@ -9,6 +9,7 @@ use Rattle.lease_model.specs.server.Progress.{with_lease}
 use Rattle.lease_model.specs.server.State.{Server, Open, Lease, no_lease, has_key}
 use Rattle.lease_model.specs.values.Keys.{Key}
 use Rattle.lease_model.specs.values.Lists.{without}
+use Rattle.lease_model.specs.values.Patches.{is_within_limit}
 use Rattle.share_server.specs.Filed.{has_id}
 use Rattle.share_server.specs.Leases.{lease_of}
 use Rattle.share_server.specs.Summaries.{Agrees, lease_in}
@@ -46,9 +47,11 @@ abbrev pub AreContextsAtHome : ℕ → ℕ → Option CreateAsk → Server → T
 AreContextsAtHome client file None server = ⊤
 AreContextsAtHome client file (Some ask) server = IsCreateAtHome (own_key client ask.lease) file ask.reconnect server
 
-abbrev pub IsAtHomeFor : ℕ → FileRequest → Server → Type 0
-IsAtHomeFor client (FileRequest.Create file access share contexts) server = AreContextsAtHome client file contexts server
-IsAtHomeFor client request server = ⊤
+-- What a request has to meet where it is answered: besides that of a create, a write ends within the limit of a file.
+abbrev pub CanBeAnswered : ℕ → FileRequest → Server → Type 0
+CanBeAnswered client (FileRequest.Create file access share contexts) server = AreContextsAtHome client file contexts server
+CanBeAnswered client (FileRequest.Write file_id number patch) server = is_within_limit patch ≡ true
+CanBeAnswered client request server = ⊤
 
 -- ---- opens that are closed
 

@@ -1,21 +1,13 @@
 -- What holds of every server, whatever was asked of it, by its opens and its leases.
-use Rattle.std.specs.Prelude.{◌≡◌, ◌≢◌, ℕ, true, false, Some, Err}
+use Rattle.std.specs.Prelude.{◌≡◌, ◌≢◌, true, false, Some}
 use Rattle.lease_laws.specs.server.Laws.{Among}
-use Rattle.lease_model.specs.messages.Requests.{FileRequest}
-use Rattle.lease_model.specs.server.Answers.{concluded}
-use Rattle.lease_model.specs.server.Attempt.{Outcome, tried}
-use Rattle.lease_model.specs.server.Calls.{file_asked, first_tried}
 use Rattle.lease_model.specs.server.Naming.{lease_of}
-use Rattle.lease_model.specs.server.Progress.{Progress}
-use Rattle.lease_model.specs.server.State.{Server, Open, Lease, is_breaking, has_key}
+use Rattle.lease_model.specs.server.State.{Open, Lease, is_breaking, has_key}
 use Rattle.lease_model.specs.values.Keys.{Key}
 use Rattle.lease_model.specs.values.LeaseStates.{same_state}
 use Rattle.lease_state.specs.Access.{conflict}
 use Rattle.lease_state.specs.State.{State, is_state_within}
-use Rattle.lease_state.specs.declared.status.Status.{Status}
 use Rattle.share_server.specs.Table.{Table, lease_at, server_of}
-
--- ---- every server
 
 -- Where a key's lease caches writes, each open on a file that the key has an open on has that key.
 abbrev pub HasOneWriter : Table → Type 0
@@ -49,24 +41,3 @@ pub record IsLess (lowered : State) (state : State) : Type 0 where
 abbrev pub BreaksToLess : Table → Type 0
 BreaksToLess server = (key : Key) (lowered : State) → (lease_at server.leases key).broken_to ≡ Some lowered
     → IsLess lowered (lease_at server.leases key).state
-
--- ---- refusals
-
--- No content changes, no open comes, and none goes but such as aren't connected.
-pub record IsLeftAlone (before : Server) (after : Server) : Type 0 where
-  pub contents : after.contents ≡ before.contents
-  pub were : (one : Open) → Among one after.opens → Among one before.opens
-  pub stay : (one : Open) → Among one before.opens → one.connected ≡ true → Among one after.opens
-
--- A request that is refused as it comes changes nothing.
-abbrev pub RefusedAsTheyCome : Type 0
-RefusedAsTheyCome = (client : ℕ) (request : FileRequest) (progress : Progress) (status : Status)
-    → file_asked progress.server client request ≡ Err status
-    → (first_tried client request progress).server ≡ progress.server
-
--- One that was tried and is refused leaves all alone but what its breaks closed.
-abbrev pub RefusedOnceTried : Type 0
-RefusedOnceTried = (client : ℕ) (request : FileRequest) (progress : Progress) (status : Status)
-    → (tried client request progress).outcome ≡ Outcome.Refused status
-    → IsLeftAlone progress.server
-    (concluded client request (tried client request progress).progress (Outcome.Refused status)).server

@@ -9,6 +9,7 @@ pub mod LeftOpens
 pub mod Looks
 pub mod Outs
 pub mod Passing
+pub mod Refusals
 pub mod Requests
 pub mod Summaries
 pub mod Table

@@ -1,4 +1,4 @@
-ghost use Rattle.std.specs.Prelude.{◌≡◌, OnOk};
+ghost use Rattle.std.specs.Prelude.{◌≡◌, true, OnOk};
 ghost use Rattle.std.specs.Option.{option_map};
 ghost use Rattle.lease_model.specs.server.Answers as rules;
 ghost use Rattle.lease_model.specs.server.Findings.{connected_open};
@@ -7,7 +7,8 @@ ghost use Rattle.share_server.specs.Outs.{progress_of};
 ghost use Rattle.share_server.specs.Requests.{file_request_of, lease_asked};
 ghost use Rattle.lease_model.specs.server.Attempt.Outcome.{Ready};
 ghost use Rattle.lease_model.specs.server.Naming.{own_key};
-ghost use Rattle.share_server.specs.Kept.{IsAtHomeFor, IsCreateAtHome};
+ghost use Rattle.lease_model.specs.values.Patches.{is_within_limit};
+ghost use Rattle.share_server.specs.Kept.{CanBeAnswered, IsCreateAtHome};
 ghost use Rattle.share_server.specs.Table.{server_of};
 
 use crate::attempt::Outcome;
@@ -31,7 +32,7 @@ pub fn conclude(
     request: FileRequest,
     outcome: Outcome,
 ) -> Result<(), Memory>
-    requires { outcome_of outcome ≡ Ready → IsAtHomeFor client.0 (file_request_of request) (server_of tables.old) }
+    requires { outcome_of outcome ≡ Ready → CanBeAnswered client.0 (file_request_of request) (server_of tables.old) }
     ensures { OnOk result (progress_of tables.new outs.new
         ≡ rules.concluded client.0 (file_request_of request) (progress_of tables.old outs.old) (outcome_of outcome)) }
 {
@@ -50,7 +51,7 @@ fn answer(
     client: ClientNo,
     request: FileRequest,
 ) -> Result<(), Memory>
-    requires { IsAtHomeFor client.0 (file_request_of request) (server_of tables.old) }
+    requires { CanBeAnswered client.0 (file_request_of request) (server_of tables.old) }
     ensures { OnOk result (progress_of tables.new outs.new
         ≡ rules.answered client.0 (file_request_of request) (progress_of tables.old outs.old)) }
 {
@@ -125,6 +126,7 @@ fn write(
     number: u64,
     patch: Patch,
 ) -> Result<(), Memory>
+    requires { is_within_limit patch ≡ true }
     ensures { OnOk result (progress_of tables.new outs.new
         ≡ rules.on_open (connected_open (server_of tables.old) client.0 fid.0)
         (λ file. rules.changed client.0 file fid.0 number patch) (progress_of tables.old outs.old)) }

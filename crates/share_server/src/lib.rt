@@ -53,8 +53,6 @@ mod state;
 mod summaries;
 mod tables;
 mod tally;
-#[cfg(test)]
-mod tests;
 mod want;
 
 pub use laws::refusals_leave_files_alone;

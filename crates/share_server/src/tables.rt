@@ -1,9 +1,10 @@
 ghost use Rattle.std.specs.Prelude.{◌≡◌, ◌≤◌, ◌<◌, ℕ, ◌==◌, ◌++◌, [], ◌∷◌, IfOk, OnOk, map, filter, not, length, vec_len};
 ghost use Rattle.std.specs.List.{remove, slice_get};
-ghost use Rattle.std.specs.Prelude.{Some};
+ghost use Rattle.std.specs.Prelude.{Some, true};
 ghost use Rattle.lease_model.specs.values.Tables.{numbered};
 ghost use Rattle.lease_state.specs.Content.{patch as patched};
 ghost use Rattle.lease_model.specs.values.Lists.{without};
+ghost use Rattle.lease_model.specs.values.Patches.{is_within_limit};
 ghost use Rattle.share_server.specs.Table.{no_file, file_in, fresh_file};
 
 use crate::key::Key;
@@ -12,7 +13,9 @@ use crate::opens::Opens;
 use crate::request::Held;
 use crate::state::without_write;
 use crate::summaries::Summaries;
-use lease_state::{Access, ClientNo, Content, FileId, FileNo, LeaseState, Memory, Patch, Share};
+use lease_state::{
+    Access, ClientNo, Content, ContentFault, FileId, FileNo, LeaseState, Memory, Patch, Share,
+};
 use std::alloc::{AllocError, Global};
 use std::marker::Model;
 
@@ -53,12 +56,12 @@ impl File {
     }
 
     /// What a number has that is no file's.
-    fn empty(alloc: Global) -> Result<File, Memory>
-        ensures { IfOk result (λ file. file ≡ no_file) }
+    fn empty(alloc: Global) -> File
+        ensures { result ≡ no_file }
     {
         match Content::new(Vec::new(alloc)) {
-            Ok(content) => Ok(File::new(alloc, content)),
-            Err(_) => Err(Memory),
+            Ok(content) => File::new(alloc, content),
+            Err(_) => unreachable!(),
         }
     }
 
@@ -86,14 +89,15 @@ impl File {
         forget_held(&mut self.held, client);
     }
 
-    /// The patch is put over the bytes.
+    /// The patch, which ends within the limit, is put over the bytes.
     fn change(&mut self, patch: &Patch) -> Result<(), Memory>
+        requires { is_within_limit patch.now ≡ true }
         ensures { OnOk result (self.new ≡ record self.old { content = patched self.old.content patch.now }) }
     {
-        // A patch that ends past the limit was refused before.
         match self.content.apply(patch) {
             Ok(()) => Ok(()),
-            Err(_) => Err(Memory),
+            Err(ContentFault::Memory) => Err(Memory),
+            Err(ContentFault::TooLong) => unreachable!(),
         }
     }
 }
@@ -291,7 +295,7 @@ fn first_places(alloc: Global, contents: Vec<Content>) -> Result<Vec<File>, Memo
     ensures { IfOk result (λ files. files.items ≡ no_file ∷ map fresh_file contents.items) }
 {
     let mut files = Vec::new(alloc);
-    files.push(File::empty(alloc)?)?;
+    files.push(File::empty(alloc))?;
     for content in contents {
         files.push(File::new(alloc, content))?;
     }
@@ -305,7 +309,7 @@ fn fill_up(alloc: Global, files: &mut Vec<File>) -> Result<(), Memory>
     ensures places { OnOk result ((n : ℕ) → file_in files.new.items n ≡ file_in files.old.items n) }
 {
     while files.len() < PLACES {
-        files.push(File::empty(alloc)?)?;
+        files.push(File::empty(alloc))?;
     }
     Ok(())
 }

@@ -1,9 +1,8 @@
 -- What is on its way while a lease is breaking, and what beliefs are held.
-use Rattle.std.proofs.Common.{◌≡◌, inl, inr, ⊎_elim, ℕ, ◌+◌, Bool, true, false, not, List, [], ◌∷◌, Some, None, refl, sym, ap, subst, arith}
-use Rattle.std.specs.Prelude.{◌||◌, bytes_eq}
+use Rattle.std.proofs.Common.{◌≡◌, inl, inr, ⊎_elim, ℕ, ◌+◌, Bool, true, false, not, List, [], ◌∷◌, Option, Some, None, refl, sym, ap, subst, arith, true≢false}
+use Rattle.std.specs.Prelude.{◌||◌, bytes_eq, is_some}
 use Rattle.std.proofs.lemmas.Slice.Eq.{bytes_eq-Decides}
 use Rattle.lease_state.specs.State.{State, is_state_within}
-use Rattle.lease_model.specs.messages.Replies.{Reply, BreakNotice}
 use Rattle.lease_model.specs.messages.Requests.{FileRequest, Request}
 use Rattle.lease_model.specs.records.Past.{has_strayed, is_good, is_served}
 use Rattle.lease_model.specs.world.Events.{after, machine_key}
@@ -15,12 +14,13 @@ use Rattle.lease_coherence.specs.Creates.{one_if}
 use Rattle.lease_coherence.specs.Names.{Each}
 use Rattle.lease_coherence.specs.Parts.{OfRuns}
 use Rattle.lease_coherence.proofs.beliefs.Trust.{file_key}
-use Rattle.lease_coherence.proofs.beliefs.Words.{acks, is_created, is_ack_break}
+use Rattle.lease_coherence.proofs.beliefs.Words.{acks}
 use Rattle.lease_coherence.proofs.covered.Words.{ClosedBefore}
 use Rattle.lease_coherence.proofs.fresh.Reads.{timely}
+use Rattle.lease_coherence.proofs.told.Lone.{run_lones}
+use Rattle.lease_coherence.proofs.told.Meets.{is_told}
 use Rattle.lease_coherence.proofs.told.Moves.{breaking_open}
 use Rattle.lease_coherence.proofs.told.Runs.{run_answers}
-use Rattle.lease_coherence.proofs.told.Words.{HasMet}
 use Rattle.lease_coherence.proofs.within.Words.{AckFit, IsAckFit}
 
 -- ---- what counts say stands in the queue
@@ -50,30 +50,6 @@ acked key (Request.Acknowledge (Some lease) ∷ queue) some = either (bytes_eq k
     plus : (m n : ℕ) → m ≡ 0 → n ≡ 0 → m + n ≡ 0
     plus m n e f = omega (arith, e, f)
 
-told : (key : List ℕ) (file : ℕ) (live : Bool) (queue : List Reply) → HasMet key file live queue
-    → (notice : BreakNotice) × (notice.key ≡ key) × (notice.ack_required ≡ true)
-    × (Among (Reply.Break (Some notice)) queue)
-told key file live [] met = absurd met
-told key file live (reply ∷ queue) met = ⊎_elim (λ here. of_reply reply here.1)
-    (λ later. let rest = told key file (live || is_created file reply) queue later in
-    (rest.0, rest.1, rest.2, inr rest.3)) met
-  where
-    of_reply : (r : Reply) → is_ack_break key r ≡ true → (notice : BreakNotice) × (notice.key ≡ key)
-        × (notice.ack_required ≡ true) × (Among (Reply.Break (Some notice)) (r ∷ queue))
-    of_reply (Reply.Break (Some notice)) is = let parts = and_parts notice.ack_required (bytes_eq key notice.key) is in
-        (notice, sym ((bytes_eq-Decides key notice.key).0 parts.1), parts.0, inl refl)
-    of_reply (Reply.Break None) is = cc
-    of_reply (Reply.Created other id contexts) is = cc
-    of_reply (Reply.CreateFailed other status) is = cc
-    of_reply (Reply.ReadDone id bytes) is = cc
-    of_reply (Reply.ReadFailed id status) is = cc
-    of_reply (Reply.WriteDone id number) is = cc
-    of_reply (Reply.WriteFailed id number status) is = cc
-    of_reply (Reply.Closed id) is = cc
-    of_reply (Reply.CloseFailed id status) is = cc
-    of_reply (Reply.AckDone response) is = cc
-    of_reply (Reply.AckFailed status) is = cc
-
 close_asked : (file id : ℕ) (queue : List Request) → ClosedBefore file id queue
     → Among (Request.OnFile (FileRequest.Close id)) queue
 close_asked file id [] c = c
@@ -88,6 +64,10 @@ close_asked file id (Request.Acknowledge given ∷ queue) c = inr (close_asked f
 
 -- ---- while a lease is breaking
 
+some_state : (broken_to : Option State) → is_some broken_to ≡ true → (lowered : State) × (broken_to ≡ Some lowered)
+some_state None e = absurd (true≢false (sym e))
+some_state (Some lowered) e = (lowered, refl)
+
 pub breaking_is_answered : OfRuns (Timely BreakingIsAnswered)
 breaking_is_answered setup events client good up file fresh breaks =
     let world = after (first_world setup) events in
@@ -96,8 +76,8 @@ breaking_is_answered setup events client good up file fresh breaks =
     ⊎_elim
     (λ some. let a = acked key (world.requests client) some in inr (inl (record { state = a.0; sent = a.1 })))
     (λ x. ⊎_elim
-    (λ met. let t = told key file _ (world.replies client) met in
-    inl (record { notice = t.0; key = t.1; asks = t.2; sent = t.3 }))
+    (λ met. let l = some_state (lease_of world client file).broken_to breaks in
+    inl (is_told world client file l.0 (run_lones setup events) good up fresh l.1 met))
     (λ closed. let y = breaking_open world.server (machine_key world client file) (v.0.0.0.0.0.0.0).fine.sound breaks in
     inr (inr (record {
       one = y.0;

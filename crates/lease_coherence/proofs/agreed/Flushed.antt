@@ -1,37 +1,53 @@
--- Buffered writes go before what gives them up, bases are current, and what was kept is untouched.
-use Rattle.std.proofs.Common.{◌≡◌, ◌⊎◌, inl, inr, ⊎_elim, ℕ, ◌+◌, Bool, true, false, List, [], ◌∷◌, ◌++◌, Some, None, refl, sym, ap, ◌∙◌, subst, arith, ◌==◌}
+-- Buffered writes go before what gives them up, and what was kept is untouched.
+use Rattle.std.proofs.Common.{◌≡◌, ◌⊎◌, inl, inr, ⊎_elim, ℕ, ◌+◌, true, false, not, List, [], ◌∷◌, ◌++◌, Some, None, refl, sym, ap, ◌∙◌, subst, arith, true≢false, ◌==◌}
 use Rattle.std.specs.Prelude.{bytes_eq}
 use Rattle.std.proofs.lemmas.Bool.{eqb-true}
 use Rattle.std.proofs.lemmas.Slice.Eq.{bytes_eq-Decides}
 use Rattle.lease_state.specs.State.{State}
 use Rattle.lease_state.specs.declared.patch.Patch.{Patch}
-use Rattle.lease_model.specs.client.State.{LiveEntry, Phase, belief_in}
+use Rattle.lease_model.specs.client.State.{LiveEntry, Phase}
 use Rattle.lease_model.specs.messages.Requests.{FileRequest, Request}
-use Rattle.lease_model.specs.records.Facts.{Fact}
-use Rattle.lease_model.specs.records.Past.{has_buffered}
+use Rattle.lease_model.specs.records.Past.{has_buffered, has_strayed}
 use Rattle.lease_model.specs.server.State.{Held}
-use Rattle.lease_model.specs.world.Events.{after}
-use Rattle.lease_model.specs.world.World.{World, first_world}
-use Rattle.lease_laws.specs.records.Runs.{content_of}
+use Rattle.lease_model.specs.world.Events.{after, machine_key}
+use Rattle.lease_model.specs.world.World.{World, Link, first_world}
+use Rattle.lease_laws.specs.client.Laws.{IsSoundPhase, unsent_in}
 use Rattle.lease_laws.specs.server.Laws.{Among}
-use Rattle.lease_laws.proofs.server.Lists.{clash, among_append, among_behind, among_filter, either, not_false}
-use Rattle.lease_laws.proofs.world.InStep.{contents_are_told}
-use Rattle.lease_coherence.specs.Agreement.{OfAllowedRuns, Timely, acknowledgment_of, as_requests, asked_of, NoneBuffered, FlushedBeforeAcknowledgments, FlushedBeforeCloses, BasesAreCurrent, touched_since_lost, KeptIsUntouched}
+use Rattle.lease_laws.specs.world.Links.{is_up, is_down}
+use Rattle.lease_laws.proofs.server.Lists.{clash, among_append, among_behind, among_filter, either, not_true}
+use Rattle.lease_coherence.specs.Agreement.{OfAllowedRuns, Timely, acknowledgment_of, as_requests, asked_of, NoneBuffered, FlushedBeforeAcknowledgments, FlushedBeforeCloses, touched_since_lost, KeptIsUntouched}
 use Rattle.lease_coherence.specs.Creates.{held_by, one_if}
-use Rattle.lease_coherence.specs.Names.{Each}
+use Rattle.lease_coherence.specs.Names.{Each, IsNamedAt, IsNamedRequest, WasWrittenOn}
 use Rattle.lease_coherence.specs.Parts.{OfRuns}
-use Rattle.lease_coherence.specs.Standing.{IsNoClose, NotClosed, PhaseStands}
+use Rattle.lease_coherence.specs.Standing.{IsNoClose, IsOpenFor, NotClosed, PhaseStands}
 use Rattle.lease_coherence.proofs.agreed.Breaks.{each_one}
 use Rattle.lease_coherence.proofs.beliefs.Trust.{file_key}
 use Rattle.lease_coherence.proofs.beliefs.Words.{AckKeeps, acks}
 use Rattle.lease_coherence.proofs.fresh.Clients.{sound_live}
-use Rattle.lease_coherence.proofs.fresh.Words.{IsRelayed, places_of}
 use Rattle.lease_coherence.proofs.late.Facts.{run_late}
-use Rattle.lease_coherence.proofs.late.Runs.{ground_in}
+use Rattle.lease_coherence.proofs.late.Runs.{HasLate, ground_in}
 use Rattle.lease_coherence.proofs.late.Words.{NotBuffered, AcksKeep}
-use Rattle.lease_coherence.proofs.order.Words.{IsNoWrite, AreOrdered, ordered_behind}
+use Rattle.lease_coherence.proofs.names.Words.{opened_once}
+use Rattle.lease_coherence.proofs.order.Words.{IsInOrder, IsNoWrite, AreOrdered, ordered_behind, WriteStands, WriteStandsOn}
 use Rattle.lease_coherence.proofs.parted.Runs.{run_parted}
 use Rattle.lease_coherence.proofs.parted.Words.{PhaseUntouched}
+use Rattle.lease_coherence.proofs.records.Once.{buffered_written, written_once}
+use Rattle.lease_coherence.proofs.wellformed.WellFormed.{IsWell}
+use Rattle.lease_coherence.proofs.writes.Answered.{names_of}
+
+-- ---- writes on their way
+
+-- the open of a buffered write of the file is there, while the file's timer didn't run out
+pub buffered_open : (world : World) (c file id number : ℕ) (patch : Patch) → IsWell world
+    → world.server.expired (machine_key world c file) ≡ false → WasWrittenOn c id number patch world.past
+    → WriteStandsOn world c id → has_buffered c file number world.past ≡ true → IsOpenFor world c file id
+buffered_open world c file id number patch well fresh named stands b =
+    let w = buffered_written c file number world.past b in
+    let same : stands.file ≡ file = opened_once id stands.file c named.file c world.past stands.opened named.opened
+    ∙ (written_once c named.file file number patch w.0 world.past well.facts named.written w.1).file_is in
+    ⊎_elim (λ out. clash (world.server.expired (machine_key world c file))
+    (ap (λ f. world.server.expired (machine_key world c f)) (sym same) ∙ out) fresh)
+    (λ o. subst (λ f. IsOpenFor world c f id) same o) stands.stands
 
 -- ---- acknowledgments
 
@@ -42,13 +58,28 @@ keeps_behind world c (Request.OnFile request ∷ before) behind k = keeps_behind
 keeps_behind world c (Request.Acknowledge given ∷ before) behind k = keeps_behind world c before behind k.1
 
 none_buffered : (world : World) (c file : ℕ) (behind : List Request) → Each (NotBuffered world c file) behind
-    → NoneBuffered world c file behind
-none_buffered world c file behind each id number patch there one is by same on =
-    written (each_one (NotBuffered world c file) behind (Request.OnFile (FileRequest.Write id number patch)) each there)
+    → ((request : Request) → Among request behind → Among request (world.requests c)) → IsWell world → IsNamedAt world c
+    → IsInOrder world c → world.server.expired (machine_key world c file) ≡ false → NoneBuffered world c file behind
+none_buffered world c file behind each inside well names order fresh id number patch there =
+    let write = Request.OnFile (FileRequest.Write id number patch) in
+    not_true (has_buffered c file number world.past) (λ b.
+    let o = buffered_open world c file id number patch well fresh
+    (named (each_one (IsNamedRequest c (world.clients c).guid world.past) (world.requests c) write names.requests
+    (inside write there)))
+    (standing (each_one (WriteStands world c) (world.requests c) write order.stands.queued (inside write there))) b in
+    clash (has_buffered c file number world.past) b
+    (written (each_one (NotBuffered world c file) behind write each there) o))
   where
-    written : NotBuffered world c file (Request.OnFile (FileRequest.Write id number patch))
+    named : IsNamedRequest c (world.clients c).guid world.past (Request.OnFile (FileRequest.Write id number patch))
+        → WasWrittenOn c id number patch world.past
+    named w = w
+
+    standing : WriteStands world c (Request.OnFile (FileRequest.Write id number patch)) → WriteStandsOn world c id
+    standing s = s
+
+    written : NotBuffered world c file (Request.OnFile (FileRequest.Write id number patch)) → IsOpenFor world c file id
         → has_buffered c file number world.past ≡ false
-    written n = n one is by same on
+    written n o = n o.one o.there o.by o.id o.on_file
 
 -- an acknowledgment of the key stands in the queue
 some_ack : (key : List ℕ) (state : State) (before behind : List Request)
@@ -79,44 +110,72 @@ never_zero key state (Request.Acknowledge (Some given) ∷ before) behind e = ne
     right : (a b : ℕ) → a + b ≡ 0 → b ≡ 0
     right a b e = omega (arith, e)
 
+-- where one that gives writes up is on its way no write of the entry is unsent, and it keeps none
+none_unsent : (world : World) → HasLate world → (c file : ℕ) (state : State) (before behind : List Request)
+    → has_strayed c world.past ≡ false → is_up (world.links c) ≡ true
+    → world.server.expired (machine_key world c file) ≡ false
+    → world.requests c ≡ before ++ acknowledgment_of (file_key world c file) state ∷ behind → state.write ≡ false
+    → (phase : Phase) → ((world.clients c).entries file).phase ≡ phase → unsent_in phase ≡ []
+none_unsent world v c file state before behind good up fresh is gives Phase.Closed at = refl
+none_unsent world v c file state before behind good up fresh is gives (Phase.Opening access share) at = refl
+none_unsent world v c file state before behind good up fresh is gives (Phase.Live live) at =
+    let key = file_key world c file in
+    let sound = sound_live (world.clients c) file live ((ground_in world v.0).clients c) at in
+    let b = ((v.0.0.0.0.0.0.1 c good up).files file fresh).believed in
+    either live.belief.write
+    (λ writes. ⊎_elim
+    (λ zero. absurd (never_zero key state before behind (ap (acks key) (sym is) ∙ zero)))
+    (λ answering. clash state.write
+    (some_ack key state before behind (subst (Each (AckKeeps key)) is (answering.bounds live at writes))) gives)
+    b.answers)
+    (λ none. sound.unsent_under_writes none)
+none_unsent world v c file state before behind good up fresh is gives (Phase.Offline parted) at =
+    let g = ground_in world v.0 in
+    clash (world.clients c).is_online (g.online c ∙ ap not (not_down (world.links c) up))
+    (subst (IsSoundPhase (world.clients c).is_online ((world.clients c).entries file).sent) at ((g.clients c).entries file)).0
+  where
+    not_down : (link : Link) → is_up link ≡ true → is_down link ≡ false
+    not_down Link.Up e = refl
+    not_down Link.Down e = absurd (true≢false (sym e))
+    not_down Link.Cut e = refl
+none_unsent world v c file state before behind good up fresh is gives (Phase.Reconnecting parted) at =
+    absurd (never_zero (file_key world c file) state before behind
+    (ap (acks (file_key world c file)) (sym is) ∙ ((v.1 c good).up up).again file parted at))
+
 pub flushed_before_acknowledgments : OfAllowedRuns (Timely FlushedBeforeAcknowledgments)
 flushed_before_acknowledgments setup events c allowed good up file fresh state before behind is gives =
     let world = after (first_world setup) events in
     let v = (run_late setup events allowed).0 in
     let key = file_key world c file in
     let a = ((v.1 c good).up up).acks_keep in
-    let b = ((v.0.0.0.0.0.0.1 c good up).files file fresh).believed in
     let first : AcksKeep world c (acknowledgment_of key state ∷ behind) = keeps_behind world c before
     (acknowledgment_of key state ∷ behind) (subst (AcksKeep world c) is a) in record {
       sent = none_buffered world c file behind (⊎_elim
-          (λ keeps. clash state.write (keeps ((bytes_eq-Decides key key).1 refl)).0 gives) (λ none. none) (first.0 file));
-      unsent = λ live at. let sound = sound_live (world.clients c) file live ((ground_in world v.0).clients c) at in
-          either live.belief.write
-          (λ writes. ⊎_elim
-          (λ zero. absurd (never_zero key state before behind (ap (acks key) (sym is) ∙ zero)))
-          (λ answering. clash state.write
-          (some_ack key state before behind (subst (Each (AckKeeps key)) is (answering.bounds live at writes))) gives)
-          b.answers)
-          (λ none. sound.unsent_under_writes none);
+          (λ keeps. clash state.write (keeps ((bytes_eq-Decides key key).1 refl)).0 gives) (λ none. none) (first.0 file))
+          (λ request there. subst (Among request) (sym is) (among_behind request before
+          (acknowledgment_of key state ∷ behind) (inr there)))
+          v.0.0.0.0.0.1 (names_of world v.0.0.0.0.0 c good) (v.0.1 c good up) fresh;
+      unsent = none_unsent world v c file state before behind good up fresh is gives ((world.clients c).entries file).phase refl;
     }
 
 -- ---- closes
+
+-- a request among held ones
+pub of_held : (request : FileRequest) (xs : List Held) → Among (Request.OnFile request) (as_requests xs)
+    → (one : Held) × (Among one xs) × (one.request ≡ request)
+of_held request [] a = absurd a
+of_held request (x ∷ xs) a = ⊎_elim (λ same. (x, inl refl, sym (request_of same)))
+    (λ later. let rest = of_held request xs later in (rest.0, inr rest.1, rest.2)) a
+  where
+    request_of : Request.OnFile request ≡ Request.OnFile x.request → request ≡ x.request
+    request_of e = cc
 
 close_among : (c id : ℕ) (held : List Held) (queue : List Request)
     → Among (Request.OnFile (FileRequest.Close id)) (as_requests (held_by c held) ++ queue)
     → ((one : Held) × (Among one (held_by c held)) × (one.request ≡ FileRequest.Close id))
     ⊎ Among (Request.OnFile (FileRequest.Close id)) queue
-close_among c id held queue there = ⊎_elim (λ first. inl (of_held (held_by c held) first)) (λ later. inr later)
-    (among_append (Request.OnFile (FileRequest.Close id)) (as_requests (held_by c held)) queue there)
-  where
-    of_held : (xs : List Held) → Among (Request.OnFile (FileRequest.Close id)) (as_requests xs)
-        → (one : Held) × (Among one xs) × (one.request ≡ FileRequest.Close id)
-    of_held [] a = absurd a
-    of_held (x ∷ xs) a = ⊎_elim (λ same. (x, inl refl, sym (request_of same)))
-        (λ later. let rest = of_held xs later in (rest.0, inr rest.1, rest.2)) a
-      where
-        request_of : Request.OnFile (FileRequest.Close id) ≡ Request.OnFile x.request → FileRequest.Close id ≡ x.request
-        request_of e = cc
+close_among c id held queue there = ⊎_elim (λ first. inl (of_held (FileRequest.Close id) (held_by c held) first))
+    (λ later. inr later) (among_append (Request.OnFile (FileRequest.Close id)) (as_requests (held_by c held)) queue there)
 
 -- what isn't closed stands in no queue as a Close
 never_asked : (world : World) (c file id : ℕ) → NotClosed world c id
@@ -152,34 +211,6 @@ flushed_before_closes setup events c allowed good up file fresh id before behind
     not_closed : (world : World) (c file : ℕ) (live : LiveEntry) → PhaseStands world c file (Phase.Live live)
         → NotClosed world c live.file_id
     not_closed world c file live p = p.1
-
--- ---- bases
-
--- nothing is on its way
-at_rest : (c : ℕ) (key : List ℕ) (file : ℕ) (past : List Fact) (reads : Bool) (old : List ℕ) (places : List (List Fact))
-    (now : List ℕ) → IsRelayed c key file past reads old places [] now → reads ≡ true → now ≡ old
-at_rest c key file past reads old [] now r e = r e
-at_rest c key file past reads old (place ∷ places) now r e = absurd r
-
-some_base : (live : LiveEntry) (bytes : List ℕ) → live.base ≡ Some bytes → live.base ≡ None → ⊥
-some_base live bytes e f = cc
-
-pub bases_are_current : OfAllowedRuns (Timely BasesAreCurrent)
-bases_are_current setup events c allowed good up file fresh empty live at bytes has =
-    let world = after (first_world setup) events in
-    let v = (run_late setup events allowed).0 in
-    let phase = ((world.clients c).entries file).phase in
-    let f = v.0.0.1 c good up file fresh in
-    let sound = sound_live (world.clients c) file live ((ground_in world v.0).clients c) at in
-    let reads : live.belief.read ≡ true = not_false live.belief.read
-    (λ none. some_base live bytes has (sound.base_under_reads none)) in
-    (f.base live at bytes has).same
-    ∙ sym (at_rest c (file_key world c file) file world.past (belief_in phase).read f.old (places_of c world.past)
-    (content_of file world.past)
-    (subst (λ q. IsRelayed c (file_key world c file) file world.past (belief_in phase).read f.old (places_of c world.past) q
-    (content_of file world.past)) empty f.relay)
-    (ap (λ p. (belief_in p).read) at ∙ reads))
-    ∙ sym (contents_are_told setup events allowed file)
 
 -- ---- what was kept
 

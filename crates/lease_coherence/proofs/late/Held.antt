@@ -31,13 +31,13 @@ use Rattle.lease_coherence.proofs.standing.Words.{asked_held, head_of}
 use Rattle.lease_coherence.proofs.writes.Runs.{no_file, same_file}
 
 -- the file that a request asks for
-abbrev AsksOn : World → ℕ → FileRequest → Type 0
+abbrev pub AsksOn : World → ℕ → FileRequest → Type 0
 AsksOn world file (FileRequest.Create other access share contexts) = other ≡ file
 AsksOn world file (FileRequest.Write file_id number patch) =
     (z : Open) → Among z world.server.opens → z.file_id ≡ file_id → z.file ≡ file
 AsksOn world file request = ⊤
 
-about_asks : (world : World) (file : ℕ) (request : FileRequest) → IsAbout world.server file request
+pub about_asks : (world : World) (file : ℕ) (request : FileRequest) → IsAbout world.server file request
     → AsksOn world file request
 about_asks world file (FileRequest.Create other access share contexts) a = a
 about_asks world file (FileRequest.Read file_id) a = tt
@@ -45,7 +45,7 @@ about_asks world file (FileRequest.Write file_id number patch) a = a.is_on_file
 about_asks world file (FileRequest.Close file_id) a = tt
 
 -- where the client's lease holds writes, no request of it on the file has to wait
-none_waits : (world : World) (c : ℕ) → IsSound world.server → IsNamedAt world c → (file : ℕ) (x : Open)
+pub none_waits : (world : World) (c : ℕ) → IsSound world.server → IsNamedAt world c → (file : ℕ) (x : Open)
     → Among x world.server.opens → x.client ≡ c → x.file ≡ file → holds_write world c file ≡ true
     → (request : FileRequest) → IsNamedOnFile c (world.clients c).guid world.past request → AsksOn world file request
     → HasToWait world.server c request → ⊥
@@ -68,7 +68,7 @@ none_waits world c sound n file x there by on holds (FileRequest.Read file_id) n
 none_waits world c sound n file x there by on holds (FileRequest.Close file_id) named asks b = absurd b
 
 -- the first that passes the test
-first_of : (test : Held → Bool) (held : List Held) → list_any test held ≡ true → (y : Held) × (find test held ≡ Some y)
+pub first_of : (test : Held → Bool) (held : List Held) → list_any test held ≡ true → (y : Held) × (find test held ≡ Some y)
 first_of test [] e = absurd (true≢false (sym e))
 first_of test (x ∷ held) e = if_cases (λ o. (y : Held) × (o ≡ Some y)) (test x) (Some x) (find test held)
     (λ yes. (x, refl))

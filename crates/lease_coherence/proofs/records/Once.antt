@@ -1,7 +1,7 @@
 -- In a record that is well formed a client uses the number of a write once: on one file, and with one patch.
 use Rattle.std.proofs.Common.{◌≡◌, ⊎_elim, ℕ, Bool, true, false, not, List, [], ◌∷◌, refl, sym, ap, ◌∙◌, true≢false, ◌==◌}
 use Rattle.std.specs.Prelude.{◌&&◌, ◌||◌, bytes_eq}
-use Rattle.std.proofs.lemmas.Bool.{eqb-true}
+use Rattle.std.proofs.lemmas.Bool.{eqb-true, eq-eqb}
 use Rattle.std.proofs.lemmas.Slice.Eq.{bytes_eq-Decides}
 use Rattle.lease_state.specs.declared.patch.Patch.{Patch}
 use Rattle.lease_model.specs.records.Facts.{Fact}
@@ -47,6 +47,33 @@ buffered_number c file number (Fact.Wrote writer other used bytes buffered ∷ p
     later true b e = refl
     later false b e = e
 buffered_number c file number (_ ∷ past) e = buffered_number c file number past e
+
+-- one that was buffered was given, with some patch
+pub buffered_written : (c file number : ℕ) (past : List Fact) → has_buffered c file number past ≡ true
+    → (patch : Patch) × (has_written c file number patch past ≡ true)
+unfolding has_buffered has_written
+buffered_written c file number [] e = absurd (true≢false (sym e))
+buffered_written c file number (Fact.Wrote writer other used bytes buffered ∷ past) e = ⊎_elim
+    (λ now. (
+      bytes,
+      true_or (writer == c && other == file && used == number && same_patch bytes bytes)
+          (has_written c file number bytes past)
+          (and_both (writer == c && other == file && used == number) (same_patch bytes bytes)
+          (and_parts (writer == c && other == file && used == number) buffered now).0
+          (and_both (bytes.offset == bytes.offset) (bytes_eq bytes.bytes bytes.bytes)
+          (eq-eqb bytes.offset bytes.offset refl) ((bytes_eq-Decides bytes.bytes bytes.bytes).1 refl))),
+    ))
+    (λ before. let w = buffered_written c file number past before in (
+      w.0,
+      later (writer == c && other == file && used == number && same_patch bytes w.0)
+          (has_written c file number w.0 past) w.1,
+    ))
+    (or_true _ (has_buffered c file number past) e)
+  where
+    later : (a b : Bool) → b ≡ true → (a || b) ≡ true
+    later true b e = refl
+    later false b e = e
+buffered_written c file number (_ ∷ past) e = buffered_written c file number past e
 
 same_bytes : (a b : List ℕ) → bytes_eq a b ≡ true → a ≡ b
 same_bytes a b e = (bytes_eq-Decides a b).0 e

@@ -143,8 +143,7 @@ TakeTold machine reply step = IsWhole reply → (queue : List Reply) (file : ℕ
 abbrev LeavesLive : Client → Reply → Step → Type 0
 LeavesLive machine reply step = IsWhole reply → (queue : List Reply) (file : ℕ) (asked : List Request)
     → IsMetAt machine reply queue file asked
-    → ((is_live (machine.entries file).phase || is_created file reply) ≡ true → is_live (step.client.entries file).phase ≡ true)
-    ⊎ IsClosing machine step file
+    → (is_live (machine.entries file).phase || is_created file reply) ≡ true → is_live (step.client.entries file).phase ≡ true
 
 abbrev IsNoBreak : Client → Reply → Type 0
 IsNoBreak machine reply = (file : ℕ) → is_live (machine.entries file).phase ≡ true
@@ -154,29 +153,24 @@ left_told : (machine : Client) (reply : Reply) (step : Step) → IsNoBreak machi
     → TakeTold machine reply step
 left_told machine reply step none leaves whole queue file asked m met = ⊎_elim
     (λ here. absurd (none file here.0 here.1))
-    (λ later. ⊎_elim
-    (λ stays. inr (inl (met_more (lease_key machine.guid file) file
+    (λ later. inr (inl (met_more (lease_key machine.guid file) file
     (is_live (machine.entries file).phase || is_created file reply) (is_live (step.client.entries file).phase) queue
-    stays later)))
-    (λ closing. inr (inr closing)) (leaves whole queue file asked m)) met
+    (leaves whole queue file asked m) later))) met
 
 -- a turn of one file
 turn_leaves : (machine : Client) (reply : Reply) (at : ℕ) (turn : Turn)
     → ((file : ℕ) → file ≢ at → is_created file reply ≡ false)
     → (IsWhole reply → (queue : List Reply) (asked : List Request) → IsMetAt machine reply queue at asked
-    → ((is_live (machine.entries at).phase || is_created at reply) ≡ true → is_live turn.entry.phase ≡ true)
-    ⊎ IsClosing machine (turned machine at turn) at)
+    → (is_live (machine.entries at).phase || is_created at reply) ≡ true → is_live turn.entry.phase ≡ true)
     → LeavesLive machine reply (turned machine at turn)
 unfolding turned
 turn_leaves machine reply at turn others here whole queue file asked m = by_client
     (λ f. IsMetAt machine reply queue f asked
-    → ((is_live (machine.entries f).phase || is_created f reply) ≡ true
-    → is_live (put machine.entries at turn.entry f).phase ≡ true)
-    ⊎ IsClosing machine (turned machine at turn) f) at file
-    (λ k. ⊎_elim (λ stays. inl (λ e. ap (λ (x : Entry). is_live x.phase) (put_same machine.entries at turn.entry) ∙ stays e))
-    (λ closing. inr closing) (here whole queue asked k))
-    (λ ne off k. inl (λ e. ap (λ (x : Entry). is_live x.phase) (put_other machine.entries at turn.entry file ne)
-    ∙ was (is_live (machine.entries file).phase) (is_created file reply) (others file ne) e)) m
+    → (is_live (machine.entries f).phase || is_created f reply) ≡ true
+    → is_live (put machine.entries at turn.entry f).phase ≡ true) at file
+    (λ k e. ap (λ (x : Entry). is_live x.phase) (put_same machine.entries at turn.entry) ∙ here whole queue asked k e)
+    (λ ne off k e. ap (λ (x : Entry). is_live x.phase) (put_other machine.entries at turn.entry file ne)
+    ∙ was (is_live (machine.entries file).phase) (is_created file reply) (others file ne) e) m
   where
     was : (a b : Bool) → b ≡ false → (a || b) ≡ true → a ≡ true
     was true b e f = refl
@@ -187,7 +181,7 @@ plain_leaves : (machine : Client) (reply : Reply) (at : ℕ) (turn : Turn) → (
     → (is_live (machine.entries at).phase ≡ true → is_live turn.entry.phase ≡ true)
     → LeavesLive machine reply (turned machine at turn)
 plain_leaves machine reply at turn none stays = turn_leaves machine reply at turn (λ file ne. none file)
-    (λ whole queue asked m. inl (λ e. stays (was (is_live (machine.entries at).phase) (is_created at reply) (none at) e)))
+    (λ whole queue asked m e. stays (was (is_live (machine.entries at).phase) (is_created at reply) (none at) e))
   where
     was : (a b : Bool) → b ≡ false → (a || b) ≡ true → a ≡ true
     was true b e f = refl
@@ -201,47 +195,56 @@ plain_told machine reply at turn none no_break stays = left_told machine reply (
 
 -- ---- grants
 
+granted_leaves : (machine : Client) (at file_id : ℕ) (answer : CreateAnswer) (turn : Turn)
+    → is_live turn.entry.phase ≡ true → LeavesLive machine (Reply.Created at file_id (Some answer)) (turned machine at turn)
+granted_leaves machine at file_id answer turn live = turn_leaves machine (Reply.Created at file_id (Some answer)) at turn
+    (λ file ne. not_true (at == file) (λ e. ne (sym (eqb-true at file e)))) (λ whole queue asked m e. live)
+
 granted_told : (machine : Client) (at file_id : ℕ) (answer : CreateAnswer) (turn : Turn)
     → is_live turn.entry.phase ≡ true → TakeTold machine (Reply.Created at file_id (Some answer)) (turned machine at turn)
 granted_told machine at file_id answer turn live =
     left_told machine (Reply.Created at file_id (Some answer)) (turned machine at turn) (λ file e is. true≢false (sym is))
-    (turn_leaves machine (Reply.Created at file_id (Some answer)) at turn
-    (λ file ne. not_true (at == file) (λ e. ne (sym (eqb-true at file e))))
-    (λ whole queue asked m. inl (λ e. live)))
+    (granted_leaves machine at file_id answer turn live)
 
 -- one that changes nothing
-idle_told : (machine : Client) (reply : Reply) → ((file : ℕ) → is_created file reply ≡ false) → IsNoBreak machine reply
-    → TakeTold machine reply (quiet_step machine)
-idle_told machine reply none no_break = left_told machine reply (quiet_step machine) no_break
-    (λ whole queue file asked m. inl (λ e. was (is_live (machine.entries file).phase) (is_created file reply) (none file) e))
+idle_leaves : (machine : Client) (reply : Reply) → ((file : ℕ) → is_created file reply ≡ false)
+    → LeavesLive machine reply (quiet_step machine)
+idle_leaves machine reply none whole queue file asked m e =
+    was (is_live (machine.entries file).phase) (is_created file reply) (none file) e
   where
     was : (a b : Bool) → b ≡ false → (a || b) ≡ true → a ≡ true
     was true b e f = refl
     was false b e f = clash b f e
 
 -- one that is passed over isn't due
-passed_told : (machine : Client) (reply : Reply) → IsSoundClient machine → PassesOver machine reply
-    → TakeTold machine reply (quiet_step machine)
-passed_told machine (Reply.Created other id (Some answer)) s why =
-    left_told machine (Reply.Created other id (Some answer)) (quiet_step machine) (λ file e is. true≢false (sym is)) leaves
+passed_leaves : (machine : Client) (reply : Reply) → PassesOver machine reply → LeavesLive machine reply (quiet_step machine)
+passed_leaves machine (Reply.Created other id (Some answer)) why = leaves
   where
     none : (a b n k : ℕ) → a + (n + b) ≡ k → n ≡ 1 → k ≡ 0 → ⊥
     none a b n k e f h = omega (arith, e, f, h)
 
     leaves : LeavesLive machine (Reply.Created other id (Some answer)) (quiet_step machine)
-    leaves whole queue file asked m = inl (λ e. ⊎_elim (λ live. live)
+    leaves whole queue file asked m e = ⊎_elim (λ live. live)
         (λ here. absurd (none (creates file asked) (answers file queue) (one_if (other == file)) (asked_by machine file)
         m.counted (ap one_if here)
         (ap one_if (ap (λ f. has_asked (machine.entries f).phase) (sym (eqb-true other file here)) ∙ why))))
-        (or_true (is_live (machine.entries file).phase) (other == file) e))
-passed_told machine (Reply.Created other id None) s why = λ whole. absurd whole
-passed_told machine (Reply.Break (Some notice)) s why = left_told machine (Reply.Break (Some notice)) (quiet_step machine)
-    never (λ whole queue file asked m. inl (λ e. was (is_live (machine.entries file).phase) e))
-  where
-    was : (a : Bool) → (a || false) ≡ true → a ≡ true
-    was true e = refl
-    was false e = e
+        (or_true (is_live (machine.entries file).phase) (other == file) e)
+passed_leaves machine (Reply.Created other id None) why = λ whole. absurd whole
+passed_leaves machine (Reply.Break notice) why = idle_leaves machine (Reply.Break notice) (λ f. refl)
+passed_leaves machine (Reply.CreateFailed other status) why = idle_leaves machine _ (λ f. refl)
+passed_leaves machine (Reply.ReadDone id bytes) why = idle_leaves machine _ (λ f. refl)
+passed_leaves machine (Reply.ReadFailed id status) why = idle_leaves machine _ (λ f. refl)
+passed_leaves machine (Reply.WriteDone id number) why = idle_leaves machine _ (λ f. refl)
+passed_leaves machine (Reply.WriteFailed id number status) why = idle_leaves machine _ (λ f. refl)
+passed_leaves machine (Reply.Closed id) why = idle_leaves machine _ (λ f. refl)
+passed_leaves machine (Reply.CloseFailed id status) why = idle_leaves machine _ (λ f. refl)
+passed_leaves machine (Reply.AckDone response) why = idle_leaves machine _ (λ f. refl)
+passed_leaves machine (Reply.AckFailed status) why = idle_leaves machine _ (λ f. refl)
 
+passed_no_break : (machine : Client) (reply : Reply) → IsSoundClient machine → PassesOver machine reply
+    → IsNoBreak machine reply
+passed_no_break machine (Reply.Break (Some notice)) s why = never
+  where
     never : IsNoBreak machine (Reply.Break (Some notice))
     never file live is = live_case (machine.entries file).phase refl live
       where
@@ -254,59 +257,62 @@ passed_told machine (Reply.Break (Some notice)) s why = left_told machine (Reply
         live_case (Phase.Live entry) at e = never_passed machine notice s why file entry at own
         live_case (Phase.Offline parted) at e = clash (is_live (machine.entries file).phase) e (ap is_live at)
         live_case (Phase.Reconnecting parted) at e = clash (is_live (machine.entries file).phase) e (ap is_live at)
-passed_told machine (Reply.Break None) s why = idle_told machine (Reply.Break None) (λ f. refl) (λ f e is. true≢false (sym is))
-passed_told machine (Reply.CreateFailed other status) s why = idle_told machine _ (λ f. refl) (λ f e is. true≢false (sym is))
-passed_told machine (Reply.ReadDone id bytes) s why = idle_told machine _ (λ f. refl) (λ f e is. true≢false (sym is))
-passed_told machine (Reply.ReadFailed id status) s why = idle_told machine _ (λ f. refl) (λ f e is. true≢false (sym is))
-passed_told machine (Reply.WriteDone id number) s why = idle_told machine _ (λ f. refl) (λ f e is. true≢false (sym is))
-passed_told machine (Reply.WriteFailed id number status) s why = idle_told machine _ (λ f. refl) (λ f e is. true≢false (sym is))
-passed_told machine (Reply.Closed id) s why = idle_told machine _ (λ f. refl) (λ f e is. true≢false (sym is))
-passed_told machine (Reply.CloseFailed id status) s why = idle_told machine _ (λ f. refl) (λ f e is. true≢false (sym is))
-passed_told machine (Reply.AckDone response) s why = idle_told machine _ (λ f. refl) (λ f e is. true≢false (sym is))
-passed_told machine (Reply.AckFailed status) s why = idle_told machine _ (λ f. refl) (λ f e is. true≢false (sym is))
+passed_no_break machine (Reply.Break None) s why = λ f e is. true≢false (sym is)
+passed_no_break machine (Reply.Created other id contexts) s why = λ f e is. true≢false (sym is)
+passed_no_break machine (Reply.CreateFailed other status) s why = λ f e is. true≢false (sym is)
+passed_no_break machine (Reply.ReadDone id bytes) s why = λ f e is. true≢false (sym is)
+passed_no_break machine (Reply.ReadFailed id status) s why = λ f e is. true≢false (sym is)
+passed_no_break machine (Reply.WriteDone id number) s why = λ f e is. true≢false (sym is)
+passed_no_break machine (Reply.WriteFailed id number status) s why = λ f e is. true≢false (sym is)
+passed_no_break machine (Reply.Closed id) s why = λ f e is. true≢false (sym is)
+passed_no_break machine (Reply.CloseFailed id status) s why = λ f e is. true≢false (sym is)
+passed_no_break machine (Reply.AckDone response) s why = λ f e is. true≢false (sym is)
+passed_no_break machine (Reply.AckFailed status) s why = λ f e is. true≢false (sym is)
+
+passed_told : (machine : Client) (reply : Reply) → IsSoundClient machine → PassesOver machine reply
+    → TakeTold machine reply (quiet_step machine)
+passed_told machine reply s why = left_told machine reply (quiet_step machine) (passed_no_break machine reply s why)
+    (passed_leaves machine reply why)
 
 -- ---- replies that fail
 
-read_failed_told : (machine : Client) (at file_id : ℕ) (status : Status) (live : LiveEntry)
+read_failed_leaves : (machine : Client) (at file_id : ℕ) (status : Status) (live : LiveEntry)
     → (machine.entries at).phase ≡ Phase.Live live → live.file_id ≡ file_id
-    → TakeTold machine (Reply.ReadFailed file_id status)
+    → LeavesLive machine (Reply.ReadFailed file_id status)
     (turned machine at (read_failed_turn live (sent_of machine at) status))
 unfolding read_failed_turn closed_by_server
-read_failed_told machine at file_id status live is id =
-    if_cases (λ (turn : Turn). TakeTold machine (Reply.ReadFailed file_id status) (turned machine at turn))
+read_failed_leaves machine at file_id status live is id =
+    if_cases (λ (turn : Turn). LeavesLive machine (Reply.ReadFailed file_id status) (turned machine at turn))
     (is_file_closed status) _ _
-    (λ gone. left_told machine (Reply.ReadFailed file_id status) (turned machine at _) (λ f e is. true≢false (sym is))
-    (turn_leaves machine (Reply.ReadFailed file_id status) at _ (λ f ne. refl)
-    (λ whole queue asked m. absurd (m.not_failed live is (closed_status status gone) (sym id)))))
-    (λ there. plain_told machine (Reply.ReadFailed file_id status) at _ (λ f. refl) (λ f e is. true≢false (sym is))
-    (λ e. refl))
+    (λ gone. turn_leaves machine (Reply.ReadFailed file_id status) at _ (λ f ne. refl)
+    (λ whole queue asked m. absurd (m.not_failed live is (closed_status status gone) (sym id))))
+    (λ there. plain_leaves machine (Reply.ReadFailed file_id status) at _ (λ f. refl) (λ e. refl))
 
-write_failed_told : (machine : Client) (at file_id number : ℕ) (status : Status) (sent : List Pending) (phase : Phase)
+write_failed_leaves : (machine : Client) (at file_id number : ℕ) (status : Status) (sent : List Pending) (phase : Phase)
     → (machine.entries at).phase ≡ phase
-    → TakeTold machine (Reply.WriteFailed file_id number status)
+    → LeavesLive machine (Reply.WriteFailed file_id number status)
     (turned machine at (write_failed_in file_id number status sent phase))
 unfolding closed_by_server
-write_failed_told machine at file_id number status sent Phase.Closed is =
-    plain_told machine (Reply.WriteFailed file_id number status) at _ (λ f. refl) (λ f e b. true≢false (sym b))
+write_failed_leaves machine at file_id number status sent Phase.Closed is =
+    plain_leaves machine (Reply.WriteFailed file_id number status) at _ (λ f. refl)
     (λ e. clash (is_live (machine.entries at).phase) e (ap is_live is))
-write_failed_told machine at file_id number status sent (Phase.Opening access share) is =
-    plain_told machine (Reply.WriteFailed file_id number status) at _ (λ f. refl) (λ f e b. true≢false (sym b))
+write_failed_leaves machine at file_id number status sent (Phase.Opening access share) is =
+    plain_leaves machine (Reply.WriteFailed file_id number status) at _ (λ f. refl)
     (λ e. clash (is_live (machine.entries at).phase) e (ap is_live is))
-write_failed_told machine at file_id number status sent (Phase.Live live) is =
-    if_cases (λ (turn : Turn). TakeTold machine (Reply.WriteFailed file_id number status) (turned machine at turn))
+write_failed_leaves machine at file_id number status sent (Phase.Live live) is =
+    if_cases (λ (turn : Turn). LeavesLive machine (Reply.WriteFailed file_id number status) (turned machine at turn))
     (is_file_closed status && live.file_id == file_id) _ _
     (λ gone. let parts = and_parts (is_file_closed status) (live.file_id == file_id) gone in
-    left_told machine (Reply.WriteFailed file_id number status) (turned machine at _) (λ f e b. true≢false (sym b))
-    (turn_leaves machine (Reply.WriteFailed file_id number status) at _ (λ f ne. refl)
+    turn_leaves machine (Reply.WriteFailed file_id number status) at _ (λ f ne. refl)
     (λ whole queue asked m. absurd (m.not_failed live is (closed_status status parts.0)
-    (sym (eqb-true live.file_id file_id parts.1))))))
-    (λ there. plain_told machine (Reply.WriteFailed file_id number status) at _ (λ f. refl) (λ f e b. true≢false (sym b))
+    (sym (eqb-true live.file_id file_id parts.1)))))
+    (λ there. plain_leaves machine (Reply.WriteFailed file_id number status) at _ (λ f. refl)
     (λ e. refl))
-write_failed_told machine at file_id number status sent (Phase.Offline parted) is =
-    plain_told machine (Reply.WriteFailed file_id number status) at _ (λ f. refl) (λ f e b. true≢false (sym b))
+write_failed_leaves machine at file_id number status sent (Phase.Offline parted) is =
+    plain_leaves machine (Reply.WriteFailed file_id number status) at _ (λ f. refl)
     (λ e. clash (is_live (machine.entries at).phase) e (ap is_live is))
-write_failed_told machine at file_id number status sent (Phase.Reconnecting parted) is =
-    plain_told machine (Reply.WriteFailed file_id number status) at _ (λ f. refl) (λ f e b. true≢false (sym b))
+write_failed_leaves machine at file_id number status sent (Phase.Reconnecting parted) is =
+    plain_leaves machine (Reply.WriteFailed file_id number status) at _ (λ f. refl)
     (λ e. clash (is_live (machine.entries at).phase) e (ap is_live is))
 
 with_live : (write : Option Pending) (phase : Phase) → is_live phase ≡ true → is_live (phase_with write phase) ≡ true
@@ -404,9 +410,107 @@ takes_told machine s = record {
       (λ f e b. true≢false (sym b)) (λ e. refl);
   read = λ at file_id bytes live is id some. plain_told machine (Reply.ReadDone file_id bytes) at _ (λ f. refl)
       (λ f e b. true≢false (sym b)) (λ e. refl);
-  not_read = λ at file_id status live is id some. read_failed_told machine at file_id status live is id;
+  not_read = λ at file_id status live is id some. left_told machine (Reply.ReadFailed file_id status) _
+      (λ f e b. true≢false (sym b)) (read_failed_leaves machine at file_id status live is id);
   written = λ at file_id number has known. plain_told machine (Reply.WriteDone file_id number) at _ (λ f. refl)
       (λ f e b. true≢false (sym b)) (with_live _ (machine.entries at).phase);
-  not_written = λ at file_id number status has known.
-      write_failed_told machine at file_id number status _ (machine.entries at).phase refl;
+  not_written = λ at file_id number status has known. left_told machine (Reply.WriteFailed file_id number status) _
+      (λ f e b. true≢false (sym b)) (write_failed_leaves machine at file_id number status _ (machine.entries at).phase refl);
+}
+
+-- ---- breaks that end an entry
+
+-- a break of the key, where the entry is parked and believes in handles
+pub record IsParkedBreak (machine : Client) (reply : Reply) (file : ℕ) : Type 0 where
+  pub notice : BreakNotice
+  pub is : reply ≡ Reply.Break (Some notice)
+  pub own : bytes_eq (lease_key machine.guid file) notice.key ≡ true
+  pub live : LiveEntry
+  pub was : (machine.entries file).phase ≡ Phase.Live live
+  pub idle : is_asking live ≡ false
+  pub handles : live.belief.handle ≡ true
+
+-- An entry that is live, or becomes so by a reply, is live after it, unless that is such a break.
+abbrev pub TakeLives : Client → Reply → Step → Type 0
+TakeLives machine reply step = IsWhole reply → (queue : List Reply) (file : ℕ) (asked : List Request)
+    → IsMetAt machine reply queue file asked
+    → ((is_live (machine.entries file).phase || is_created file reply) ≡ true → is_live (step.client.entries file).phase ≡ true)
+    ⊎ IsParkedBreak machine reply file
+
+lives : (machine : Client) (reply : Reply) (step : Step) → LeavesLive machine reply step → TakeLives machine reply step
+lives machine reply step leaves whole queue file asked m = inl (leaves whole queue file asked m)
+
+plain_lives : (machine : Client) (reply : Reply) (at : ℕ) (turn : Turn) → ((file : ℕ) → is_created file reply ≡ false)
+    → (is_live (machine.entries at).phase ≡ true → is_live turn.entry.phase ≡ true)
+    → TakeLives machine reply (turned machine at turn)
+plain_lives machine reply at turn none stays =
+    lives machine reply (turned machine at turn) (plain_leaves machine reply at turn none stays)
+
+granted_lives : (machine : Client) (at file_id : ℕ) (answer : CreateAnswer) (turn : Turn)
+    → is_live turn.entry.phase ≡ true → TakeLives machine (Reply.Created at file_id (Some answer)) (turned machine at turn)
+granted_lives machine at file_id answer turn live = lives machine (Reply.Created at file_id (Some answer))
+    (turned machine at turn) (granted_leaves machine at file_id answer turn live)
+
+break_lives : (machine : Client) → IsSoundClient machine → (at : ℕ) (notice : BreakNotice) (live : LiveEntry)
+    → is_key_of machine notice.key at ≡ true → (machine.entries at).phase ≡ Phase.Live live
+    → TakeLives machine (Reply.Break (Some notice))
+    (turned machine at (break_turn live (sent_of machine at) notice (meet live.belief notice.lowered)))
+unfolding break_turn belief_lowered turned
+break_lives machine s at notice live own is whole queue file asked m =
+    let new = meet live.belief notice.lowered in
+    if_cases (λ (turn : Turn). ((is_live (machine.entries file).phase || false) ≡ true
+    → is_live (put machine.entries at turn.entry file).phase ≡ true) ⊎ IsParkedBreak machine (Reply.Break (Some notice)) file)
+    (live.handles == 0 && (live.belief.handle && not new.handle)) _ _
+    (λ parked. either (file == at)
+    (λ here. let e = eqb-true file at here in inr (subst (IsParkedBreak machine (Reply.Break (Some notice))) (sym e) (record {
+      notice = notice;
+      is = refl;
+      own = own;
+      live = live;
+      was = is;
+      idle = parked_idle live (and_parts _ _ parked).0 (sound_live machine at live s is).asking_with_handles;
+      handles = (and_parts live.belief.handle _ (and_parts (live.handles == 0) _ parked).1).0;
+    })))
+    (λ there. inl (elsewhere (parked_closed live (sent_of machine at)) there)))
+    (λ stays. either (file == at)
+    (λ here. let e = eqb-true file at here in
+    inl (λ x. ap (λ f. is_live (put machine.entries at (belief_lowered live (sent_of machine at) notice new).entry f).phase) e
+    ∙ ap (λ (y : Entry). is_live y.phase) (put_same machine.entries at _)))
+    (λ there. inl (elsewhere (belief_lowered live (sent_of machine at) notice new) there)))
+  where
+    was : (a : Bool) → (a || false) ≡ true → a ≡ true
+    was true e = refl
+    was false e = e
+
+    elsewhere : (turn : Turn) → (file == at) ≡ false → (is_live (machine.entries file).phase || false) ≡ true
+        → is_live (put machine.entries at turn.entry file).phase ≡ true
+    elsewhere turn there e = ap (λ (x : Entry). is_live x.phase) (put_other machine.entries at turn.entry file
+        (λ same. clash (file == at) (eq-eqb file at same) there)) ∙ was (is_live (machine.entries file).phase) e
+
+pub takes_live : (machine : Client) → IsSoundClient machine → HasTakes machine (TakeLives machine)
+unfolding opened_turn reconnected_turn promoted_turn read_turn write_done_turn
+takes_live machine s = record {
+  passed = λ reply why. lives machine reply (quiet_step machine) (passed_leaves machine reply why);
+  broken = λ at notice live found is. break_lives machine s at notice live
+      (found_so machine (is_key_of machine notice.key) at found) is;
+  opened = λ at file_id answer access share is.
+      granted_lives machine at file_id answer _ refl;
+  reconnected = λ at file_id answer parted is.
+      granted_lives machine at file_id answer _ refl;
+  promoted = λ at file_id answer live asked is asks.
+      granted_lives machine at file_id answer _ refl;
+  not_opened = λ at status access share is. plain_lives machine (Reply.CreateFailed at status) at _ (λ f. refl)
+      (λ e. clash (is_live (machine.entries at).phase) e (ap is_live is));
+  not_reconnected = λ at status parted is. plain_lives machine (Reply.CreateFailed at status) at _ (λ f. refl)
+      (λ e. clash (is_live (machine.entries at).phase) e (ap is_live is));
+  not_promoted = λ at status live asked is asks. plain_lives machine (Reply.CreateFailed at status) at _ (λ f. refl)
+      (λ e. refl);
+  read = λ at file_id bytes live is id some. plain_lives machine (Reply.ReadDone file_id bytes) at _ (λ f. refl)
+      (λ e. refl);
+  not_read = λ at file_id status live is id some whole queue file asked m.
+      inl (read_failed_leaves machine at file_id status live is id whole queue file asked m);
+  written = λ at file_id number has known. plain_lives machine (Reply.WriteDone file_id number) at _ (λ f. refl)
+      (with_live _ (machine.entries at).phase);
+  not_written = λ at file_id number status has known whole queue file asked m.
+      inl (write_failed_leaves machine at file_id number status _ (machine.entries at).phase refl whole queue file asked m);
 }

@@ -34,7 +34,7 @@ use Rattle.lease_coherence.proofs.covered.Moves.{FailsGone, HasCovered}
 use Rattle.lease_coherence.proofs.covered.Runs.{HasCover, cover_carried, first_cover, counted_of, quiet_of, not_failed}
 use Rattle.lease_coherence.proofs.covered.Words.{ClosedBefore, closed_more, never_granted, NotFailed}
 use Rattle.lease_coherence.proofs.moves.Deeds.{IsSource}
-use Rattle.lease_coherence.proofs.moves.Events.{Ground, Both, carried_both, runs_have, come_back, connected, reply_gone, reply_taken}
+use Rattle.lease_coherence.proofs.moves.Events.{Ground, IsCarried, Both, carried_both, runs_have, come_back, connected, reply_gone, reply_taken}
 use Rattle.lease_coherence.proofs.moves.Foreign.{IsUnmoved, key_client, off_sound}
 use Rattle.lease_coherence.proofs.moves.Frames.{from_source, stepped_replies}
 use Rattle.lease_coherence.proofs.moves.Own.{IsOwnMoved, OfGood, own_moves}
@@ -188,12 +188,12 @@ new_acks key queue more some e = some (right (acks key queue) (acks key more) (s
     right a b e = omega (arith, e)
 
 -- what is known of a client whose link is up
-record IsKnownHere (world : World) (c : ℕ) : Type 0 where
-  ground : Ground world
-  names : IsNamedAt world c
-  counted : (file : ℕ) → under_way world c file ≡ asked_by (world.clients c) file
-  stands : IsStandingAt world c
-  covered : HasCovered world c
+pub record IsKnownHere (world : World) (c : ℕ) : Type 0 where
+  pub ground : Ground world
+  pub names : IsNamedAt world c
+  pub counted : (file : ℕ) → under_way world c file ≡ asked_by (world.clients c) file
+  pub stands : IsStandingAt world c
+  pub covered : HasCovered world c
 
 command_told : (world : World) (c : ℕ) (step : Step) → is_up (world.links c) ≡ true
     → step.client.guid ≡ (world.clients c).guid → StepTold (world.clients c) step → IsKnownHere world c → HasTold world c
@@ -212,7 +212,7 @@ command_told world c step up guid tells k t = step_told world world c step up gu
     (t file fresh breaks))
 
 -- the open of a live entry is there, so no reply that it wasn't found is on its way
-live_not_failed : (world : World) (c file : ℕ) (reply : Reply) → IsStandingAt world c
+pub live_not_failed : (world : World) (c file : ℕ) (reply : Reply) → IsStandingAt world c
     → ((x : Open) → Among x world.server.opens → x.client ≡ c → IsOwnOpen (world.clients c).guid x)
     → world.server.expired (machine_key world c file) ≡ false → FailsGone world c reply → (live : LiveEntry)
     → ((world.clients c).entries file).phase ≡ Phase.Live live → NotFailed live.file_id reply
@@ -260,7 +260,7 @@ take_told world c reply queue first up k t =
 
 -- ---- all moves
 
-known_here : (world : World) → HasCover world → (c : ℕ) → has_strayed c world.past ≡ false
+pub known_here : (world : World) → HasCover world → (c : ℕ) → has_strayed c world.past ≡ false
     → is_up (world.links c) ≡ true → IsKnownHere world c
 known_here world v c good up = record {
   ground = v.0.0.0.0.0.0;
@@ -340,9 +340,11 @@ told_moves = record {
 abbrev pub HasAnswers : World → Type 0
 HasAnswers = Both HasCover (OfGood IsUpTold)
 
+pub answers_carried : IsCarried HasAnswers
+answers_carried = carried_both HasCover (OfGood IsUpTold) cover_carried
+    (own_moves HasCover IsUpTold (λ world all. all.0.0.0.0.0.0) told_moves)
+
 pub run_answers : (setup : Setup) (events : List Event) → HasAnswers (after (first_world setup) events)
 unfolding first_world
-run_answers setup events = runs_have HasAnswers (λ world all. all.0.0.0.0.0.0.0)
-    (carried_both HasCover (OfGood IsUpTold) cover_carried
-    (own_moves HasCover IsUpTold (λ world all. all.0.0.0.0.0.0) told_moves)) setup
+run_answers setup events = runs_have HasAnswers (λ world all. all.0.0.0.0.0.0.0) answers_carried setup
     (first_cover setup, λ client good up. absurd (true≢false (sym up))) events

@@ -247,7 +247,7 @@ acknowledged-lease client (Some given) progress other =
 -- ---- each step
 
 -- what is held has nothing to do with what may be served
-held_left-serves : (client : ℕ) (request : FileRequest) (file : ℕ) (left : List Held) (progress : Progress)
+pub held_left-serves : (client : ℕ) (request : FileRequest) (file : ℕ) (left : List Held) (progress : Progress)
     → MayServe progress.server client request → MayServe (held_left file left progress).server client request
 unfolding held_left
 held_left-serves client (FileRequest.Create at access share None) file left progress may = absurd may

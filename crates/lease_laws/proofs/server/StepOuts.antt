@@ -35,14 +35,14 @@ use Rattle.lease_laws.proofs.server.StepKeeps.{OpensUp, goes-up, step-sound, ste
 
 -- ---- the end of a request gives its client out, and the change that it asks for
 
-abbrev IsOfRequest : ℕ → FileRequest → Out → Type 0
+abbrev pub IsOfRequest : ℕ → FileRequest → Out → Type 0
 IsOfRequest client request (Out.Sent to reply) = to ≡ client
 IsOfRequest client request (Out.Opened file by) = by ≡ client
 IsOfRequest client request (Out.Changed file by number patch) =
     (file_id : ℕ) × (request ≡ FileRequest.Write file_id number patch)
 
 -- outs that go on so
-abbrev GoesOut : ℕ → FileRequest → Progress → Progress → Type 0
+abbrev pub GoesOut : ℕ → FileRequest → Progress → Progress → Type 0
 GoesOut client request before after = GoOn (IsOfRequest client request) before.outs after.outs
 
 -- one reply
@@ -101,7 +101,7 @@ on_contexts-out client request None done progress each = go_on-same (IsOfRequest
 on_contexts-out client request (Some ask) done progress each = each ask
 
 -- any request
-concluded-out : (client : ℕ) (request : FileRequest) (progress : Progress) (outcome : Outcome)
+pub concluded-out : (client : ℕ) (request : FileRequest) (progress : Progress) (outcome : Outcome)
     → GoesOut client request progress (concluded client request progress outcome)
 unfolding refused answered
 concluded-out client request progress (Outcome.Refused status) =
@@ -125,7 +125,7 @@ concluded-out client (FileRequest.Close file_id) progress Outcome.Ready =
     (λ file. closed-out client file_id (FileRequest.Close file_id) progress)
 
 -- an acknowledgment gives out one reply to its client
-abbrev IsSentTo : ℕ → Out → Type 0
+abbrev pub IsSentTo : ℕ → Out → Type 0
 IsSentTo client (Out.Sent to reply) = to ≡ client
 IsSentTo client out = ⊥
 
@@ -146,7 +146,7 @@ judged-out key state (Some lowered) progress =
     (λ e. record { more = _; are_more = refl; each = (refl, tt) })
     (λ e. sent-out key.client (Reply.AckFailed Status.RequestNotAccepted) progress)
 
-acknowledged-out : (client : ℕ) (given : Option LeaseOf) (progress : Progress)
+pub acknowledged-out : (client : ℕ) (given : Option LeaseOf) (progress : Progress)
     → GoOn (IsSentTo client) progress.outs (acknowledged client given progress).outs
 unfolding acknowledged
 acknowledged-out client None progress = sent-out client (Reply.AckFailed Status.InvalidParameter) progress

@@ -32,7 +32,3 @@ pub record HasJudged (judge : Judging) (facts : List Fact) : Type 0 where
 -- Whatever facts the judge was given, the other one was given one more.
 abbrev pub JudgesOneMore : Judging → Fact → Judging → Type 0
 JudgesOneMore old fact new = (facts : List Fact) → HasJudged old facts → HasJudged new (facts ++ fact ∷ [])
-
--- Whatever facts the judge was given, this is the verdict on them.
-abbrev pub TellsVerdict : Judging → Verdict → Type 0
-TellsVerdict judge verdict = (facts : List Fact) → HasJudged judge facts → verdict_of verdict ≡ model.verdict facts

@@ -126,13 +126,14 @@ fn apply(bytes: &mut Vec<u8>, change: &Patch) -> Result<(), Memory>
     let held = bytes.len();
     let offset = change.offset as usize;
     let added = change.bytes.as_slice();
-    if added.len() > usize::MAX - offset {
-        return Err(Memory);
+    if added.is_empty() {
+        return Ok(());
     }
-    if !added.is_empty() {
-        let end = offset + added.len();
-        bytes.resize(end.max(held), 0)?;
+    if offset <= held && added.len() <= held - offset {
         write_over(bytes, offset, added);
+    } else {
+        bytes.resize(offset, 0)?;
+        bytes.extend_from_slice(added)?;
     }
     Ok(())
 }

@@ -10,6 +10,7 @@ ghost use Rattle.lease_model.specs.server.Progress.{with_lease, with_opens};
 ghost use Rattle.lease_model.specs.server.State.{Open as ModelOpen, has_key, has_lease, no_lease};
 ghost use Rattle.lease_model.specs.values.Keys.{Key as ModelKey};
 ghost use Rattle.lease_model.specs.values.Lists.{without};
+ghost use Rattle.lease_model.specs.values.Patches.{is_within_limit};
 ghost use Rattle.lease_model.specs.values.Tables.{put, put_key};
 ghost use Rattle.share_server.specs.Closing.{closes};
 ghost use Rattle.share_server.specs.Filed.{has_id};
@@ -91,12 +92,13 @@ impl Tables {
         self.files[usize::from(file.0)].release(place)
     }
 
-    /// The patch is put over the bytes of the file.
+    /// The patch, which ends within the limit of a file, is put over the file's bytes.
     ///
     /// # Errors
     ///
     /// `Memory` where there is none left for a file that grows.
     pub fn change(&mut self, file: FileNo, patch: &Patch) -> Result<(), Memory>
+        requires { is_within_limit patch.now ≡ true }
         ensures { OnOk result (server_of self.new ≡ record (server_of self.old) {
           contents = put (server_of self.old).contents file.0
               (patched ((server_of self.old).contents file.0) patch.now);
@@ -248,9 +250,9 @@ fn add(
     ensures leases { OnOk result ((key : ModelKey) → lease_in summaries.new key
         ≡ (if has_key key one then lease_of lease else lease_in summaries.old key)) }
 {
-    if opens.len() == usize::MAX {
-        return Err(Memory);
-    }
+    // So no count of them reaches its end.
+    let count = opens.len();
+    prove!(count < usize::MAX);
     summaries.gain(alloc, &one, lease)?;
     opens.push(one)?;
     Ok(())

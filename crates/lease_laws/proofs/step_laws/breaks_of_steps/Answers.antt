@@ -1,3 +1,4 @@
+use Rattle.lease_laws.proofs.server.Changes.{breaks-come-first}
 use Rattle.lease_laws.proofs.server.StepLeases.{step-leases, steps-told}
 use Rattle.lease_laws.proofs.server.StepOuts.{step-tells}
 use Rattle.lease_laws.proofs.step_laws.breaks_of_steps.Goals as goal
@@ -10,3 +11,6 @@ returns-clause-told c = step-tells
 
 pub returns-clause-always_told : goal.returns-clause-always_told
 returns-clause-always_told c = steps-told
+
+pub returns-clause-changes : goal.returns-clause-changes
+returns-clause-changes c = breaks-come-first

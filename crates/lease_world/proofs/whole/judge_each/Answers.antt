@@ -1,5 +1,6 @@
 use Rattle.std.proofs.Common.{refl, true}
 use Rattle.std.proofs.iter.runs.Made.{run, to_end}
+use Rattle.lease_world.proofs.records.Telling.{told_on}
 use Rattle.lease_world.proofs.whole.judge_each.Goals as goal
 
 pub returns : goal.returns
@@ -8,5 +9,5 @@ returns g c = (
       (to_end g.I.Iterator.next_gives _ c.loop-fact.yielded (_, (_, c.loop-fact.yielded_by, c.in-None.ensures.steps))),
   c.into_iter-fact-iterator.ensures.into_iter_gives,
   refl,
-  c.verdict.ensures _ c.loop-fact.invariant,
+  told_on _ _ (c.verdict.ensures.computed _ c.loop-fact.invariant),
 )

@@ -1,0 +1,91 @@
+-- Where a client's lease holds writes, nothing that it asks of the file is held; and no write that is held was buffered.
+use Rattle.std.proofs.Common.{◌≡◌, ℕ, true, [], sym, ap, ◌∙◌, subst, ◌==◌}
+use Rattle.std.specs.List.{list_any}
+use Rattle.std.proofs.lemmas.Bool.{eqb-true}
+use Rattle.lease_state.specs.declared.patch.Patch.{Patch}
+use Rattle.lease_model.specs.messages.Requests.{FileRequest, Request}
+use Rattle.lease_model.specs.records.Past.{has_buffered}
+use Rattle.lease_model.specs.server.Passes.{is_behind}
+use Rattle.lease_model.specs.server.State.{Open, Held, Lease, has_key}
+use Rattle.lease_model.specs.world.Events.{after, machine_key}
+use Rattle.lease_model.specs.world.World.{World, first_world}
+use Rattle.lease_laws.specs.server.Laws.{Among, IsSound}
+use Rattle.lease_laws.specs.server.Waiting.{WaitsWell}
+use Rattle.lease_laws.proofs.server.Lists.{any_has, among_filter, clash, either, find_has, not_true}
+use Rattle.lease_laws.proofs.world.Runs.{servers_of_runs}
+use Rattle.lease_coherence.specs.Agreement.{OfAllowedRuns, Timely, lease_of, WritersAreNotHeld, BelieversAreNotHeld, HeldWritesAreThrough}
+use Rattle.lease_coherence.specs.Creates.{held_by}
+use Rattle.lease_coherence.specs.Names.{IsNamedAt, IsNamedOnFile, WasWrittenOn}
+use Rattle.lease_coherence.specs.Parts.{OfRuns}
+use Rattle.lease_coherence.specs.Standing.{IsOpenFor}
+use Rattle.lease_coherence.proofs.agreed.Flushed.{buffered_open, of_held}
+use Rattle.lease_coherence.proofs.late.Facts.{run_late}
+use Rattle.lease_coherence.proofs.late.Held.{about_asks, first_of, none_waits}
+use Rattle.lease_coherence.proofs.late.Words.{HeldPlain}
+use Rattle.lease_coherence.proofs.order.Words.{none_behind, WriteStands, WriteStandsOn}
+use Rattle.lease_coherence.proofs.told.Moves.{open_place}
+use Rattle.lease_coherence.proofs.told.Runs.{run_answers}
+use Rattle.lease_coherence.proofs.writes.Answered.{names_of}
+
+-- a lease that holds writes has an open
+writing_open : (server : _) (key : _) → IsSound server → (server.leases key).state.write ≡ true
+    → (x : Open) × (Among x server.opens) × (has_key key x ≡ true)
+writing_open server key sound writes = either (list_any (has_key key) server.opens)
+    (λ some. any_has (has_key key) server.opens some)
+    (λ none. clash (server.leases key).state.write writes
+    (ap (λ (l : Lease). l.state.write) (sound.no_open key none)))
+
+none_held : (world : World) (c file : ℕ) → IsSound world.server → WaitsWell world.server → IsNamedAt world c
+    → (lease_of world c file).state.write ≡ true → held_by c (world.server.held file) ≡ []
+none_held world c file sound waits names writes = either (is_behind c (world.server.held file))
+    (λ some. absurd (never some)) (λ none. none_behind c (world.server.held file) none)
+  where
+    never : is_behind c (world.server.held file) ≡ true → ⊥
+    never some =
+        let x = writing_open world.server (machine_key world c file) sound writes in
+        let place = open_place world c file x.0 (names.opens x.0 x.1) x.2 in
+        let first = first_of (λ (one : Held). one.client == c) (world.server.held file) some in
+        let y = first.0 in
+        let there = find_has (λ (one : Held). one.client == c) y (world.server.held file) first.1 in
+        let by = eqb-true y.client c there.1 in
+        none_waits world c sound names file x.0 x.1 place.0 place.1 writes y.request
+        (names.held file y there.0 by)
+        (about_asks world file y.request (waits.is_orderly.held_about file y there.0))
+        (waits.all_wait file c y first.1)
+
+pub writers_are_not_held : OfRuns WritersAreNotHeld
+writers_are_not_held setup events c good file writes =
+    let world = after (first_world setup) events in
+    let v = run_answers setup events in
+    let s = servers_of_runs setup events in
+    none_held world c file s.0 s.1 (v.0.0.0.0.0.0.1.0 c good) writes
+
+pub believers_are_not_held : OfRuns (Timely BelieversAreNotHeld)
+believers_are_not_held setup events c good up file fresh live is writes =
+    let b = (((run_answers setup events).0.0.0.1 c good up).files file fresh).believed in
+    writers_are_not_held setup events c good file (b.own live is writes).1
+
+pub held_writes_are_through : OfAllowedRuns (Timely HeldWritesAreThrough)
+held_writes_are_through setup events c allowed good up file fresh id number patch there =
+    let world = after (first_world setup) events in
+    let v = (run_late setup events allowed).0 in
+    let names = names_of world v.0.0.0.0.0 c good in
+    let held = of_held (FileRequest.Write id number patch) (held_by c (world.server.held file)) there in
+    let one = held.0 in
+    let in_held = among_filter (λ (x : Held). x.client == c) one (world.server.held file) held.1 in
+    let by = eqb-true one.client c in_held.1 in
+    let named : WasWrittenOn c id number patch world.past =
+    subst (IsNamedOnFile c (world.clients c).guid world.past) held.2 (names.held file one in_held.0 by) in
+    let stands : WriteStandsOn world c id = subst (λ r. WriteStands world c (Request.OnFile r)) held.2
+    ((v.0.1 c good up).stands.held file one in_held.0 by) in
+    let plain : HeldPlain world c (Request.OnFile (FileRequest.Write id number patch)) =
+    subst (λ r. HeldPlain world c (Request.OnFile r)) held.2 (((v.1 c good).up up).held file one in_held.0 by) in
+    not_true (has_buffered c file number world.past) (λ b.
+    through world c file id number patch plain
+    (buffered_open world c file id number patch v.0.0.0.0.0.1 fresh named stands b) b)
+  where
+    through : (world : World) (c file id number : ℕ) (patch : Patch)
+        → HeldPlain world c (Request.OnFile (FileRequest.Write id number patch)) → IsOpenFor world c file id
+        → has_buffered c file number world.past ≡ true → ⊥
+    through world c file id number patch plain o b = clash (has_buffered c file number world.past) b
+        (ap (λ f. has_buffered c f number world.past) (sym o.on_file) ∙ plain o.one o.there o.by o.id)

@@ -1,0 +1,340 @@
+-- What passes over held requests change is the doing of these requests.
+use Rattle.std.proofs.Common.{◌≡◌, ◌⊎◌, inl, inr, ⊎_elim, ℕ, ◌+◌, zero, suc, Bool, true, false, not, Option, Some, None, List, [], ◌∷◌, ◌++◌, length, map, refl, ap, sym, ◌∙◌, subst, append_assoc, ◌==◌}
+use Rattle.std.proofs.lemmas.Bool.{eqb-true, eq-eqb}
+use Rattle.lease_laws.proofs.client.Thin.{put_same, put_other}
+use Rattle.lease_laws.proofs.server.Held.{concluded-held, tried_for-held}
+use Rattle.lease_laws.proofs.server.Lists.{if_cases, either, clash, among_append, among_before, among_behind, among_filtered}
+use Rattle.lease_laws.specs.server.Laws.{Among}
+use Rattle.lease_model.specs.messages.Requests.{FileRequest, LeaseOf}
+use Rattle.lease_model.specs.server.Answers.{concluded, answered, created, changed, closed, read_done, on_open}
+use Rattle.lease_model.specs.server.Attempt.{Outcome, tried}
+use Rattle.lease_model.specs.server.Findings.{connected_open}
+use Rattle.lease_model.specs.server.Grant.{connected_again, granted, granted_with, lease_after, lease_put, reconnected}
+use Rattle.lease_model.specs.server.Passes.{Pass, is_behind, left_waiting, pass_answered, after_try, tried_again, pass_over, one_pass, passes_for, passes, passes_over, all_passes}
+use Rattle.lease_model.specs.server.Progress.{Progress, held_left, opens_dropped, refused, replied, with_opens}
+use Rattle.lease_model.specs.server.State.{Server, Open, Held, Lease}
+use Rattle.lease_model.specs.values.Limits.{last_file_id}
+use Rattle.lease_model.specs.values.Lists.{numbers_to}
+use Rattle.lease_model.specs.values.Tables.{put}
+use Rattle.lease_state.specs.Content.{patch as patched}
+use Rattle.lease_state.specs.declared.access.Access.{Access}
+use Rattle.lease_state.specs.declared.access.Share.{Share}
+use Rattle.share_server.proofs.Refusing.{tried_alone}
+use Rattle.share_server.specs.Refusals.{IsSameOpen, IsTakenByHeld, IsLeftToHeld, PassesAreOfHeld}
+
+-- ---- one after the other
+
+itself : (one : Open) → IsSameOpen one one
+itself one = record { file_id = refl; client = refl; file = refl; lease_key = refl }
+
+same_then : (one two three : Open) → IsSameOpen one two → IsSameOpen two three → IsSameOpen one three
+same_then one two three a b = record {
+  file_id = b.file_id ∙ a.file_id;
+  client = b.client ∙ a.client;
+  file = b.file ∙ a.file;
+  lease_key = b.lease_key ∙ a.lease_key;
+}
+
+same_left : (requests : ℕ → List Held) (server : Server) → IsLeftToHeld requests server server
+same_left requests server = record { contents = λ file. inl refl; stay = λ one a. inl (one, itself one, a) }
+
+-- what is said of an open is said of it as it was
+taken_before : (requests : ℕ → List Held) (one now : Open) → IsSameOpen one now → IsTakenByHeld requests now
+    → IsTakenByHeld requests one
+taken_before requests one now same t = record {
+  file = t.file;
+  held = t.held;
+  was_held = t.was_held;
+  why = ⊎_elim (λ closes. inl (closes ∙ ap FileRequest.Close same.file_id)) (λ c. inr (record {
+    at = c.at;
+    still_held = c.still_held;
+    now = c.now;
+    same = same_then one now c.now same c.same;
+    still_there = c.still_there;
+    closed = c.closed;
+  })) t.why;
+}
+
+left_then : (requests : ℕ → List Held) (one two three : Server) → IsLeftToHeld requests one two
+    → IsLeftToHeld requests two three → IsLeftToHeld requests one three
+left_then requests one two three a b = record {
+  contents = λ file. ⊎_elim (λ same. ⊎_elim (λ again. inl (again ∙ same)) (λ w. inr w) (b.contents file)) (λ w. inr w)
+      (a.contents file);
+  stay = λ x there. ⊎_elim
+      (λ first. ⊎_elim
+      (λ then. inl (then.0, same_then x first.0 then.0 first.1 then.1, then.2))
+      (λ t. inr (taken_before requests x first.0 first.1 t)) (b.stay first.0 first.2))
+      (λ t. inr t) (a.stay x there);
+}
+
+-- ---- a held request is tried and answered
+
+-- a request that is still held
+pub record IsStillHeld (requests : ℕ → List Held) (progress : Progress) (file : ℕ) (held : Held) : Type 0 where
+  pub was : Among held (requests file)
+  pub still : Among held (progress.server.held file)
+
+tried_left : (requests : ℕ → List Held) (progress : Progress) (file : ℕ) (held : Held)
+    → IsStillHeld requests progress file held
+    → IsLeftToHeld requests progress.server (tried held.client held.request progress).progress.server
+tried_left requests progress file held h =
+    let t = tried_alone 3 held.client held.request progress in record {
+      contents = λ at. inl (ap (λ (c : ℕ → List ℕ). c at) t.contents);
+      stay = λ one there. ⊎_elim (λ still. inl (one, itself one, still)) (λ c. inr (record {
+        file = file;
+        held = held;
+        was_held = h.was;
+        why = inr (record {
+          at = progress;
+          still_held = h.still;
+          now = one;
+          same = itself one;
+          still_there = there;
+          closed = c;
+        });
+      })) (t.stay one there);
+    }
+
+-- another list of opens, where each is still there
+kept_opens : (requests : ℕ → List Held) (before after : Server) → after.contents ≡ before.contents
+    → ((one : Open) → Among one before.opens → (now : Open) × IsSameOpen one now × Among now after.opens)
+    → IsLeftToHeld requests before after
+kept_opens requests before after same stay = record {
+  contents = λ at. inl (ap (λ (c : ℕ → List ℕ). c at) same);
+  stay = λ one there. inl (stay one there);
+}
+
+put_contents : (server : Server) (client : ℕ) (asked : Option LeaseOf) (lease : Lease)
+    → (lease_put server client asked lease).contents ≡ server.contents
+put_contents server client None lease = refl
+put_contents server client (Some asked) lease = refl
+
+mapped : {X Y : Type 0} (f : X → Y) (x : X) (xs : List X) → Among x xs → Among (f x) (map f xs)
+mapped f x [] a = a
+mapped f x (y ∷ xs) a = ⊎_elim (λ same. inl (ap f same)) (λ later. inr (mapped f x xs later)) a
+
+again_same : (file_id : ℕ) (one : Open) → IsSameOpen one (connected_again file_id one)
+again_same file_id one = if_cases (λ o. IsSameOpen one o) (one.file_id == file_id) (record one { connected = true }) one
+    (λ here. record { file_id = refl; client = refl; file = refl; lease_key = refl }) (λ there. itself one)
+
+created_left : (requests : ℕ → List Held) (client file : ℕ) (access : Access) (share : Share) (asked : Option LeaseOf)
+    (durable : Bool) (again : Option ℕ) (progress : Progress)
+    → IsLeftToHeld requests progress.server (created client file access share asked durable again progress).server
+unfolding granted granted_with reconnected
+created_left requests client file access share asked durable None progress = if_cases
+    (λ (p : Progress). IsLeftToHeld requests progress.server p.server) (progress.server.last_id == last_file_id)
+    (replied client _ progress)
+    (granted_with client file access share asked durable (lease_after progress.server client file asked) progress)
+    (λ full. same_left requests progress.server)
+    (λ free. kept_opens requests progress.server _
+    (put_contents progress.server client asked (lease_after progress.server client file asked))
+    (λ one there. (one, itself one, among_before one progress.server.opens (_ ∷ []) there)))
+created_left requests client file access share asked durable (Some file_id) progress = kept_opens requests progress.server _
+    refl (λ one there. (
+      connected_again file_id one,
+      again_same file_id one,
+      mapped (connected_again file_id) one progress.server.opens there,
+    ))
+
+closed_left : (requests : ℕ → List Held) (at : ℕ) (held : Held) (file file_id : ℕ) (progress : Progress)
+    → Among held (requests at) → held.request ≡ FileRequest.Close file_id
+    → IsLeftToHeld requests progress.server (closed held.client file_id progress).server
+unfolding closed opens_dropped with_opens
+closed_left requests at held file file_id progress was is = record {
+  contents = λ f. inl refl;
+  stay = λ one there. either (one.file_id == file_id)
+      (λ here. inr (record {
+        file = at;
+        held = held;
+        was_held = was;
+        why = inl (is ∙ ap FileRequest.Close (sym (eqb-true one.file_id file_id here)));
+      }))
+      (λ apart. inl (
+        one,
+        itself one,
+        among_filtered (λ (o : Open). not (o.file_id == file_id)) one progress.server.opens there
+            (ap not apart),
+      ));
+}
+
+concluded_left : (requests : ℕ → List Held) (at : ℕ) (held : Held) (request : FileRequest) (progress : Progress)
+    (outcome : Outcome) → Among held (requests at) → held.request ≡ request
+    → IsLeftToHeld requests progress.server (concluded held.client request progress outcome).server
+unfolding refused answered changed
+concluded_left requests at held request progress (Outcome.Refused status) was is = same_left requests progress.server
+concluded_left requests at held request progress Outcome.Waits was is = same_left requests progress.server
+concluded_left requests at held (FileRequest.Create file access share None) progress Outcome.Ready was is =
+    same_left requests progress.server
+concluded_left requests at held (FileRequest.Create file access share (Some ask)) progress Outcome.Ready was is =
+    created_left requests held.client file access share ask.lease ask.durable ask.reconnect progress
+concluded_left requests at held (FileRequest.Read file_id) progress Outcome.Ready was is =
+    by_open (connected_open progress.server held.client file_id)
+  where
+    by_open : (found : Option Open) → IsLeftToHeld requests progress.server
+        (on_open found (λ file. read_done held.client file file_id) progress).server
+    by_open None = same_left requests progress.server
+    by_open (Some one) = same_left requests progress.server
+concluded_left requests at held (FileRequest.Write file_id number patch) progress Outcome.Ready was is =
+    by_open (connected_open progress.server held.client file_id) refl
+  where
+    by_open : (found : Option Open) → connected_open progress.server held.client file_id ≡ found
+        → IsLeftToHeld requests progress.server
+        (on_open found (λ file. changed held.client file file_id number patch) progress).server
+    by_open None e = same_left requests progress.server
+    by_open (Some one) e = record {
+      contents = λ file. either (file == one.file)
+          (λ here. inr (record {
+            held_on = at;
+            held = held;
+            was_held = was;
+            file_id = file_id;
+            number = number;
+            patch = patch;
+            is_write = is;
+            at = progress;
+            one = one;
+            found = e;
+            is_on = sym (eqb-true file one.file here);
+          }))
+          (λ apart. inl (put_other progress.server.contents one.file (patched (progress.server.contents one.file) patch) file
+          (λ same. clash (file == one.file) (eq-eqb file one.file same) apart)));
+      stay = λ x there. inl (x, itself x, there);
+    }
+concluded_left requests at held (FileRequest.Close file_id) progress Outcome.Ready was is =
+    by_open (connected_open progress.server held.client file_id)
+  where
+    by_open : (found : Option Open) → IsLeftToHeld requests progress.server
+        (on_open found (λ file. closed held.client file_id) progress).server
+    by_open None = same_left requests progress.server
+    by_open (Some one) = closed_left requests at held one.file file_id progress was is
+
+-- ---- passes
+
+-- what is held was held
+abbrev WereHeld : (ℕ → List Held) → Progress → Type 0
+WereHeld requests progress = (file : ℕ) (held : Held) → Among held (progress.server.held file) → Among held (requests file)
+
+-- a pass under way
+pub record IsPassing (requests : ℕ → List Held) (start : Server) (file : ℕ) (waiting : List Held) (pass : Pass) : Type 0
+  where
+    pub is_held : pass.progress.server.held file ≡ pass.passed ++ waiting
+    pub were : WereHeld requests pass.progress
+    pub left : IsLeftToHeld requests start pass.progress.server
+
+passed_over : (requests : ℕ → List Held) (start : Server) (file : ℕ) (one : Held) (waiting : List Held) (pass : Pass)
+    (progress : Progress) → progress.server.held ≡ pass.progress.server.held
+    → IsLeftToHeld requests pass.progress.server progress.server → IsPassing requests start file (one ∷ waiting) pass
+    → IsPassing requests start file waiting (left_waiting one pass progress)
+passed_over requests start file one waiting pass progress same left p = record {
+  is_held = ap (λ (h : ℕ → List Held). h file) same ∙ p.is_held
+      ∙ sym (append_assoc pass.passed (one ∷ []) waiting);
+  were = λ at x there. p.were at x (subst (λ (h : ℕ → List Held). Among x (h at)) same there);
+  left = left_then requests start pass.progress.server progress.server p.left left;
+}
+
+left_held : (at : ℕ) (left : List Held) (progress : Progress) (requests : ℕ → List Held) → WereHeld requests progress
+    → ((x : Held) → Among x left → Among x (requests at)) → WereHeld requests (held_left at left progress)
+unfolding held_left
+left_held at left progress requests were within file x there = either (file == at)
+    (λ here. let same = eqb-true file at here in
+    subst (λ f. Among x (requests f)) (sym same)
+    (within x (subst (λ l. Among x l)
+    (ap (put progress.server.held at left) same ∙ put_same progress.server.held at left) there)))
+    (λ apart. were file x (subst (λ l. Among x l)
+    (put_other progress.server.held at left file (λ e. false_same apart e)) there))
+  where
+    false_same : (file == at) ≡ false → file ≡ at → ⊥
+    false_same apart e = clash (file == at) (eq-eqb file at e) apart
+
+answered_pass : (requests : ℕ → List Held) (start : Server) (file : ℕ) (one : Held) (waiting : List Held) (pass : Pass)
+    (progress : Progress) (outcome : Outcome) → progress.server.held ≡ pass.progress.server.held
+    → IsLeftToHeld requests pass.progress.server progress.server → IsPassing requests start file (one ∷ waiting) pass
+    → IsPassing requests start file waiting
+    (pass_answered file one waiting pass (record { progress = progress; outcome = outcome }))
+unfolding held_left
+answered_pass requests start file one waiting pass progress outcome same left p =
+    let gone = held_left file (pass.passed ++ waiting) progress in
+    let held = concluded-held one.client one.request gone outcome in
+    let inside : (x : Held) → Among x (pass.passed ++ one ∷ waiting) → Among x (requests file) =
+    λ x there. p.were file x (subst (λ l. Among x l) (sym p.is_held) there) in record {
+      is_held = ap (λ (h : ℕ → List Held). h file) held ∙ put_same progress.server.held file (pass.passed ++ waiting);
+      were = λ at x there. left_held file (pass.passed ++ waiting) progress requests
+          (λ f y a. p.were f y (subst (λ (h : ℕ → List Held). Among y (h f)) same a))
+          (λ y a. ⊎_elim (λ first. inside y (among_before y pass.passed (one ∷ waiting) first))
+          (λ later. inside y (among_behind y pass.passed (one ∷ waiting) (inr later)))
+          (among_append y pass.passed waiting a))
+          at x (subst (λ (h : ℕ → List Held). Among x (h at)) held there);
+      left = left_then requests start pass.progress.server (concluded one.client one.request gone outcome).server p.left
+          (left_then requests pass.progress.server progress.server (concluded one.client one.request gone outcome).server left
+          (left_then requests progress.server gone.server (concluded one.client one.request gone outcome).server
+          (record { contents = λ f. inl refl; stay = λ x a. inl (x, itself x, a) })
+          (concluded_left requests file one one.request gone outcome
+          (inside one (among_behind one pass.passed (one ∷ waiting) (inl refl))) refl)));
+    }
+
+after_pass_try : (requests : ℕ → List Held) (start : Server) (file : ℕ) (one : Held) (waiting : List Held) (pass : Pass)
+    (progress : Progress) (outcome : Outcome) → progress.server.held ≡ pass.progress.server.held
+    → IsLeftToHeld requests pass.progress.server progress.server → IsPassing requests start file (one ∷ waiting) pass
+    → IsPassing requests start file waiting (after_try file one waiting pass progress outcome)
+after_pass_try requests start file one waiting pass progress Outcome.Waits same left p =
+    passed_over requests start file one waiting pass progress same left p
+after_pass_try requests start file one waiting pass progress (Outcome.Refused status) same left p =
+    answered_pass requests start file one waiting pass progress (Outcome.Refused status) same left p
+after_pass_try requests start file one waiting pass progress Outcome.Ready same left p =
+    answered_pass requests start file one waiting pass progress Outcome.Ready same left p
+
+tried_pass : (requests : ℕ → List Held) (start : Server) (file : ℕ) (one : Held) (waiting : List Held) (pass : Pass)
+    → IsPassing requests start file (one ∷ waiting) pass
+    → IsPassing requests start file waiting (tried_again file one waiting pass)
+unfolding tried_again
+tried_pass requests start file one waiting pass p =
+    let done = tried one.client one.request pass.progress in
+    let there = subst (λ l. Among one l) (sym p.is_held) (among_behind one pass.passed (one ∷ waiting) (inl refl)) in
+    if_cases (IsPassing requests start file waiting) (is_behind one.client pass.passed) (left_waiting one pass pass.progress)
+    (after_try file one waiting pass done.progress done.outcome)
+    (λ behind. passed_over requests start file one waiting pass pass.progress refl
+    (same_left requests pass.progress.server) p)
+    (λ first. after_pass_try requests start file one waiting pass done.progress done.outcome
+    (tried_for-held 3 one.client one.request pass.progress)
+    (tried_left requests pass.progress file one (record { was = p.were file one there; still = there })) p)
+
+over_pass : (requests : ℕ → List Held) (start : Server) (file : ℕ) (waiting : List Held) (pass : Pass)
+    → IsPassing requests start file waiting pass → IsPassing requests start file [] (pass_over file waiting pass)
+unfolding pass_over
+over_pass requests start file [] pass p = p
+over_pass requests start file (one ∷ waiting) pass p =
+    over_pass requests start file waiting (tried_again file one waiting pass) (tried_pass requests start file one waiting pass p)
+
+-- passes so far
+pub record ArePassed (requests : ℕ → List Held) (start : Server) (progress : Progress) : Type 0 where
+  pub were : WereHeld requests progress
+  pub left : IsLeftToHeld requests start progress.server
+
+one_passed : (requests : ℕ → List Held) (start : Server) (file : ℕ) (progress : Progress)
+    → ArePassed requests start progress → ArePassed requests start (one_pass file progress).progress
+one_passed requests start file progress a =
+    let p = over_pass requests start file (progress.server.held file)
+    (record { passed = []; progress = progress; has_answered = false })
+    (record { is_held = refl; were = a.were; left = a.left }) in record { were = p.were; left = p.left }
+
+passes_passed : (requests : ℕ → List Held) (start : Server) (count file : ℕ) (progress : Progress)
+    → ArePassed requests start progress → ArePassed requests start (passes_for count file progress)
+unfolding passes_for
+passes_passed requests start zero file progress a = a
+passes_passed requests start (suc count) file progress a =
+    let pass = one_pass file progress in
+    let next = one_passed requests start file progress a in
+    if_cases (ArePassed requests start) pass.has_answered (passes_for count file pass.progress) pass.progress
+    (λ more. passes_passed requests start count file pass.progress next) (λ done. next)
+
+files_passed : (requests : ℕ → List Held) (start : Server) (files : List ℕ) (progress : Progress)
+    → ArePassed requests start progress → ArePassed requests start (passes_over files progress)
+unfolding passes_over
+files_passed requests start [] progress a = a
+files_passed requests start (file ∷ files) progress a = files_passed requests start files (passes file progress)
+    (passes_passed requests start (length (progress.server.held file) + 1) file progress a)
+
+pub passes_are_of_held : PassesAreOfHeld
+unfolding all_passes
+passes_are_of_held progress = (files_passed progress.server.held progress.server (numbers_to progress.server.files) progress
+    (record { were = λ file one there. there; left = same_left progress.server.held progress.server })).left
