@@ -1,0 +1,57 @@
+mod runs;
+mod verdicts;
+mod words;
+
+use crate::tests::words::{joined, read, record, sent, start, took};
+use lease_world::{Judge, Rule, Verdict, judge_each};
+use std::test::Fail;
+
+// The sixth fact shows other bytes than the file had when the last message was sent, and then nothing mends it.
+#[test]
+fn a_judge_tells_a_verdict_at_any_time(rt: HostRuntime) -> Result<(), Fail> {
+    let alloc = rt.alloc();
+    let facts = record(
+        alloc,
+        [
+            start(alloc, 1, b"abc"),
+            joined(1),
+            sent(1),
+            took(1),
+            read(alloc, 1, 1, b"abc"),
+            read(alloc, 1, 1, b"abd"),
+            took(2),
+        ],
+    )?;
+    let stale = Verdict::Unsafe {
+        place: 6,
+        rule: Rule::FreshCachedReads,
+    };
+    let mut judge = Judge::new(alloc);
+    assert_eq!(rt; judge.verdict(), Verdict::Safe);
+    for (place, fact) in facts.iter().enumerate() {
+        judge = judge.take(fact)?;
+        let verdict = if place < 5 { Verdict::Safe } else { stale };
+        assert_eq!(rt; judge.verdict(), verdict);
+    }
+    Ok(())
+}
+
+#[test]
+fn facts_are_judged_one_by_one(rt: HostRuntime) -> Result<(), Fail> {
+    let alloc = rt.alloc();
+    let facts = record(alloc, [joined(1), took(1), joined(1)])?;
+    assert_eq!(rt;
+        judge_each(alloc, facts.iter())?,
+        Verdict::Malformed { place: 2 }
+    );
+    assert_eq!(rt; judge_each(alloc, facts.iter().take(1))?, Verdict::Safe);
+    Ok(())
+}
+
+#[test]
+fn rules_have_numbers(rt: HostRuntime) {
+    assert_eq!(rt; Rule::OneWriteCache.number(), 1);
+    assert_eq!(rt; Rule::FreshCachedReads.number(), 2);
+    assert_eq!(rt; Rule::NoLateWrite.number(), 3);
+    assert_eq!(rt; Rule::NoFalseDone.number(), 4);
+}

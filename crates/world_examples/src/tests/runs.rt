@@ -1,0 +1,153 @@
+//! Runs: which are refused, and the records of the others.
+
+use crate::tests::words::{
+    believes, buffered, changed, joined, opened, patch, record, sent, settled, start, took,
+};
+use lease_client::{Command, Settlement};
+use lease_state::{Access, ClientNo, Content, FileNo, LeaseState, Share};
+use lease_world::{Event, RunFault, Setup, Verdict, judge, run};
+use std::alloc::Global;
+use std::test::Fail;
+
+// So many files, and so many clients of whose ClientGuids each has another first byte.
+fn setup(alloc: Global, files: u8, clients: u8) -> Result<Setup, Fail> {
+    let mut setup = Setup {
+        files: Vec::new(alloc),
+        clients: Vec::new(alloc),
+    };
+    for file in 0..files {
+        let bytes = Vec::from_slice(alloc, &[file, 7])?;
+        match Content::new(bytes) {
+            Ok(content) => setup.files.push(content)?,
+            Err(_) => {}
+        }
+    }
+    for client in 0..clients {
+        let mut guid = [0; 16];
+        guid[0] = client;
+        setup.clients.push(guid)?;
+    }
+    Ok(setup)
+}
+
+fn open(client: u8, want: u32) -> Event {
+    Event::App(
+        ClientNo(client),
+        Command::Open {
+            file: FileNo(1),
+            access: Access::ReadWrite,
+            share: Share::ReadWrite,
+            want: LeaseState::from_wire(want),
+            durable: false,
+        },
+    )
+}
+
+fn write(alloc: Global, client: u8, byte: u8) -> Result<Event, Fail> {
+    let patch = patch(alloc, 0, &[byte])?;
+    let file = FileNo(1);
+    Ok(Event::App(ClientNo(client), Command::Write { file, patch }))
+}
+
+fn fault(alloc: Global, setup: &Setup, events: &[Event]) -> Option<RunFault> {
+    match run(alloc, setup, events) {
+        Ok(_) => None,
+        Err(fault) => Some(fault),
+    }
+}
+
+#[test]
+fn setups_have_limits(rt: HostRuntime) -> Result<(), Fail> {
+    let alloc = rt.alloc();
+    let bad = Some(RunFault::BadSetup);
+    assert_eq!(rt; fault(alloc, &setup(alloc, 8, 16)?, &[]), None);
+    assert_eq!(rt; fault(alloc, &setup(alloc, 9, 1)?, &[]), bad);
+    assert_eq!(rt; fault(alloc, &setup(alloc, 1, 17)?, &[]), bad);
+    let mut twice = setup(alloc, 1, 3)?;
+    twice.clients.push([0; 16])?;
+    assert_eq!(rt; fault(alloc, &twice, &[]), bad);
+    Ok(())
+}
+
+#[test]
+fn events_have_a_limit(rt: HostRuntime) -> Result<(), Fail> {
+    let alloc = rt.alloc();
+    let mut events = Vec::new(alloc);
+    for _ in 0..10_000 {
+        events.push(Event::Notice(ClientNo(1)))?;
+    }
+    let small = setup(alloc, 1, 1)?;
+    assert_eq!(rt; fault(alloc, &small, &events), None);
+    events.push(Event::Notice(ClientNo(1)))?;
+    assert_eq!(rt; fault(alloc, &small, &events), Some(RunFault::TooMany));
+    // A bad setup is told first.
+    let bad = setup(alloc, 9, 1)?;
+    assert_eq!(rt; fault(alloc, &bad, &events), Some(RunFault::BadSetup));
+    Ok(())
+}
+
+#[test]
+fn a_run_without_events_has_its_starts(rt: HostRuntime) -> Result<(), Fail> {
+    let alloc = rt.alloc();
+    let facts = run(
+        alloc,
+        &setup(alloc, 2, 1)?,
+        &[Event::ServerTakes(ClientNo(9))],
+    )?;
+    let wanted = record(alloc, [start(alloc, 1, &[0, 7]), start(alloc, 2, &[1, 7])])?;
+    assert!(rt; facts.as_slice() == wanted.as_slice());
+    Ok(())
+}
+
+// A client opens, is granted all, and buffers a write. Another one opens: the break goes to the first, which sends its write and
+// acknowledges, and then the second is answered.
+#[test]
+fn two_clients_take_turns(rt: HostRuntime) -> Result<(), Fail> {
+    let alloc = rt.alloc();
+    let (one, two) = (ClientNo(1), ClientNo(2));
+    let events = [
+        Event::Connect(one),
+        Event::Connect(two),
+        open(1, 7),
+        Event::ServerTakes(one),
+        Event::ClientTakes(one),
+        write(alloc, 1, 9)?,
+        open(2, 1),
+        Event::ServerTakes(two),
+        Event::ClientTakes(one),
+        Event::ServerTakes(one),
+        Event::ServerTakes(one),
+        Event::ClientTakes(one),
+        Event::ClientTakes(two),
+        Event::App(two, Command::Read { file: FileNo(1) }),
+    ];
+    let facts = run(alloc, &setup(alloc, 1, 2)?, &events)?;
+    let wanted = record(
+        alloc,
+        [
+            start(alloc, 1, &[0, 7]),
+            joined(1),
+            joined(2),
+            opened(1, 1),
+            sent(1),
+            took(1),
+            believes(1, 1, 7),
+            buffered(alloc, 1, 1, 1, 0, 9),
+            sent(1),
+            took(1),
+            believes(1, 1, 3),
+            changed(alloc, 1, 1, 1, 0, 9),
+            sent(1),
+            sent(1),
+            opened(1, 2),
+            sent(2),
+            took(1),
+            settled(1, 1, Settlement::Done),
+            took(2),
+            believes(2, 1, 1),
+        ],
+    )?;
+    assert!(rt; facts.as_slice() == wanted.as_slice());
+    assert_eq!(rt; judge(alloc, &facts)?, Verdict::Safe);
+    Ok(())
+}
