@@ -1,12 +1,5 @@
 pub mod Answer
 pub mod Words
-pub mod Pieces
-pub mod Fields
-pub mod Takes
-pub mod Reading
-pub mod Records
-pub mod Schedules
-pub mod Drafts
 pub mod Shown
 pub mod Replayed
 pub mod Judging

@@ -6,12 +6,13 @@ use Rattle.hex.specs.Hex.{decode_of}
 use Rattle.leasecheck.specs.Answer.{AnswersWith}
 use Rattle.lease_world.specs.declared.verdict.Verdict.{Verdict}
 use Rattle.leasecheck.specs.Shown.{Shows}
+use Rattle.leasecheck.specs.Judging.{IsVerdictOn}
 use Rattle.leasecheck.specs.Replayed.{Replays, verdict_line, status_of}
 use Rattle.leasecheck.specs.declared.tasks.Task.{Task}
 use Rattle.leasecheck.specs.declared.tasks.Task.TheVariants.{Ack, Show, Replay, Judge}
 
--- The text is what the task prints, and the status how it ends, where its file has these bytes; nothing is said of
--- what a replay prints for bytes that aren't known.
+-- The text is what the task prints, and the status how it ends, where its file has these bytes. Of what a replay prints for bytes
+-- that aren't known nothing is said, and of a judge's verdict on them only that it is one.
 abbrev pub IsTextOf : Task → Option (List ℕ) → List ℕ → ℕ → Type 0
 IsTextOf (Ack digits) file text status =
     (status ≡ 0) × (bytes : List ℕ) × (decode_of (string_bytes digits) ≡ Ok bytes) × AnswersWith bytes text
@@ -20,6 +21,7 @@ IsTextOf (Show kind digits) file text status =
 IsTextOf (Replay path) file text status = (status ≡ 0) × IfSome file (λ schedule. Replays schedule text)
 IsTextOf (Judge path) file text status =
     (verdict : Verdict) × (text ≡ verdict_line verdict) × (status ≡ status_of verdict)
+    × IfSome file (λ bytes. IsVerdictOn bytes verdict)
 
 -- a writer whose bytes are known before and after has got what the task prints
 abbrev pub Prints : Task → Option (List ℕ) → Option (List ℕ) → Option (List ℕ) → ℕ → Type 0

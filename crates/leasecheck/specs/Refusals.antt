@@ -1,18 +1,23 @@
 -- Why a task is refused, and the line that tells it.
-use Rattle.std.specs.Prelude.{◌≡◌, ℕ, ◌++◌, List, [], ◌∷◌, codes, Option, Some, None, Result, Ok, Err, MatchResult, ◌⊎◌, ⊤}
+use Rattle.std.specs.Prelude.{◌≡◌, ℕ, ◌++◌, List, [], ◌∷◌, codes, Option, Some, None, Result, Ok, Err, MatchResult, ◌⊎◌, length}
 use Rattle.std.specs.Fmt.{decimal}
 use Rattle.std.specs.Option.{option_map}
 use Rattle.std.specs.Result.{result_err}
 use Rattle.std.specs.String.{string_bytes}
-use Rattle.std.specs.Io.KnownBytes.{Keeps}
+use Rattle.std.specs.Io.KnownBytes.{Appends, Keeps}
 use Rattle.hex.specs.Hex.{decode_of}
 use Rattle.lease_wire.specs.Gathering.{value_of}
 use Rattle.lease_wire.specs.WireFaults.{message_fault, fault_text}
 use Rattle.lease_wire.specs.declared.create.Direction.TheVariants.{Request, Reply}
 use Rattle.lease_wire.specs.declared.fault.WireFault.{WireFault}
+use Rattle.lease_texts.specs.declared.fault.TextFault.{TextFault}
+use Rattle.lease_texts.specs.declared.fault.TextFault.TheVariants as text
+use Rattle.lease_texts.specs.Records.{record_in}
+use Rattle.leasecheck.specs.Judging.{RunsOut}
+use Rattle.leasecheck.specs.Printed.{IsTextOf, Prints}
 use Rattle.leasecheck.specs.Replayed.{replay_refusal}
 use Rattle.leasecheck.specs.declared.failure.Failure.{Failure}
-use Rattle.leasecheck.specs.declared.failure.Failure.TheVariants.{Hex, Wire, File, Line, Run, Memory, Output}
+use Rattle.leasecheck.specs.declared.failure.Failure.TheVariants.{Hex, Wire, File, Lines, Line, Run, Memory, Output}
 use Rattle.lease_world.specs.declared.setup.RunFault.TheVariants as run
 use Rattle.leasecheck.specs.declared.tasks.Kind.{Kind}
 use Rattle.leasecheck.specs.declared.tasks.Kind.TheVariants as kind
@@ -42,38 +47,80 @@ abbrev pub known_refusal : Option (List ℕ) → Option Failure
 known_refusal None = None
 known_refusal (Some schedule) = replay_refusal schedule
 
--- what the task's argument, or its schedule, is refused as
+-- what a record is refused as: its first line that is none
+abbrev pub line_refusal : {S : Type 0} → Result S ℕ → Option Failure
+line_refusal (Ok state) = None
+line_refusal (Err number) = Some (Line number)
+
+abbrev pub judge_refusal : Option (List ℕ) → Option Failure
+judge_refusal None = None
+judge_refusal (Some text) = line_refusal (record_in text)
+
+-- what the task's argument, or its file, is refused as
 abbrev pub refusal_of : Task → Option (List ℕ) → Option Failure
 refusal_of (task.Ack digits) file = digits_refusal (message_fault 44) (decode_of (string_bytes digits))
 refusal_of (task.Show kind digits) file = digits_refusal (shown_fault kind) (decode_of (string_bytes digits))
 refusal_of (task.Replay path) file = known_refusal file
-refusal_of (task.Judge path) file = None
+refusal_of (task.Judge path) file = judge_refusal file
 
--- Failures that any task may end with.
-abbrev pub MayAlways : Failure → Type 0
-MayAlways failure = (failure ≡ Memory) ⊎ (failure ≡ File) ⊎ ((number : ℕ) × (failure ≡ Line number))
+-- A file is refused as this: where its bytes aren't known, as some file would be.
+abbrev pub IsScheduleRefusal : Option (List ℕ) → Failure → Type 0
+IsScheduleRefusal None failure = (schedule : List ℕ) × (replay_refusal schedule ≡ Some failure)
+IsScheduleRefusal (Some schedule) failure = replay_refusal schedule ≡ Some failure
 
--- The same where a file's bytes are known; of bytes that aren't nothing is said.
-abbrev pub MayOf : Option (List ℕ) → Failure → Type 0
-MayOf None failure = ⊤
-MayOf (Some bytes) failure = MayAlways failure
+abbrev pub IsRecordRefusal : Option (List ℕ) → Failure → Type 0
+IsRecordRefusal None failure = (number : ℕ) × (failure ≡ Line number)
+IsRecordRefusal (Some text) failure = line_refusal (record_in text) ≡ Some failure
 
--- An answer to a task is given only where nothing of it is refused; a refusal is that, or want of memory, or the file's.
+-- a record has more lines than there are numbers
+abbrev pub RunsOutOf : Option (List ℕ) → Failure → Type 0
+RunsOutOf None failure = failure ≡ Lines
+RunsOutOf (Some text) failure = RunsOut (length text) failure
+
+-- What may end a replay or a judging: its file is refused, or there was no memory, or a read failed.
+abbrev pub MayEndReplay : Option (List ℕ) → Failure → Type 0
+MayEndReplay file failure = (failure ≡ Memory) ⊎ (failure ≡ File) ⊎ IsScheduleRefusal file failure
+
+abbrev pub MayEndJudging : Option (List ℕ) → Failure → Type 0
+MayEndJudging file failure = (failure ≡ Memory) ⊎ (failure ≡ File) ⊎ RunsOutOf file failure ⊎ IsRecordRefusal file failure
+
+-- What may end a task: its argument or its file is refused, or there was no memory, or a read of its file failed.
+abbrev pub MayEnd : Task → Option (List ℕ) → Failure → Type 0
+MayEnd (task.Replay path) file failure = MayEndReplay file failure
+MayEnd (task.Judge path) file failure = MayEndJudging file failure
+MayEnd asked file failure = (failure ≡ Memory) ⊎ (refusal_of asked file ≡ Some failure)
+
+-- An answer to a task is given only where nothing of it is refused.
 abbrev pub AnswersOrRefuses : {X : Type 0} → Task → Option (List ℕ) → Result X Failure → Type 0
-AnswersOrRefuses asked file answer = MatchResult answer (λ _. refusal_of asked file ≡ None)
-    (λ failure. MayOf file failure ⊎ (refusal_of asked file ≡ Some failure))
+AnswersOrRefuses asked file answer = MatchResult answer (λ _. refusal_of asked file ≡ None) (MayEnd asked file)
 
--- A task that ends with this failure: where a write failed nothing was refused, and else nothing was written.
+-- a writer whose bytes are known has got a beginning of a text
+abbrev pub Begins : Option (List ℕ) → Option (List ℕ) → List ℕ → Type 0
+Begins old new text = (part : List ℕ) × (rest : List ℕ) × (text ≡ part ++ rest) × Appends old new part
+
+-- a beginning of a text was written, and all of it where no write failed
+abbrev pub Puts : {T E : Type 0} → Option (List ℕ) → Option (List ℕ) → List ℕ → Result T E → Type 0
+Puts old new text answer = MatchResult answer (λ _. Appends old new text) (λ _. Begins old new text)
+
+-- A task that ends with this failure: where a write failed nothing was refused, and a beginning of what the task prints was
+-- written; else nothing was.
 abbrev pub EndsWith : Task → Option (List ℕ) → Option (List ℕ) → Option (List ℕ) → Failure → Type 0
 EndsWith asked file old new failure =
-    ((failure ≡ Output) × (refusal_of asked file ≡ None))
-    ⊎ (Keeps old new × (MayOf file failure ⊎ (refusal_of asked file ≡ Some failure)))
+    ((failure ≡ Output) × (refusal_of asked file ≡ None)
+    × (text : List ℕ) × (status : ℕ) × IsTextOf asked file text status × Begins old new text)
+    ⊎ (Keeps old new × MayEnd asked file failure)
+
+-- a text's fault, as the program tells it
+abbrev pub text_failure : TextFault → Failure
+text_failure (text.Line number) = Line number
+text_failure text.Memory = Memory
 
 -- a failure as it is told
 abbrev pub failure_text : Failure → List ℕ
 failure_text Hex = codes "fault hex"
 failure_text (Wire fault) = codes "fault " ++ fault_text fault
 failure_text File = codes "fault file"
+failure_text Lines = codes "fault file"
 failure_text (Line number) = codes "fault line " ++ decimal number
 failure_text (Run run.BadSetup) = codes "fault run 1 BadSetup"
 failure_text (Run run.TooMany) = codes "fault run 2 TooMany"
@@ -83,3 +130,10 @@ failure_text Output = codes "fault output"
 
 abbrev pub failure_line : Failure → List ℕ
 failure_line failure = failure_text failure ++ 10 ∷ []
+
+-- How a task ends with status 1: it prints what tells so, as that a record is malformed; or it has a failure, whose line, or a
+-- beginning of it, is told on the other stream.
+abbrev pub Ends : Task → Option (List ℕ) → Option (List ℕ) → Option (List ℕ) → Option (List ℕ) → Option (List ℕ) → Type 0
+Ends asked file old new faults told =
+    (Prints asked file old new 1 × Keeps faults told)
+    ⊎ ((failure : Failure) × EndsWith asked file old new failure × Begins faults told (failure_line failure))

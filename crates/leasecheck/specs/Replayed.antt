@@ -9,11 +9,12 @@ use Rattle.lease_world.specs.Facts.{fact_of}
 use Rattle.lease_world.specs.Setups.{event_of}
 use Rattle.lease_world.specs.Verdicts.{rule_number}
 use Rattle.lease_world.specs.declared.fact.Fact.{Fact}
+use Rattle.lease_world.specs.declared.setup.RunFault.{RunFault}
 use Rattle.lease_world.specs.declared.setup.RunFault.TheVariants as run
 use Rattle.lease_world.specs.declared.verdict.Verdict.{Verdict}
 use Rattle.lease_world.specs.declared.verdict.Verdict.TheVariants as verdict
-use Rattle.leasecheck.specs.Records.{record_text}
-use Rattle.leasecheck.specs.Schedules.{Draft, schedule_in}
+use Rattle.lease_texts.specs.Records.{record_text}
+use Rattle.lease_texts.specs.Schedules.{Draft, schedule_in}
 use Rattle.leasecheck.specs.declared.failure.Failure.{Failure}
 use Rattle.leasecheck.specs.declared.failure.Failure.TheVariants as failure
 
@@ -42,6 +43,11 @@ Replays schedule text =
     (draft : Draft) × (facts : List Fact) × (schedule_in schedule ≡ Ok draft)
     × (map fact_of facts ≡ record_of draft)
     × (text ≡ record_text facts ++ codes "# safe" ++ 10 ∷ [])
+
+-- why there is no run, as the program tells it
+abbrev pub run_failure : RunFault → Failure
+run_failure run.Memory = failure.Memory
+run_failure fault = failure.Run fault
 
 abbrev pub run_refusal : Result Draft ℕ → Option Failure
 run_refusal (Err number) = Some (failure.Line number)

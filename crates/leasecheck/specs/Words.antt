@@ -1,29 +1,15 @@
 -- The words in which states, keys and contexts are told.
-use Rattle.std.specs.Prelude.{ℕ, ◌++◌, Bool, true, false, ◌||◌, List, [], ◌∷◌, length, codes, if◌then◌else◌, Option, Some, None, is_some, Ok, Err}
+use Rattle.std.specs.Prelude.{ℕ, ◌++◌, Bool, ◌||◌, List, [], ◌∷◌, length, codes, if◌then◌else◌, Option, Some, None, is_some, Ok, Err}
 use Rattle.std.specs.Fmt.{decimal}
 use Rattle.std.specs.List.{flat_map}
 use Rattle.hex.specs.Hex.{encode_lower}
 use Rattle.uuid.specs.Text.{hyphenated_text, lower}
-use Rattle.lease_state.specs.State.{State}
+use Rattle.lease_texts.specs.Words.{state_word}
 use Rattle.lease_wire.specs.Chain.{ContextView}
 use Rattle.lease_wire.specs.Names.{LeaseView, CreateView}
 use Rattle.lease_wire.specs.Notification.{Notice}
 use Rattle.lease_wire.specs.Acknowledgment.{KeyAndState}
 use Rattle.lease_wire.specs.Reading.{Item, items_of}
-
--- the letters of a state in the order R, W, H, or "none"
-abbrev pub state_word : State → List ℕ
-state_word s = word s.read s.write s.handle
-  where
-    word : Bool → Bool → Bool → List ℕ
-    word false false false = codes "none"
-    word true false false = codes "R"
-    word false true false = codes "W"
-    word false false true = codes "H"
-    word true true false = codes "RW"
-    word true false true = codes "RH"
-    word false true true = codes "WH"
-    word true true true = codes "RWH"
 
 -- a key's bytes as they stand, hyphenated
 abbrev pub key_text : List ℕ → List ℕ

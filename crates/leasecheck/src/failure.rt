@@ -2,6 +2,7 @@ ghost use Rattle.std.specs.Prelude.{◌≡◌};
 ghost use Rattle.leasecheck.specs.declared.failure.Failure.TheVariants.{Wire, Run, Memory};
 
 use lease_state::Memory;
+use lease_texts::TextFault;
 use lease_wire::WireFault;
 use lease_world::RunFault;
 use std::alloc::{AllocError, AllocFailed};
@@ -16,6 +17,8 @@ pub enum Failure {
     Wire(WireFault),
     /// The file can't be read.
     File,
+    /// The file has more lines than there are numbers of 64 bits.
+    Lines,
     /// The line of this number, from 1, is refused.
     Line(u64),
     /// There is no run of the schedule.
@@ -36,7 +39,7 @@ impl fmt::Display for Failure {
         match self {
             Failure::Hex => f.write_str("fault hex"),
             Failure::Wire(fault) => write!(f, "fault {fault}"),
-            Failure::File => f.write_str("fault file"),
+            Failure::File | Failure::Lines => f.write_str("fault file"),
             Failure::Line(number) => write!(f, "fault line {number}"),
             Failure::Run(RunFault::BadSetup) => f.write_str("fault run 1 BadSetup"),
             Failure::Run(RunFault::TooMany) => f.write_str("fault run 2 TooMany"),
@@ -83,5 +86,18 @@ impl From<RunFault> for Failure {
 
     fn from(fault: RunFault) -> Failure {
         Failure::Run(fault)
+    }
+}
+
+impl From<TextFault> for Failure {
+    ghost use Rattle.leasecheck.specs.Refusals.{text_failure};
+
+    ghost from_gives = { λ fault failure. failure ≡ text_failure fault };
+
+    fn from(fault: TextFault) -> Failure {
+        match fault {
+            TextFault::Line(number) => Failure::Line(number),
+            TextFault::Memory => Failure::Memory,
+        }
     }
 }

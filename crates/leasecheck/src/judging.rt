@@ -1,23 +1,22 @@
-ghost use Rattle.std.specs.Prelude.{◌≡◌, ◌++◌, ◌∷◌, [], List, ℕ, map, IfErr, OnOk, MatchResult};
+ghost use Rattle.std.specs.Prelude.{◌≡◌, ◌++◌, ◌∷◌, [], List, ℕ, map, IfOk, IfErr, OnOk, ◌<◌, ◌≤◌, length, take};
+ghost use Rattle.std.specs.Io.KnownBytes.{Consumes, IsAtEnd};
+ghost use Rattle.std.specs.String.{string_bytes};
 ghost use Rattle.lease_world.specs.Facts.{fact_of};
 ghost use Rattle.lease_world.specs.declared.fact.Fact.{Fact};
 ghost use Rattle.lease_world.specs.judge.Judged.{HasJudged};
-ghost use Rattle.leasecheck.specs.Pieces.{lines_of};
-ghost use Rattle.leasecheck.specs.Judging.{HasRead, TakesLine, ReadsMore};
-ghost use Rattle.std.specs.String.{string_bytes};
-ghost use Rattle.leasecheck.specs.Refusals.{MayAlways};
+ghost use Rattle.lease_texts.specs.Pieces.{lines_of};
+ghost use Rattle.leasecheck.specs.Judging.{HasRead, HasReadText, TakesLine, ReadsMore, ReadsBlock, JudgesText, Judges};
 ghost use Rattle.leasecheck.specs.Replayed.{verdict_line, status_of};
 
 use crate::failure::Failure;
-use crate::fields::LineFault;
-use crate::lines::{first_line, is_passed_over};
-use crate::records::read_fact;
+use lease_texts::{LineFault, first_line, is_passed_over, read_fact};
 use lease_world::{Judge, Verdict};
+use memchr::{memchr, memrchr};
 use std::alloc::{AllocError, Global};
-use std::io::{BufRead, BufReader, Read};
+use std::io::{ErrorKind, Read};
 
-// About how many bytes are read at a time.
-const CAPACITY: u64 = 65_536;
+// How many bytes are read at a time.
+const BLOCK: usize = 65_536;
 
 // A record that is being judged, and the number of its next line.
 #[derive(Debug, Drop)]
@@ -37,12 +36,11 @@ impl Progress {
     }
 
     fn take_line(self, alloc: Global, line: &[u8]) -> Result<Progress, Failure>
-        ensures read { (lines : List (List ℕ)) → HasRead self lines → ReadsMore lines (line.now ∷ []) result }
-        ensures may { IfErr result MayAlways }
+        ensures { (lines : List (List ℕ)) → HasRead self lines → ReadsMore lines (line.now ∷ []) result }
     {
         let Progress { judge, number } = self;
         if number == u64::MAX {
-            return Err(Failure::File);
+            return Err(Failure::Lines);
         }
         match take_fact(alloc, judge, line, number) {
             Ok(judge) => Ok(Progress {
@@ -55,8 +53,7 @@ impl Progress {
 
     // Takes all lines of a text.
     fn take_lines(self, alloc: Global, text: &[u8]) -> Result<Progress, Failure>
-        ensures read { (lines : List (List ℕ)) → HasRead self lines → ReadsMore lines (lines_of text.now) result }
-        ensures may { IfErr result MayAlways }
+        ensures { (lines : List (List ℕ)) → HasRead self lines → ReadsMore lines (lines_of text.now) result }
     {
         let mut progress = self;
         let mut rest = text;
@@ -70,12 +67,69 @@ impl Progress {
         }
         Ok(progress)
     }
+
+    // Takes the lines that end within a block. What follows the last of them has begun a line.
+    fn take_whole_lines(
+        self,
+        alloc: Global,
+        begun: &mut Vec<u8>,
+        block: &[u8],
+    ) -> Result<Progress, Failure>
+        requires { begun.old.items ≡ [] }
+        ensures { (text : List ℕ) → HasReadText self text → ReadsBlock text [] begun.new.items block.now result }
+    {
+        let Some(place) = memrchr(b'\n', block) else {
+            begun.extend_from_slice(block)?;
+            return Ok(self);
+        };
+        match self.take_lines(alloc, &block[..place + 1]) {
+            Ok(progress) => {
+                begun.extend_from_slice(&block[place + 1..])?;
+                Ok(progress)
+            }
+            Err(failure) => Err(failure),
+        }
+    }
+
+    // Takes the lines that end within a block, of which the first may have begun before it.
+    fn take_block(
+        self,
+        alloc: Global,
+        begun: &mut Vec<u8>,
+        block: &[u8],
+    ) -> Result<Progress, Failure>
+        ensures { (text : List ℕ) → HasReadText self text
+            → ReadsBlock text begun.old.items begun.new.items block.now result }
+    {
+        let Some(place) = memchr(b'\n', block) else {
+            begun.extend_from_slice(block)?;
+            return Ok(self);
+        };
+        begun.extend_from_slice(&block[..place + 1])?;
+        match self.take_lines(alloc, begun.as_slice()) {
+            Ok(progress) => {
+                begun.clear();
+                progress.take_whole_lines(alloc, begun, &block[place + 1..])
+            }
+            Err(failure) => Err(failure),
+        }
+    }
+
+    // The verdict, where nothing follows a line that had begun.
+    fn end(self, alloc: Global, begun: &[u8]) -> Result<Verdict, Failure>
+        ensures { (text : List ℕ) → HasReadText self text → JudgesText (text ++ begun.now) result }
+    {
+        match self.take_lines(alloc, begun) {
+            Ok(whole) => Ok(whole.judge.verdict()),
+            Err(failure) => Err(failure),
+        }
+    }
 }
 
 // The judge after the line of this number.
+
 fn take_fact(alloc: Global, judge: Judge, line: &[u8], number: u64) -> Result<Judge, Failure>
-    ensures judged { (facts : List Fact) → HasJudged judge (map fact_of facts) → TakesLine facts line.now number result }
-    ensures may { IfErr result MayAlways }
+    ensures { (facts : List Fact) → HasJudged judge (map fact_of facts) → TakesLine facts line.now number result }
 {
     if is_passed_over(line) {
         return Ok(judge);
@@ -87,48 +141,58 @@ fn take_fact(alloc: Global, judge: Judge, line: &[u8], number: u64) -> Result<Ju
     }
 }
 
-// Reads whole lines, and none where nothing is left: what one read gives, and on to the end of its last line.
-fn read_lines<I: BufRead>(input: &mut I, lines: &mut Vec<u8>) -> Result<(), Failure>
-    ensures { IfErr result MayAlways }
+// Reads into the block, and gives how many bytes there are; none is the end. A read that was interrupted is tried again.
+fn read_block<I: Read>(input: &mut I, block: &mut [u8]) -> Result<usize, Failure>
+    requires { 0 < length block.old }
+    ensures fits { IfOk result (λ count. count ≤ length block.new) }
+    ensures bytes { IfOk result (λ count. Consumes (I.remaining input.old) (I.remaining input.new) (take count block.new)) }
+    ensures end { IfOk result (λ count. count ≡ 0 → IsAtEnd (I.remaining input.new)) }
+    ensures failed { IfErr result (λ failure. failure ≡ Failure.File) }
 {
-    lines.clear();
-    if input.by_ref().take(CAPACITY).read_to_end(lines).is_err() {
-        return Err(Failure::File);
-    }
-    if input.read_until(b'\n', lines).is_err() {
-        return Err(Failure::File);
-    }
-    Ok(())
-}
-
-fn judge_lines<I: BufRead>(alloc: Global, input: &mut I) -> Result<Verdict, Failure>
-    ensures { IfErr result MayAlways }
-{
-    let mut progress = Progress::new(alloc);
-    let mut lines = Vec::new(alloc);
-    for _ in 0..u64::MAX {
-        read_lines(input, &mut lines)?;
-        if lines.is_empty() {
-            return Ok(progress.judge.verdict());
+    for _turn in 0..u64::MAX {
+        match input.read(block) {
+            Ok(count) => return Ok(count),
+            Err(error) => {
+                if error.kind() != ErrorKind::Interrupted {
+                    return Err(Failure::File);
+                }
+            }
         }
-        progress = progress.take_lines(alloc, lines.as_slice())?;
     }
     Err(Failure::File)
+}
+
+// Judges what a reader gives, block by block.
+fn judge_blocks<I: Read>(alloc: Global, input: &mut I, block: &mut [u8]) -> Result<Verdict, Failure>
+    requires { 0 < length block.old }
+    ensures { Judges (I.remaining input.old) result }
+{
+    let mut progress = Progress::new(alloc);
+    let mut begun = Vec::new(alloc);
+    for _round in 0..u64::MAX {
+        let count = read_block(input, block)?;
+        if count == 0 {
+            return progress.end(alloc, begun.as_slice());
+        }
+        match progress.take_block(alloc, &mut begun, &block[..count]) {
+            Ok(next) => progress = next,
+            Err(failure) => return Err(failure),
+        }
+    }
+    Err(Failure::Lines)
 }
 
 /// The verdict on the record that a reader gives, line by line.
 ///
 /// # Errors
 ///
-/// `Line` with the number of the first line that is refused, `File` where the reader fails, and `Memory` where there
-/// is none left.
+/// `Line` with the number of the first line that is refused, `File` where the reader fails, `Memory` where there is
+/// none left, and `Lines` where there are more lines than numbers of 64 bits.
 pub fn judge_text<I: Read>(alloc: Global, input: &mut I) -> Result<Verdict, Failure>
-    ensures { IfErr result MayAlways }
+    ensures { Judges (I.remaining input.old) result }
 {
-    match BufReader::new(alloc, input) {
-        Ok(mut lines) => judge_lines(alloc, &mut lines),
-        Err(_) => Err(Failure::Memory),
-    }
+    let mut block = vec![in alloc; 0u8; BLOCK]?;
+    judge_blocks(alloc, input, block.as_mut_slice())
 }
 
 /// The line of a verdict.

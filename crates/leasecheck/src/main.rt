@@ -13,19 +13,12 @@
 
 mod command_line;
 mod failure;
-mod fields;
 mod hexadecimal;
 mod judging;
-mod lines;
-mod pieces;
 mod printing;
-mod records;
 mod replaying;
 mod run;
-mod schedules;
 mod tasks;
-#[cfg(test)]
-mod tests;
 mod wire;
 
 use run::run_words;

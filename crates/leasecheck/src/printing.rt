@@ -1,10 +1,11 @@
-ghost use Rattle.std.specs.Prelude.{◌≡◌, ◌≢◌, ◌≤◌, ◌⊎◌, Some, None, MatchResult, IfSome, IfOk, IfErr, IsSome, OnOk};
+ghost use Rattle.std.specs.Prelude.{◌≡◌, ◌≢◌, ◌≤◌, ◌⊎◌, Some, None, MatchResult, IfSome, IfOk, IfErr, IsSome, OnOk, length, take};
 ghost use Rattle.std.specs.String.{string_bytes};
 ghost use Rattle.std.specs.Io.KnownBytes.{Appends, Keeps};
 ghost use Rattle.leasecheck.specs.Printed.{IsTextOf, Prints};
 ghost use Rattle.lease_world.specs.declared.verdict.Verdict.{Verdict};
 ghost use Rattle.leasecheck.specs.Replayed.{Replays, verdict_line, status_of};
-ghost use Rattle.leasecheck.specs.Refusals.{AnswersOrRefuses, EndsWith, MayAlways, MayOf, known_refusal, refusal_of, failure_line};
+ghost use Rattle.leasecheck.specs.Judging.{IsVerdictOn};
+ghost use Rattle.leasecheck.specs.Refusals.{AnswersOrRefuses, EndsWith, Ends, Begins, Puts, MayEndReplay, MayEndJudging, known_refusal, judge_refusal, refusal_of, failure_line};
 
 use crate::failure::Failure;
 use crate::hexadecimal;
@@ -12,9 +13,13 @@ use crate::judging::{judge_text, push_verdict, status_of};
 use crate::replaying::replay;
 use crate::tasks::Task;
 use crate::wire::{ack_lines, render};
+use arrayvec::ArrayString;
 use std::alloc::Global;
-use std::io;
-use std::io::{Read, Write};
+use std::fmt::Write as _;
+use std::io::{ErrorKind, Read, Write};
+
+// More bytes than the line of any failure has.
+const LINE: usize = 80;
 
 // What a task prints, and the exit status.
 #[derive(Drop)]
@@ -30,21 +35,28 @@ fn done(text: String) -> Printed
 }
 
 fn judged<I: Read>(alloc: Global, input: &mut I) -> Result<Printed, Failure>
-    ensures { MatchResult result (λ printed. (verdict : Verdict) × (string_bytes printed.text ≡ verdict_line verdict) × (printed.status ≡ status_of verdict))
-        (λ failure. MayAlways failure) }
+    ensures printed { IfOk result (λ printed. (verdict : Verdict) × (string_bytes printed.text ≡ verdict_line verdict)
+        × (printed.status ≡ status_of verdict) × IfSome (I.remaining input.old) (λ bytes. IsVerdictOn bytes verdict)) }
+    ensures accepted { OnOk result (judge_refusal (I.remaining input.old) ≡ None) }
+    ensures refused { IfErr result (MayEndJudging (I.remaining input.old)) }
 {
-    let verdict = judge_text(alloc, input)?;
-    let mut text = String::new(alloc);
-    push_verdict(&mut text, &verdict)?;
-    let status = status_of(&verdict);
-    Ok(Printed { text, status })
+    match judge_text(alloc, input) {
+        Ok(verdict) => {
+            let mut text = String::new(alloc);
+            push_verdict(&mut text, &verdict)?;
+            Ok(Printed {
+                text,
+                status: status_of(&verdict),
+            })
+        }
+        Err(failure) => Err(failure),
+    }
 }
 
 fn replayed<I: Read>(alloc: Global, input: &mut I) -> Result<Printed, Failure>
     ensures printed { IfOk result (λ printed. (printed.status ≡ 0)
         × IfSome (I.remaining input.old) (λ schedule. Replays schedule (string_bytes printed.text))) }
-    ensures refused { MatchResult result (λ _. known_refusal (I.remaining input.old) ≡ None)
-        (λ failure. MayOf (I.remaining input.old) failure ⊎ (known_refusal (I.remaining input.old) ≡ Some failure)) }
+    ensures refused { MatchResult result (λ _. known_refusal (I.remaining input.old) ≡ None) (MayEndReplay (I.remaining input.old)) }
 {
     let mut bytes = Vec::new(alloc);
     let Ok(_) = input.read_to_end(&mut bytes) else {
@@ -78,11 +90,44 @@ fn text_of<I: Read>(alloc: Global, task: &Task, input: &mut I) -> Result<Printed
     }
 }
 
+// Writes a beginning of a text that isn't empty, and gives how long it is; 0 where the write was interrupted.
+fn put_some<W: Write>(text: &[u8], out: &mut W) -> Result<usize, Failure>
+    ensures fits { IfOk result (λ count. count ≤ length text.now) }
+    ensures written { MatchResult result (λ count. Appends (W.contents out.old) (W.contents out.new) (take count text.now))
+        (λ _. Keeps (W.contents out.old) (W.contents out.new)) }
+    ensures failed { IfErr result (λ failure. failure ≡ Failure.Output) }
+{
+    match out.write(text) {
+        Ok(0) => Err(Failure::Output),
+        Ok(count) => Ok(count),
+        Err(error) if error.kind() == ErrorKind::Interrupted => Ok(0),
+        Err(_) => Err(Failure::Output),
+    }
+}
+
+// Writes all of a text, or a beginning of it where a write fails.
+fn put<W: Write>(text: &[u8], out: &mut W) -> Result<(), Failure>
+    ensures put { Puts (W.contents out.old) (W.contents out.new) text.now result }
+    ensures failed { IfErr result (λ failure. failure ≡ Failure.Output) }
+{
+    let mut left = text;
+    for _turn in 0..u64::MAX {
+        if left.is_empty() {
+            return Ok(());
+        }
+        match put_some(left, out) {
+            Ok(count) => left = &left[count..],
+            Err(failure) => return Err(failure),
+        }
+    }
+    Err(Failure::Output)
+}
+
 fn print_text<O: Write>(text: &str, out: &mut O) -> Result<(), Failure>
     ensures ok { OnOk result (Appends (O.contents out.old) (O.contents out.new) text.now) }
-    ensures refused { IfErr result (λ failure. failure ≡ Failure.Output) }
+    ensures refused { IfErr result (λ failure. (failure ≡ Failure.Output) × Begins (O.contents out.old) (O.contents out.new) text.now) }
 {
-    out.write_all(text.as_bytes()).map_err(|_| Failure::Output)?;
+    put(text.as_bytes(), out)?;
     out.flush().map_err(|_| Failure::Output)?;
     Ok(())
 }
@@ -103,18 +148,31 @@ fn print_task<I: Read, O: Write>(
     Ok(printed.status)
 }
 
-// One line for a failure.
-pub(crate) fn tell_failure<F: Write>(failure: Failure, faults: &mut F) -> io::Result<()>
-    ensures { OnOk result (Appends (F.contents faults.old) (F.contents faults.new) (failure_line failure)) }
+fn line_of(failure: Failure) -> Option<ArrayString<LINE>>
+    ensures { IfSome result (λ line. line.bytes ≡ failure_line failure) }
 {
-    writeln!(faults, "{failure}")
+    let mut line = ArrayString::<LINE>::new();
+    match writeln!(&mut line, "{failure}") {
+        Ok(()) => Some(line),
+        Err(_) => None,
+    }
+}
+
+// One line for a failure.
+pub(crate) fn tell_failure<F: Write>(failure: Failure, faults: &mut F) -> Result<(), Failure>
+    ensures { Puts (F.contents faults.old) (F.contents faults.new) (failure_line failure) result }
+{
+    match line_of(failure) {
+        Some(line) => put(line.as_str().as_bytes(), faults),
+        None => Err(Failure::Output),
+    }
 }
 
 /// Does a task, and gives the exit status: 0 where it was done, 1 where its input is refused, where
 /// memory ran out or where a write to `out` failed, 3 where the record of a judge is unsafe.
 ///
 /// The whole text is made before anything is written to `out`; on a refusal nothing is, and
-/// `faults` gets one line. A failed write to `faults` changes no status. `input` has the bytes of
+/// `faults` gets one line, or a beginning of it where a write there fails, which changes no status. `input` has the bytes of
 /// the task's file, none for `ack` and `show`.
 pub fn perform<I: Read, O: Write, F: Write>(
     alloc: Global,
@@ -126,6 +184,10 @@ pub fn perform<I: Read, O: Write, F: Write>(
     ensures status { (result ≤ 1) ⊎ (result ≡ 3) }
     ensures printed { result ≢ 1 → Prints task.now (I.remaining input.old) (O.contents out.old) (O.contents out.new) result }
     ensures silent { result ≢ 1 → Keeps (F.contents faults.old) (F.contents faults.new) }
+
+    // A record that is malformed is told on `out`; all else that ends with 1 has a line on `faults`.
+    ensures ended { result ≡ 1 → Ends task.now (I.remaining input.old) (O.contents out.old) (O.contents out.new)
+        (F.contents faults.old) (F.contents faults.new) }
 
     // What is refused prints nothing.
     ensures refused { IsSome (refusal_of task.now (I.remaining input.old)) → result ≡ 1 }

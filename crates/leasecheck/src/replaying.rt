@@ -3,15 +3,14 @@ ghost use Rattle.std.specs.String.{string_bytes};
 ghost use Rattle.lease_model.specs.records.Safe.{Safe};
 ghost use Rattle.lease_world.specs.Facts.{fact_of};
 ghost use Rattle.lease_world.specs.declared.verdict.Verdict.TheVariants as verdict;
-ghost use Rattle.leasecheck.specs.Drafts.{draft_of};
-ghost use Rattle.leasecheck.specs.Records.{record_text};
-ghost use Rattle.leasecheck.specs.Replayed.{Replays, RefusesReplay, record_of, run_refusal, verdict_line};
+ghost use Rattle.lease_texts.specs.Drafts.{draft_of};
+ghost use Rattle.lease_texts.specs.Records.{record_text};
+ghost use Rattle.leasecheck.specs.Replayed.{Replays, RefusesReplay, record_of, run_failure, run_refusal, verdict_line};
 
 use crate::failure::Failure;
 use crate::judging::push_verdict;
-use crate::records::push_fact;
-use crate::schedules::{Schedule, read_schedule};
 use lease_laws::verdict_decides;
+use lease_texts::{Schedule, push_fact, read_schedule};
 use lease_world::{Fact, RunFault, Verdict, judge, run};
 use std::alloc::{AllocError, Global};
 
@@ -35,6 +34,15 @@ fn text_of(alloc: Global, facts: &[Fact], verdict: &Verdict) -> Result<String, A
     Ok(text)
 }
 
+fn not_run(fault: RunFault) -> Failure
+    ensures { result ≡ run_failure fault }
+{
+    match fault {
+        RunFault::Memory => Failure::Memory,
+        RunFault::BadSetup | RunFault::TooMany => Failure::Run(fault),
+    }
+}
+
 fn run_schedule(alloc: Global, schedule: &Schedule) -> Result<Vec<Fact>, Failure>
     ensures record { IfOk result (λ facts. map fact_of facts.items ≡ record_of (draft_of schedule.now)) }
     ensures safe { IfOk result (λ facts. Safe (map fact_of facts.items)) }
@@ -43,8 +51,7 @@ fn run_schedule(alloc: Global, schedule: &Schedule) -> Result<Vec<Fact>, Failure
 {
     match run(alloc, &schedule.setup, schedule.events.as_slice()) {
         Ok(facts) => Ok(facts),
-        Err(RunFault::Memory) => Err(Failure::Memory),
-        Err(fault) => Err(Failure::Run(fault)),
+        Err(fault) => Err(not_run(fault)),
     }
 }
 

@@ -6,4 +6,3 @@ mod words;
 
 pub use acknowledge::ack_lines;
 pub use render::render;
-pub(crate) use words::state_letters;

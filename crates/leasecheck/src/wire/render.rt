@@ -12,8 +12,9 @@ ghost use Rattle.leasecheck.specs.Words.{break_line, key_and_state_line};
 use crate::failure::Failure;
 use crate::tasks::Kind;
 use crate::wire::acknowledge::push_rest;
-use crate::wire::words::{push_context, push_values, state_letters};
+use crate::wire::words::{push_context, push_values};
 use lease_state::{LeaseKey, LeaseState};
+use lease_texts::state_letters;
 use lease_wire::{Acknowledgment, BreakResponse, ContextValues, Direction, Notification, contexts};
 use std::alloc::{AllocError, Global};
 

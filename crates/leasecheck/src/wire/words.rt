@@ -1,33 +1,14 @@
 ghost use Rattle.std.specs.Prelude.{◌≡◌, ◌++◌, List, length, OnOk, IfOk};
 ghost use Rattle.std.specs.String.{string_bytes};
 ghost use Rattle.std.specs.Option.{option_map};
-ghost use Rattle.lease_state.specs.State.{state_of};
 ghost use Rattle.lease_wire.specs.Contexts.{view_of};
 ghost use Rattle.lease_wire.specs.Views.{lease_of, values_of};
-ghost use Rattle.leasecheck.specs.Words.{state_word, name_word, context_line, lease_lines, durable_lines, reconnect_lines, value_lines};
+ghost use Rattle.leasecheck.specs.Words.{name_word, context_line, lease_lines, durable_lines, reconnect_lines, value_lines};
 
-use lease_state::{FileId, LeaseState};
+use lease_state::FileId;
+use lease_texts::state_letters;
 use lease_wire::{Context, ContextValues, Lease};
 use std::alloc::{AllocError, Global};
-
-/// The letters of a state in the order R, W, H, or `none`.
-pub(crate) fn state_letters(state: LeaseState) -> &'static str
-    ensures { result.now ≡ state_word (state_of state) }
-{
-    let reads = state.caches_reads();
-    let writes = state.caches_writes();
-    let handles = state.caches_handles();
-    match (reads, writes, handles) {
-        (false, false, false) => "none",
-        (true, false, false) => "R",
-        (false, true, false) => "W",
-        (false, false, true) => "H",
-        (true, true, false) => "RW",
-        (true, false, true) => "RH",
-        (false, true, true) => "WH",
-        (true, true, true) => "RWH",
-    }
-}
 
 // The digits of a name, or a hyphen where it is empty.
 fn name_digits(alloc: Global, name: &[u8]) -> Result<String, AllocError>

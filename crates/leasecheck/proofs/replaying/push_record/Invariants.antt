@@ -1,6 +1,6 @@
 use Rattle.std.proofs.Common.{◌≡◌, ◌++◌, take}
 use Rattle.std.specs.String.{string_bytes}
-use Rattle.leasecheck.specs.Records.{record_text}
+use Rattle.lease_texts.specs.Records.{record_text}
 use Rattle.leasecheck.proofs.replaying.push_record.Given as goal
 
 abbrev pub invariant-loop-fact : goal.invariant-loop-fact

@@ -1,9 +1,12 @@
-use Rattle.std.proofs.Common.{refl}
-use Rattle.leasecheck.proofs.JudgedLines.{read_line, refuse_line}
+use Rattle.std.proofs.Common.{inr, inl, refl}
+use Rattle.leasecheck.proofs.JudgedLines.{read_line, refuse_line, run_out}
 use Rattle.leasecheck.proofs.judging.Progress.take_line.Goals as goal
 
-pub returns-in-Ok-clause-read : goal.returns-in-Ok-clause-read
-returns-in-Ok-clause-read c = λ lines has. read_line c.args.self _ c.args.line.now lines has refl (c.in-Ok.ensures.judged has.facts has.judged)
+pub returns-then-number : goal.returns-then-number
+returns-then-number c = λ lines has. inr (inl (run_out c.args.self c.args.line.now lines has c.if-number.true))
 
-pub returns-in-Err-clause-read : goal.returns-in-Err-clause-read
-returns-in-Err-clause-read c = λ lines has. refuse_line c.args.self c.args.line.now lines c.in-Err.failure has (c.in-Err.ensures.judged has.facts has.judged)
+pub returns-in-Ok : goal.returns-in-Ok
+returns-in-Ok c = λ lines has. read_line c.args.self _ c.args.line.now lines has refl (c.in-Ok.ensures has.facts has.judged)
+
+pub returns-in-Err : goal.returns-in-Err
+returns-in-Err c = λ lines has. refuse_line c.args.self c.args.line.now lines c.in-Err.failure has (c.in-Err.ensures has.facts has.judged)

@@ -1,0 +1,128 @@
+-- Schedules as texts: what a line asks for, and what a whole text does.
+use Rattle.std.specs.Prelude.{ℕ, ◌++◌, Bool, true, false, List, [], ◌∷◌, codes, bytes_eq, if◌then◌else◌, Option, Some, None, Result}
+use Rattle.std.specs.Result.{result_ok}
+use Rattle.hex.specs.Hex.{decode_sized}
+use Rattle.uuid.specs.Text.{parsed}
+use Rattle.lease_state.specs.declared.request.Request.{Request}
+use Rattle.lease_state.specs.declared.request.Request.TheVariants as request
+use Rattle.lease_client.specs.declared.command.Command.{Command}
+use Rattle.lease_client.specs.declared.command.Command.TheVariants as command
+use Rattle.lease_world.specs.declared.setup.Event.{Event}
+use Rattle.lease_world.specs.declared.setup.Event.TheVariants as event
+use Rattle.lease_texts.specs.Pieces.{fields_of, lines_of}
+use Rattle.lease_texts.specs.Fields.{Taking, and_then, with_rest, one, whole, ordinal_in, number_in, bytes_in, content_in, access_in, share_in, state_in, patch_in}
+use Rattle.lease_texts.specs.Reading.{reads_on, is_passed_over}
+
+-- the word behind a durable open, which others lack
+abbrev pub durable_word : List ℕ → Option Bool
+durable_word field = if bytes_eq field (codes "durable") then Some true else None
+
+abbrev pub durable_in : Taking Bool
+durable_in [] = Some (false, [])
+durable_in (field ∷ fields) = with_rest (durable_word field) fields
+
+unfoldable pub open_in : Taking Command
+open_in words =
+    and_then (one ordinal_in words) (λ file words. and_then (one access_in words) (λ access words.
+    and_then (one share_in words) (λ share words. and_then (one state_in words) (λ want words.
+    and_then (durable_in words) (λ durable words.
+    Some (command.Open (record { 0 = file }) access share (record { 0 = want }) durable, words))))))
+
+unfoldable pub write_in : Taking Command
+write_in words = and_then (one ordinal_in words) (λ file words. and_then (patch_in words) (λ patch words.
+    Some (command.Write (record { 0 = file }) patch, words)))
+
+-- requests in a client's name
+unfoldable pub create_in : Taking Request
+create_in words =
+    and_then (one ordinal_in words) (λ file words. and_then (one access_in words) (λ access words.
+    and_then (one share_in words) (λ share words. and_then (one bytes_in words) (λ contexts words.
+    Some (request.Create (record { 0 = file }) access share contexts, words)))))
+
+unfoldable pub raw_write_in : Taking Request
+raw_write_in words =
+    and_then (one number_in words) (λ file_id words. and_then (one number_in words) (λ number words.
+    and_then (patch_in words) (λ patch words. Some (request.Write (record { 0 = file_id }) number patch, words))))
+
+abbrev pub message_in : List ℕ → Option (List ℕ)
+message_in field = result_ok (decode_sized field 36)
+
+unfoldable pub request_named : List ℕ → Taking Request
+request_named kind words =
+    if bytes_eq kind (codes "create") then create_in words
+    else if bytes_eq kind (codes "read") then and_then (one number_in words) (λ fid words. Some (request.Read (record { 0 = fid }), words))
+    else if bytes_eq kind (codes "write") then raw_write_in words
+    else if bytes_eq kind (codes "close") then and_then (one number_in words) (λ fid words. Some (request.Close (record { 0 = fid }), words))
+    else if bytes_eq kind (codes "ack") then and_then (one message_in words) (λ message words. Some (request.Ack message, words))
+    else None
+
+abbrev pub request_in : Taking Request
+request_in [] = None
+request_in (kind ∷ words) = request_named kind words
+
+-- commands, and events of a client and a file
+abbrev pub on_file : (ℕ → Event) → Taking Event
+on_file tell words = and_then (one ordinal_in words) (λ file words. Some (tell file, words))
+
+unfoldable pub event_of : List ℕ → ℕ → Taking Event
+event_of kind client words =
+    if bytes_eq kind (codes "serve") then Some (event.ServerTakes (record { 0 = client }), words)
+    else if bytes_eq kind (codes "take") then Some (event.ClientTakes (record { 0 = client }), words)
+    else if bytes_eq kind (codes "write") then and_then (write_in words) (λ asked words. Some (event.App (record { 0 = client }) asked, words))
+    else if bytes_eq kind (codes "read") then on_file (λ f. event.App (record { 0 = client }) (command.Read (record { 0 = f }))) words
+    else if bytes_eq kind (codes "open") then and_then (open_in words) (λ asked words. Some (event.App (record { 0 = client }) asked, words))
+    else if bytes_eq kind (codes "close") then on_file (λ f. event.App (record { 0 = client }) (command.Close (record { 0 = f }))) words
+    else if bytes_eq kind (codes "flush") then on_file (λ f. event.App (record { 0 = client }) (command.Flush (record { 0 = f }))) words
+    else if bytes_eq kind (codes "cut") then Some (event.Cut (record { 0 = client }), words)
+    else if bytes_eq kind (codes "notice") then Some (event.Notice (record { 0 = client }), words)
+    else if bytes_eq kind (codes "connect") then Some (event.Connect (record { 0 = client }), words)
+    else if bytes_eq kind (codes "expire") then on_file (λ f. event.Expire (record { 0 = client }) (record { 0 = f })) words
+    else if bytes_eq kind (codes "scavenge") then on_file (λ f. event.Scavenge (record { 0 = client }) (record { 0 = f })) words
+    else if bytes_eq kind (codes "raw") then and_then (request_in words) (λ asked words. Some (event.Raw (record { 0 = client }) asked, words))
+    else None
+
+unfoldable pub event_named : List ℕ → Taking Event
+event_named kind words = and_then (one ordinal_in words) (event_of kind)
+
+-- what a line adds to a schedule
+pub data Part : Type 0 where
+  File : (content : List ℕ) → Part
+  Client : (guid : List ℕ) → Part
+  Happens : (event : Event) → Part
+
+unfoldable pub part_named : List ℕ → Taking Part
+part_named kind words =
+    if bytes_eq kind (codes "file") then and_then (one content_in words) (λ content words. Some (Part.File content, words))
+    else if bytes_eq kind (codes "client") then and_then (one parsed words) (λ guid words. Some (Part.Client guid, words))
+    else and_then (event_named kind words) (λ happening words. Some (Part.Happens happening, words))
+
+abbrev pub part_told : Taking Part
+part_told [] = None
+part_told (kind ∷ words) = part_named kind words
+
+unfoldable pub part_in : List ℕ → Option Part
+part_in line = whole (part_told (fields_of line))
+
+-- a schedule as far as it was read
+pub record Draft : Type 0 where
+  pub files : List (List ℕ)
+  pub clients : List (List ℕ)
+  pub events : List Event
+
+-- files and clients stand before the first event
+abbrev pub before_events : List Event → Draft → Option Draft
+before_events [] draft = Some draft
+before_events (event ∷ events) draft = None
+
+unfoldable pub with_part : Draft → Option Part → Option Draft
+with_part draft None = None
+with_part draft (Some (Part.File content)) = before_events draft.events (record draft { files = draft.files ++ content ∷ [] })
+with_part draft (Some (Part.Client guid)) = before_events draft.events (record draft { clients = draft.clients ++ guid ∷ [] })
+with_part draft (Some (Part.Happens happening)) = Some (record draft { events = draft.events ++ happening ∷ [] })
+
+unfoldable pub with_line : Draft → List ℕ → Option Draft
+with_line draft line = if is_passed_over line then Some draft else with_part draft (part_in line)
+
+-- the schedule that a text is, or the number of its first line that is refused
+abbrev pub schedule_in : List ℕ → Result Draft ℕ
+schedule_in text = reads_on with_line 1 (record { files = []; clients = []; events = [] }) (lines_of text)

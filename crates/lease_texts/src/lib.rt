@@ -1,0 +1,20 @@
+//! Schedules and records as texts: a line for each event and for each fact.
+//!
+//! `read_schedule` gives the setup and the events of a run, `read_fact` what a line of a record tells, and `push_fact` writes that
+//! line. A line is cut into `Fields`, which are read one after the other. docs/FORMATS.md has every line.
+#![tactic(auto)]
+
+mod fault;
+mod fields;
+mod lines;
+mod pieces;
+mod records;
+mod schedules;
+mod words;
+
+pub use fault::{LineFault, TextFault};
+pub use fields::{Fields, is, read_patch};
+pub use lines::{first_line, is_passed_over};
+pub use records::{push_fact, read_fact};
+pub use schedules::{Schedule, read_schedule};
+pub use words::state_letters;

@@ -1,0 +1,15 @@
+ghost use Rattle.std.specs.Prelude.{◌≡◌, ◌∷◌, [], List, ℕ};
+ghost use Rattle.std.specs.Option.{option_copied};
+ghost use Rattle.lease_texts.specs.Pieces.{pieces, pieces_behind};
+
+use memchr::memchr;
+
+/// What stands before the first separator, and what follows it; all, and nothing, where there is none.
+pub fn split_first(separator: u8, bytes: &[u8]) -> (&[u8], Option<&[u8]>)
+    ensures { pieces separator ([] ∷ []) bytes.now ≡ result.0.now ∷ pieces_behind separator ([] ∷ []) (option_copied result.1) }
+{
+    match memchr(separator, bytes) {
+        Some(place) => (&bytes[..place], Some(&bytes[place + 1..])),
+        None => (bytes, None),
+    }
+}

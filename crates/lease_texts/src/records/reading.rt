@@ -1,0 +1,168 @@
+ghost use Rattle.std.specs.Prelude.{◌≡◌, Some, None, MatchResult};
+ghost use Rattle.lease_texts.specs.Fields.{one};
+ghost use Rattle.lease_texts.specs.Takes.{Takes};
+ghost use Rattle.lease_texts.specs.Records.{way_in, outcome_in, start_in, changed_in, wrote_in, settled_in, believes_in, read_in, fact_named, fact_told, fact_in};
+
+use crate::fault::LineFault;
+use crate::fields::{Fields, is, read_patch};
+use lease_client::Settlement;
+use lease_world::Fact;
+use std::alloc::Global;
+
+// The last word of a write.
+#[tactic(auto, unfolding(crate::specs::Records::way_in))]
+fn way_named(field: &[u8]) -> Option<bool>
+    ensures { result ≡ way_in field.now }
+{
+    if is(field, b"buffered") {
+        Some(true)
+    } else if is(field, b"through") {
+        Some(false)
+    } else {
+        None
+    }
+}
+
+#[tactic(auto, unfolding(crate::specs::Records::outcome_in))]
+fn outcome_named(field: &[u8]) -> Option<Settlement>
+    ensures { result ≡ outcome_in field.now }
+{
+    if is(field, b"done") {
+        Some(Settlement::Done)
+    } else if is(field, b"failed") {
+        Some(Settlement::Failed)
+    } else if is(field, b"unknown") {
+        Some(Settlement::Unknown)
+    } else if is(field, b"lost") {
+        Some(Settlement::Lost)
+    } else {
+        None
+    }
+}
+
+fn read_way(fields: &mut Fields) -> Result<bool, LineFault>
+    ensures { Takes (λ buffered. buffered) (one way_in) fields.old fields.new result }
+{
+    way_named(fields.next()?).ok_or(LineFault::Refused)
+}
+
+fn read_outcome(fields: &mut Fields) -> Result<Settlement, LineFault>
+    ensures { Takes (λ outcome. outcome) (one outcome_in) fields.old fields.new result }
+{
+    outcome_named(fields.next()?).ok_or(LineFault::Refused)
+}
+
+#[tactic(auto, unfolding(crate::specs::Records::start_in))]
+fn read_start(alloc: Global, fields: &mut Fields) -> Result<Fact, LineFault>
+    ensures { Takes (λ fact. fact) start_in fields.old fields.new result }
+{
+    let file = fields.file()?;
+    Ok(Fact::Start(file, fields.file_bytes(alloc)?))
+}
+
+#[tactic(auto, unfolding(crate::specs::Records::changed_in))]
+fn read_changed(alloc: Global, fields: &mut Fields) -> Result<Fact, LineFault>
+    ensures { Takes (λ fact. fact) changed_in fields.old fields.new result }
+{
+    let file = fields.file()?;
+    let client = fields.client()?;
+    let number = fields.number()?;
+    Ok(Fact::Changed(file, client, number, read_patch(alloc, fields)?))
+}
+
+#[tactic(auto, unfolding(crate::specs::Records::wrote_in))]
+fn read_wrote(alloc: Global, fields: &mut Fields) -> Result<Fact, LineFault>
+    ensures { Takes (λ fact. fact) wrote_in fields.old fields.new result }
+{
+    let client = fields.client()?;
+    let file = fields.file()?;
+    let number = fields.number()?;
+    let patch = read_patch(alloc, fields)?;
+    Ok(Fact::Wrote(client, file, number, patch, read_way(fields)?))
+}
+
+#[tactic(auto, unfolding(crate::specs::Records::settled_in))]
+fn read_settled(fields: &mut Fields) -> Result<Fact, LineFault>
+    ensures { Takes (λ fact. fact) settled_in fields.old fields.new result }
+{
+    let client = fields.client()?;
+    let number = fields.number()?;
+    Ok(Fact::Settled(client, number, read_outcome(fields)?))
+}
+
+#[tactic(auto, unfolding(crate::specs::Records::believes_in))]
+fn read_believes(fields: &mut Fields) -> Result<Fact, LineFault>
+    ensures { Takes (λ fact. fact) believes_in fields.old fields.new result }
+{
+    let client = fields.client()?;
+    let file = fields.file()?;
+    Ok(Fact::Believes(client, file, fields.state()?))
+}
+
+#[tactic(auto, unfolding(crate::specs::Records::read_in))]
+fn read_cached_read(alloc: Global, fields: &mut Fields) -> Result<Fact, LineFault>
+    ensures { Takes (λ fact. fact) read_in fields.old fields.new result }
+{
+    let client = fields.client()?;
+    let file = fields.file()?;
+    Ok(Fact::CachedRead(client, file, fields.bytes(alloc)?))
+}
+
+// The fact of a kind, by the fields behind the one that names it.
+#[tactic(auto, unfolding(crate::specs::Records::fact_named))]
+fn read_named(alloc: Global, kind: &[u8], fields: &mut Fields) -> Result<Fact, LineFault>
+    ensures { Takes (λ fact. fact) (fact_named kind.now) fields.old fields.new result }
+{
+    if is(kind, b"sent") {
+        Ok(Fact::Sent(fields.client()?))
+    } else if is(kind, b"took") {
+        Ok(Fact::Took(fields.client()?))
+    } else if is(kind, b"changed") {
+        read_changed(alloc, fields)
+    } else if is(kind, b"wrote") {
+        read_wrote(alloc, fields)
+    } else if is(kind, b"settled") {
+        read_settled(fields)
+    } else if is(kind, b"believes") {
+        read_believes(fields)
+    } else if is(kind, b"opened") {
+        Ok(Fact::Opened(fields.file()?, fields.client()?))
+    } else if is(kind, b"cachedread") {
+        read_cached_read(alloc, fields)
+    } else if is(kind, b"joined") {
+        Ok(Fact::Joined(fields.client()?))
+    } else if is(kind, b"dropped") {
+        Ok(Fact::Dropped(fields.client()?))
+    } else if is(kind, b"expired") {
+        Ok(Fact::Expired(fields.client()?, fields.file()?))
+    } else if is(kind, b"strayed") {
+        Ok(Fact::Strayed(fields.client()?))
+    } else if is(kind, b"start") {
+        read_start(alloc, fields)
+    } else {
+        Err(LineFault::Refused)
+    }
+}
+
+fn read_fields(alloc: Global, fields: &mut Fields) -> Result<Fact, LineFault>
+    ensures { Takes (λ fact. fact) fact_told fields.old fields.new result }
+{
+    let kind = fields.next()?;
+    read_named(alloc, kind, fields)
+}
+
+/// The fact that a line of a record tells.
+///
+/// # Errors
+///
+/// `Refused` where the line tells none, and `Memory` where there is none left for what it tells.
+#[tactic(auto, unfolding(crate::specs::Records::fact_in))]
+pub fn read_fact(alloc: Global, line: &[u8]) -> Result<Fact, LineFault>
+    ensures { MatchResult result (λ fact. fact_in line.now ≡ Some fact)
+        (λ fault. fault ≡ LineFault.Refused → fact_in line.now ≡ None) }
+{
+    let mut fields = Fields::of(line);
+    let fact = read_fields(alloc, &mut fields)?;
+    fields.end()?;
+    Ok(fact)
+}

@@ -1,0 +1,169 @@
+ghost use Rattle.std.specs.Prelude.{◌≡◌, Some, None, MatchResult};
+ghost use Rattle.lease_texts.specs.Fields.{one};
+ghost use Rattle.lease_texts.specs.Takes.{Takes};
+ghost use Rattle.lease_texts.specs.Schedules.{durable_in, open_in, write_in, create_in, raw_write_in, message_in, request_named, request_in, event_of, event_named};
+
+use crate::fault::LineFault;
+use crate::fields::{Fields, is, read_patch};
+use hex::FromHex;
+use lease_client::Command;
+use lease_state::{ClientNo, FileId, Request};
+use lease_world::Event;
+use std::alloc::Global;
+
+// Whether the last field is there.
+fn read_durable(fields: &mut Fields) -> Result<bool, LineFault>
+    ensures { Takes (λ durable. durable) durable_in fields.old fields.new result }
+{
+    if fields.is_done() {
+        return Ok(false);
+    }
+    let field = fields.next()?;
+    if is(field, b"durable") {
+        Ok(true)
+    } else {
+        Err(LineFault::Refused)
+    }
+}
+
+#[tactic(auto, unfolding(crate::specs::Schedules::open_in))]
+fn read_open(fields: &mut Fields) -> Result<Command, LineFault>
+    ensures { Takes (λ value. value) (open_in) fields.old fields.new result }
+{
+    Ok(Command::Open {
+        file: fields.file()?,
+        access: fields.access()?,
+        share: fields.share()?,
+        want: fields.state()?,
+        durable: read_durable(fields)?,
+    })
+}
+
+#[tactic(auto, unfolding(crate::specs::Schedules::write_in))]
+fn read_write(alloc: Global, fields: &mut Fields) -> Result<Command, LineFault>
+    ensures { Takes (λ value. value) (write_in) fields.old fields.new result }
+{
+    Ok(Command::Write {
+        file: fields.file()?,
+        patch: read_patch(alloc, fields)?,
+    })
+}
+
+#[tactic(auto, unfolding(crate::specs::Schedules::create_in))]
+fn read_create(alloc: Global, fields: &mut Fields) -> Result<Request, LineFault>
+    ensures { Takes (λ value. value) (create_in) fields.old fields.new result }
+{
+    Ok(Request::Create {
+        file: fields.file()?,
+        access: fields.access()?,
+        share: fields.share()?,
+        contexts: fields.bytes(alloc)?,
+    })
+}
+
+#[tactic(auto, unfolding(crate::specs::Schedules::raw_write_in))]
+fn read_raw_write(alloc: Global, fields: &mut Fields) -> Result<Request, LineFault>
+    ensures { Takes (λ value. value) (raw_write_in) fields.old fields.new result }
+{
+    Ok(Request::Write {
+        fid: FileId(fields.number()?),
+        number: fields.number()?,
+        patch: read_patch(alloc, fields)?,
+    })
+}
+
+// An acknowledgment's bytes.
+fn read_message(fields: &mut Fields) -> Result<[u8; 36], LineFault>
+    ensures { Takes (λ message. message) (one message_in) fields.old fields.new result }
+{
+    let field = fields.next()?;
+    match <[u8; 36] as FromHex>::from_hex(field) {
+        Ok(message) => Ok(message),
+        Err(_) => Err(LineFault::Refused),
+    }
+}
+
+#[tactic(auto, unfolding(crate::specs::Schedules::request_named))]
+fn read_request_of(alloc: Global, kind: &[u8], fields: &mut Fields) -> Result<Request, LineFault>
+    ensures { Takes (λ value. value) (request_named kind.now) fields.old fields.new result }
+{
+    if is(kind, b"create") {
+        read_create(alloc, fields)
+    } else if is(kind, b"read") {
+        let fid = FileId(fields.number()?);
+        Ok(Request::Read { fid })
+    } else if is(kind, b"write") {
+        read_raw_write(alloc, fields)
+    } else if is(kind, b"close") {
+        let fid = FileId(fields.number()?);
+        Ok(Request::Close { fid })
+    } else if is(kind, b"ack") {
+        Ok(Request::Ack(read_message(fields)?))
+    } else {
+        Err(LineFault::Refused)
+    }
+}
+
+fn read_request(alloc: Global, fields: &mut Fields) -> Result<Request, LineFault>
+    ensures { Takes (λ value. value) (request_in) fields.old fields.new result }
+{
+    let kind = fields.next()?;
+    read_request_of(alloc, kind, fields)
+}
+
+// The event of a client, by the fields behind those that name it and the client.
+#[tactic(auto, unfolding(crate::specs::Schedules::event_of))]
+fn read_event_of(
+    alloc: Global,
+    kind: &[u8],
+    client: ClientNo,
+    fields: &mut Fields,
+) -> Result<Event, LineFault>
+    ensures { Takes (λ event. event) (event_of kind.now client.0) fields.old fields.new result }
+{
+    if is(kind, b"serve") {
+        Ok(Event::ServerTakes(client))
+    } else if is(kind, b"take") {
+        Ok(Event::ClientTakes(client))
+    } else if is(kind, b"write") {
+        Ok(Event::App(client, read_write(alloc, fields)?))
+    } else if is(kind, b"read") {
+        let file = fields.file()?;
+        Ok(Event::App(client, Command::Read { file }))
+    } else if is(kind, b"open") {
+        Ok(Event::App(client, read_open(fields)?))
+    } else if is(kind, b"close") {
+        let file = fields.file()?;
+        Ok(Event::App(client, Command::Close { file }))
+    } else if is(kind, b"flush") {
+        let file = fields.file()?;
+        Ok(Event::App(client, Command::Flush { file }))
+    } else if is(kind, b"cut") {
+        Ok(Event::Cut(client))
+    } else if is(kind, b"notice") {
+        Ok(Event::Notice(client))
+    } else if is(kind, b"connect") {
+        Ok(Event::Connect(client))
+    } else if is(kind, b"expire") {
+        Ok(Event::Expire(client, fields.file()?))
+    } else if is(kind, b"scavenge") {
+        Ok(Event::Scavenge(client, fields.file()?))
+    } else if is(kind, b"raw") {
+        Ok(Event::Raw(client, read_request(alloc, fields)?))
+    } else {
+        Err(LineFault::Refused)
+    }
+}
+
+/// The event of a kind, by the fields behind the one that names it.
+///
+/// # Errors
+///
+/// `Refused` where they tell no event of that kind, and `Memory` where there is none left for it.
+#[tactic(auto, unfolding(crate::specs::Schedules::event_named))]
+pub fn read_event(alloc: Global, kind: &[u8], fields: &mut Fields) -> Result<Event, LineFault>
+    ensures { Takes (λ event. event) (event_named kind.now) fields.old fields.new result }
+{
+    let client = fields.client()?;
+    read_event_of(alloc, kind, client, fields)
+}

@@ -1,0 +1,9 @@
+use Rattle.std.proofs.Common.{refl}
+use Rattle.leasecheck.proofs.Puts.{puts_more}
+use Rattle.leasecheck.proofs.printing.put.Goals as goal
+
+pub loop-turn-preserved : goal.loop-turn-preserved
+loop-turn-preserved g c =
+    let so_far = c.loop-turn.invariant in
+    puts_more (g.W.Write.contents c.args.out.now) (g.W.Write.contents c.loop-turn.out) (g.W.Write.contents c.put_some.new.out)
+    c.args.text.now c.loop-turn.left.now so_far.0 c.in-Ok.count _ so_far.1 refl so_far.2 c.in-Ok.ensures.written

@@ -1,0 +1,7 @@
+use Rattle.std.proofs.Common.{◌≡◌, ◌++◌, List, ℕ}
+use Rattle.std.specs.Io.KnownBytes.{Appends}
+use Rattle.leasecheck.proofs.printing.put.Given as goal
+
+-- what was written and what is left are the text
+abbrev pub invariant-loop-turn : goal.invariant-loop-turn
+invariant-loop-turn g l = (part : List ℕ) × (part ++ l.left ≡ l.text) × Appends (g.W.Write.contents l.fn.out) (g.W.Write.contents l.out) part
