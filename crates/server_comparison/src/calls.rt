@@ -1,10 +1,12 @@
-use lease_state::{Access, Bytes, FileId, FileNo, LeaseKey, LeaseState, Patch, Request, Share};
-use lease_wire::{CreateAsk, write_create_ask};
+use crate::serving::Serving;
+use lease_state::{
+    Access, Bytes, ClientNo, FileId, FileNo, LeaseKey, LeaseState, Memory, Patch, Request, Share,
+};
+use lease_wire::{Acknowledgment, CreateAsk, write_create_ask};
 use std::alloc::Global;
-use std::test::Fail;
 
 /// A call of a server. Clients and files are numbers, and a key is sixteen times its number.
-#[derive(Clone, Copy, Debug)]
+#[derive(Clone, Copy)]
 pub enum Call {
     Join(u8),
     Cut(u8),
@@ -14,7 +16,7 @@ pub enum Call {
 }
 
 /// What a client asks.
-#[derive(Clone, Copy, Debug)]
+#[derive(Clone, Copy)]
 pub enum Ask {
     Create(u8, Access, Share, Text),
     Read(u64),
@@ -27,7 +29,7 @@ pub enum Ask {
 }
 
 /// The create contexts of a request.
-#[derive(Clone, Copy, Debug)]
+#[derive(Clone, Copy)]
 pub enum Text {
     Nothing,
     Faulty,
@@ -38,13 +40,13 @@ pub enum Text {
     Reconnect(u8, u64),
 }
 
-fn written(alloc: Global, ask: &CreateAsk) -> Result<Vec<u8>, Fail> {
+fn written(alloc: Global, ask: &CreateAsk) -> Result<Vec<u8>, Memory> {
     let mut bytes = Vec::new(alloc);
     write_create_ask(ask, &mut bytes)?;
     Ok(bytes)
 }
 
-fn contexts(alloc: Global, text: Text) -> Result<Bytes, Fail> {
+fn contexts(alloc: Global, text: Text) -> Result<Bytes, Memory> {
     let (key, state, durable, reconnect) = match text {
         Text::Nothing => return Ok(Bytes::new(Vec::new(alloc))),
         Text::Faulty => return Ok(Bytes::new(Vec::from_slice(alloc, b"faulty")?)),
@@ -62,15 +64,15 @@ fn contexts(alloc: Global, text: Text) -> Result<Bytes, Fail> {
 }
 
 fn acknowledgment(key: u8, state: u8) -> [u8; 36] {
-    let mut message = [0; 36];
-    message[0] = 0x24;
-    message[8..24].copy_from_slice(&[key; 16]);
-    message[24] = state;
-    message
+    let acknowledgment = Acknowledgment {
+        key: LeaseKey([key; 16]),
+        state: LeaseState::from_wire(u32::from(state)),
+    };
+    acknowledgment.encode()
 }
 
-/// The request that asks this.
-pub fn request(alloc: Global, ask: Ask) -> Result<Request, Fail> {
+// The request that asks this.
+fn request(alloc: Global, ask: Ask) -> Result<Request, Memory> {
     Ok(match ask {
         Ask::Create(file, access, share, text) => Request::Create {
             file: FileNo(file),
@@ -91,4 +93,17 @@ pub fn request(alloc: Global, ask: Ask) -> Result<Request, Fail> {
         Ask::Ack(key, state) => Request::Ack(acknowledgment(key, state)),
         Ask::NoAck => Request::Ack([0; 36]),
     })
+}
+
+impl Call {
+    /// The call with its values and messages.
+    pub fn serving(self, alloc: Global) -> Result<Serving, Memory> {
+        Ok(match self {
+            Call::Join(client) => Serving::Join(ClientNo(client)),
+            Call::Cut(client) => Serving::Cut(ClientNo(client)),
+            Call::Expire(client, key) => Serving::Expire(ClientNo(client), LeaseKey([key; 16])),
+            Call::Scavenge(fid) => Serving::Scavenge(FileId(fid)),
+            Call::Ask(client, ask) => Serving::Receive(ClientNo(client), request(alloc, ask)?),
+        })
+    }
 }

@@ -1,6 +1,6 @@
-use super::calls::Ask::{Ack, Close, Create, NoAck, Read, Write};
-use super::calls::Call::{self, Ask, Cut, Expire, Join, Scavenge};
-use super::calls::Text::{Durable, Leased, Nothing, Reconnect};
+use crate::calls::Ask::{Ack, Close, Create, NoAck, Read, Write};
+use crate::calls::Call::{self, Ask, Cut, Expire, Join, Scavenge};
+use crate::calls::Text::{Durable, Leased, Nothing, Reconnect};
 use lease_state::Access::{Read as Reading, ReadWrite as Any};
 use lease_state::Share::{Nothing as Alone, ReadWrite as Shared};
 

@@ -1,6 +1,6 @@
 ghost use Rattle.std.specs.Prelude.{◌<◌};
 
-use super::calls::{Ask, Call, Text};
+use crate::calls::{Ask, Call, Text};
 use lease_state::{Access, Share};
 
 const STATES: [u8; 6] = [0, 1, 3, 5, 7, 7];
@@ -24,7 +24,7 @@ const SHARES: [Share; 8] = [
 ];
 
 /// Numbers from a seed, each from the one before, and calls by them.
-#[derive(Debug, Drop)]
+#[derive(Drop)]
 pub struct Numbers {
     state: u64,
 }
