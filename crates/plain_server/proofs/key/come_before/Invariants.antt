@@ -1,7 +1,0 @@
-use Rattle.std.proofs.Common.{◌≡◌, drop}
-use Rattle.lease_model.specs.values.Keys.{bytes_before}
-use Rattle.plain_server.proofs.key.come_before.Given as goal
-
-abbrev pub invariant-loop-place : goal.invariant-loop-place
-invariant-loop-place l =
-    bytes_before (drop l.place l.bytes) (drop l.place l.others) ≡ bytes_before l.fn.bytes l.fn.others
