@@ -7,8 +7,8 @@ use Rattle.lease_state.specs.State.{state_of}
 use Rattle.lease_state.specs.declared.patch.Patch.{Patch}
 use Rattle.lease_client.specs.declared.note.Settlement.{Settlement}
 use Rattle.lease_client.specs.declared.note.Settlement.TheVariants as settlement
-use Rattle.lease_world.specs.declared.fact.Fact.{Fact}
-use Rattle.lease_world.specs.declared.fact.Fact.TheVariants as fact
+use Rattle.lease_facts.specs.declared.fact.Fact.{Fact}
+use Rattle.lease_facts.specs.declared.fact.Fact.TheVariants as fact
 use Rattle.lease_texts.specs.Pieces.{fields_of, lines_of}
 use Rattle.lease_texts.specs.Fields.{Taking, and_then, one, whole, ordinal_in, number_in, bytes_in, content_in, state_in, patch_in}
 use Rattle.lease_texts.specs.Reading.{reads_on, is_passed_over}

@@ -7,8 +7,8 @@ use Rattle.lease_state.specs.declared.request.Request.{Request}
 use Rattle.lease_state.specs.declared.request.Request.TheVariants as request
 use Rattle.lease_client.specs.declared.command.Command.{Command}
 use Rattle.lease_client.specs.declared.command.Command.TheVariants as command
-use Rattle.lease_world.specs.declared.setup.Event.{Event}
-use Rattle.lease_world.specs.declared.setup.Event.TheVariants as event
+use Rattle.lease_facts.specs.declared.setup.Event.{Event}
+use Rattle.lease_facts.specs.declared.setup.Event.TheVariants as event
 use Rattle.lease_texts.specs.Pieces.{fields_of, lines_of}
 use Rattle.lease_texts.specs.Fields.{Taking, and_then, with_rest, one, whole, ordinal_in, number_in, bytes_in, content_in, access_in, share_in, state_in, patch_in}
 use Rattle.lease_texts.specs.Reading.{reads_on, is_passed_over}

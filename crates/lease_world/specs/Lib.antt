@@ -1,5 +1,5 @@
-pub mod Facts
-pub mod Setups
+pub use Rattle.lease_facts.specs.Facts
+pub use Rattle.lease_facts.specs.Setups
 pub mod Verdicts
 pub mod judge
 pub mod world

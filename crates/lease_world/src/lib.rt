@@ -16,7 +16,6 @@
 #![tactic(auto)]
 
 mod copies;
-mod fact;
 mod judging;
 mod running;
 mod setup;
@@ -24,9 +23,9 @@ mod verdict;
 mod whole;
 mod world;
 
-pub use fact::Fact;
 pub use judging::Judge;
+pub use lease_facts::{Event, Fact, Setup};
 pub use running::run;
-pub use setup::{Event, RunFault, Setup};
+pub use setup::RunFault;
 pub use verdict::{Rule, Verdict};
 pub use whole::{judge, judge_each};

@@ -4,14 +4,14 @@ ghost use Rattle.lease_model.specs.records.Verdict.{Verdict, verdict};
 ghost use Rattle.lease_model.specs.world.Allowed.{is_allowed_setup, are_too_many};
 ghost use Rattle.lease_model.specs.world.Events.{after, recorded};
 ghost use Rattle.lease_model.specs.world.World.{first_world};
-ghost use Rattle.lease_world.specs.Facts.{fact_of};
-ghost use Rattle.lease_world.specs.Setups.{setup_of, event_of};
+ghost use Rattle.lease_facts.specs.Facts.{fact_of};
+ghost use Rattle.lease_facts.specs.Setups.{setup_of, event_of};
 ghost use Rattle.lease_world.specs.world.Stands.{Stands};
 
-use crate::fact::Fact;
-use crate::setup::{Event, RunFault, Setup};
+use crate::setup::{RunFault, is_allowed};
 use crate::world::World;
 use lease_coherence::coherent;
+use lease_facts::{Event, Fact, Setup};
 use lease_laws::verdict_decides;
 use lease_state::Memory;
 use std::alloc::Global;
@@ -43,7 +43,7 @@ pub fn run(alloc: Global, setup: &Setup, events: &[Event]) -> Result<Vec<Fact>, 
 {
     coherent();
     verdict_decides();
-    if !setup.is_allowed() {
+    if !is_allowed(setup) {
         return Err(RunFault::BadSetup);
     }
     if are_too_many(events) {

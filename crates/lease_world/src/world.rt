@@ -13,18 +13,18 @@ ghost use Rattle.lease_model.specs.server.Naming.{key_of};
 ghost use Rattle.lease_model.specs.server.Queries.{breaking, kept, content};
 ghost use Rattle.share_server.specs.Table.{server_of};
 ghost use Rattle.lease_client.specs.Answers.{command_of};
-ghost use Rattle.lease_world.specs.Facts.{fact_of};
-ghost use Rattle.lease_world.specs.Setups.{event_of, setup_of};
+ghost use Rattle.lease_facts.specs.Facts.{fact_of};
+ghost use Rattle.lease_facts.specs.Setups.{event_of, setup_of};
 ghost use Rattle.lease_model.specs.world.World.{first_world};
 
 use crate::copies::{copy_command, copy_request};
-use crate::fact::Fact;
-use crate::setup::{Event, Setup};
+use crate::setup::client_of;
 use crate::world::calls::{Doing, Serving, call_server};
 use crate::world::delivering::{deliver, tell_notes};
 use crate::world::link::Link;
 use crate::world::seat::Seat;
 use lease_client::{Command, lease_key};
+use lease_facts::{Event, Fact, Setup};
 use lease_state::{ClientNo, FileId, FileNo, LeaseKey, Memory, Reply, Request};
 use share_server::Server;
 use std::alloc::Global;
@@ -86,7 +86,7 @@ impl World {
     pub fn happen(self, event: &Event) -> Result<World, Memory>
         ensures { IfOk result (λ world. Happens (event_of event.now) self world) }
     {
-        let client = event.client();
+        let client = client_of(event);
         if !self.has(client) {
             return Ok(self);
         }

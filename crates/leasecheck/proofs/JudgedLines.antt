@@ -2,8 +2,8 @@ use Rattle.std.proofs.Common.{◌≡◌, ◌⊎◌, inl, inr, ℕ, ◌+◌, ◌-
 use Rattle.std.proofs.lemmas.List.{append-nil, take_all, take-append-drop}
 use Rattle.std.proofs.lemmas.Bool.Decides.{nat_tests}
 use Rattle.lease_texts.specs.Pieces.{pieces, lines_of}
-use Rattle.lease_world.specs.Facts.{fact_of}
-use Rattle.lease_world.specs.declared.fact.Fact.{Fact}
+use Rattle.lease_facts.specs.Facts.{fact_of}
+use Rattle.lease_facts.specs.declared.fact.Fact.{Fact}
 use Rattle.lease_world.specs.judge.Judged.{Judging, HasJudged}
 use Rattle.lease_texts.specs.Reading.{reads_on, is_passed_over}
 use Rattle.lease_texts.specs.Records.{fact_in, with_fact, with_line, record_in}

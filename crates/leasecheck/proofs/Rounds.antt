@@ -4,7 +4,7 @@ use Rattle.std.specs.Prelude.{IfSome}
 use Rattle.std.specs.Io.KnownBytes.{Consumes, IsAtEnd}
 use Rattle.std.proofs.lemmas.List.{append-nil}
 use Rattle.lease_world.specs.declared.verdict.Verdict.{Verdict}
-use Rattle.lease_world.specs.Facts.{fact_of}
+use Rattle.lease_facts.specs.Facts.{fact_of}
 use Rattle.lease_model.specs.records.Facts as told
 use Rattle.lease_model.specs.records.Verdict as model
 use Rattle.lease_world.specs.Verdicts.{verdict_of}

@@ -1,9 +1,9 @@
 -- Records that are judged as they are read, block by block.
 use Rattle.std.specs.Prelude.{◌≡◌, ◌⊎◌, ◌++◌, ◌+◌, ◌^◌, ◌≤◌, ℕ, map, List, [], ◌∷◌, length, Option, Some, None, Result, Ok, Err, MatchResult, IfErr}
 use Rattle.lease_model.specs.records.Verdict as model
-use Rattle.lease_world.specs.Facts.{fact_of}
+use Rattle.lease_facts.specs.Facts.{fact_of}
 use Rattle.lease_world.specs.Verdicts.{verdict_of}
-use Rattle.lease_world.specs.declared.fact.Fact.{Fact}
+use Rattle.lease_facts.specs.declared.fact.Fact.{Fact}
 use Rattle.lease_world.specs.declared.verdict.Verdict.{Verdict}
 use Rattle.lease_world.specs.judge.Judged.{Judging, HasJudged}
 use Rattle.lease_texts.specs.Pieces.{lines_of}

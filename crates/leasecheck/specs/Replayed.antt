@@ -5,10 +5,10 @@ use Rattle.lease_model.specs.records.Facts as model
 use Rattle.lease_model.specs.world.World.{Setup}
 use Rattle.lease_model.specs.world.Allowed.{is_allowed_setup, are_too_many}
 use Rattle.lease_model.specs.world.Events.{recorded}
-use Rattle.lease_world.specs.Facts.{fact_of}
-use Rattle.lease_world.specs.Setups.{event_of}
+use Rattle.lease_facts.specs.Facts.{fact_of}
+use Rattle.lease_facts.specs.Setups.{event_of}
 use Rattle.lease_world.specs.Verdicts.{rule_number}
-use Rattle.lease_world.specs.declared.fact.Fact.{Fact}
+use Rattle.lease_facts.specs.declared.fact.Fact.{Fact}
 use Rattle.lease_world.specs.declared.setup.RunFault.{RunFault}
 use Rattle.lease_world.specs.declared.setup.RunFault.TheVariants as run
 use Rattle.lease_world.specs.declared.verdict.Verdict.{Verdict}

@@ -1,8 +1,8 @@
 ghost use Rattle.std.specs.Prelude.{◌≡◌, ◌++◌, ◌∷◌, [], List, ℕ, map, IfOk, IfErr, OnOk, ◌<◌, ◌≤◌, length, take};
 ghost use Rattle.std.specs.Io.KnownBytes.{Consumes, IsAtEnd};
 ghost use Rattle.std.specs.String.{string_bytes};
-ghost use Rattle.lease_world.specs.Facts.{fact_of};
-ghost use Rattle.lease_world.specs.declared.fact.Fact.{Fact};
+ghost use Rattle.lease_facts.specs.Facts.{fact_of};
+ghost use Rattle.lease_facts.specs.declared.fact.Fact.{Fact};
 ghost use Rattle.lease_world.specs.judge.Judged.{HasJudged};
 ghost use Rattle.lease_texts.specs.Pieces.{lines_of};
 ghost use Rattle.leasecheck.specs.Judging.{HasRead, HasReadText, TakesLine, ReadsMore, ReadsBlock, JudgesText, Judges};

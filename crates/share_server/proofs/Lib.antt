@@ -20,12 +20,10 @@ pub mod Owners
 pub mod Passing
 pub mod Places
 pub mod Recording
-pub mod Refusing
 pub mod Rounds
 pub mod Sending
 pub mod Standing
 pub mod Summing
 pub mod Tabling
-pub mod TakenByHeld
 pub mod Tallies
 pub mod Wanting

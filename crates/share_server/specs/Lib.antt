@@ -9,7 +9,6 @@ pub mod LeftOpens
 pub mod Looks
 pub mod Outs
 pub mod Passing
-pub mod Refusals
 pub mod Requests
 pub mod Summaries
 pub mod Table

@@ -39,7 +39,6 @@ mod file_summary;
 mod finding;
 mod grant;
 mod key;
-mod laws;
 mod lease;
 mod left_opens;
 mod open;
@@ -55,6 +54,5 @@ mod tables;
 mod tally;
 mod want;
 
-pub use laws::refusals_leave_files_alone;
 pub use out::Out;
 pub use server::Server;

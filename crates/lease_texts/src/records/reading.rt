@@ -6,7 +6,7 @@ ghost use Rattle.lease_texts.specs.Records.{way_in, outcome_in, start_in, change
 use crate::fault::LineFault;
 use crate::fields::{Fields, is, read_patch};
 use lease_client::Settlement;
-use lease_world::Fact;
+use lease_facts::Fact;
 use std::alloc::Global;
 
 // The last word of a write.

@@ -1,12 +1,12 @@
 ghost use Rattle.std.specs.Prelude.{◌≡◌, ◌++◌, IfOk, OnOk};
 ghost use Rattle.std.specs.String.{string_bytes};
-ghost use Rattle.lease_world.specs.declared.fact.Fact.TheVariants as fact;
+ghost use Rattle.lease_facts.specs.declared.fact.Fact.TheVariants as fact;
 ghost use Rattle.lease_texts.specs.Records.{digits_word, outcome_word, patch_words, pair_words, read_words, fact_line};
 
 use crate::words::state_letters;
 use lease_client::Settlement;
 use lease_state::{Bytes, ClientNo, FileNo, Patch};
-use lease_world::Fact;
+use lease_facts::Fact;
 use std::alloc::{AllocError, Global};
 
 // The digits of bytes, or a hyphen where there are none.

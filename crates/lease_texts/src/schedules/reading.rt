@@ -11,7 +11,7 @@ use crate::fields::{Fields, is};
 use crate::lines::{first_line, is_passed_over};
 use crate::schedules::events::read_event;
 use lease_state::Content;
-use lease_world::{Event, Setup};
+use lease_facts::{Event, Setup};
 use std::alloc::Global;
 use uuid::Uuid;
 

@@ -20,7 +20,7 @@ use Rattle.lease_model.specs.world.Events.{Event, served, stepped_in, server_tak
 use Rattle.lease_model.specs.world.World.{World, Link, happened}
 use Rattle.lease_state.specs.declared.request.Request as code_request
 use Rattle.lease_state.specs.declared.reply.Reply as code_reply
-use Rattle.lease_world.specs.Facts.{fact_of}
+use Rattle.lease_facts.specs.Facts.{fact_of}
 use Rattle.lease_world.specs.declared.world.link.Link as code
 use Rattle.lease_world.specs.world.Seats.{Seat, seat_in, is_link, IsPresent, ChangesSeat, PopsRequest, PopsReply}
 use Rattle.lease_world.specs.world.Stands.{Seen, link_of, Stands}

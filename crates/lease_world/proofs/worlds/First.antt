@@ -21,9 +21,9 @@ use Rattle.lease_model.specs.values.Limits.{files_limit, clients_limit, events_l
 use Rattle.lease_model.specs.world.Events.{Event, after, happens}
 use Rattle.lease_model.specs.world.World.{World, Setup, starts_from, first_world}
 use Rattle.lease_world.specs.world.First.{IsNew, AreNew}
-use Rattle.lease_world.specs.Facts.{fact_of}
-use Rattle.lease_world.specs.Setups.{event_of}
-use Rattle.lease_world.specs.declared.setup.Event as code_event
+use Rattle.lease_facts.specs.Facts.{fact_of}
+use Rattle.lease_facts.specs.Setups.{event_of}
+use Rattle.lease_facts.specs.declared.setup.Event as code_event
 use Rattle.lease_world.specs.world.Seats.{Seat, seat_in, no_seat, IsPresent}
 use Rattle.lease_world.specs.world.Stands.{Seen, link_of, Stands}
 use Rattle.lease_world.specs.world.Worlds.{Happens}

@@ -8,7 +8,7 @@ use Rattle.lease_model.specs.world.World.{World, Link, requests_sent, sent_over}
 use Rattle.lease_state.specs.declared.request.Request as code_request
 use Rattle.lease_state.specs.declared.reply.Reply as code_reply
 use Rattle.lease_world.specs.declared.world.link.Link as code
-use Rattle.lease_world.specs.Facts.{fact_of}
+use Rattle.lease_facts.specs.Facts.{fact_of}
 use Rattle.share_server.specs.Table.{server_of}
 use Rattle.lease_world.specs.world.Seats.{Seat, seat_in, IsPresent, ChangesSeat, PopsRequest, PopsReply, with_requests}
 use Rattle.lease_world.specs.world.Stands.{Seen, link_of, IsSeat, Stands}

@@ -28,8 +28,8 @@ use Rattle.lease_model.specs.values.Tables.{put}
 use Rattle.lease_model.specs.world.Events.{served, stepped_in}
 use Rattle.lease_model.specs.world.World.{World, Link, happened, all_delivered, noted, requests_sent, sent_over, fact_of as fact_noted}
 use Rattle.lease_state.specs.declared.request.Request as code_request
-use Rattle.lease_world.specs.Facts.{fact_of}
-use Rattle.lease_world.specs.declared.fact.Fact as code_fact
+use Rattle.lease_facts.specs.Facts.{fact_of}
+use Rattle.lease_facts.specs.declared.fact.Fact as code_fact
 use Rattle.lease_world.specs.declared.world.link.Link as code
 use Rattle.lease_world.specs.world.Seats.{Seat, seat_at, seat_in, no_seat, IsPresent, HasReplies, fact_given, replies_to, with_replies, queued, ChangesSeat, StepsSeat}
 use Rattle.lease_world.specs.world.Stands.{Seen, link_of, IsSeat, Stands}

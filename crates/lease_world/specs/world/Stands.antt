@@ -6,8 +6,8 @@ use Rattle.lease_laws.specs.server.Laws.{IsSound}
 use Rattle.lease_laws.specs.server.Waiting.{WaitsWell}
 use Rattle.lease_model.specs.messages.FromBytes.{request_of, reply_of}
 use Rattle.lease_model.specs.world.World as model
-use Rattle.lease_world.specs.Facts.{fact_of}
-use Rattle.lease_world.specs.declared.fact.Fact.{Fact}
+use Rattle.lease_facts.specs.Facts.{fact_of}
+use Rattle.lease_facts.specs.declared.fact.Fact.{Fact}
 use Rattle.lease_world.specs.declared.world.link.Link as code
 use Rattle.lease_world.specs.world.Seats.{Seat, seat_in, IsPresent}
 use Rattle.share_server.specs.Table.{Table, server_of}

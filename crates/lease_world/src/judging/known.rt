@@ -2,15 +2,15 @@ ghost use Rattle.std.specs.Prelude.{◌≡◌, [], IfOk};
 ghost use Rattle.lease_state.specs.State.{state_of};
 ghost use Rattle.lease_client.specs.Answers.{settlement_of};
 ghost use Rattle.lease_model.specs.values.Patches.{is_within_limit};
-ghost use Rattle.lease_world.specs.Facts.{fact_of};
+ghost use Rattle.lease_facts.specs.Facts.{fact_of};
 ghost use Rattle.lease_world.specs.judge.Added.{StartAdds, JoinedAdds, LeavingAdds, ExpiredAdds, StrayedAdds, SentAdds, TookAdds, OpenedAdds, ChangedAdds, WroteAdds, SettledAdds, BelievesAdds, CachedReadAdds, Adds};
 
-use crate::fact::Fact;
 use crate::judging::client::WriteSeen;
 use crate::judging::clients::Clients;
 use crate::judging::files::Files;
 use crate::verdict::{Rule, Verdict};
 use lease_client::Settlement;
+use lease_facts::Fact;
 use lease_state::{Bytes, ClientNo, FILE_LIMIT, FileNo, LeaseState, Memory, Patch};
 use std::alloc::Global;
 use std::marker::Model;

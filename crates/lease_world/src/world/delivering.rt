@@ -1,12 +1,12 @@
 ghost use Rattle.std.specs.Prelude.{◌≡◌, ◌++◌, [], ◌∷◌, map, length, OnOk};
 ghost use Rattle.lease_client.specs.Answers.{note_of};
 ghost use Rattle.lease_model.specs.world.World as model;
-ghost use Rattle.lease_world.specs.Facts.{fact_of};
+ghost use Rattle.lease_facts.specs.Facts.{fact_of};
 ghost use Rattle.lease_world.specs.world.Seats.{HasSeat, HasReplies, fact_given, with_replies};
 
-use crate::fact::Fact;
 use crate::world::seat::Seat;
 use lease_client::Note;
+use lease_facts::Fact;
 use lease_state::{ClientNo, Memory, Reply};
 use share_server::Out;
 

@@ -1,11 +1,11 @@
 ghost use Rattle.std.specs.Prelude.{◌≡◌, ◌≤◌, map, length, IfOk};
 ghost use Rattle.lease_model.specs.world.World.{starts_from};
-ghost use Rattle.lease_world.specs.Facts.{fact_of};
+ghost use Rattle.lease_facts.specs.Facts.{fact_of};
 ghost use Rattle.lease_world.specs.world.First.{AreNew};
 
-use crate::fact::Fact;
 use crate::world::seat::Seat;
 use lease_client::Client;
+use lease_facts::Fact;
 use lease_state::{Bytes, Content, FileNo, Memory};
 use std::alloc::Global;
 

@@ -1,7 +1,7 @@
 use Rattle.std.proofs.Common.{map, subst}
 use Rattle.lease_model.specs.world.World.{first_world}
-use Rattle.lease_world.specs.Setups.{setup_of, event_of}
-use Rattle.lease_world.specs.declared.setup.Event.{Event}
+use Rattle.lease_facts.specs.Setups.{setup_of, event_of}
+use Rattle.lease_facts.specs.declared.setup.Event.{Event}
 use Rattle.lease_world.specs.world.Worlds.{Happens}
 use Rattle.lease_world.proofs.worlds.First.{no_event, one_more_event}
 use Rattle.lease_world.proofs.running.play.Goals as goal

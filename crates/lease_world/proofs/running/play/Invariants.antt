@@ -1,7 +1,7 @@
 use Rattle.std.proofs.Common.{map, take}
 use Rattle.lease_model.specs.world.Events.{after}
 use Rattle.lease_model.specs.world.World.{first_world}
-use Rattle.lease_world.specs.Setups.{setup_of, event_of}
+use Rattle.lease_facts.specs.Setups.{setup_of, event_of}
 use Rattle.lease_world.specs.world.Stands.{Stands}
 use Rattle.lease_world.proofs.running.play.Given as goal
 

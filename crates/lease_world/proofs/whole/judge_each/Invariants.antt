@@ -1,5 +1,5 @@
 use Rattle.std.proofs.Common.{map}
-use Rattle.lease_world.specs.Facts.{fact_of}
+use Rattle.lease_facts.specs.Facts.{fact_of}
 use Rattle.lease_world.specs.judge.Judged.{HasJudged}
 use Rattle.lease_world.proofs.whole.judge_each.Given as goal
 

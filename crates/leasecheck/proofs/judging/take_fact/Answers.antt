@@ -1,5 +1,5 @@
 use Rattle.std.proofs.Common.{inr, ◌++◌, [], ◌∷◌, map, sym, ◌∙◌, refl}
-use Rattle.lease_world.specs.Facts.{fact_of}
+use Rattle.lease_facts.specs.Facts.{fact_of}
 use Rattle.leasecheck.proofs.JudgedLines.{line_passed, line_told, line_refused, judged_more}
 use Rattle.leasecheck.proofs.judging.take_fact.Goals as goal
 

@@ -1,6 +1,6 @@
 use Rattle.std.proofs.Common.{◌∙◌, [], ◌∷◌, map}
 use Rattle.std.proofs.lemmas.List.{map-append, append_assoc}
-use Rattle.lease_world.specs.Facts.{fact_of}
+use Rattle.lease_facts.specs.Facts.{fact_of}
 use Rattle.lease_world.specs.world.Seats.{fact_given}
 use Rattle.lease_world.proofs.worlds.Replies.{more_replies}
 use Rattle.lease_world.proofs.world.delivering.deliver.Goals as goal

@@ -1,5 +1,5 @@
 use Rattle.std.proofs.Common.{◌≡◌, ◌++◌, map, length}
-use Rattle.lease_world.specs.Facts.{fact_of}
+use Rattle.lease_facts.specs.Facts.{fact_of}
 use Rattle.lease_world.specs.world.Seats.{HasReplies, fact_given}
 use Rattle.lease_world.proofs.world.delivering.deliver.Given as goal
 

@@ -1,7 +1,7 @@
 use Rattle.std.proofs.Common.{◌≡◌, ◌++◌, map}
 use Rattle.lease_client.specs.Answers.{note_of}
 use Rattle.lease_model.specs.world.World as model
-use Rattle.lease_world.specs.Facts.{fact_of}
+use Rattle.lease_facts.specs.Facts.{fact_of}
 use Rattle.lease_world.proofs.world.delivering.tell_notes.Given as goal
 
 abbrev pub invariant-loop-note : goal.invariant-loop-note

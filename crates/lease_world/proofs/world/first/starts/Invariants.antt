@@ -1,6 +1,6 @@
 use Rattle.std.proofs.Common.{◌≡◌, take, map}
 use Rattle.lease_model.specs.world.World.{starts_from}
-use Rattle.lease_world.specs.Facts.{fact_of}
+use Rattle.lease_facts.specs.Facts.{fact_of}
 use Rattle.lease_world.proofs.world.first.starts.Given as goal
 
 abbrev pub invariant-loop-place : goal.invariant-loop-place

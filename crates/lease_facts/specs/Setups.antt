@@ -3,8 +3,8 @@ use Rattle.lease_client.specs.Answers.{command_of}
 use Rattle.lease_model.specs.messages.FromBytes.{request_of}
 use Rattle.lease_model.specs.world.Events as model
 use Rattle.lease_model.specs.world.World.{Setup}
-use Rattle.lease_world.specs.declared.setup.Event as event
-use Rattle.lease_world.specs.declared.setup.Setup as code
+use Rattle.lease_facts.specs.declared.setup.Event as event
+use Rattle.lease_facts.specs.declared.setup.Setup as code
 
 abbrev pub setup_of : code.Setup → Setup
 setup_of setup = record { files = setup.files.items; clients = setup.clients.items }

@@ -1,4 +1,4 @@
-ghost use Rattle.share_server.specs.Refusals.{CallsOfRefusedAcknowledgments, CallsRefusedAsTheyCome, CallsRefusedOnceTried, ClosesAreRefusedAsTheyCome, PassesAreOfHeld, RefusedAcknowledgments, RefusedAsTheyCome, RefusedOnceTried};
+ghost use Rattle.refusal_laws.specs.Refusals.{CallsOfRefusedAcknowledgments, CallsRefusedAsTheyCome, CallsRefusedOnceTried, ClosesAreRefusedAsTheyCome, PassesAreOfHeld, RefusedAcknowledgments, RefusedAsTheyCome, RefusedOnceTried};
 
 /// A request that is refused changes no content, and takes away no open but those that its own breaks closed: those that
 /// aren't connected and whose key is wanted in a round of its try. One that is refused as it comes changes nothing at all, as

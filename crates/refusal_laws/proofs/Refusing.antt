@@ -1,5 +1,5 @@
 -- A try changes no content, and closes only opens that aren't connected, of keys that it wants.
-use Rattle.std.proofs.Common.{◌≡◌, ◌⊎◌, inl, inr, ⊎_elim, ℕ, zero, suc, Bool, true, false, not, Option, Some, None, Ok, Err, List, [], ◌∷◌, ◌++◌, refl, ap, sym, ◌∙◌, subst, true≢false}
+use Rattle.std.proofs.Common.{◌≡◌, inl, inr, ⊎_elim, ℕ, zero, suc, Bool, true, false, not, Option, Some, None, Ok, Err, List, [], ◌∷◌, ◌++◌, refl, ap, sym, ◌∙◌, subst, true≢false}
 use Rattle.std.specs.Prelude.{if◌then◌else◌, ◌&&◌, Result}
 use Rattle.lease_laws.proofs.server.Lists.{if_cases, either, and_parts, not_parts, among_filter, among_filtered}
 use Rattle.lease_laws.proofs.server.Met.{lease_broken-opens}
@@ -20,7 +20,7 @@ use Rattle.lease_model.specs.server.Wants.{Want}
 use Rattle.lease_model.specs.values.Keys.{Key}
 use Rattle.lease_state.specs.State.{State, needs_acknowledgment, granted_form_of, is_state_within}
 use Rattle.lease_state.specs.declared.status.Status.{Status}
-use Rattle.share_server.specs.Refusals.{NeedsRound, IsClosedByBreak, IsLeftAlone, RefusedAsTheyCome, RefusedOnceTried, ClosesAreRefusedAsTheyCome, RefusedAcknowledgments, passes_behind, CallsRefusedAsTheyCome, CallsOfRefusedAcknowledgments, CallsRefusedOnceTried}
+use Rattle.refusal_laws.specs.Refusals.{NeedsRound, IsClosedByBreak, IsLeftAlone, RefusedAsTheyCome, RefusedOnceTried, ClosesAreRefusedAsTheyCome, RefusedAcknowledgments, passes_behind, CallsRefusedAsTheyCome, CallsOfRefusedAcknowledgments, CallsRefusedOnceTried}
 
 -- ---- what is met
 

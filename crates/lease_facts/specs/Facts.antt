@@ -2,7 +2,7 @@
 use Rattle.lease_state.specs.State.{state_of}
 use Rattle.lease_client.specs.Answers.{settlement_of}
 use Rattle.lease_model.specs.records.Facts as model
-use Rattle.lease_world.specs.declared.fact.Fact as fact
+use Rattle.lease_facts.specs.declared.fact.Fact as fact
 
 abbrev pub fact_of : fact.Fact → model.Fact
 fact_of (fact.TheVariants.Start file bytes) = model.Fact.Start file.0 bytes

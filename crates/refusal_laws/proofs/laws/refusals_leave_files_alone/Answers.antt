@@ -1,6 +1,6 @@
-use Rattle.share_server.proofs.TakenByHeld as taken
-use Rattle.share_server.proofs.Refusing as refusing
-use Rattle.share_server.proofs.laws.refusals_leave_files_alone.Goals as goal
+use Rattle.refusal_laws.proofs.TakenByHeld as taken
+use Rattle.refusal_laws.proofs.Refusing as refusing
+use Rattle.refusal_laws.proofs.laws.refusals_leave_files_alone.Goals as goal
 
 pub returns-clause-as_they_come : goal.returns-clause-as_they_come
 returns-clause-as_they_come c = refusing.refused_as_they_come

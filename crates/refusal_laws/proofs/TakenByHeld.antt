@@ -1,5 +1,5 @@
 -- What passes over held requests change is the doing of these requests.
-use Rattle.std.proofs.Common.{◌≡◌, ◌⊎◌, inl, inr, ⊎_elim, ℕ, ◌+◌, zero, suc, Bool, true, false, not, Option, Some, None, List, [], ◌∷◌, ◌++◌, length, map, refl, ap, sym, ◌∙◌, subst, append_assoc, ◌==◌}
+use Rattle.std.proofs.Common.{◌≡◌, inl, inr, ⊎_elim, ℕ, ◌+◌, zero, suc, Bool, true, false, not, Option, Some, None, List, [], ◌∷◌, ◌++◌, length, map, refl, ap, sym, ◌∙◌, subst, append_assoc, ◌==◌}
 use Rattle.std.proofs.lemmas.Bool.{eqb-true, eq-eqb}
 use Rattle.lease_laws.proofs.client.Thin.{put_same, put_other}
 use Rattle.lease_laws.proofs.server.Held.{concluded-held, tried_for-held}
@@ -19,8 +19,8 @@ use Rattle.lease_model.specs.values.Tables.{put}
 use Rattle.lease_state.specs.Content.{patch as patched}
 use Rattle.lease_state.specs.declared.access.Access.{Access}
 use Rattle.lease_state.specs.declared.access.Share.{Share}
-use Rattle.share_server.proofs.Refusing.{tried_alone}
-use Rattle.share_server.specs.Refusals.{IsSameOpen, IsTakenByHeld, IsLeftToHeld, PassesAreOfHeld}
+use Rattle.refusal_laws.proofs.Refusing.{tried_alone}
+use Rattle.refusal_laws.specs.Refusals.{IsSameOpen, IsTakenByHeld, IsLeftToHeld, PassesAreOfHeld}
 
 -- ---- one after the other
 
