@@ -182,6 +182,13 @@ fn judge_blocks<I: Read>(alloc: Global, input: &mut I, block: &mut [u8]) -> Resu
     Err(Failure::Lines)
 }
 
+// Memory for a block.
+fn new_block(alloc: Global) -> Result<Vec<u8>, AllocError>
+    ensures { IfOk result (λ block. 0 < length block.items) }
+{
+    vec![in alloc; 0u8; BLOCK]
+}
+
 /// The verdict on the record that a reader gives, line by line.
 ///
 /// # Errors
@@ -191,7 +198,7 @@ fn judge_blocks<I: Read>(alloc: Global, input: &mut I, block: &mut [u8]) -> Resu
 pub fn judge_text<I: Read>(alloc: Global, input: &mut I) -> Result<Verdict, Failure>
     ensures { Judges (I.remaining input.old) result }
 {
-    let mut block = vec![in alloc; 0u8; BLOCK]?;
+    let mut block = new_block(alloc)?;
     judge_blocks(alloc, input, block.as_mut_slice())
 }
 

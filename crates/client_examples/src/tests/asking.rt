@@ -23,10 +23,11 @@ fn asks_for_what_both_have(rt: HostRuntime) -> Result<(), Fail> {
     let contexts = asked(alloc, 7)?;
     let client = answers(alloc, Answer::Waiting)
         .sends(create(Access::ReadWrite, Share::Nothing, contexts))?
-        .of(client.app(open(1, Access::Read, Share::Read, 7, false))?)?;
-    let client = answers(alloc, Answer::Failed(Status::SharingViolation)).of(client.take(
+        .app(client, open(1, Access::Read, Share::Read, 7, false))?;
+    let client = answers(alloc, Answer::Failed(Status::SharingViolation)).take(
+        client,
         create_failed(Status::SharingViolation),
-    )?)?;
+    )?;
     assert_eq!(rt; client.belief(FILE), LeaseState::from_wire(7));
     Ok(())
 }
@@ -39,7 +40,7 @@ fn refuses_while_it_asks(rt: HostRuntime) -> Result<(), Fail> {
     let client = refuses(client, Command::Close { file: FILE }, Refusal::Busy)?;
     answers(alloc, Answer::Bytes(bytes(alloc, b"abc")?, true))
         .notes(Note::CachedRead(FILE, bytes(alloc, b"abc")?))?
-        .of(client.app(read())?)?;
+        .app(client, read())?;
     Ok(())
 }
 
@@ -58,11 +59,11 @@ fn is_granted_more(rt: HostRuntime) -> Result<(), Fail> {
     let client = answers(alloc, Answer::Done)
         .sends(Request::Close { fid: FileId(1) })?
         .notes(believes(7))?
-        .of(asking(alloc)?.take(created(alloc, 2, 7)?)?)?;
+        .take(asking(alloc)?, created(alloc, 2, 7)?)?;
     let client = after(client, write(alloc, 0, b"X")?)?;
     answers(alloc, Answer::Bytes(bytes(alloc, b"Xbc")?, true))
         .notes(Note::CachedRead(FILE, bytes(alloc, b"Xbc")?))?
-        .of(client.app(read())?)?;
+        .app(client, read())?;
     Ok(())
 }
 
@@ -71,7 +72,7 @@ fn is_granted_nothing_in_a_break(rt: HostRuntime) -> Result<(), Fail> {
     let alloc = rt.alloc();
     let client = answers(alloc, Answer::Done)
         .sends(Request::Close { fid: FileId(1) })?
-        .of(asking(alloc)?.take(created_in_break(alloc, 2, 7)?)?)?;
+        .take(asking(alloc)?, created_in_break(alloc, 2, 7)?)?;
     assert_eq!(rt; client.belief(FILE), LeaseState::READ_CACHING);
     Ok(())
 }
@@ -88,10 +89,10 @@ fn is_told_file_closed(rt: HostRuntime) -> Result<(), Fail> {
         .notes(Note::Settled(1, Settlement::Failed))?
         .notes(Note::Settled(2, Settlement::Failed))?
         .notes(believes(0))?
-        .of(client.take(write_failed(1, 1, Status::FileClosed))?)?;
+        .take(client, write_failed(1, 1, Status::FileClosed))?;
     answers(alloc, Answer::Done)
         .notes(believes(3))?
-        .of(client.take(created(alloc, 2, 3)?)?)?;
+        .take(client, created(alloc, 2, 3)?)?;
     Ok(())
 }
 
@@ -100,8 +101,8 @@ fn forgets_at_a_notice_that_it_asked(rt: HostRuntime) -> Result<(), Fail> {
     let alloc = rt.alloc();
     let client = answers(alloc, Answer::Quiet)
         .notes(believes(0))?
-        .of(asking(alloc)?.notice()?)?;
-    answers(alloc, Answer::Quiet).of(client.take(created(alloc, 2, 7)?)?)?;
+        .notice(asking(alloc)?)?;
+    answers(alloc, Answer::Quiet).take(client, created(alloc, 2, 7)?)?;
     Ok(())
 }
 
@@ -115,6 +116,6 @@ fn opens_a_parked_file_anew(rt: HostRuntime) -> Result<(), Fail> {
         .sends(Request::Close { fid: FileId(1) })?
         .sends(create(Access::Read, Share::Read, contexts))?
         .notes(believes(0))?
-        .of(client.app(open(1, Access::Read, Share::Read, 1, false))?)?;
+        .app(client, open(1, Access::Read, Share::Read, 1, false))?;
     Ok(())
 }

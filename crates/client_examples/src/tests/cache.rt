@@ -13,10 +13,10 @@ fn opens_a_file(rt: HostRuntime) -> Result<(), Fail> {
     let request = create(Access::ReadWrite, Share::ReadWrite, asked(alloc, 7)?);
     let client = answers(alloc, Answer::Waiting)
         .sends(request)?
-        .of(connected(alloc)?.app(open_all(7, false))?)?;
+        .app(connected(alloc)?, open_all(7, false))?;
     let client = answers(alloc, Answer::Done)
         .notes(believes(7))?
-        .of(client.take(created(alloc, 1, 7)?)?)?;
+        .take(client, created(alloc, 1, 7)?)?;
     assert_eq!(rt; client.belief(FILE), LeaseState::from_wire(7));
     Ok(())
 }
@@ -26,10 +26,10 @@ fn buffers_writes(rt: HostRuntime) -> Result<(), Fail> {
     let alloc = rt.alloc();
     let client = answers(alloc, Answer::Done)
         .notes(Note::Wrote(FILE, 1, patch(alloc, 0, b"X")?, true))?
-        .of(opened(alloc, 7)?.app(write(alloc, 0, b"X")?)?)?;
+        .app(opened(alloc, 7)?, write(alloc, 0, b"X")?)?;
     answers(alloc, Answer::Done)
         .notes(Note::Wrote(FILE, 2, patch(alloc, 4, b"Y")?, true))?
-        .of(client.app(write(alloc, 4, b"Y")?)?)?;
+        .app(client, write(alloc, 4, b"Y")?)?;
     Ok(())
 }
 
@@ -40,13 +40,14 @@ fn reads_its_own_writes(rt: HostRuntime) -> Result<(), Fail> {
     let client = after(client, write(alloc, 4, b"Y")?)?;
     let client = answers(alloc, Answer::Waiting)
         .sends(read_request(1))?
-        .of(client.app(read())?)?;
-    let client = answers(alloc, Answer::Bytes(bytes(alloc, b"Xbc\0Y")?, false)).of(client.take(
+        .app(client, read())?;
+    let client = answers(alloc, Answer::Bytes(bytes(alloc, b"Xbc\0Y")?, false)).take(
+        client,
         read_done(alloc, 1, b"abc")?,
-    )?)?;
+    )?;
     answers(alloc, Answer::Bytes(bytes(alloc, b"Xbc\0Y")?, true))
         .notes(Note::CachedRead(FILE, bytes(alloc, b"Xbc\0Y")?))?
-        .of(client.app(read())?)?;
+        .app(client, read())?;
     Ok(())
 }
 
@@ -60,11 +61,11 @@ fn flushes_before_it_acknowledges(rt: HostRuntime) -> Result<(), Fail> {
         .sends(write_request(alloc, 1, 2, 4, b"Y")?)?
         .sends(ack(3))?
         .notes(believes(3))?
-        .of(client.take(break_to(7, 3, 1))?)?;
+        .take(client, break_to(7, 3, 1))?;
     let client = answers(alloc, Answer::Quiet)
         .notes(Note::Settled(1, Settlement::Done))?
-        .of(client.take(write_done(1, 1))?)?;
-    answers(alloc, Answer::Quiet).of(client.take(write_done(1, 1))?)?;
+        .take(client, write_done(1, 1))?;
+    answers(alloc, Answer::Quiet).take(client, write_done(1, 1))?;
     Ok(())
 }
 
@@ -76,11 +77,11 @@ fn a_done_write_stays_in_the_base(rt: HostRuntime) -> Result<(), Fail> {
     let client = answers(alloc, Answer::Waiting)
         .sends(write_request(alloc, 1, 1, 1, b"Y")?)?
         .notes(Note::Wrote(FILE, 1, patch(alloc, 1, b"Y")?, false))?
-        .of(client.app(write(alloc, 1, b"Y")?)?)?;
+        .app(client, write(alloc, 1, b"Y")?)?;
     let client = told(client, write_done(1, 1))?;
     answers(alloc, Answer::Bytes(bytes(alloc, b"aYc")?, true))
         .notes(Note::CachedRead(FILE, bytes(alloc, b"aYc")?))?
-        .of(client.app(read())?)?;
+        .app(client, read())?;
     Ok(())
 }
 
@@ -92,10 +93,10 @@ fn a_break_of_reads_drops_the_cache(rt: HostRuntime) -> Result<(), Fail> {
     let client = told(client, read_done(alloc, 1, b"abc")?)?;
     let client = answers(alloc, Answer::Quiet)
         .notes(believes(0))?
-        .of(client.take(break_to(1, 0, 0))?)?;
+        .take(client, break_to(1, 0, 0))?;
     answers(alloc, Answer::Waiting)
         .sends(read_request(1))?
-        .of(client.app(read())?)?;
+        .app(client, read())?;
     Ok(())
 }
 
@@ -105,14 +106,14 @@ fn a_break_of_reads_drops_the_cache(rt: HostRuntime) -> Result<(), Fail> {
 fn a_break_of_handles_closes_a_parked_entry(rt: HostRuntime) -> Result<(), Fail> {
     let alloc = rt.alloc();
     let client = after(opened(alloc, 7)?, write(alloc, 0, b"X")?)?;
-    let client = answers(alloc, Answer::Done).of(client.app(Command::Close { file: FILE })?)?;
-    let client = answers(alloc, Answer::Refused(Refusal::NotOpen)).of(client.app(read())?)?;
+    let client = answers(alloc, Answer::Done).app(client, Command::Close { file: FILE })?;
+    let client = answers(alloc, Answer::Refused(Refusal::NotOpen)).app(client, read())?;
     let client = answers(alloc, Answer::Quiet)
         .sends(write_request(alloc, 1, 1, 0, b"X")?)?
         .sends(Request::Close { fid: FileId(1) })?
         .notes(believes(0))?
-        .of(client.take(break_to(7, 5, 1))?)?;
-    answers(alloc, Answer::Quiet).of(client.take(break_to(7, 5, 1))?)?;
+        .take(client, break_to(7, 5, 1))?;
+    answers(alloc, Answer::Quiet).take(client, break_to(7, 5, 1))?;
     Ok(())
 }
 
@@ -121,11 +122,11 @@ fn the_last_close_sends_what_is_unsent(rt: HostRuntime) -> Result<(), Fail> {
     let alloc = rt.alloc();
     let client = after(opened(alloc, 5)?, open_all(7, false))?;
     let client = after(client, write(alloc, 0, b"X")?)?;
-    let client = answers(alloc, Answer::Done).of(client.app(Command::Close { file: FILE })?)?;
+    let client = answers(alloc, Answer::Done).app(client, Command::Close { file: FILE })?;
     answers(alloc, Answer::Done)
         .sends(write_request(alloc, 1, 1, 0, b"X")?)?
         .sends(Request::Close { fid: FileId(1) })?
         .notes(believes(0))?
-        .of(client.app(Command::Close { file: FILE })?)?;
+        .app(client, Command::Close { file: FILE })?;
     Ok(())
 }

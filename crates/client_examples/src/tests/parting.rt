@@ -24,7 +24,7 @@ fn asks_for_a_durable_open(rt: HostRuntime) -> Result<(), Fail> {
     let contexts = asked_durable(alloc, 7)?;
     answers(alloc, Answer::Waiting)
         .sends(create(Access::ReadWrite, Share::ReadWrite, contexts))?
-        .of(connected(alloc)?.app(open_all(7, true))?)?;
+        .app(connected(alloc)?, open_all(7, true))?;
     Ok(())
 }
 
@@ -34,12 +34,12 @@ fn keeps_buffered_writes_over_a_lost_connection(rt: HostRuntime) -> Result<(), F
     let client = after(opened_durable(alloc, 7)?, write(alloc, 0, b"X")?)?;
     let client = answers(alloc, Answer::Quiet)
         .notes(believes(0))?
-        .of(client.notice()?)?;
+        .notice(client)?;
     let client = refuses(client, open_all(7, false), Refusal::Offline)?;
     let contexts = asked_again(alloc, 1)?;
     let client = answers(alloc, Answer::Quiet)
         .sends(create(Access::ReadWrite, Share::ReadWrite, contexts))?
-        .of(client.connect()?)?;
+        .connect(client)?;
     refuses(client, open_all(7, false), Refusal::Busy)?;
     Ok(())
 }
@@ -49,11 +49,11 @@ fn sends_kept_writes_again(rt: HostRuntime) -> Result<(), Fail> {
     let alloc = rt.alloc();
     let client = answers(alloc, Answer::Done)
         .notes(believes(7))?
-        .of(reconnecting(alloc)?.take(created(alloc, 1, 7)?)?)?;
+        .take(reconnecting(alloc)?, created(alloc, 1, 7)?)?;
     answers(alloc, Answer::Waiting)
         .sends(write_request(alloc, 1, 1, 0, b"X")?)?
         .sends(write_request(alloc, 1, 2, 1, b"Y")?)?
-        .of(client.app(Command::Flush { file: FILE })?)?;
+        .app(client, Command::Flush { file: FILE })?;
     Ok(())
 }
 
@@ -64,12 +64,15 @@ fn gives_kept_writes_up(rt: HostRuntime) -> Result<(), Fail> {
     answers(alloc, Answer::Failed(Status::ObjectNameNotFound))
         .notes(Note::Settled(1, Settlement::Lost))?
         .notes(Note::Settled(2, Settlement::Lost))?
-        .of(reconnecting(alloc)?.take(create_failed(Status::ObjectNameNotFound))?)?;
+        .take(
+            reconnecting(alloc)?,
+            create_failed(Status::ObjectNameNotFound),
+        )?;
     answers(alloc, Answer::Done)
         .notes(Note::Settled(1, Settlement::Lost))?
         .notes(Note::Settled(2, Settlement::Lost))?
         .notes(believes(3))?
-        .of(reconnecting(alloc)?.take(created(alloc, 1, 3)?)?)?;
+        .take(reconnecting(alloc)?, created(alloc, 1, 3)?)?;
     Ok(())
 }
 
@@ -85,7 +88,7 @@ fn is_answered_without_a_lease(rt: HostRuntime) -> Result<(), Fail> {
     answers(alloc, Answer::Done)
         .notes(Note::Settled(1, Settlement::Lost))?
         .notes(Note::Settled(2, Settlement::Lost))?
-        .of(reconnecting(alloc)?.take(reply)?)?;
+        .take(reconnecting(alloc)?, reply)?;
     Ok(())
 }
 
@@ -97,7 +100,7 @@ fn keeps_no_write_under_reads(rt: HostRuntime) -> Result<(), Fail> {
     answers(alloc, Answer::Quiet)
         .notes(Note::Settled(1, Settlement::Unknown))?
         .notes(believes(0))?
-        .of(client.notice()?)?;
+        .notice(client)?;
     Ok(())
 }
 
@@ -111,7 +114,7 @@ fn keeps_no_base(rt: HostRuntime) -> Result<(), Fail> {
     let client = told(client, created(alloc, 1, 3)?)?;
     answers(alloc, Answer::Waiting)
         .sends(read_request(1))?
-        .of(client.app(read())?)?;
+        .app(client, read())?;
     Ok(())
 }
 
@@ -122,7 +125,7 @@ fn an_open_that_is_not_durable_ends(rt: HostRuntime) -> Result<(), Fail> {
     let client = answers(alloc, Answer::Quiet)
         .notes(Note::Settled(1, Settlement::Unknown))?
         .notes(believes(0))?
-        .of(client.notice()?)?;
-    answers(alloc, Answer::Quiet).of(client.connect()?)?;
+        .notice(client)?;
+    answers(alloc, Answer::Quiet).connect(client)?;
     Ok(())
 }

@@ -46,7 +46,7 @@ fn the_last_handle_waits_for_answers(rt: HostRuntime) -> Result<(), Fail> {
 fn a_break_in_progress_grants_nothing(rt: HostRuntime) -> Result<(), Fail> {
     let alloc = rt.alloc();
     let client = after(connected(alloc)?, open_all(7, false))?;
-    let client = answers(alloc, Answer::Done).of(client.take(created_in_break(alloc, 1, 7)?)?)?;
+    let client = answers(alloc, Answer::Done).take(client, created_in_break(alloc, 1, 7)?)?;
     assert_eq!(rt; client.belief(FILE), LeaseState::NONE);
     Ok(())
 }
@@ -55,9 +55,10 @@ fn a_break_in_progress_grants_nothing(rt: HostRuntime) -> Result<(), Fail> {
 fn a_refused_create_closes_the_entry(rt: HostRuntime) -> Result<(), Fail> {
     let alloc = rt.alloc();
     let client = after(connected(alloc)?, open_all(7, false))?;
-    let client = answers(alloc, Answer::Failed(Status::SharingViolation)).of(client.take(
+    let client = answers(alloc, Answer::Failed(Status::SharingViolation)).take(
+        client,
         create_failed(Status::SharingViolation),
-    )?)?;
+    )?;
     refuses(client, Command::Close { file: FILE }, Refusal::NotOpen)?;
     Ok(())
 }
@@ -69,13 +70,13 @@ fn file_closed_fails_every_write(rt: HostRuntime) -> Result<(), Fail> {
     let client = after(opened(alloc, 7)?, write(alloc, 0, b"X")?)?;
     let client = answers(alloc, Answer::Waiting)
         .sends(write_request(alloc, 1, 1, 0, b"X")?)?
-        .of(client.app(Command::Flush { file: FILE })?)?;
+        .app(client, Command::Flush { file: FILE })?;
     let client = after(client, write(alloc, 1, b"Y")?)?;
     let client = answers(alloc, Answer::Failed(Status::FileClosed))
         .notes(Note::Settled(1, Settlement::Failed))?
         .notes(Note::Settled(2, Settlement::Failed))?
         .notes(believes(0))?
-        .of(client.take(write_failed(1, 1, Status::FileClosed))?)?;
+        .take(client, write_failed(1, 1, Status::FileClosed))?;
     refuses(client, Command::Flush { file: FILE }, Refusal::NotOpen)?;
     Ok(())
 }
@@ -88,7 +89,7 @@ fn a_failed_write_leaves_the_open(rt: HostRuntime) -> Result<(), Fail> {
         let client = after(opened(alloc, 1)?, write(alloc, 0, b"X")?)?;
         let client = answers(alloc, Answer::Failed(status))
             .notes(Note::Settled(1, Settlement::Failed))?
-            .of(client.take(write_failed(fid, 1, status))?)?;
+            .take(client, write_failed(fid, 1, status))?;
         assert_eq!(rt; client.belief(FILE), LeaseState::READ_CACHING);
     }
     Ok(())
@@ -102,8 +103,8 @@ fn a_failed_read_is_answered_once(rt: HostRuntime) -> Result<(), Fail> {
         fid: FileId(1),
         status: Status::AccessDenied,
     };
-    let client = answers(alloc, Answer::Failed(Status::AccessDenied)).of(client.take(failed)?)?;
-    answers(alloc, Answer::Quiet).of(client.take(read_done(alloc, 1, b"abc")?)?)?;
+    let client = answers(alloc, Answer::Failed(Status::AccessDenied)).take(client, failed)?;
+    answers(alloc, Answer::Quiet).take(client, read_done(alloc, 1, b"abc")?)?;
     Ok(())
 }
 
@@ -124,7 +125,7 @@ fn passes_over_what_fits_nothing(rt: HostRuntime) -> Result<(), Fail> {
     strange.push(Reply::Closed { fid: FileId(1) })?;
     strange.push(Reply::AckDone([0; 36]))?;
     for reply in strange {
-        let client = answers(alloc, Answer::Quiet).of(opened(alloc, 7)?.take(reply)?)?;
+        let client = answers(alloc, Answer::Quiet).take(opened(alloc, 7)?, reply)?;
         assert_eq!(rt; client.belief(FILE), LeaseState::from_wire(7));
     }
     Ok(())
@@ -133,9 +134,9 @@ fn passes_over_what_fits_nothing(rt: HostRuntime) -> Result<(), Fail> {
 #[test]
 fn hears_a_break_only_while_it_is_live(rt: HostRuntime) -> Result<(), Fail> {
     let alloc = rt.alloc();
-    answers(alloc, Answer::Quiet).of(connected(alloc)?.take(break_to(7, 3, 1))?)?;
+    answers(alloc, Answer::Quiet).take(connected(alloc)?, break_to(7, 3, 1))?;
     let opening = after(connected(alloc)?, open_all(7, false))?;
-    answers(alloc, Answer::Quiet).of(opening.take(break_to(7, 3, 1))?)?;
+    answers(alloc, Answer::Quiet).take(opening, break_to(7, 3, 1))?;
     Ok(())
 }
 
@@ -146,7 +147,7 @@ fn a_break_leaves_what_both_have(rt: HostRuntime) -> Result<(), Fail> {
     answers(alloc, Answer::Quiet)
         .sends(ack(1))?
         .notes(believes(1))?
-        .of(opened(alloc, 3)?.take(break_to(7, 5, 1))?)?;
+        .take(opened(alloc, 3)?, break_to(7, 5, 1))?;
     Ok(())
 }
 
@@ -154,8 +155,8 @@ fn a_break_leaves_what_both_have(rt: HostRuntime) -> Result<(), Fail> {
 #[test]
 fn opens_one_file_twice(rt: HostRuntime) -> Result<(), Fail> {
     let alloc = rt.alloc();
-    let client = answers(alloc, Answer::Done).of(opened(alloc, 3)?.app(open_all(0, true))?)?;
-    let client = answers(alloc, Answer::Done).of(client.app(Command::Close { file: FILE })?)?;
+    let client = answers(alloc, Answer::Done).app(opened(alloc, 3)?, open_all(0, true))?;
+    let client = answers(alloc, Answer::Done).app(client, Command::Close { file: FILE })?;
     let client = told(client, created(alloc, 9, 7)?)?;
     assert_eq!(rt; client.belief(FILE), LeaseState::from_wire(3));
     Ok(())

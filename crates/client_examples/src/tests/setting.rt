@@ -218,8 +218,25 @@ impl Expected {
         Ok(expected)
     }
 
-    // The client after the step, which has to be as expected.
-    pub fn of(self, step: Step) -> Result<Client, Fail> {
+    // The client after a command, of which the step has to be as expected.
+    pub fn app(self, client: Client, command: Command) -> Result<Client, Fail> {
+        self.of(client.app(command)?)
+    }
+
+    // The client after a message of the server.
+    pub fn take(self, client: Client, reply: Reply) -> Result<Client, Fail> {
+        self.of(client.take(reply)?)
+    }
+
+    pub fn notice(self, client: Client) -> Result<Client, Fail> {
+        self.of(client.notice()?)
+    }
+
+    pub fn connect(self, client: Client) -> Result<Client, Fail> {
+        self.of(client.connect()?)
+    }
+
+    fn of(self, step: Step) -> Result<Client, Fail> {
         let Step {
             client,
             answer,
