@@ -12,7 +12,8 @@ abbrev pub all_above : ℕ → List ℕ → Bool
 all_above low [] = true
 all_above low (byte ∷ bytes) = nat_lt low byte && all_above low bytes
 
-pub above-append : (low : ℕ) (one two : List ℕ) → all_above low one ≡ true → all_above low two ≡ true → all_above low (one ++ two) ≡ true
+pub above-append : (low : ℕ) (one two : List ℕ) → all_above low one ≡ true → all_above low two ≡ true
+    → all_above low (one ++ two) ≡ true
 above-append low [] two first second = second
 above-append low (byte ∷ one) two first second =
     let parts = and_parts (nat_lt low byte) (all_above low one) first in

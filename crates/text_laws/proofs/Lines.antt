@@ -4,6 +4,7 @@ use Rattle.std.specs.Prelude.{codes}
 use Rattle.std.specs.Fmt.{decimal}
 use Rattle.std.proofs.lemmas.Bool.{and_parts}
 use Rattle.std.proofs.lemmas.List.{append_assoc}
+use Rattle.hex.specs.Hex.{IsBytes}
 use Rattle.lease_state.specs.State.{state_of}
 use Rattle.lease_state.specs.declared.number.FileNo.{FileNo}
 use Rattle.lease_state.specs.declared.number.ClientNo.{ClientNo}
@@ -67,46 +68,70 @@ reads_words : (kind : List ℕ) (words : List (List ℕ)) (read : Fact) → all_
 unfolding fact_in
 reads_words kind words read first others says = rw (fields_joined kind words first others) says
 
-is_line : (text line rest : List ℕ) → text ≡ line ++ 10 ∷ [] → all_above 10 line ≡ true → lines_of (text ++ rest) ≡ line ∷ lines_of rest
+is_line : (text line rest : List ℕ) → text ≡ line ++ 10 ∷ [] → all_above 10 line ≡ true
+    → lines_of (text ++ rest) ≡ line ∷ lines_of rest
 is_line text line rest written above =
     ap (λ (whole : List ℕ). lines_of (whole ++ rest)) written
     ∙ ap (λ (whole : List ℕ). lines_of whole) (append_assoc line (10 ∷ []) rest)
     ∙ piece_first 10 [] line rest above
 
-of_words : (told read : Fact) (kind : List ℕ) (words : List (List ℕ)) → all_above 32 kind ≡ true → are_words words ≡ true
-    → fact_line told ≡ ended kind words → is_passed_over (joined kind words) ≡ false
-    → whole (fact_named kind words) ≡ Some read → IsReadAs told read
-of_words told read kind words first others written counts says = record {
-  line = joined kind words;
-  written = written ∙ joined_ended kind words;
-  counts = counts;
-  is_line = λ rest. is_line (fact_line told) (joined kind words) rest (written ∙ joined_ended kind words)
-      (joined_above kind words first others);
-  says = reads_words kind words read first others says;
-}
+-- a word that is written
+abbrev Word : Type 0
+Word = (word : List ℕ) × (all_above 32 word ≡ true)
 
-one_word : (word : List ℕ) → all_above 32 word ≡ true → are_words (word ∷ []) ≡ true
+abbrev texts : List Word → List (List ℕ)
+texts [] = []
+texts (word ∷ words) = word.0 ∷ texts words
+
+texts_are_words : (words : List Word) → are_words (texts words) ≡ true
 unfolding are_words
-one_word word above = rw above refl
+texts_are_words [] = refl
+texts_are_words (word ∷ words) = rw (word.1, texts_are_words words) refl
 
-more_words : (word : List ℕ) (words : List (List ℕ)) → all_above 32 word ≡ true → are_words words ≡ true
-    → are_words (word ∷ words) ≡ true
-unfolding are_words
-more_words word words above others = rw (above, others) refl
+of_words : {told read : Fact} (kind : List ℕ) (words : List Word) → all_above 32 kind ≡ true
+    → fact_line told ≡ ended kind (texts words) → is_passed_over (joined kind (texts words)) ≡ false
+    → whole (fact_named kind (texts words)) ≡ Some read → IsReadAs told read
+of_words {told} {read} kind words first written counts says =
+    let others = texts_are_words words in record {
+      line = joined kind (texts words);
+      written = written ∙ joined_ended kind (texts words);
+      counts = counts;
+      is_line = λ rest. is_line (fact_line told) (joined kind (texts words)) rest (written ∙ joined_ended kind (texts words))
+          (joined_above kind (texts words) first others);
+      says = reads_words kind (texts words) read first others says;
+    }
 
-offset_small : (offset : ℕ) → offset < 2 ^ 32 → offset < 2 ^ 64
-offset_small offset small = omega (arith, small)
+-- ---- words
 
-ordinal_above : (number : ℕ) → IsOrdinal number → all_above 32 (decimal number) ≡ true
-ordinal_above number is = let small = is.1 in decimal_above number (omega (arith, small))
+abbrev number_word : (number : ℕ) → number < 2 ^ 64 → Word
+number_word number small = (decimal number, decimal_above number small)
+
+abbrev ordinal_word : (number : ℕ) → IsOrdinal number → Word
+ordinal_word number is = (decimal number, decimal_above number (small is.1))
+  where
+    small : number < 256 → number < 2 ^ 64
+    small below = omega (arith, below)
+
+abbrev offset_word : (offset : ℕ) → offset < 2 ^ 32 → Word
+offset_word offset small = (decimal offset, decimal_above offset (wide small))
+  where
+    wide : offset < 2 ^ 32 → offset < 2 ^ 64
+    wide below = omega (arith, below)
+
+abbrev bytes_word : (bytes : List ℕ) → IsBytes bytes → Word
+bytes_word bytes are = (digits_word bytes, digits_above bytes are)
 
 -- ---- facts
+
+abbrev ReadsBack : Fact → Type 0
+ReadsBack told = CanBeNamed told → IsReadAs told (as_lettered told)
 
 -- a word behind a space
 spaced : (front word rest : List ℕ) → (front ++ codes " " ++ word) ++ rest ≡ front ++ 32 ∷ (word ++ rest)
 spaced front word rest = append_assoc (front ++ codes " ") word rest ∙ append_assoc front (codes " ") (word ++ rest)
 
-changed_words : (a b c d e : List ℕ) → codes "changed " ++ a ++ codes " " ++ b ++ codes " " ++ c ++ codes " " ++ (d ++ codes " " ++ e) ++ 10 ∷ []
+changed_words : (a b c d e : List ℕ)
+    → codes "changed " ++ a ++ codes " " ++ b ++ codes " " ++ c ++ codes " " ++ (d ++ codes " " ++ e) ++ 10 ∷ []
     ≡ ended (codes "changed") (a ∷ b ∷ c ∷ d ∷ e ∷ [])
 unfolding ended
 changed_words a b c d e =
@@ -120,130 +145,138 @@ wrote_words : (a b c d e f : List ℕ)
     ≡ ended (codes "wrote") (a ∷ b ∷ c ∷ d ∷ e ∷ f ∷ [])
 unfolding ended
 wrote_words a b c d e f =
-    append_assoc (codes "wrote " ++ a ++ codes " " ++ b ++ codes " " ++ c ++ codes " " ++ (d ++ codes " " ++ e)) (32 ∷ f) (10 ∷ [])
+    append_assoc (codes "wrote " ++ a ++ codes " " ++ b ++ codes " " ++ c ++ codes " " ++ (d ++ codes " " ++ e)) (32 ∷ f)
+    (10 ∷ [])
     ∙ spaced (codes "wrote " ++ a ++ codes " " ++ b ++ codes " " ++ c) (d ++ codes " " ++ e) (32 ∷ (f ++ 10 ∷ []))
     ∙ spaced (codes "wrote " ++ a ++ codes " " ++ b) c (32 ∷ ((d ++ codes " " ++ e) ++ 32 ∷ (f ++ 10 ∷ [])))
     ∙ spaced (codes "wrote " ++ a) b (32 ∷ (c ++ 32 ∷ ((d ++ codes " " ++ e) ++ 32 ∷ (f ++ 10 ∷ []))))
     ∙ ap (λ (rest : List ℕ). codes "wrote " ++ (a ++ 32 ∷ (b ++ 32 ∷ (c ++ 32 ∷ rest)))) (spaced d e (32 ∷ (f ++ 10 ∷ [])))
 
-start_back : (file : FileNo) (bytes : List ℕ) → CanBeNamed (fact.Start file bytes) → IsReadAs (fact.Start file bytes) (fact.Start file bytes)
+start_back : (file : FileNo) (bytes : List ℕ) → ReadsBack (fact.Start file bytes)
 unfolding fact_named joined ended start_in
-start_back file bytes can = of_words (fact.Start file bytes) (fact.Start file bytes) (codes "start") (decimal file.0 ∷ digits_word bytes ∷ []) refl
-    (more_words (decimal file.0) (digits_word bytes ∷ []) (ordinal_above file.0 can.0)
-    (one_word (digits_word bytes) (digits_above bytes can.1)))
+start_back file bytes can = of_words (codes "start")
+    (ordinal_word file.0 can.0 ∷ bytes_word bytes can.1 ∷ []) refl
     (simp (append_assoc) refl) refl
     (rw (ordinal_back file.0 can.0.0 can.0.1, content_back bytes can.1 can.2) refl)
 
-joined_back : (client : ClientNo) → CanBeNamed (fact.Joined client) → IsReadAs (fact.Joined client) (fact.Joined client)
+joined_back : (client : ClientNo) → ReadsBack (fact.Joined client)
 unfolding fact_named joined ended
-joined_back client can = of_words (fact.Joined client) (fact.Joined client) (codes "joined") (decimal client.0 ∷ []) refl
-    (one_word (decimal client.0) (ordinal_above client.0 can))
+joined_back client can = of_words (codes "joined")
+    (ordinal_word client.0 can ∷ []) refl
     (simp (append_assoc) refl) refl
     (rw (ordinal_back client.0 can.0 can.1) refl)
 
-dropped_back : (client : ClientNo) → CanBeNamed (fact.Dropped client) → IsReadAs (fact.Dropped client) (fact.Dropped client)
+dropped_back : (client : ClientNo) → ReadsBack (fact.Dropped client)
 unfolding fact_named joined ended
-dropped_back client can = of_words (fact.Dropped client) (fact.Dropped client) (codes "dropped") (decimal client.0 ∷ []) refl
-    (one_word (decimal client.0) (ordinal_above client.0 can))
+dropped_back client can = of_words (codes "dropped")
+    (ordinal_word client.0 can ∷ []) refl
     (simp (append_assoc) refl) refl
     (rw (ordinal_back client.0 can.0 can.1) refl)
 
-sent_back : (client : ClientNo) → CanBeNamed (fact.Sent client) → IsReadAs (fact.Sent client) (fact.Sent client)
+sent_back : (client : ClientNo) → ReadsBack (fact.Sent client)
 unfolding fact_named joined ended
-sent_back client can = of_words (fact.Sent client) (fact.Sent client) (codes "sent") (decimal client.0 ∷ []) refl
-    (one_word (decimal client.0) (ordinal_above client.0 can))
+sent_back client can = of_words (codes "sent")
+    (ordinal_word client.0 can ∷ []) refl
     (simp (append_assoc) refl) refl
     (rw (ordinal_back client.0 can.0 can.1) refl)
 
-took_back : (client : ClientNo) → CanBeNamed (fact.Took client) → IsReadAs (fact.Took client) (fact.Took client)
+took_back : (client : ClientNo) → ReadsBack (fact.Took client)
 unfolding fact_named joined ended
-took_back client can = of_words (fact.Took client) (fact.Took client) (codes "took") (decimal client.0 ∷ []) refl
-    (one_word (decimal client.0) (ordinal_above client.0 can))
+took_back client can = of_words (codes "took")
+    (ordinal_word client.0 can ∷ []) refl
     (simp (append_assoc) refl) refl
     (rw (ordinal_back client.0 can.0 can.1) refl)
 
-strayed_back : (client : ClientNo) → CanBeNamed (fact.Strayed client) → IsReadAs (fact.Strayed client) (fact.Strayed client)
+strayed_back : (client : ClientNo) → ReadsBack (fact.Strayed client)
 unfolding fact_named joined ended
-strayed_back client can = of_words (fact.Strayed client) (fact.Strayed client) (codes "strayed") (decimal client.0 ∷ []) refl
-    (one_word (decimal client.0) (ordinal_above client.0 can))
+strayed_back client can = of_words (codes "strayed")
+    (ordinal_word client.0 can ∷ []) refl
     (simp (append_assoc) refl) refl
     (rw (ordinal_back client.0 can.0 can.1) refl)
 
-expired_back : (client : ClientNo) (file : FileNo) → CanBeNamed (fact.Expired client file) → IsReadAs (fact.Expired client file) (fact.Expired client file)
+expired_back : (client : ClientNo) (file : FileNo) → ReadsBack (fact.Expired client file)
 unfolding fact_named joined ended
-expired_back client file can = of_words (fact.Expired client file) (fact.Expired client file) (codes "expired") (decimal client.0 ∷ decimal file.0 ∷ []) refl
-    (more_words (decimal client.0) (decimal file.0 ∷ []) (ordinal_above client.0 can.0)
-    (one_word (decimal file.0) (ordinal_above file.0 can.1)))
+expired_back client file can = of_words (codes "expired")
+    (ordinal_word client.0 can.0 ∷ ordinal_word file.0 can.1 ∷ []) refl
     (simp (append_assoc) refl) refl
     (rw (ordinal_back client.0 can.0.0 can.0.1, ordinal_back file.0 can.1.0 can.1.1) refl)
 
-opened_back : (file : FileNo) (client : ClientNo) → CanBeNamed (fact.Opened file client) → IsReadAs (fact.Opened file client) (fact.Opened file client)
+opened_back : (file : FileNo) (client : ClientNo) → ReadsBack (fact.Opened file client)
 unfolding fact_named joined ended
-opened_back file client can = of_words (fact.Opened file client) (fact.Opened file client) (codes "opened") (decimal file.0 ∷ decimal client.0 ∷ []) refl
-    (more_words (decimal file.0) (decimal client.0 ∷ []) (ordinal_above file.0 can.0)
-    (one_word (decimal client.0) (ordinal_above client.0 can.1)))
+opened_back file client can = of_words (codes "opened")
+    (ordinal_word file.0 can.0 ∷ ordinal_word client.0 can.1 ∷ []) refl
     (simp (append_assoc) refl) refl
     (rw (ordinal_back file.0 can.0.0 can.0.1, ordinal_back client.0 can.1.0 can.1.1) refl)
 
-changed_back : (file : FileNo) (client : ClientNo) (number : ℕ) (patch : Patch) → CanBeNamed (fact.Changed file client number patch) → IsReadAs (fact.Changed file client number patch) (fact.Changed file client number patch)
+changed_back : (file : FileNo) (client : ClientNo) (number : ℕ) (patch : Patch)
+    → ReadsBack (fact.Changed file client number patch)
 unfolding fact_named joined ended changed_in
-changed_back file client number patch can = of_words (fact.Changed file client number patch) (fact.Changed file client number patch) (codes "changed") (decimal file.0 ∷ decimal client.0 ∷ decimal number ∷ decimal patch.offset ∷ digits_word patch.bytes ∷ []) refl
-    (more_words (decimal file.0) (decimal client.0 ∷ decimal number ∷ decimal patch.offset ∷ digits_word patch.bytes ∷ []) (ordinal_above file.0 can.0)
-    (more_words (decimal client.0) (decimal number ∷ decimal patch.offset ∷ digits_word patch.bytes ∷ []) (ordinal_above client.0 can.1)
-    (more_words (decimal number) (decimal patch.offset ∷ digits_word patch.bytes ∷ []) (decimal_above number can.2)
-    (more_words (decimal patch.offset) (digits_word patch.bytes ∷ []) (decimal_above patch.offset (offset_small patch.offset can.3.0))
-    (one_word (digits_word patch.bytes) (digits_above patch.bytes can.3.1))))))
-    (changed_words (decimal file.0) (decimal client.0) (decimal number) (decimal patch.offset) (digits_word patch.bytes)) refl
-    (rw (ordinal_back file.0 can.0.0 can.0.1, ordinal_back client.0 can.1.0 can.1.1, number_back number can.2, offset_back patch.offset can.3.0, bytes_back patch.bytes can.3.1) refl)
+changed_back file client number patch can = of_words (codes "changed")
+    (ordinal_word file.0 can.0 ∷ ordinal_word client.0 can.1 ∷ number_word number can.2
+    ∷ offset_word patch.offset can.3.0 ∷ bytes_word patch.bytes can.3.1 ∷ []) refl
+    (changed_words (decimal file.0) (decimal client.0) (decimal number) (decimal patch.offset) (digits_word patch.bytes))
+    refl
+    (rw (
+      ordinal_back file.0 can.0.0 can.0.1,
+      ordinal_back client.0 can.1.0 can.1.1,
+      number_back number can.2,
+      offset_back patch.offset can.3.0,
+      bytes_back patch.bytes can.3.1,
+    ) refl)
 
-wrote_buffered_back : (client : ClientNo) (file : FileNo) (number : ℕ) (patch : Patch) → CanBeNamed (fact.Wrote client file number patch true) → IsReadAs (fact.Wrote client file number patch true) (fact.Wrote client file number patch true)
+wrote_buffered_back : (client : ClientNo) (file : FileNo) (number : ℕ) (patch : Patch)
+    → ReadsBack (fact.Wrote client file number patch true)
 unfolding fact_named joined ended wrote_in
-wrote_buffered_back client file number patch can = of_words (fact.Wrote client file number patch true) (fact.Wrote client file number patch true) (codes "wrote") (decimal client.0 ∷ decimal file.0 ∷ decimal number ∷ decimal patch.offset ∷ digits_word patch.bytes ∷ codes "buffered" ∷ []) refl
-    (more_words (decimal client.0) (decimal file.0 ∷ decimal number ∷ decimal patch.offset ∷ digits_word patch.bytes ∷ codes "buffered" ∷ []) (ordinal_above client.0 can.0)
-    (more_words (decimal file.0) (decimal number ∷ decimal patch.offset ∷ digits_word patch.bytes ∷ codes "buffered" ∷ []) (ordinal_above file.0 can.1)
-    (more_words (decimal number) (decimal patch.offset ∷ digits_word patch.bytes ∷ codes "buffered" ∷ []) (decimal_above number can.2)
-    (more_words (decimal patch.offset) (digits_word patch.bytes ∷ codes "buffered" ∷ []) (decimal_above patch.offset (offset_small patch.offset can.3.0))
-    (more_words (digits_word patch.bytes) (codes "buffered" ∷ []) (digits_above patch.bytes can.3.1)
-    (one_word (codes "buffered") refl))))))
-    (wrote_words (decimal client.0) (decimal file.0) (decimal number) (decimal patch.offset) (digits_word patch.bytes) (codes "buffered")) refl
-    (rw (ordinal_back client.0 can.0.0 can.0.1, ordinal_back file.0 can.1.0 can.1.1, number_back number can.2, offset_back patch.offset can.3.0, bytes_back patch.bytes can.3.1) refl)
+wrote_buffered_back client file number patch can = of_words (codes "wrote")
+    (ordinal_word client.0 can.0 ∷ ordinal_word file.0 can.1 ∷ number_word number can.2 ∷ offset_word patch.offset can.3.0
+    ∷ bytes_word patch.bytes can.3.1 ∷ (codes "buffered", refl) ∷ []) refl
+    (wrote_words (decimal client.0) (decimal file.0) (decimal number) (decimal patch.offset) (digits_word patch.bytes)
+    (codes "buffered"))
+    refl
+    (rw (
+      ordinal_back client.0 can.0.0 can.0.1,
+      ordinal_back file.0 can.1.0 can.1.1,
+      number_back number can.2,
+      offset_back patch.offset can.3.0,
+      bytes_back patch.bytes can.3.1,
+    ) refl)
 
-wrote_through_back : (client : ClientNo) (file : FileNo) (number : ℕ) (patch : Patch) → CanBeNamed (fact.Wrote client file number patch false) → IsReadAs (fact.Wrote client file number patch false) (fact.Wrote client file number patch false)
+wrote_through_back : (client : ClientNo) (file : FileNo) (number : ℕ) (patch : Patch)
+    → ReadsBack (fact.Wrote client file number patch false)
 unfolding fact_named joined ended wrote_in
-wrote_through_back client file number patch can = of_words (fact.Wrote client file number patch false) (fact.Wrote client file number patch false) (codes "wrote") (decimal client.0 ∷ decimal file.0 ∷ decimal number ∷ decimal patch.offset ∷ digits_word patch.bytes ∷ codes "through" ∷ []) refl
-    (more_words (decimal client.0) (decimal file.0 ∷ decimal number ∷ decimal patch.offset ∷ digits_word patch.bytes ∷ codes "through" ∷ []) (ordinal_above client.0 can.0)
-    (more_words (decimal file.0) (decimal number ∷ decimal patch.offset ∷ digits_word patch.bytes ∷ codes "through" ∷ []) (ordinal_above file.0 can.1)
-    (more_words (decimal number) (decimal patch.offset ∷ digits_word patch.bytes ∷ codes "through" ∷ []) (decimal_above number can.2)
-    (more_words (decimal patch.offset) (digits_word patch.bytes ∷ codes "through" ∷ []) (decimal_above patch.offset (offset_small patch.offset can.3.0))
-    (more_words (digits_word patch.bytes) (codes "through" ∷ []) (digits_above patch.bytes can.3.1)
-    (one_word (codes "through") refl))))))
-    (wrote_words (decimal client.0) (decimal file.0) (decimal number) (decimal patch.offset) (digits_word patch.bytes) (codes "through")) refl
-    (rw (ordinal_back client.0 can.0.0 can.0.1, ordinal_back file.0 can.1.0 can.1.1, number_back number can.2, offset_back patch.offset can.3.0, bytes_back patch.bytes can.3.1) refl)
+wrote_through_back client file number patch can = of_words (codes "wrote")
+    (ordinal_word client.0 can.0 ∷ ordinal_word file.0 can.1 ∷ number_word number can.2 ∷ offset_word patch.offset can.3.0
+    ∷ bytes_word patch.bytes can.3.1 ∷ (codes "through", refl) ∷ []) refl
+    (wrote_words (decimal client.0) (decimal file.0) (decimal number) (decimal patch.offset) (digits_word patch.bytes)
+    (codes "through"))
+    refl
+    (rw (
+      ordinal_back client.0 can.0.0 can.0.1,
+      ordinal_back file.0 can.1.0 can.1.1,
+      number_back number can.2,
+      offset_back patch.offset can.3.0,
+      bytes_back patch.bytes can.3.1,
+    ) refl)
 
-settled_back : (client : ClientNo) (number : ℕ) (outcome : Settlement) → CanBeNamed (fact.Settled client number outcome) → IsReadAs (fact.Settled client number outcome) (fact.Settled client number outcome)
+settled_back : (client : ClientNo) (number : ℕ) (outcome : Settlement) → ReadsBack (fact.Settled client number outcome)
 unfolding fact_named joined ended settled_in
-settled_back client number outcome can = of_words (fact.Settled client number outcome) (fact.Settled client number outcome) (codes "settled") (decimal client.0 ∷ decimal number ∷ outcome_word outcome ∷ []) refl
-    (more_words (decimal client.0) (decimal number ∷ outcome_word outcome ∷ []) (ordinal_above client.0 can.0)
-    (more_words (decimal number) (outcome_word outcome ∷ []) (decimal_above number can.1)
-    (one_word (outcome_word outcome) (outcome_above outcome))))
+settled_back client number outcome can = of_words (codes "settled")
+    (ordinal_word client.0 can.0 ∷ number_word number can.1 ∷ (outcome_word outcome, outcome_above outcome) ∷ []) refl
     (simp (append_assoc) refl) refl
     (rw (ordinal_back client.0 can.0.0 can.0.1, number_back number can.1, outcome_back outcome) refl)
 
-believes_back : (client : ClientNo) (file : FileNo) (state : LeaseState) → CanBeNamed (fact.Believes client file state) → IsReadAs (fact.Believes client file state) (as_lettered (fact.Believes client file state))
+believes_back : (client : ClientNo) (file : FileNo) (state : LeaseState) → ReadsBack (fact.Believes client file state)
 unfolding fact_named joined ended believes_in
-believes_back client file state can = of_words (fact.Believes client file state) (as_lettered (fact.Believes client file state)) (codes "believes") (decimal client.0 ∷ decimal file.0 ∷ state_word (state_of state) ∷ []) refl
-    (more_words (decimal client.0) (decimal file.0 ∷ state_word (state_of state) ∷ []) (ordinal_above client.0 can.0)
-    (more_words (decimal file.0) (state_word (state_of state) ∷ []) (ordinal_above file.0 can.1)
-    (one_word (state_word (state_of state)) (state_above (state_of state)))))
+believes_back client file state can = of_words (codes "believes")
+    (ordinal_word client.0 can.0
+    ∷ ordinal_word file.0 can.1 ∷ (state_word (state_of state), state_above (state_of state)) ∷ []) refl
     (simp (append_assoc) refl) refl
     (rw (ordinal_back client.0 can.0.0 can.0.1, ordinal_back file.0 can.1.0 can.1.1, state_back (state_of state)) refl)
 
-cachedread_back : (client : ClientNo) (file : FileNo) (bytes : List ℕ) → CanBeNamed (fact.CachedRead client file bytes) → IsReadAs (fact.CachedRead client file bytes) (fact.CachedRead client file bytes)
+cachedread_back : (client : ClientNo) (file : FileNo) (bytes : List ℕ) → ReadsBack (fact.CachedRead client file bytes)
 unfolding fact_named joined ended read_in read_words pair_words
-cachedread_back client file bytes can = of_words (fact.CachedRead client file bytes) (fact.CachedRead client file bytes) (codes "cachedread") (decimal client.0 ∷ decimal file.0 ∷ digits_word bytes ∷ []) refl
-    (more_words (decimal client.0) (decimal file.0 ∷ digits_word bytes ∷ []) (ordinal_above client.0 can.0)
-    (more_words (decimal file.0) (digits_word bytes ∷ []) (ordinal_above file.0 can.1)
-    (one_word (digits_word bytes) (digits_above bytes can.2))))
+cachedread_back client file bytes can = of_words (codes "cachedread")
+    (ordinal_word client.0 can.0 ∷ ordinal_word file.0 can.1 ∷ bytes_word bytes can.2 ∷ []) refl
     (simp (append_assoc) refl) refl
     (rw (ordinal_back client.0 can.0.0 can.0.1, ordinal_back file.0 can.1.0 can.1.1, bytes_back bytes can.2) refl)
 

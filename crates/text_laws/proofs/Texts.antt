@@ -31,7 +31,8 @@ reads_all facts [] can number rest =
 reads_all facts (told ∷ more) can number rest =
     let first = reads_line facts told (as_lettered told) (named_back told can.0) number (record_text more ++ rest) in
     let others = reads_all (facts ++ as_lettered told ∷ []) more can.1 (number + 1) rest in
-    ap (λ (text : List ℕ). reads_on with_line number facts (lines_of text)) (append_assoc (fact_line told) (record_text more) rest)
+    ap (λ (text : List ℕ). reads_on with_line number facts (lines_of text))
+    (append_assoc (fact_line told) (record_text more) rest)
     ∙ first ∙ others
     ∙ ap (λ (n : ℕ). reads_on with_line n (facts ++ as_lettered told ∷ [] ++ map as_lettered more) (lines_of rest)) (omega arith)
     ∙ ap (λ (all : List Fact). reads_on with_line (number + suc (length more)) all (lines_of rest))

@@ -44,8 +44,8 @@ abbrev pub IsLettered : Fact → Type 0
 IsLettered (fact.Believes client file state) = state.0 < 8
 IsLettered other = ⊤
 
--- A line can tell the fact: its clients and files are numbered from 1 to 255, numbers, offsets and bytes are those of 64, 32 and 8
--- bits, a file starts with no more bytes than it can hold, and a state has no bits but those with a letter.
+-- A line can tell the fact: its clients and files are numbered from 1 to 255, numbers, offsets and bytes have 64, 32 and 8 bits,
+-- a file starts with no more bytes than it can hold, and a state has no bits but those with a letter.
 abbrev pub CanBeTold : Fact → Type 0
 CanBeTold told = CanBeNamed told × IsLettered told
 
