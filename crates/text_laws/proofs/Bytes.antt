@@ -1,0 +1,66 @@
+-- Words of bytes above a separator, and the pieces that they are.
+use Rattle.std.proofs.Common.{◌≡◌, ℕ, suc, ◌/◌, ◌%◌, ◌<◌, List, [], ◌∷◌, ◌++◌, slice_index, refl, arith, ◌==◌, true, false, Bool, ◌&&◌, Some}
+use Rattle.std.specs.Prelude.{nat_lt}
+use Rattle.std.proofs.lemmas.Bool.{and_parts}
+use Rattle.std.proofs.lemmas.Bool.Decides.{nat_tests}
+use Rattle.hex.specs.Hex.{IsBytes, encode_with, encode_lower, lower_digits, hex_digit_value}
+use Rattle.hex.proofs.HexLemmas.{IsDigits-lower_digits}
+use Rattle.lease_texts.specs.Pieces.{pieces, longer}
+
+-- each byte is above this one
+abbrev pub all_above : ℕ → List ℕ → Bool
+all_above low [] = true
+all_above low (byte ∷ bytes) = nat_lt low byte && all_above low bytes
+
+pub above-append : (low : ℕ) (one two : List ℕ) → all_above low one ≡ true → all_above low two ≡ true
+    → all_above low (one ++ two) ≡ true
+above-append low [] two first second = second
+above-append low (byte ∷ one) two first second =
+    let parts = and_parts (nat_lt low byte) (all_above low one) first in
+    rw (parts.0) (above-append low one two parts.1 second)
+
+-- words are parts of lines
+pub above-line : (word : List ℕ) → all_above 32 word ≡ true → all_above 10 word ≡ true
+above-line [] above = refl
+above-line (byte ∷ word) above =
+    let parts = and_parts (nat_lt 32 byte) (all_above 32 word) above in
+    let here : nat_lt 10 byte ≡ true = grind (arith, nat_tests, parts.0) in
+    rw here (above-line word parts.1)
+
+-- what stands before a separator is the first piece
+pub piece_first : (separator : ℕ) (last : List (List ℕ)) (word rest : List ℕ) → all_above separator word ≡ true
+    → pieces separator last (word ++ separator ∷ rest) ≡ word ∷ pieces separator last rest
+unfolding pieces longer
+piece_first separator last [] rest above =
+    let same : (separator == separator) ≡ true = grind (arith, nat_tests) in
+    rw same refl
+piece_first separator last (byte ∷ word) rest above =
+    let parts = and_parts (nat_lt separator byte) (all_above separator word) above in
+    let other : (byte == separator) ≡ false = grind (arith, nat_tests, parts.0) in
+    rw (other, piece_first separator last word rest parts.1) refl
+
+-- what has no separator is the last
+pub piece_last : (separator : ℕ) (word : List ℕ) → all_above separator word ≡ true → pieces separator ([] ∷ []) word ≡ word ∷ []
+unfolding pieces longer
+piece_last separator [] above = refl
+piece_last separator (byte ∷ word) above =
+    let parts = and_parts (nat_lt separator byte) (all_above separator word) above in
+    let other : (byte == separator) ≡ false = grind (arith, nat_tests, parts.0) in
+    rw (other, piece_last separator word parts.1) refl
+
+-- ---- digits
+
+digit_above : (digit : ℕ) → digit < 16 → nat_lt 32 (slice_index lower_digits digit) ≡ true
+digit_above digit small = value_above (slice_index lower_digits digit) digit (IsDigits-lower_digits digit small)
+  where
+    value_above : (byte digit : ℕ) → hex_digit_value byte ≡ Some digit → nat_lt 32 byte ≡ true
+    value_above byte digit value = grind (arith, nat_tests, value)
+
+pub hexadecimal_above : (bytes : List ℕ) → IsBytes bytes → all_above 32 (encode_lower bytes) ≡ true
+unfolding encode_with
+hexadecimal_above [] bytes = refl
+hexadecimal_above (byte ∷ rest) bytes =
+    let small = bytes 0 in
+    let high = digit_above (byte / 16) (omega (arith, small)) in
+    let low = digit_above (byte % 16) (omega arith) in
+    rw (high, low) (hexadecimal_above rest (λ i. bytes (suc i)))

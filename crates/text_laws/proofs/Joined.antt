@@ -1,0 +1,144 @@
+-- In the record of every run what the server gives out names clients that have joined.
+use Rattle.std.proofs.Common.{◌≡◌, ℕ, Bool, true, List, [], ◌∷◌, Option, Some, None, refl, sym, ap, ◌∙◌, subst, true≢false}
+use Rattle.std.specs.Prelude.{◌==◌, bytes_eq}
+use Rattle.std.specs.List.{list_all}
+use Rattle.std.proofs.lemmas.Bool.Decides.{Decides-eqb}
+use mathlib.Core.List.{reverse_aux}
+use Rattle.lease_model.specs.client.Commands.{Note}
+use Rattle.lease_model.specs.client.Step.{Step}
+use Rattle.lease_model.specs.messages.Requests.{FileRequest}
+use Rattle.lease_model.specs.records.Facts.{Fact}
+use Rattle.lease_model.specs.records.Past.{has_joined}
+use Rattle.lease_model.specs.records.Safe.{EachFact}
+use Rattle.lease_model.specs.server.State.{is_key, has_key}
+use Rattle.lease_model.specs.values.Keys.{Key}
+use Rattle.lease_model.specs.world.Allowed.{is_allowed_setup}
+use Rattle.lease_model.specs.world.Events.{Event, stepped_in, after}
+use Rattle.lease_model.specs.world.World.{World, Setup, starts_from, first_world, requests_sent}
+use Rattle.lease_laws.specs.records.Runs.{is_start}
+use Rattle.lease_laws.specs.server.SmallSteps.{MayLower}
+use Rattle.lease_laws.proofs.records.Runs.{all_starts}
+use Rattle.lease_laws.proofs.server.Lists.{any_has, and_parts}
+use Rattle.lease_coherence.proofs.moves.Deeds.{HasDeeds, IsSource, step_deed}
+use Rattle.lease_coherence.proofs.moves.Events.{Ground, IsMoved, Both, carried_both, runs_have}
+use Rattle.lease_coherence.proofs.moves.Frames.{from_source, stepped_past}
+use Rattle.lease_coherence.proofs.moves.Ground.{ground_carried, first_ground}
+use Rattle.lease_coherence.proofs.records.Later.{past_noted}
+use Rattle.lease_coherence.proofs.wellformed.WellFormed.{IsWell, well_moves, first_well}
+
+unfoldable pub is_joined : Fact → List Fact → Bool
+is_joined (Fact.Sent client) past = has_joined client past
+is_joined (Fact.Opened file client) past = has_joined client past
+is_joined (Fact.Changed file client number patch) past = has_joined client past
+is_joined (Fact.Start file bytes) past = true
+is_joined (Fact.Joined client) past = true
+is_joined (Fact.Dropped client) past = true
+is_joined (Fact.Expired client file) past = true
+is_joined (Fact.Took client) past = true
+is_joined (Fact.Wrote client file number patch buffered) past = true
+is_joined (Fact.Settled client number outcome) past = true
+is_joined (Fact.Believes client file state) past = true
+is_joined (Fact.CachedRead client file bytes) past = true
+is_joined (Fact.Strayed client) past = true
+
+abbrev pub Joined : Fact → List Fact → Type 0
+Joined fact past = is_joined fact past ≡ true
+
+abbrev HasJoined : World → Type 0
+HasJoined world = EachFact Joined world.past
+
+-- a client that the server has, has joined
+came : (world : World) → Both Ground IsWell world → (client : ℕ) → world.server.present client ≡ true
+    → has_joined client world.past ≡ true
+came world v client up = v.1.joined_so client (sym (v.0.tied client).present ∙ up)
+
+-- and so has the client of a key whose lease is lowered
+lowered_came : (world : World) → Both Ground IsWell world → (key : Key) (lowered : _) → MayLower world.server key lowered
+    → has_joined key.client world.past ≡ true
+lowered_came world v key lowered may =
+    let x = any_has (has_key key) world.server.opens may.is_there in
+    came world v key.client (own (x.0).client (x.0).lease_key x.2
+    (v.0.fine.orderly.opens_up x.0 x.1 (may.are_connected x.0 x.1 x.2)))
+  where
+    own : (client : ℕ) (bytes : Option (List ℕ)) → is_key key client bytes ≡ true
+        → world.server.present client ≡ true → world.server.present key.client ≡ true
+    own client None k p = absurd (true≢false (sym k))
+    own client (Some bytes) k p = ap (λ c. world.server.present c)
+        ((Decides-eqb key.client client).0 (and_parts (key.client == client) (bytes_eq key.bytes bytes) k).0) ∙ p
+
+-- the same holds where a request was taken off
+off_joined : (world off : World) (client : ℕ) (request : FileRequest) → Both Ground IsWell world
+    → IsSource world off client request
+    → HasJoined world → (has_joined client off.past ≡ true) × HasJoined off
+off_joined world off client request v source h = from_source world off client request
+    (λ o. (has_joined client o.past ≡ true) × HasJoined o) source
+    (came world v client source.up, h) (λ file left. (came world v client source.up, h))
+
+deeds_joined : (world : World) → Both Ground IsWell world → HasJoined world → HasDeeds world HasJoined
+unfolding is_joined has_joined
+deeds_joined world v h = record {
+  refused = λ off client request status source may. off_joined world off client request v source h;
+  full = λ off client file access share ask source. off_joined world off client _ v source h;
+  granted = λ off client file access share ask source none on free.
+      let o = off_joined world off client _ v source h in (o.0, o);
+  reconnected = λ off client file access share ask file_id source again on waits. off_joined world off client _ v source h;
+  read = λ off client file_id one source found may. off_joined world off client _ v source h;
+  changed = λ off client file_id number patch one source found may.
+      let o = off_joined world off client _ v source h in (o.0, o);
+  closed = λ off client file_id one source found. off_joined world off client _ v source h;
+  ack_failed = λ client given status oldest up why. (came world v client up, h);
+  ack_done = λ client given lowered oldest up there breaks within. (came world v client up, h);
+  hold = λ file one oldest may turn. h;
+  drop = λ key. h;
+  lower = λ key lowered may light. (lowered_came world v key lowered may, h);
+  begin = λ key lowered may heavy. (lowered_came world v key lowered may, h);
+}
+
+-- ---- steps of a client
+
+noted_joined : (client : ℕ) (past : List Fact) (notes : List Note) → EachFact Joined past
+    → EachFact Joined (past_noted client past notes)
+unfolding is_joined
+noted_joined client past [] h = h
+noted_joined client past (Note.Settled number outcome ∷ notes) h = noted_joined client _ notes (refl, h)
+noted_joined client past (Note.Wrote file number patch buffered ∷ notes) h = noted_joined client _ notes (refl, h)
+noted_joined client past (Note.Believes file state ∷ notes) h = noted_joined client _ notes (refl, h)
+noted_joined client past (Note.CachedRead file bytes ∷ notes) h = noted_joined client _ notes (refl, h)
+
+stepped_joined : (world : World) (client : ℕ) (step : Step) → HasJoined world → HasJoined (stepped_in world client step)
+stepped_joined world client step h =
+    subst (EachFact Joined) (sym (stepped_past world client step)) (noted_joined client world.past step.notes h)
+
+joined_moves : IsMoved (Both Ground IsWell) HasJoined
+unfolding is_joined requests_sent
+joined_moves = record {
+  step = λ world step v next h. step_deed world HasJoined (deeds_joined world v h) step next;
+  cut = λ world client v up h. (refl, h);
+  timer = λ world client file v on breaks h. (refl, h);
+  scavenge = λ world file_id v h. h;
+  connect = λ world client v down h. stepped_joined _ client _ (refl, h);
+  command = λ world client command v h. stepped_joined world client _ h;
+  take = λ world client reply queue v first h. stepped_joined _ client _ (refl, h);
+  notice = λ world client v cut h. stepped_joined _ client _ h;
+  stray = λ world client request v up h. (refl, h);
+}
+
+-- ---- every run
+
+starts_joined : (facts others : List Fact) → list_all is_start facts ≡ true → EachFact Joined others
+    → EachFact Joined (reverse_aux facts others)
+unfolding is_joined
+starts_joined [] others all h = h
+starts_joined (Fact.Start file bytes ∷ facts) others all h = starts_joined facts (Fact.Start file bytes ∷ others) all (refl, h)
+starts_joined (_ ∷ facts) others all h = let c : ⊥ = cc in absurd c
+
+first_joined : (setup : Setup) → HasJoined (first_world setup)
+unfolding first_world
+first_joined setup = starts_joined (starts_from 1 setup.files) [] (all_starts 1 setup.files) tt
+
+pub run_joined : (setup : Setup) (events : List Event) → is_allowed_setup setup ≡ true
+    → EachFact Joined (after (first_world setup) events).past
+run_joined setup events allowed =
+    (runs_have (Both (Both Ground IsWell) HasJoined) (λ world both. both.0.0)
+    (carried_both (Both Ground IsWell) HasJoined (carried_both Ground IsWell ground_carried well_moves) joined_moves) setup
+    ((first_ground setup, first_well setup allowed), first_joined setup) events).1

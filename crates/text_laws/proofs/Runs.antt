@@ -1,0 +1,232 @@
+-- The record of a run can be told, and is read back as a record that is safe.
+use Rattle.std.proofs.Common.{◌≡◌, ⊎_elim, ℕ, ◌+◌, ◌≤◌, Bool, true, false, List, [], ◌∷◌, ◌++◌, length, refl, sym, ap, ◌∙◌, subst, arith, ◌==◌, map, Ok}
+use Rattle.std.specs.Prelude.{◌&&◌, nat_le, codes}
+use Rattle.std.specs.List.{list_all}
+use Rattle.std.proofs.lemmas.Bool.{eqb-true}
+use Rattle.std.proofs.lemmas.Bool.Decides.{nat_tests}
+use Rattle.std.proofs.lemmas.List.{append_assoc, append-nil, reverse-reverse}
+use mathlib.Core.List.{reverse_aux}
+use Rattle.lease_model.specs.records.Facts as model
+use Rattle.lease_model.specs.records.Past.{is_started, has_joined}
+use Rattle.lease_model.specs.records.Safe.{EachFact, WellFormed, is_well_formed, Safe}
+use Rattle.lease_model.specs.records.Verdict.{Verdict, verdict}
+use Rattle.lease_model.specs.world.Allowed.{is_allowed_setup, is_content}
+use Rattle.lease_model.specs.world.Events.{Event, after, recorded}
+use Rattle.lease_model.specs.world.World.{Setup, first_world}
+use Rattle.lease_state.specs.State.{State, state_of_bits, bits_of_state}
+use Rattle.lease_laws.proofs.records.VerdictLemmas.{safe-verdict}
+use Rattle.lease_laws.proofs.server.Lists.{and_parts, and_both, or_true}
+use Rattle.lease_coherence.specs.Parts.{EveryRunIsSafe}
+use Rattle.lease_coherence.proofs.wellformed.WellFormed.{runs_are_well_formed}
+use Rattle.lease_facts.specs.Facts.{fact_of}
+use Rattle.lease_facts.specs.declared.fact.Fact.{Fact}
+use Rattle.lease_facts.specs.declared.fact.Fact.TheVariants as fact
+use Rattle.lease_texts.specs.Pieces.{pieces, longer, lines_of}
+use Rattle.lease_texts.specs.Reading.{reads_on}
+use Rattle.lease_texts.specs.Records.{with_line, record_text, record_in}
+use Rattle.text_laws.specs.Told.{CanBeNamed, Each, as_lettered}
+use Rattle.text_laws.specs.Runs.{IsTyped, AreOfRun, RunsAreReadBack, RunsAreJudgedSafe, ReplaysAreJudgedSafe}
+use Rattle.text_laws.proofs.Joined.{is_joined, Joined, run_joined}
+use Rattle.text_laws.proofs.Named.{is_named, run_named}
+use Rattle.text_laws.proofs.Texts.{reads_all}
+
+-- ---- clients and files of a run's facts are numbered from 1
+
+is_placed : model.Fact → Bool
+is_placed (model.Fact.Start file bytes) = nat_le 1 file && is_content bytes
+is_placed (model.Fact.Joined client) = nat_le 1 client
+is_placed (model.Fact.Dropped client) = nat_le 1 client
+is_placed (model.Fact.Expired client file) = nat_le 1 client && nat_le 1 file
+is_placed (model.Fact.Sent client) = nat_le 1 client
+is_placed (model.Fact.Took client) = nat_le 1 client
+is_placed (model.Fact.Opened file client) = nat_le 1 file && nat_le 1 client
+is_placed (model.Fact.Changed file client number patch) = nat_le 1 file && nat_le 1 client
+is_placed (model.Fact.Wrote client file number patch buffered) = nat_le 1 client && nat_le 1 file
+is_placed (model.Fact.Settled client number outcome) = nat_le 1 client
+is_placed (model.Fact.Believes client file state) = nat_le 1 client && nat_le 1 file
+is_placed (model.Fact.CachedRead client file bytes) = nat_le 1 client && nat_le 1 file
+is_placed (model.Fact.Strayed client) = nat_le 1 client
+
+started_placed : (file : ℕ) (past : List model.Fact) → list_all is_named past ≡ true → is_started file past ≡ true
+    → nat_le 1 file ≡ true
+unfolding is_started is_named
+started_placed file [] named started = let c : ⊥ = cc in absurd c
+started_placed file (model.Fact.Start other bytes ∷ past) named started =
+    let parts = and_parts (nat_le 1 other && is_content bytes) (list_all is_named past) named in
+    ⊎_elim
+    (λ same. subst (λ n. nat_le 1 n ≡ true) (eqb-true other file same) (and_parts (nat_le 1 other) (is_content bytes) parts.0).0)
+    (λ before. started_placed file past parts.1 before)
+    (or_true (other == file) (is_started file past) started)
+started_placed file (other ∷ past) named started =
+    started_placed file past (and_parts (is_named other) (list_all is_named past) named).1 started
+
+joined_placed : (client : ℕ) (past : List model.Fact) → list_all is_named past ≡ true → has_joined client past ≡ true
+    → nat_le 1 client ≡ true
+unfolding has_joined is_named
+joined_placed client [] named came = let c : ⊥ = cc in absurd c
+joined_placed client (model.Fact.Joined other ∷ past) named came =
+    let parts = and_parts (nat_le 1 other) (list_all is_named past) named in
+    ⊎_elim
+    (λ same. subst (λ n. nat_le 1 n ≡ true) (eqb-true other client same) parts.0)
+    (λ before. joined_placed client past parts.1 before)
+    (or_true (other == client) (has_joined client past) came)
+joined_placed client (other ∷ past) named came =
+    joined_placed client past (and_parts (is_named other) (list_all is_named past) named).1 came
+
+placed : (one : model.Fact) (past : List model.Fact) → is_named one ≡ true → list_all is_named past ≡ true
+    → Joined one past → WellFormed one past → is_placed one ≡ true
+unfolding is_named is_joined is_well_formed is_placed
+placed (model.Fact.Start file bytes) past own named came well = own
+placed (model.Fact.Joined client) past own named came well = own
+placed (model.Fact.Dropped client) past own named came well = own
+placed (model.Fact.Expired client file) past own named came well = and_both _ _ own (started_placed file past named well)
+placed (model.Fact.Sent client) past own named came well = joined_placed client past named came
+placed (model.Fact.Took client) past own named came well = own
+placed (model.Fact.Opened file client) past own named came well =
+    and_both _ _ (started_placed file past named well) (joined_placed client past named came)
+placed (model.Fact.Changed file client number patch) past own named came well =
+    and_both _ _ (started_placed file past named (and_parts _ _ well).0) (joined_placed client past named came)
+placed (model.Fact.Wrote client file number patch buffered) past own named came well =
+    and_both _ _ own (started_placed file past named (and_parts _ _ (and_parts _ _ well).0).0)
+placed (model.Fact.Settled client number outcome) past own named came well = own
+placed (model.Fact.Believes client file state) past own named came well = and_both _ _ own (started_placed file past named well)
+placed (model.Fact.CachedRead client file bytes) past own named came well = and_both _ _ own (started_placed file past named well)
+placed (model.Fact.Strayed client) past own named came well = own
+
+all_placed : (past : List model.Fact) → list_all is_named past ≡ true → EachFact Joined past → EachFact WellFormed past
+    → list_all is_placed past ≡ true
+all_placed [] named came well = refl
+all_placed (one ∷ past) named came well =
+    let parts = and_parts (is_named one) (list_all is_named past) named in
+    and_both _ _ (placed one past parts.0 parts.1 came.0 well.0) (all_placed past parts.1 came.1 well.1)
+
+reversed_placed : (facts others : List model.Fact) → list_all is_placed facts ≡ true → list_all is_placed others ≡ true
+    → list_all is_placed (reverse_aux facts others) ≡ true
+reversed_placed [] others all more = more
+reversed_placed (one ∷ facts) others all more =
+    let parts = and_parts (is_placed one) (list_all is_placed facts) all in
+    reversed_placed facts (one ∷ others) parts.1 (and_both _ _ parts.0 more)
+
+run_placed : (setup : Setup) (events : List Event) → is_allowed_setup setup ≡ true
+    → list_all is_placed (recorded setup events) ≡ true
+run_placed setup events allowed =
+    let past = (after (first_world setup) events).past in
+    let well = subst (EachFact WellFormed) (reverse-reverse past) (runs_are_well_formed setup events allowed) in
+    reversed_placed past [] (all_placed past (run_named setup events allowed) (run_joined setup events allowed) well) refl
+
+-- ---- so they can be told
+
+at_least : (n : ℕ) → nat_le 1 n ≡ true → 1 ≤ n
+at_least n e = grind (arith, nat_tests, e)
+
+fits : (bytes : List ℕ) → is_content bytes ≡ true → length bytes ≤ 1048576
+fits bytes e = grind (arith, nat_tests, e)
+
+can_be_named : (told : Fact) → is_placed (fact_of told) ≡ true → IsTyped told → CanBeNamed told
+unfolding is_placed
+can_be_named (fact.Start file bytes) is typed =
+    let parts = and_parts (nat_le 1 file.0) (is_content bytes) is in
+    ((at_least file.0 parts.0, typed.0), typed.1, fits bytes parts.1)
+can_be_named (fact.Joined client) is typed = (at_least client.0 is, typed)
+can_be_named (fact.Dropped client) is typed = (at_least client.0 is, typed)
+can_be_named (fact.Expired client file) is typed =
+    let parts = and_parts (nat_le 1 client.0) (nat_le 1 file.0) is in
+    ((at_least client.0 parts.0, typed.0), (at_least file.0 parts.1, typed.1))
+can_be_named (fact.Sent client) is typed = (at_least client.0 is, typed)
+can_be_named (fact.Took client) is typed = (at_least client.0 is, typed)
+can_be_named (fact.Opened file client) is typed =
+    let parts = and_parts (nat_le 1 file.0) (nat_le 1 client.0) is in
+    ((at_least file.0 parts.0, typed.0), (at_least client.0 parts.1, typed.1))
+can_be_named (fact.Changed file client number patch) is typed =
+    let parts = and_parts (nat_le 1 file.0) (nat_le 1 client.0) is in
+    ((at_least file.0 parts.0, typed.0), (at_least client.0 parts.1, typed.1), typed.2, typed.3)
+can_be_named (fact.Wrote client file number patch buffered) is typed =
+    let parts = and_parts (nat_le 1 client.0) (nat_le 1 file.0) is in
+    ((at_least client.0 parts.0, typed.0), (at_least file.0 parts.1, typed.1), typed.2, typed.3)
+can_be_named (fact.Settled client number outcome) is typed = ((at_least client.0 is, typed.0), typed.1)
+can_be_named (fact.Believes client file state) is typed =
+    let parts = and_parts (nat_le 1 client.0) (nat_le 1 file.0) is in
+    ((at_least client.0 parts.0, typed.0), (at_least file.0 parts.1, typed.1))
+can_be_named (fact.CachedRead client file bytes) is typed =
+    let parts = and_parts (nat_le 1 client.0) (nat_le 1 file.0) is in
+    ((at_least client.0 parts.0, typed.0), (at_least file.0 parts.1, typed.1), typed.2)
+can_be_named (fact.Strayed client) is typed = (at_least client.0 is, typed)
+
+all_can : (facts : List Fact) → list_all is_placed (map fact_of facts) ≡ true → Each IsTyped facts → Each CanBeNamed facts
+all_can [] all typed = tt
+all_can (told ∷ facts) all typed =
+    let parts = and_parts (is_placed (fact_of told)) (list_all is_placed (map fact_of facts)) all in
+    (can_be_named told parts.0 typed.0, all_can facts parts.1 typed.1)
+
+run_can : (setup : Setup) (events : List Event) (facts : List Fact) → AreOfRun setup events facts → Each CanBeNamed facts
+run_can setup events facts of =
+    all_can facts (ap (λ (all : List model.Fact). list_all is_placed all) of.are_recorded ∙ run_placed setup events of.is_allowed)
+    of.are_typed
+
+-- ---- and what is read has the same states
+
+letters_same : (read write handle : Bool)
+    → state_of_bits (bits_of_state (record { read = read; write = write; handle = handle })) ≡ record {
+      read = read;
+      write =
+          write;
+      handle = handle;
+    }
+letters_same false false false = refl
+letters_same true false false = refl
+letters_same false true false = refl
+letters_same false false true = refl
+letters_same true true false = refl
+letters_same true false true = refl
+letters_same false true true = refl
+letters_same true true true = refl
+
+same_fact : (told : Fact) → fact_of (as_lettered told) ≡ fact_of told
+same_fact (fact.Believes client file state) =
+    let s = state_of_bits state.0 in
+    ap (λ (same : State). model.Fact.Believes client.0 file.0 same) (letters_same s.read s.write s.handle)
+same_fact told = refl
+
+same_facts : (facts : List Fact) → map fact_of (map as_lettered facts) ≡ map fact_of facts
+same_facts [] = refl
+same_facts (told ∷ facts) = rw (same_fact told, same_facts facts) refl
+
+-- ---- the laws
+
+pub runs_back : RunsAreReadBack
+unfolding reads_on pieces
+runs_back setup events facts of = (
+  map as_lettered facts,
+  ap (λ (text : List ℕ). record_in text) (sym (append-nil (record_text facts)))
+      ∙ reads_all [] facts (run_can setup events facts of) 1 [],
+  same_facts facts ∙ of.are_recorded,
+)
+
+safe_record : (setup : Setup) (events : List Event) (facts : List Fact) → AreOfRun setup events facts
+    → (Safe (recorded setup events)) → Verdict.Safe ≡ verdict (map fact_of (map as_lettered facts))
+safe_record setup events facts of safe =
+    sym (ap (λ (all : List model.Fact). verdict all) (same_facts facts ∙ of.are_recorded)
+    ∙ safe-verdict (recorded setup events) safe)
+
+pub runs_safe : EveryRunIsSafe → RunsAreJudgedSafe
+unfolding runs_back
+runs_safe safe setup events facts of =
+    let back = runs_back setup events facts of in (
+      map as_lettered facts,
+      back.1,
+      safe_record setup events facts of (safe setup events of.is_allowed),
+    )
+
+-- the verdict behind a record is passed over
+passed_over : (number : ℕ) (facts : List Fact) → reads_on with_line number facts (lines_of (codes "# safe" ++ 10 ∷ [])) ≡ Ok facts
+unfolding reads_on pieces longer with_line
+passed_over number facts = refl
+
+pub replays_safe : EveryRunIsSafe → ReplaysAreJudgedSafe
+replays_safe safe setup events facts of = (
+  map as_lettered facts,
+  ap (λ (text : List ℕ). record_in text) (append_assoc (record_text facts) (codes "# safe") (10 ∷ []))
+      ∙ reads_all [] facts (run_can setup events facts of) 1 (codes "# safe" ++ 10 ∷ [])
+      ∙ passed_over (1 + length facts) (map as_lettered facts),
+  safe_record setup events facts of (safe setup events of.is_allowed),
+)
