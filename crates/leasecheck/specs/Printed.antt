@@ -1,5 +1,5 @@
 -- What a task prints, end to end: from the digits of its argument to the text on standard output.
-use Rattle.std.specs.Prelude.{◌≡◌, ℕ, List, Option, Ok, IfSome}
+use Rattle.std.specs.Prelude.{◌≡◌, ℕ, ◌++◌, List, [], ◌∷◌, codes, Option, Ok, IfSome}
 use Rattle.std.specs.String.{string_bytes}
 use Rattle.std.specs.Io.KnownBytes.{Appends}
 use Rattle.hex.specs.Hex.{decode_of}
@@ -9,7 +9,11 @@ use Rattle.leasecheck.specs.Shown.{Shows}
 use Rattle.leasecheck.specs.Judging.{IsVerdictOn}
 use Rattle.leasecheck.specs.Replayed.{Replays, verdict_line, status_of}
 use Rattle.leasecheck.specs.declared.tasks.Task.{Task}
-use Rattle.leasecheck.specs.declared.tasks.Task.TheVariants.{Ack, Show, Replay, Judge}
+use Rattle.leasecheck.specs.declared.tasks.Task.TheVariants.{Ack, Show, Replay, Judge, Version}
+
+-- the program's name and version, and the kit that it is proved and built with, a line each
+abbrev pub version_text : List ℕ
+version_text = codes "leasecheck 0.1" ++ 10 ∷ (codes "rattle-kit-13b logic dac8208d650f15bf" ++ 10 ∷ [])
 
 -- The text is what the task prints, and the status how it ends, where its file has these bytes. Of what a replay prints for bytes
 -- that aren't known nothing is said, and of a judge's verdict on them only that it is one.
@@ -22,6 +26,7 @@ IsTextOf (Replay path) file text status = (status ≡ 0) × IfSome file (λ sche
 IsTextOf (Judge path) file text status =
     (verdict : Verdict) × (text ≡ verdict_line verdict) × (status ≡ status_of verdict)
     × IfSome file (λ bytes. IsVerdictOn bytes verdict)
+IsTextOf Version file text status = (status ≡ 0) × (text ≡ version_text)
 
 -- a writer whose bytes are known before and after has got what the task prints
 abbrev pub Prints : Task → Option (List ℕ) → Option (List ℕ) → Option (List ℕ) → ℕ → Type 0

@@ -62,6 +62,7 @@ refusal_of (task.Ack digits) file = digits_refusal (message_fault 44) (decode_of
 refusal_of (task.Show kind digits) file = digits_refusal (shown_fault kind) (decode_of (string_bytes digits))
 refusal_of (task.Replay path) file = known_refusal file
 refusal_of (task.Judge path) file = judge_refusal file
+refusal_of task.Version file = None
 
 -- A file is refused as this: where its bytes aren't known, as some file would be.
 abbrev pub IsScheduleRefusal : Option (List ℕ) → Failure → Type 0

@@ -1,7 +1,8 @@
 ghost use Rattle.std.specs.Prelude.{◌≡◌, ◌⊎◌, IfErr};
 
 use crate::help;
-use crate::tasks::{Kind, Task, Usage};
+use crate::tasks::{Kind, Task, Usage, VERSION};
+use clap::error::ErrorKind;
 use clap::{Arg, ArgMatches, Command, Error};
 use std::alloc::{AllocError, Global};
 
@@ -51,18 +52,14 @@ fn file_argument<'a>(alloc: Global, help: &'a str) -> Arg<'a> {
 
 fn replay_command<'a>(alloc: Global) -> Result<Command<'a>, AllocError> {
     let about = "Prints the record of the run that a schedule asks for";
-    command(alloc, "replay", about, help::REPLAY, help::REPLAY_END).arg(file_argument(
-        alloc,
-        "The schedule; - is standard input",
-    ))
+    let file = file_argument(alloc, "The schedule; - is standard input");
+    command(alloc, "replay", about, help::REPLAY, help::REPLAY_END).arg(file)
 }
 
 fn judge_command<'a>(alloc: Global) -> Result<Command<'a>, AllocError> {
     let about = "Prints whether a record is safe, or where it first is not";
-    command(alloc, "judge", about, help::JUDGE, help::JUDGE_END).arg(file_argument(
-        alloc,
-        "The record; - is standard input",
-    ))
+    let file = file_argument(alloc, "The record; - is standard input");
+    command(alloc, "judge", about, help::JUDGE, help::JUDGE_END).arg(file)
 }
 
 fn kind_named(name: &str) -> Option<Kind> {
@@ -80,6 +77,7 @@ fn program<'a>(alloc: Global) -> Result<Command<'a>, AllocError> {
     let about =
         "Reads and answers messages of SMB 2.1 leases, replays schedules and judges records";
     command(alloc, "leasecheck", about, help::PROGRAM, help::PROGRAM_END)
+        .version(VERSION)
         .disable_help_subcommand(true)
         .subcommand_required(true)
         .subcommand(ack_command(alloc)?)?
@@ -159,6 +157,7 @@ pub fn task(alloc: Global, words: &[&str]) -> Result<Task, Usage>
     };
     let matches = match parse(alloc, all.as_slice()) {
         Ok(matches) => matches,
+        Err(error) if error.kind() == ErrorKind::DisplayVersion => return Ok(Task::Version),
         Err(error) => return Err(usage_of(alloc, &error)),
     };
     match task_of(alloc, &matches) {

@@ -24,13 +24,18 @@ pub enum Task {
     Replay(String),
     /// The verdict on the record in this file.
     Judge(String),
+    /// The version of the program.
+    Version,
 }
+
+/// The program's name and version, and the line of the kit that it is proved and built with.
+pub const VERSION: &str = "leasecheck 0.1\nrattle-kit-13b logic dac8208d650f15bf\n";
 
 impl Task {
     /// The file that it reads; a hyphen stands for standard input.
     pub fn path(&self) -> Option<&str> {
         match self {
-            Task::Ack(_) | Task::Show(_, _) => None,
+            Task::Ack(_) | Task::Show(_, _) | Task::Version => None,
             Task::Replay(path) | Task::Judge(path) => Some(path.as_str()),
         }
     }
