@@ -1,9 +1,9 @@
--- What a task prints, end to end: from the digits of its argument to the text on standard output.
+-- What a task prints, end to end: from the text of its argument to the text on standard output.
 use Rattle.std.specs.Prelude.{◌≡◌, ℕ, ◌++◌, List, [], ◌∷◌, codes, Option, Ok, IfSome}
 use Rattle.std.specs.String.{string_bytes}
 use Rattle.std.specs.Io.KnownBytes.{Appends}
-use Rattle.hex.specs.Hex.{decode_of}
 use Rattle.leasecheck.specs.Answer.{AnswersWith}
+use Rattle.leasecheck.specs.Arguments.{argument_bytes}
 use Rattle.lease_world.specs.declared.verdict.Verdict.{Verdict}
 use Rattle.leasecheck.specs.Shown.{Shows}
 use Rattle.leasecheck.specs.Judging.{IsVerdictOn}
@@ -18,10 +18,10 @@ version_text = codes "leasecheck 0.1" ++ 10 ∷ (codes "rattle-kit-13b logic dac
 -- The text is what the task prints, and the status how it ends, where its file has these bytes. Of what a replay prints for bytes
 -- that aren't known nothing is said, and of a judge's verdict on them only that it is one.
 abbrev pub IsTextOf : Task → Option (List ℕ) → List ℕ → ℕ → Type 0
-IsTextOf (Ack digits) file text status =
-    (status ≡ 0) × (bytes : List ℕ) × (decode_of (string_bytes digits) ≡ Ok bytes) × AnswersWith bytes text
-IsTextOf (Show kind digits) file text status =
-    (status ≡ 0) × (bytes : List ℕ) × (decode_of (string_bytes digits) ≡ Ok bytes) × Shows kind bytes text
+IsTextOf (Ack argument) file text status =
+    (status ≡ 0) × (bytes : List ℕ) × (argument_bytes (string_bytes argument) ≡ Ok bytes) × AnswersWith bytes text
+IsTextOf (Show kind argument) file text status =
+    (status ≡ 0) × (bytes : List ℕ) × (argument_bytes (string_bytes argument) ≡ Ok bytes) × Shows kind bytes text
 IsTextOf (Replay path) file text status = (status ≡ 0) × IfSome file (λ schedule. Replays schedule text)
 IsTextOf (Judge path) file text status =
     (verdict : Verdict) × (text ≡ verdict_line verdict) × (status ≡ status_of verdict)

@@ -126,16 +126,16 @@ fn owned(alloc: Global, given: &ArgMatches, name: &str) -> Result<Option<String>
 }
 
 fn show_task(alloc: Global, given: &ArgMatches) -> Result<Option<Task>, AllocError> {
-    let (Some(name), Some(digits)) = (given.get_str("KIND"), given.get_str("HEX")) else {
+    let (Some(name), Some(text)) = (given.get_str("KIND"), given.get_str("HEX")) else {
         return Ok(None);
     };
-    let digits = String::from_str(alloc, digits)?;
-    Ok(kind_named(name).map(|kind| Task::Show(kind, digits)))
+    let argument = String::from_str(alloc, text)?;
+    Ok(kind_named(name).map(|kind| Task::Show(kind, argument)))
 }
 
 fn task_of(alloc: Global, matches: &ArgMatches) -> Result<Option<Task>, AllocError> {
     match matches.subcommand() {
-        Some(("ack", given)) => Ok(owned(alloc, given, "HEX")?.map(|digits| Task::Ack(digits))),
+        Some(("ack", given)) => Ok(owned(alloc, given, "HEX")?.map(|argument| Task::Ack(argument))),
         Some(("show", given)) => show_task(alloc, given),
         Some(("replay", given)) => Ok(owned(alloc, given, "FILE")?.map(|path| Task::Replay(path))),
         Some(("judge", given)) => Ok(owned(alloc, given, "FILE")?.map(|path| Task::Judge(path))),

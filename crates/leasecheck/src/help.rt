@@ -19,7 +19,8 @@ pub(crate) const ACK: &str =
     "Reads a lease break notification (44 bytes, without the SMB2 header) and prints
 the lease break acknowledgment that a client sends for it, 72 hexadecimal
 digits, or 'no acknowledgment due' where ACK_REQUIRED is not set. Where k bytes
-follow the notification, a line 'rest k' is printed after that.";
+follow the notification, a line 'rest k' is printed after that. HEX may begin
+with 0x, and have one colon or one space between two bytes.";
 
 pub(crate) const ACK_END: &str = "Example:
   $ leasecheck ack 2c00000001000000000102030405060708090a0b0c0d0e0f0700000003000000000000000000000000000000
@@ -38,7 +39,8 @@ pub(crate) const SHOW: &str =
 of a request (ask) or of a response (reply) it prints a line for each context
 and one for each part of what they ask for or grant, or 'nothing'. For a lease
 break notification (break), acknowledgment (ack) or response (response) it
-prints one line, and 'rest k' where k bytes follow.";
+prints one line, and 'rest k' where k bytes follow. HEX may begin with 0x, and
+have one colon or one space between two bytes.";
 
 pub(crate) const SHOW_END: &str = "Example:
   $ leasecheck show break 2c00000001000000000102030405060708090a0b0c0d0e0f0700000003000000000000000000000000000000

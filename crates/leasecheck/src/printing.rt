@@ -77,12 +77,12 @@ fn text_of<I: Read>(alloc: Global, task: &Task, input: &mut I) -> Result<Printed
     ensures refused { AnswersOrRefuses task.now (I.remaining input.old) result }
 {
     match task {
-        Task::Ack(digits) => {
-            let bytes = hexadecimal::bytes_of(alloc, digits.as_str())?;
+        Task::Ack(argument) => {
+            let bytes = hexadecimal::bytes_of(alloc, argument.as_str())?;
             Ok(done(ack_lines(alloc, bytes.as_slice())?))
         }
-        Task::Show(kind, digits) => {
-            let bytes = hexadecimal::bytes_of(alloc, digits.as_str())?;
+        Task::Show(kind, argument) => {
+            let bytes = hexadecimal::bytes_of(alloc, argument.as_str())?;
             Ok(done(render(alloc, *kind, bytes.as_slice())?))
         }
         Task::Replay(_) => replayed(alloc, input),

@@ -16,9 +16,9 @@ pub enum Kind {
 /// What a command line asks for.
 #[derive(Debug, PartialEq, Eq, Drop)]
 pub enum Task {
-    /// The acknowledgment of the break notification in these hexadecimal digits.
+    /// The acknowledgment of the break notification whose bytes this argument writes.
     Ack(String),
-    /// What the bytes in these hexadecimal digits hold.
+    /// What the bytes hold that this argument writes.
     Show(Kind, String),
     /// The record of the run that the schedule in this file asks for.
     Replay(String),
