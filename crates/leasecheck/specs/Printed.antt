@@ -1,27 +1,32 @@
--- What a task prints, end to end: from the digits of its argument to the text on standard output.
-use Rattle.std.specs.Prelude.{◌≡◌, ℕ, List, Option, Ok, IfSome}
+-- What a task prints, end to end: from the text of its argument to the text on standard output.
+use Rattle.std.specs.Prelude.{◌≡◌, ℕ, ◌++◌, List, [], ◌∷◌, codes, Option, Ok, IfSome}
 use Rattle.std.specs.String.{string_bytes}
 use Rattle.std.specs.Io.KnownBytes.{Appends}
-use Rattle.hex.specs.Hex.{decode_of}
 use Rattle.leasecheck.specs.Answer.{AnswersWith}
+use Rattle.leasecheck.specs.Arguments.{argument_bytes}
 use Rattle.lease_world.specs.declared.verdict.Verdict.{Verdict}
 use Rattle.leasecheck.specs.Shown.{Shows}
 use Rattle.leasecheck.specs.Judging.{IsVerdictOn}
 use Rattle.leasecheck.specs.Replayed.{Replays, verdict_line, status_of}
 use Rattle.leasecheck.specs.declared.tasks.Task.{Task}
-use Rattle.leasecheck.specs.declared.tasks.Task.TheVariants.{Ack, Show, Replay, Judge}
+use Rattle.leasecheck.specs.declared.tasks.Task.TheVariants.{Ack, Show, Replay, Judge, Version}
+
+-- the program's name and version, and the kit that it is proved and built with, a line each
+abbrev pub version_text : List ℕ
+version_text = codes "leasecheck 0.1" ++ 10 ∷ (codes "rattle-kit-13b logic dac8208d650f15bf" ++ 10 ∷ [])
 
 -- The text is what the task prints, and the status how it ends, where its file has these bytes. Of what a replay prints for bytes
 -- that aren't known nothing is said, and of a judge's verdict on them only that it is one.
 abbrev pub IsTextOf : Task → Option (List ℕ) → List ℕ → ℕ → Type 0
-IsTextOf (Ack digits) file text status =
-    (status ≡ 0) × (bytes : List ℕ) × (decode_of (string_bytes digits) ≡ Ok bytes) × AnswersWith bytes text
-IsTextOf (Show kind digits) file text status =
-    (status ≡ 0) × (bytes : List ℕ) × (decode_of (string_bytes digits) ≡ Ok bytes) × Shows kind bytes text
+IsTextOf (Ack argument) file text status =
+    (status ≡ 0) × (bytes : List ℕ) × (argument_bytes (string_bytes argument) ≡ Ok bytes) × AnswersWith bytes text
+IsTextOf (Show kind argument) file text status =
+    (status ≡ 0) × (bytes : List ℕ) × (argument_bytes (string_bytes argument) ≡ Ok bytes) × Shows kind bytes text
 IsTextOf (Replay path) file text status = (status ≡ 0) × IfSome file (λ schedule. Replays schedule text)
 IsTextOf (Judge path) file text status =
     (verdict : Verdict) × (text ≡ verdict_line verdict) × (status ≡ status_of verdict)
     × IfSome file (λ bytes. IsVerdictOn bytes verdict)
+IsTextOf Version file text status = (status ≡ 0) × (text ≡ version_text)
 
 -- a writer whose bytes are known before and after has got what the task prints
 abbrev pub Prints : Task → Option (List ℕ) → Option (List ℕ) → Option (List ℕ) → ℕ → Type 0

@@ -5,7 +5,6 @@ use Rattle.std.specs.Option.{option_map}
 use Rattle.std.specs.Result.{result_err}
 use Rattle.std.specs.String.{string_bytes}
 use Rattle.std.specs.Io.KnownBytes.{Appends, Keeps}
-use Rattle.hex.specs.Hex.{decode_of}
 use Rattle.lease_wire.specs.Gathering.{value_of}
 use Rattle.lease_wire.specs.WireFaults.{message_fault, fault_text}
 use Rattle.lease_wire.specs.declared.create.Direction.TheVariants.{Request, Reply}
@@ -13,6 +12,7 @@ use Rattle.lease_wire.specs.declared.fault.WireFault.{WireFault}
 use Rattle.lease_texts.specs.declared.fault.TextFault.{TextFault}
 use Rattle.lease_texts.specs.declared.fault.TextFault.TheVariants as text
 use Rattle.lease_texts.specs.Records.{record_in}
+use Rattle.leasecheck.specs.Arguments.{argument_bytes}
 use Rattle.leasecheck.specs.Judging.{RunsOut}
 use Rattle.leasecheck.specs.Printed.{IsTextOf, Prints}
 use Rattle.leasecheck.specs.Replayed.{replay_refusal}
@@ -37,10 +37,10 @@ abbrev pub RefusesExactly : {X : Type 0} → Option WireFault → Result X Failu
 RefusesExactly fault answer = MatchResult answer (λ _. fault ≡ None)
     (λ failure. ((failure ≡ Memory) × (fault ≡ None)) ⊎ (option_map Wire fault ≡ Some failure))
 
--- what digits are refused as that have to write bytes without a fault
-abbrev pub digits_refusal : {E : Type 0} → (List ℕ → Option WireFault) → Result (List ℕ) E → Option Failure
-digits_refusal fault (Ok bytes) = option_map Wire (fault bytes)
-digits_refusal fault (Err e) = Some Hex
+-- what an argument is refused as that has to write bytes without a fault
+abbrev pub argument_refusal : {E : Type 0} → (List ℕ → Option WireFault) → Result (List ℕ) E → Option Failure
+argument_refusal fault (Ok bytes) = option_map Wire (fault bytes)
+argument_refusal fault (Err e) = Some Hex
 
 -- what a schedule is refused as, where its bytes are known
 abbrev pub known_refusal : Option (List ℕ) → Option Failure
@@ -58,10 +58,11 @@ judge_refusal (Some text) = line_refusal (record_in text)
 
 -- what the task's argument, or its file, is refused as
 abbrev pub refusal_of : Task → Option (List ℕ) → Option Failure
-refusal_of (task.Ack digits) file = digits_refusal (message_fault 44) (decode_of (string_bytes digits))
-refusal_of (task.Show kind digits) file = digits_refusal (shown_fault kind) (decode_of (string_bytes digits))
+refusal_of (task.Ack argument) file = argument_refusal (message_fault 44) (argument_bytes (string_bytes argument))
+refusal_of (task.Show kind argument) file = argument_refusal (shown_fault kind) (argument_bytes (string_bytes argument))
 refusal_of (task.Replay path) file = known_refusal file
 refusal_of (task.Judge path) file = judge_refusal file
+refusal_of task.Version file = None
 
 -- A file is refused as this: where its bytes aren't known, as some file would be.
 abbrev pub IsScheduleRefusal : Option (List ℕ) → Failure → Type 0

@@ -1,6 +1,8 @@
 ghost use Rattle.std.specs.Prelude.{◌≡◌, ◌⊎◌, IfErr};
 
-use crate::tasks::{Kind, Task, Usage};
+use crate::help;
+use crate::tasks::{Kind, Task, Usage, VERSION};
+use clap::error::ErrorKind;
 use clap::{Arg, ArgMatches, Command, Error};
 use std::alloc::{AllocError, Global};
 
@@ -8,16 +10,24 @@ fn hex_argument<'a>(alloc: Global, help: &'a str) -> Arg<'a> {
     Arg::new(alloc, "HEX").required(true).help(help)
 }
 
+// A command without its arguments.
+fn command<'a>(
+    alloc: Global,
+    name: &'a str,
+    about: &'a str,
+    long_about: &'a str,
+    end: &'a str,
+) -> Command<'a> {
+    Command::new(alloc, name)
+        .about(about)
+        .long_about(long_about)
+        .after_long_help(end)
+}
+
 fn ack_command<'a>(alloc: Global) -> Result<Command<'a>, AllocError> {
-    Command::new(alloc, "ack")
-        .about("Prints the acknowledgment that a lease break notification asks for")
-        .long_about(
-            "Reads a lease break notification (44 bytes, without the SMB2 header) and prints the \
-             lease break acknowledgment that a client sends for it, 72 hexadecimal digits, or \
-             'no acknowledgment due' where ACK_REQUIRED is not set. Where k bytes follow the \
-             notification, a line 'rest k' is printed after that.",
-        )
-        .arg(hex_argument(alloc, "The notification's bytes as hexadecimal digits"))
+    let about = "Prints the acknowledgment that a lease break notification asks for";
+    let bytes = hex_argument(alloc, "The notification's bytes as hexadecimal digits");
+    command(alloc, "ack", about, help::ACK, help::ACK_END).arg(bytes)
 }
 
 const KINDS: &[&str] = &["ask", "reply", "break", "ack", "response"];
@@ -29,23 +39,9 @@ fn kind_argument<'a>(alloc: Global) -> Arg<'a> {
         .help("ask and reply: create contexts; break, ack and response: break messages")
 }
 
-// The command without its arguments: one long chain of calls takes the prover ten times as long.
-fn show_texts<'a>(alloc: Global) -> Result<Command<'a>, AllocError> {
-    Ok(
-        Command::new(alloc, "show")
-            .about("Prints what create contexts or a break message hold")
-            .long_about(
-                "Reads bytes of the given kind, without the SMB2 header. For the create contexts of a \
-             request (ask) or of a response (reply) it prints a line for each context and one for \
-             each part of what they ask for or grant, or 'nothing'. For a lease break notification \
-             (break), acknowledgment (ack) or response (response) it prints one line, and 'rest k' \
-             where k bytes follow.",
-            ),
-    )
-}
-
 fn show_command<'a>(alloc: Global) -> Result<Command<'a>, AllocError> {
-    show_texts(alloc)?
+    let about = "Prints what create contexts or a break message hold";
+    command(alloc, "show", about, help::SHOW, help::SHOW_END)
         .arg(kind_argument(alloc))?
         .arg(hex_argument(alloc, "The bytes as hexadecimal digits"))
 }
@@ -55,26 +51,15 @@ fn file_argument<'a>(alloc: Global, help: &'a str) -> Arg<'a> {
 }
 
 fn replay_command<'a>(alloc: Global) -> Result<Command<'a>, AllocError> {
-    Command::new(alloc, "replay")
-        .about("Prints the record of the run that a schedule asks for")
-        .long_about(
-            "Reads a schedule, that is files, clients and events, one a line, runs it on the server and \
-             the clients, and prints the record, one fact a line, and '# safe' behind it. The whole \
-             output is a record that 'judge' reads.",
-        )
-        .arg(file_argument(alloc, "The schedule; - is standard input"))
+    let about = "Prints the record of the run that a schedule asks for";
+    let file = file_argument(alloc, "The schedule; - is standard input");
+    command(alloc, "replay", about, help::REPLAY, help::REPLAY_END).arg(file)
 }
 
 fn judge_command<'a>(alloc: Global) -> Result<Command<'a>, AllocError> {
-    Command::new(alloc, "judge")
-        .about("Prints whether a record is safe, or where it first is not")
-        .long_about(
-            "Reads a record, one fact a line, and prints 'safe' (status 0), 'unsafe PLACE RULE' (status \
-             3) or 'malformed PLACE' (status 1). PLACE is the number of the first bad fact, from 1; RULE \
-             is 1 for a write cache beside another cache, 2 for a cached read of other bytes, 3 for a \
-             buffered write that was accepted late, and 4 for a write told as done that was not accepted.",
-        )
-        .arg(file_argument(alloc, "The record; - is standard input"))
+    let about = "Prints whether a record is safe, or where it first is not";
+    let file = file_argument(alloc, "The record; - is standard input");
+    command(alloc, "judge", about, help::JUDGE, help::JUDGE_END).arg(file)
 }
 
 fn kind_named(name: &str) -> Option<Kind> {
@@ -89,8 +74,10 @@ fn kind_named(name: &str) -> Option<Kind> {
 }
 
 fn program<'a>(alloc: Global) -> Result<Command<'a>, AllocError> {
-    Command::new(alloc, "leasecheck")
-        .about("Reads and answers the messages of SMB 2.1 leases")
+    let about =
+        "Reads and answers messages of SMB 2.1 leases, replays schedules and judges records";
+    command(alloc, "leasecheck", about, help::PROGRAM, help::PROGRAM_END)
+        .version(VERSION)
         .disable_help_subcommand(true)
         .subcommand_required(true)
         .subcommand(ack_command(alloc)?)?
@@ -139,16 +126,16 @@ fn owned(alloc: Global, given: &ArgMatches, name: &str) -> Result<Option<String>
 }
 
 fn show_task(alloc: Global, given: &ArgMatches) -> Result<Option<Task>, AllocError> {
-    let (Some(name), Some(digits)) = (given.get_str("KIND"), given.get_str("HEX")) else {
+    let (Some(name), Some(text)) = (given.get_str("KIND"), given.get_str("HEX")) else {
         return Ok(None);
     };
-    let digits = String::from_str(alloc, digits)?;
-    Ok(kind_named(name).map(|kind| Task::Show(kind, digits)))
+    let argument = String::from_str(alloc, text)?;
+    Ok(kind_named(name).map(|kind| Task::Show(kind, argument)))
 }
 
 fn task_of(alloc: Global, matches: &ArgMatches) -> Result<Option<Task>, AllocError> {
     match matches.subcommand() {
-        Some(("ack", given)) => Ok(owned(alloc, given, "HEX")?.map(|digits| Task::Ack(digits))),
+        Some(("ack", given)) => Ok(owned(alloc, given, "HEX")?.map(|argument| Task::Ack(argument))),
         Some(("show", given)) => show_task(alloc, given),
         Some(("replay", given)) => Ok(owned(alloc, given, "FILE")?.map(|path| Task::Replay(path))),
         Some(("judge", given)) => Ok(owned(alloc, given, "FILE")?.map(|path| Task::Judge(path))),
@@ -170,6 +157,7 @@ pub fn task(alloc: Global, words: &[&str]) -> Result<Task, Usage>
     };
     let matches = match parse(alloc, all.as_slice()) {
         Ok(matches) => matches,
+        Err(error) if error.kind() == ErrorKind::DisplayVersion => return Ok(Task::Version),
         Err(error) => return Err(usage_of(alloc, &error)),
     };
     match task_of(alloc, &matches) {

@@ -11,7 +11,7 @@ use std::fmt;
 /// Why a task is refused. As text it is the line that standard error gets, without its line feed.
 #[derive(Clone, Copy, Debug, PartialEq, Eq)]
 pub enum Failure {
-    /// The argument isn't an even number of hexadecimal digits.
+    /// The argument writes no bytes as hexadecimal digits.
     Hex,
     /// The bytes are refused.
     Wire(WireFault),

@@ -1,22 +1,65 @@
-ghost use Rattle.std.specs.Prelude.{◌≡◌, ◌⊎◌, IfOk, IfErr, IsErr};
-ghost use Rattle.hex.specs.Hex.{decode_of};
+ghost use Rattle.std.specs.Prelude.{◌≡◌, ◌⊎◌, ◌<◌, ◌++◌, length, IfOk, IfErr, IsErr};
+ghost use Rattle.leasecheck.specs.Arguments.{is_separator, digits_in, without_prefix, argument_bytes};
 
 use crate::failure::Failure;
 use hex::FromHexError;
-use std::alloc::Global;
+use std::alloc::{AllocError, Global};
 
-/// The bytes that hexadecimal digits of either case write, two digits a byte.
+fn without_prefix(text: &[u8]) -> &[u8]
+    ensures { result.now ≡ without_prefix text.now }
+{
+    text.strip_prefix(b"0x").unwrap_or(text)
+}
+
+fn is_separator(code: u8) -> bool
+    ensures { result ≡ is_separator code }
+{
+    code == b':' || code == b' '
+}
+
+// A byte's two digits, and the text from the next byte on.
+fn split_byte(text: &[u8]) -> (&[u8], &[u8])
+    requires { 3 < length text.now }
+    ensures digits { digits_in text.now ≡ result.0.now ++ digits_in result.1.now }
+    ensures shorter { length result.1.now < length text.now }
+{
+    let (digits, behind) = text.split_at(2);
+    if is_separator(behind[0]) {
+        (digits, &behind[1..])
+    } else {
+        (digits, behind)
+    }
+}
+
+// The digits of a text without what stands between its bytes.
+fn digits_in(alloc: Global, text: &[u8]) -> Result<Vec<u8>, AllocError>
+    ensures { IfOk result (λ digits. digits.items ≡ digits_in text.now) }
+{
+    let mut digits = Vec::new(alloc);
+    let mut rest = text;
+    while rest.len() > 3 {
+        let (byte, behind) = split_byte(rest);
+        digits.extend_from_slice(byte)?;
+        rest = behind;
+    }
+    digits.extend_from_slice(rest)?;
+    Ok(digits)
+}
+
+/// The bytes that an argument writes: hexadecimal digits of either case, two a byte. They may begin with `0x`, and one colon or
+/// one space may stand between two bytes.
 ///
 /// # Errors
 ///
-/// `Hex` where the digits are odd in number or one of them is none, and `Memory` where there is none
-/// for the bytes.
-pub fn bytes_of(alloc: Global, digits: &str) -> Result<Vec<u8>, Failure>
-    ensures bytes { IfOk result (λ bytes. decode_of digits.now ≡ Ok bytes.items) }
+/// `Hex` where the text writes no bytes so, and `Memory` where there is none for them.
+#[tactic(auto, unfolding(crate::specs::Arguments::argument_bytes))]
+pub fn bytes_of(alloc: Global, argument: &str) -> Result<Vec<u8>, Failure>
+    ensures bytes { IfOk result (λ bytes. argument_bytes argument.now ≡ Ok bytes.items) }
     ensures refused { IfErr result (λ failure. (failure ≡ Failure.Memory)
-        ⊎ ((failure ≡ Failure.Hex) × IsErr (decode_of digits.now))) }
+        ⊎ ((failure ≡ Failure.Hex) × IsErr (argument_bytes argument.now))) }
 {
-    match hex::decode(alloc, digits) {
+    let digits = digits_in(alloc, without_prefix(argument.as_bytes()))?;
+    match hex::decode(alloc, digits.as_slice()) {
         Ok(bytes) => Ok(bytes),
         Err(FromHexError::OutOfMemory) => Err(Failure::Memory),
         Err(_) => Err(Failure::Hex),

@@ -13,6 +13,7 @@
 
 mod command_line;
 mod failure;
+mod help;
 mod hexadecimal;
 mod judging;
 mod printing;

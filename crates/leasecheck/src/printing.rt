@@ -11,7 +11,7 @@ use crate::failure::Failure;
 use crate::hexadecimal;
 use crate::judging::{judge_text, push_verdict, status_of};
 use crate::replaying::replay;
-use crate::tasks::Task;
+use crate::tasks::{Task, VERSION};
 use crate::wire::{ack_lines, render};
 use arrayvec::ArrayString;
 use std::alloc::Global;
@@ -77,16 +77,17 @@ fn text_of<I: Read>(alloc: Global, task: &Task, input: &mut I) -> Result<Printed
     ensures refused { AnswersOrRefuses task.now (I.remaining input.old) result }
 {
     match task {
-        Task::Ack(digits) => {
-            let bytes = hexadecimal::bytes_of(alloc, digits.as_str())?;
+        Task::Ack(argument) => {
+            let bytes = hexadecimal::bytes_of(alloc, argument.as_str())?;
             Ok(done(ack_lines(alloc, bytes.as_slice())?))
         }
-        Task::Show(kind, digits) => {
-            let bytes = hexadecimal::bytes_of(alloc, digits.as_str())?;
+        Task::Show(kind, argument) => {
+            let bytes = hexadecimal::bytes_of(alloc, argument.as_str())?;
             Ok(done(render(alloc, *kind, bytes.as_slice())?))
         }
         Task::Replay(_) => replayed(alloc, input),
         Task::Judge(_) => judged(alloc, input),
+        Task::Version => Ok(done(String::from_str(alloc, VERSION)?)),
     }
 }
 
@@ -173,7 +174,7 @@ pub(crate) fn tell_failure<F: Write>(failure: Failure, faults: &mut F) -> Result
 ///
 /// The whole text is made before anything is written to `out`; on a refusal nothing is, and
 /// `faults` gets one line, or a beginning of it where a write there fails, which changes no status. `input` has the bytes of
-/// the task's file, none for `ack` and `show`.
+/// the task's file, none for a task without one.
 pub fn perform<I: Read, O: Write, F: Write>(
     alloc: Global,
     task: &Task,

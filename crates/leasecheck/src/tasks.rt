@@ -16,21 +16,26 @@ pub enum Kind {
 /// What a command line asks for.
 #[derive(Debug, PartialEq, Eq, Drop)]
 pub enum Task {
-    /// The acknowledgment of the break notification in these hexadecimal digits.
+    /// The acknowledgment of the break notification whose bytes this argument writes.
     Ack(String),
-    /// What the bytes in these hexadecimal digits hold.
+    /// What the bytes hold that this argument writes.
     Show(Kind, String),
     /// The record of the run that the schedule in this file asks for.
     Replay(String),
     /// The verdict on the record in this file.
     Judge(String),
+    /// The version of the program.
+    Version,
 }
+
+/// The program's name and version, and the line of the kit that it is proved and built with.
+pub const VERSION: &str = "leasecheck 0.1\nrattle-kit-13b logic dac8208d650f15bf\n";
 
 impl Task {
     /// The file that it reads; a hyphen stands for standard input.
     pub fn path(&self) -> Option<&str> {
         match self {
-            Task::Ack(_) | Task::Show(_, _) => None,
+            Task::Ack(_) | Task::Show(_, _) | Task::Version => None,
             Task::Replay(path) | Task::Judge(path) => Some(path.as_str()),
         }
     }

@@ -1,0 +1,102 @@
+//! What `--help` tells of the program and of its commands.
+
+pub(crate) const PROGRAM: &str =
+    "Reads and answers the messages of SMB 2.1 leases, replays schedules of clients
+that share files, and judges records of such runs";
+
+pub(crate) const PROGRAM_END: &str = "Exit status:
+  0  done: the answer is on standard output
+  1  the input is refused, memory ran out, or a read or a write failed: one line
+     on standard error says which; or the record that was judged is malformed
+  2  the command line is refused
+  3  the record that was judged is unsafe
+
+Each command has its own --help, with an example. In the project's repository
+docs/FORMATS.md has the layouts of messages, the lines of schedules and records,
+and all that is printed, and README.md a session.";
+
+pub(crate) const ACK: &str =
+    "Reads a lease break notification (44 bytes, without the SMB2 header) and prints
+the lease break acknowledgment that a client sends for it, 72 hexadecimal
+digits, or 'no acknowledgment due' where ACK_REQUIRED is not set. Where k bytes
+follow the notification, a line 'rest k' is printed after that. HEX may begin
+with 0x, and have one colon or one space between two bytes.";
+
+pub(crate) const ACK_END: &str = "Example:
+  $ leasecheck ack 2c00000001000000000102030405060708090a0b0c0d0e0f0700000003000000000000000000000000000000
+  2400000000000000000102030405060708090a0b0c0d0e0f030000000000000000000000
+
+Exit status:
+  0  the answer is printed
+  1  the bytes are refused, memory ran out, or a write failed: one line on
+     standard error says which, as 'fault hex' or 'fault 1 Short at 0'
+  2  the command line is refused
+
+docs/FORMATS.md in the project's repository has the layouts and the faults.";
+
+pub(crate) const SHOW: &str =
+    "Reads bytes of the given kind, without the SMB2 header. For the create contexts
+of a request (ask) or of a response (reply) it prints a line for each context
+and one for each part of what they ask for or grant, or 'nothing'. For a lease
+break notification (break), acknowledgment (ack) or response (response) it
+prints one line, and 'rest k' where k bytes follow. HEX may begin with 0x, and
+have one colon or one space between two bytes.";
+
+pub(crate) const SHOW_END: &str = "Example:
+  $ leasecheck show break 2c00000001000000000102030405060708090a0b0c0d0e0f0700000003000000000000000000000000000000
+  break 00010203-0405-0607-0809-0a0b0c0d0e0f RWH to RH ack
+
+Exit status:
+  0  what the bytes hold is printed
+  1  the bytes are refused, memory ran out, or a write failed: one line on
+     standard error says which, as 'fault hex' or 'fault 3 BadNext at 56'
+  2  the command line is refused
+
+docs/FORMATS.md in the project's repository has the layouts, the lines that are
+printed, and the faults.";
+
+pub(crate) const REPLAY: &str =
+    "Reads a schedule, that is files, clients and events, one a line, runs it on the
+server and the clients, and prints the record, one fact a line, and '# safe'
+behind it. The whole output is a record that 'judge' reads.";
+
+pub(crate) const REPLAY_END: &str = "Example:
+  $ printf 'file 61\\nclient 11111111-1111-1111-1111-111111111111\\nconnect 1\\n' | leasecheck replay -
+  start 1 61
+  joined 1
+  # safe
+
+Exit status:
+  0  the record is printed
+  1  the schedule is refused, memory ran out, or a read or a write failed: one
+     line on standard error says which, as 'fault line 7' or 'fault file'
+  2  the command line is refused
+
+docs/FORMATS.md in the project's repository has the lines of schedules and of
+records, and the faults.";
+
+pub(crate) const JUDGE: &str =
+    "Reads a record, one fact a line, and prints 'safe' (status 0), 'unsafe PLACE
+RULE' (status 3) or 'malformed PLACE' (status 1). PLACE is the number of the
+first bad fact, from 1; RULE is 1 for a write cache beside another cache, 2 for
+a cached read of other bytes, 3 for a buffered write that was accepted late, and
+4 for a write told as done that was not accepted.";
+
+pub(crate) const JUDGE_END: &str = "Example:
+  $ printf 'start 1 61\\njoined 1\\nsettled 1 1 done\\n' | leasecheck judge -
+  unsafe 3 4
+
+Empty lines and lines that begin with '#' are no facts, so this prints the fact
+at place 3 of FILE with the number of its line:
+  $ grep -n -v -e '^#' -e '^$' FILE | sed -n 3p
+
+Exit status:
+  0  the record is safe
+  1  the record is malformed, which standard output tells; or it is refused,
+     memory ran out, or a read or a write failed: then one line on standard
+     error says which, as 'fault line 7' or 'fault file'
+  2  the command line is refused
+  3  the record is unsafe
+
+docs/FORMATS.md in the project's repository has the lines of records, the rules
+and the faults.";
