@@ -1,4 +1,5 @@
-ghost use Rattle.std.specs.Prelude.{◌≡◌, ◌⊎◌, ◌<◌, ◌++◌, length, IfOk, IfErr, IsErr};
+ghost use Rattle.std.specs.Prelude.{◌≡◌, ◌⊎◌, ◌<◌, ◌++◌, ℕ, List, length, IfOk, IfErr, IsErr};
+ghost use Rattle.hex.specs.Hex.{decode_of};
 ghost use Rattle.leasecheck.specs.Arguments.{is_separator, digits_in, without_prefix, argument_bytes};
 
 use crate::failure::Failure;
@@ -52,9 +53,12 @@ fn digits_in(alloc: Global, text: &[u8]) -> Result<Vec<u8>, AllocError>
 /// # Errors
 ///
 /// `Hex` where the text writes no bytes so, and `Memory` where there is none for them.
-#[tactic(auto, unfolding(crate::specs::Arguments::argument_bytes))]
+#[tactic(auto, unfolding(crate::specs::Arguments::argument_bytes), using(crate::proofs::Digits::plain_argument))]
 pub fn bytes_of(alloc: Global, argument: &str) -> Result<Vec<u8>, Failure>
     ensures bytes { IfOk result (λ bytes. argument_bytes argument.now ≡ Ok bytes.items) }
+
+    // Digits alone write what they always do.
+    ensures plain { (bytes : List ℕ) → decode_of argument.now ≡ Ok bytes → argument_bytes argument.now ≡ Ok bytes }
     ensures refused { IfErr result (λ failure. (failure ≡ Failure.Memory)
         ⊎ ((failure ≡ Failure.Hex) × IsErr (argument_bytes argument.now))) }
 {
