@@ -5,8 +5,8 @@ ghost use Rattle.lease_texts.specs.Records.{digits_word, outcome_word, patch_wor
 
 use crate::words::state_letters;
 use lease_client::Settlement;
-use lease_state::{Bytes, ClientNo, FileNo, Patch};
 use lease_facts::Fact;
+use lease_state::{Bytes, ClientNo, FileNo, Patch};
 use std::alloc::{AllocError, Global};
 
 // The digits of bytes, or a hyphen where there are none.

@@ -7,8 +7,8 @@ use crate::fault::LineFault;
 use crate::fields::{Fields, is, read_patch};
 use hex::FromHex;
 use lease_client::Command;
-use lease_state::{ClientNo, FileId, Request};
 use lease_facts::Event;
+use lease_state::{ClientNo, FileId, Request};
 use std::alloc::Global;
 
 // Whether the last field is there.

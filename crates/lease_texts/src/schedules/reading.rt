@@ -10,8 +10,8 @@ use crate::fault::{LineFault, TextFault};
 use crate::fields::{Fields, is};
 use crate::lines::{first_line, is_passed_over};
 use crate::schedules::events::read_event;
-use lease_state::Content;
 use lease_facts::{Event, Setup};
+use lease_state::Content;
 use std::alloc::Global;
 use uuid::Uuid;
 
