@@ -3,4 +3,6 @@
 
 mod reading_back;
 
-pub use reading_back::{facts_are_read_back, records_are_read_back, runs_are_read_back};
+pub use reading_back::{
+    facts_are_read_back, records_are_read_back, runs_are_read_back, schedules_are_read_back,
+};
