@@ -1,10 +1,18 @@
 -- Schedules as texts: what a line asks for, and what a whole text does.
 use Rattle.std.specs.Prelude.{ℕ, ◌++◌, Bool, true, false, List, [], ◌∷◌, codes, bytes_eq, if◌then◌else◌, Option, Some, None, Result}
+use Rattle.std.specs.Fmt.{decimal}
+use Rattle.std.specs.List.{flat_map}
 use Rattle.std.specs.Result.{result_ok}
-use Rattle.hex.specs.Hex.{decode_sized}
-use Rattle.uuid.specs.Text.{parsed}
+use Rattle.hex.specs.Hex.{decode_sized, encode_lower}
+use Rattle.uuid.specs.Text.{parsed, hyphenated_text, lower}
+use Rattle.lease_state.specs.State.{state_of}
+use Rattle.lease_state.specs.declared.access.Access.{Access}
+use Rattle.lease_state.specs.declared.access.Access.TheVariants as access
+use Rattle.lease_state.specs.declared.access.Share.{Share}
+use Rattle.lease_state.specs.declared.access.Share.TheVariants as share
 use Rattle.lease_state.specs.declared.request.Request.{Request}
 use Rattle.lease_state.specs.declared.request.Request.TheVariants as request
+use Rattle.lease_state.specs.declared.state.LeaseState.{LeaseState}
 use Rattle.lease_client.specs.declared.command.Command.{Command}
 use Rattle.lease_client.specs.declared.command.Command.TheVariants as command
 use Rattle.lease_facts.specs.declared.setup.Event.{Event}
@@ -12,6 +20,8 @@ use Rattle.lease_facts.specs.declared.setup.Event.TheVariants as event
 use Rattle.lease_texts.specs.Pieces.{fields_of, lines_of}
 use Rattle.lease_texts.specs.Fields.{Taking, and_then, with_rest, one, whole, ordinal_in, number_in, bytes_in, content_in, access_in, share_in, state_in, patch_in}
 use Rattle.lease_texts.specs.Reading.{reads_on, is_passed_over}
+use Rattle.lease_texts.specs.Records.{digits_word, patch_words}
+use Rattle.lease_texts.specs.Words.{state_word}
 
 -- the word behind a durable open, which others lack
 abbrev pub durable_word : List ℕ → Option Bool
@@ -126,3 +136,73 @@ with_line draft line = if is_passed_over line then Some draft else with_part dra
 -- the schedule that a text is, or the number of its first line that is refused
 abbrev pub schedule_in : List ℕ → Result Draft ℕ
 schedule_in text = reads_on with_line 1 (record { files = []; clients = []; events = [] }) (lines_of text)
+
+-- ---- what is written
+
+abbrev pub access_word : Access → List ℕ
+access_word access.Read = codes "r"
+access_word access.Write = codes "w"
+access_word access.ReadWrite = codes "rw"
+
+abbrev pub share_word : Share → List ℕ
+share_word share.Nothing = codes "-"
+share_word share.Read = codes "r"
+share_word share.Write = codes "w"
+share_word share.ReadWrite = codes "rw"
+
+-- how a file is to be opened
+abbrev pub terms_words : Access → Share → LeaseState → List ℕ
+terms_words access share want = access_word access ++ codes " " ++ share_word share ++ codes " " ++ state_word (state_of want)
+
+-- what stands behind an open
+abbrev pub durable_words : Bool → List ℕ
+durable_words true = codes " durable"
+durable_words false = []
+
+-- a request in a client's name, behind the client
+abbrev pub request_words : Request → List ℕ
+request_words (request.Create file access share contexts) =
+    codes "create " ++ decimal file.0 ++ codes " " ++ access_word access ++ codes " " ++ share_word share
+    ++ codes " " ++ digits_word contexts
+request_words (request.Read fid) = codes "read " ++ decimal fid.0
+request_words (request.Write fid number patch) =
+    codes "write " ++ decimal fid.0 ++ codes " " ++ decimal number ++ codes " " ++ patch_words patch
+request_words (request.Close fid) = codes "close " ++ decimal fid.0
+request_words (request.Ack message) = codes "ack " ++ encode_lower message
+
+-- the line of an event, with its line feed
+abbrev pub event_line : Event → List ℕ
+event_line (event.App client (command.Open file access share want durable)) =
+    codes "open " ++ decimal client.0 ++ codes " " ++ decimal file.0 ++ codes " " ++ terms_words access share want
+    ++ durable_words durable ++ 10 ∷ []
+event_line (event.App client (command.Close file)) =
+    codes "close " ++ decimal client.0 ++ codes " " ++ decimal file.0 ++ 10 ∷ []
+event_line (event.App client (command.Read file)) =
+    codes "read " ++ decimal client.0 ++ codes " " ++ decimal file.0 ++ 10 ∷ []
+event_line (event.App client (command.Write file patch)) =
+    codes "write " ++ decimal client.0 ++ codes " " ++ decimal file.0 ++ codes " " ++ patch_words patch ++ 10 ∷ []
+event_line (event.App client (command.Flush file)) =
+    codes "flush " ++ decimal client.0 ++ codes " " ++ decimal file.0 ++ 10 ∷ []
+event_line (event.ServerTakes client) = codes "serve " ++ decimal client.0 ++ 10 ∷ []
+event_line (event.ClientTakes client) = codes "take " ++ decimal client.0 ++ 10 ∷ []
+event_line (event.Cut client) = codes "cut " ++ decimal client.0 ++ 10 ∷ []
+event_line (event.Notice client) = codes "notice " ++ decimal client.0 ++ 10 ∷ []
+event_line (event.Connect client) = codes "connect " ++ decimal client.0 ++ 10 ∷ []
+event_line (event.Expire client file) = codes "expire " ++ decimal client.0 ++ codes " " ++ decimal file.0 ++ 10 ∷ []
+event_line (event.Scavenge client file) = codes "scavenge " ++ decimal client.0 ++ codes " " ++ decimal file.0 ++ 10 ∷ []
+event_line (event.Raw client asked) = codes "raw " ++ decimal client.0 ++ codes " " ++ request_words asked ++ 10 ∷ []
+
+-- the lines of a file and of a client
+abbrev pub file_line : List ℕ → List ℕ
+file_line content = codes "file " ++ digits_word content ++ 10 ∷ []
+
+abbrev pub client_line : List ℕ → List ℕ
+client_line guid = codes "client " ++ hyphenated_text lower guid ++ 10 ∷ []
+
+-- the lines of a setup: of its files, then of its clients
+abbrev pub setup_lines : List (List ℕ) → List (List ℕ) → List ℕ
+setup_lines files clients = flat_map file_line files ++ flat_map client_line clients
+
+-- the text of a schedule
+abbrev pub schedule_text : Draft → List ℕ
+schedule_text draft = setup_lines draft.files draft.clients ++ flat_map event_line draft.events

@@ -1,7 +1,8 @@
 //! Schedules and records as texts: a line for each event and for each fact.
 //!
-//! `read_schedule` gives the setup and the events of a run, `read_fact` what a line of a record tells, and `push_fact` writes that
-//! line. A line is cut into `Fields`, which are read one after the other. docs/FORMATS.md has every line.
+//! `read_schedule` gives the setup and the events of a run, and `push_setup` and `push_event` write their lines. `read_fact` gives
+//! what a line of a record tells, and `push_fact` writes that line. A line is cut into `Fields`, which are read one after the
+//! other. docs/FORMATS.md has every line.
 #![tactic(auto)]
 
 mod fault;
@@ -16,5 +17,5 @@ pub use fault::{LineFault, TextFault};
 pub use fields::{Fields, is, read_patch};
 pub use lines::{first_line, is_passed_over};
 pub use records::{push_fact, read_fact};
-pub use schedules::{Schedule, read_schedule};
+pub use schedules::{Schedule, push_event, push_setup, read_schedule};
 pub use words::state_letters;

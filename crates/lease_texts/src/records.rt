@@ -5,3 +5,4 @@ mod writing;
 
 pub use reading::read_fact;
 pub use writing::push_fact;
+pub(crate) use writing::{digits_of, push_patch};

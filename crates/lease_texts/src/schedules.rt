@@ -2,5 +2,7 @@
 
 mod events;
 mod reading;
+mod writing;
 
 pub use reading::{Schedule, read_schedule};
+pub use writing::{push_event, push_setup};

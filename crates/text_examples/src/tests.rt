@@ -1,6 +1,6 @@
-use lease_client::Settlement;
-use lease_state::{Bytes, ClientNo, FileNo, LeaseState, Patch};
-use lease_texts::{LineFault, push_fact, read_fact, read_schedule};
+use lease_client::{Command, Settlement};
+use lease_state::{Access, Bytes, ClientNo, FileId, FileNo, LeaseState, Patch, Request, Share};
+use lease_texts::{LineFault, push_event, push_fact, push_setup, read_fact, read_schedule};
 use lease_world::{Event, Fact};
 use std::alloc::Global;
 use std::test::Fail;
@@ -82,5 +82,113 @@ fn a_schedule_is_read(rt: HostRuntime) -> Result<(), Fail> {
         schedule.events.as_slice(),
         [Event::Cut(ClientNo(1))].as_slice()
     );
+    Ok(())
+}
+
+fn opening(want: u32, durable: bool) -> Command {
+    Command::Open {
+        file: FileNo(1),
+        access: Access::ReadWrite,
+        share: Share::Nothing,
+        want: LeaseState::from_wire(want),
+        durable,
+    }
+}
+
+fn requests(alloc: Global) -> Result<Vec<Request>, Fail> {
+    let mut all = Vec::new(alloc);
+    all.push(Request::Create {
+        file: FileNo(2),
+        access: Access::Write,
+        share: Share::ReadWrite,
+        contexts: bytes(alloc, b"")?,
+    })?;
+    all.push(Request::Read {
+        fid: FileId(u64::MAX),
+    })?;
+    all.push(Request::Write {
+        fid: FileId(0),
+        number: 7,
+        patch: patch(alloc, 3, b"xy")?,
+    })?;
+    all.push(Request::Close { fid: FileId(1) })?;
+    all.push(Request::Ack([0xa5; 36]))?;
+    Ok(all)
+}
+
+fn events(alloc: Global) -> Result<Vec<Event>, Fail> {
+    let (first, last) = (ClientNo(1), ClientNo(255));
+    let file = FileNo(1);
+    let mut all = Vec::new(alloc);
+    all.push(Event::Connect(first))?;
+    all.push(Event::App(first, opening(7, true)))?;
+    all.push(Event::App(last, opening(0, false)))?;
+    all.push(Event::ServerTakes(first))?;
+    all.push(Event::ClientTakes(last))?;
+    all.push(Event::App(
+        first,
+        Command::Write {
+            file,
+            patch: patch(alloc, 0, b"")?,
+        },
+    ))?;
+    all.push(Event::App(first, Command::Read { file }))?;
+    all.push(Event::App(first, Command::Flush { file }))?;
+    all.push(Event::App(first, Command::Close { file }))?;
+    all.push(Event::Cut(first))?;
+    all.push(Event::Notice(first))?;
+    all.push(Event::Expire(last, file))?;
+    all.push(Event::Scavenge(last, file))?;
+    for asked in requests(alloc)? {
+        all.push(Event::Raw(first, asked))?;
+    }
+    Ok(all)
+}
+
+const WRITTEN: &str = "file 616263
+file -
+client 11111111-1111-1111-1111-111111111111
+client 00010203-0405-0607-0809-0a0b0c0d0e0f
+connect 1
+open 1 1 rw - RWH durable
+open 255 1 rw - none
+serve 1
+take 255
+write 1 1 0 -
+read 1 1
+flush 1 1
+close 1 1
+cut 1
+notice 1
+expire 255 1
+scavenge 255 1
+raw 1 create 2 w rw -
+raw 1 read 18446744073709551615
+raw 1 write 0 7 3 7879
+raw 1 close 1
+raw 1 ack a5a5a5a5a5a5a5a5a5a5a5a5a5a5a5a5a5a5a5a5a5a5a5a5a5a5a5a5a5a5a5a5a5a5a5a5
+";
+
+// The lines of a setup and of each event, and the schedule that they are read as.
+#[test]
+fn a_schedule_is_written_and_read_back(rt: HostRuntime) -> Result<(), Fail> {
+    let alloc = rt.alloc();
+    let setup = read_schedule(
+        alloc,
+        b"file 616263\nfile -\nclient 11111111111111111111111111111111
+client {00010203-0405-0607-0809-0A0B0C0D0E0F}",
+    )?
+    .setup;
+    let mut text = String::new(alloc);
+    push_setup(alloc, &mut text, &setup)?;
+    let events = events(alloc)?;
+    for event in &events {
+        push_event(alloc, &mut text, event)?;
+    }
+    assert_eq!(rt; text.as_str(), WRITTEN);
+    let schedule = read_schedule(alloc, text.as_str().as_bytes())?;
+    assert_eq!(rt; schedule.events.as_slice(), events.as_slice());
+    assert_eq!(rt; schedule.setup.clients.as_slice(), setup.clients.as_slice());
+    assert_eq!(rt; schedule.setup.files.len(), 2);
     Ok(())
 }

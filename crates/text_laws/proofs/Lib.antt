@@ -5,3 +5,5 @@ pub mod Texts
 pub mod Named
 pub mod Joined
 pub mod Runs
+pub mod Parts
+pub mod Schedules

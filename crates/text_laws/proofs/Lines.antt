@@ -26,12 +26,12 @@ use Rattle.text_laws.proofs.Numbers.{ordinal_back, number_back, offset_back, byt
 -- ---- lines of words
 
 -- words between spaces
-pub joined : List ℕ → List (List ℕ) → List ℕ
+unfoldable pub joined : List ℕ → List (List ℕ) → List ℕ
 joined word [] = word
 joined word (next ∷ words) = word ++ 32 ∷ joined next words
 
 -- and with a line feed behind them
-pub ended : List ℕ → List (List ℕ) → List ℕ
+unfoldable pub ended : List ℕ → List (List ℕ) → List ℕ
 ended word [] = word ++ 10 ∷ []
 ended word (next ∷ words) = word ++ 32 ∷ ended next words
 
@@ -68,7 +68,7 @@ reads_words : (kind : List ℕ) (words : List (List ℕ)) (read : Fact) → all_
 unfolding fact_in
 reads_words kind words read first others says = rw (fields_joined kind words first others) says
 
-is_line : (text line rest : List ℕ) → text ≡ line ++ 10 ∷ [] → all_above 10 line ≡ true
+pub is_line : (text line rest : List ℕ) → text ≡ line ++ 10 ∷ [] → all_above 10 line ≡ true
     → lines_of (text ++ rest) ≡ line ∷ lines_of rest
 is_line text line rest written above =
     ap (λ (whole : List ℕ). lines_of (whole ++ rest)) written
@@ -76,14 +76,14 @@ is_line text line rest written above =
     ∙ piece_first 10 [] line rest above
 
 -- a word that is written
-abbrev Word : Type 0
+abbrev pub Word : Type 0
 Word = (word : List ℕ) × (all_above 32 word ≡ true)
 
-abbrev texts : List Word → List (List ℕ)
+abbrev pub texts : List Word → List (List ℕ)
 texts [] = []
 texts (word ∷ words) = word.0 ∷ texts words
 
-texts_are_words : (words : List Word) → are_words (texts words) ≡ true
+pub texts_are_words : (words : List Word) → are_words (texts words) ≡ true
 unfolding are_words
 texts_are_words [] = refl
 texts_are_words (word ∷ words) = rw (word.1, texts_are_words words) refl
@@ -103,22 +103,22 @@ of_words {told} {read} kind words first written counts says =
 
 -- ---- words
 
-abbrev number_word : (number : ℕ) → number < 2 ^ 64 → Word
+abbrev pub number_word : (number : ℕ) → number < 2 ^ 64 → Word
 number_word number small = (decimal number, decimal_above number small)
 
-abbrev ordinal_word : (number : ℕ) → IsOrdinal number → Word
+abbrev pub ordinal_word : (number : ℕ) → IsOrdinal number → Word
 ordinal_word number is = (decimal number, decimal_above number (small is.1))
   where
     small : number < 256 → number < 2 ^ 64
     small below = omega (arith, below)
 
-abbrev offset_word : (offset : ℕ) → offset < 2 ^ 32 → Word
+abbrev pub offset_word : (offset : ℕ) → offset < 2 ^ 32 → Word
 offset_word offset small = (decimal offset, decimal_above offset (wide small))
   where
     wide : offset < 2 ^ 32 → offset < 2 ^ 64
     wide below = omega (arith, below)
 
-abbrev bytes_word : (bytes : List ℕ) → IsBytes bytes → Word
+abbrev pub bytes_word : (bytes : List ℕ) → IsBytes bytes → Word
 bytes_word bytes are = (digits_word bytes, digits_above bytes are)
 
 -- ---- facts
@@ -127,7 +127,7 @@ abbrev ReadsBack : Fact → Type 0
 ReadsBack told = CanBeNamed told → IsReadAs told (as_lettered told)
 
 -- a word behind a space
-spaced : (front word rest : List ℕ) → (front ++ codes " " ++ word) ++ rest ≡ front ++ 32 ∷ (word ++ rest)
+pub spaced : (front word rest : List ℕ) → (front ++ codes " " ++ word) ++ rest ≡ front ++ 32 ∷ (word ++ rest)
 spaced front word rest = append_assoc (front ++ codes " ") word rest ∙ append_assoc front (codes " ") (word ++ rest)
 
 changed_words : (a b c d e : List ℕ)

@@ -65,10 +65,10 @@ pub record IsReadAs (told : Fact) (read : Fact) : Type 0 where
 abbrev pub FactsAreReadBack : Type 0
 FactsAreReadBack = (told : Fact) → CanBeTold told → IsReadAs told told
 
--- what holds of each fact
-abbrev pub Each : (Fact → Type 0) → List Fact → Type 0
+-- what holds of each on a list
+abbrev pub Each : {X : Type 0} → (X → Type 0) → List X → Type 0
 Each P [] = ⊤
-Each P (told ∷ facts) = P told × Each P facts
+Each P (one ∷ others) = P one × Each P others
 
 abbrev pub RecordsAreReadBack : Type 0
 RecordsAreReadBack = (facts : List Fact) → Each CanBeTold facts → record_in (record_text facts) ≡ Ok facts

@@ -1,6 +1,13 @@
-//! What is written is read back: public functions with an empty body whose contracts carry the laws of texts.
+//! What is written is read back: public functions whose contracts carry the laws of texts. They do nothing, or nothing beside
+//! a run.
 #![tactic(auto)]
 
+mod judged;
 mod reading_back;
+mod typing;
 
-pub use reading_back::{facts_are_read_back, records_are_read_back, runs_are_read_back};
+pub use judged::{judged_run, replays_are_judged_safe};
+pub use reading_back::{
+    facts_are_read_back, records_are_read_back, runs_are_read_back, schedules_are_read_back,
+};
+pub use typing::facts_are_typed;

@@ -1,4 +1,5 @@
 ghost use Rattle.text_laws.specs.Runs.{RunsAreReadBack, RunsAreJudgedSafe, ReplaysAreJudgedSafe};
+ghost use Rattle.text_laws.specs.Schedules.{SchedulesAreReadBack};
 ghost use Rattle.text_laws.specs.Told.{FactsAreReadBack, RecordsAreReadBack, TextsGoOn};
 
 use lease_coherence::coherent;
@@ -25,3 +26,8 @@ pub fn runs_are_read_back()
 {
     coherent();
 }
+
+/// The text of a schedule, its setup and its events, is read as that schedule, if lines can tell it. Does nothing.
+pub fn schedules_are_read_back()
+    ensures schedules { SchedulesAreReadBack }
+{}

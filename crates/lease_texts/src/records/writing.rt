@@ -10,7 +10,7 @@ use lease_state::{Bytes, ClientNo, FileNo, Patch};
 use std::alloc::{AllocError, Global};
 
 // The digits of bytes, or a hyphen where there are none.
-fn digits_of(alloc: Global, bytes: &Bytes) -> Result<String, AllocError>
+pub(crate) fn digits_of(alloc: Global, bytes: &Bytes) -> Result<String, AllocError>
     ensures { IfOk result (λ text. string_bytes text ≡ digits_word bytes.now) }
 {
     if bytes.is_empty() {
@@ -32,7 +32,7 @@ fn outcome_word(outcome: Settlement) -> &'static str
 }
 
 // The offset and the digits of a patch.
-fn push_patch(alloc: Global, text: &mut String, patch: &Patch) -> Result<(), AllocError>
+pub(crate) fn push_patch(alloc: Global, text: &mut String, patch: &Patch) -> Result<(), AllocError>
     ensures { OnOk result (string_bytes text.new ≡ string_bytes text.old ++ patch_words patch.now) }
 {
     let digits = digits_of(alloc, &patch.bytes)?;

@@ -1,0 +1,7 @@
+use Rattle.std.proofs.Common.{take}
+use Rattle.text_laws.specs.Runs.{IsTyped}
+use Rattle.text_laws.specs.Told.{Each}
+use Rattle.text_laws.proofs.typing.facts_are_typed.Given as goal
+
+abbrev pub invariant-loop-fact : goal.invariant-loop-fact
+invariant-loop-fact l = Each IsTyped (take l.fact-index l.facts)

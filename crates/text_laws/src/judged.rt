@@ -1,0 +1,42 @@
+ghost use Rattle.std.specs.Prelude.{◌≡◌, ◌↔◌, ◌++◌, ◌∷◌, [], true, false, map, codes, Err, IfOk};
+ghost use Rattle.lease_model.specs.world.Allowed.{is_allowed_setup, are_too_many};
+ghost use Rattle.lease_model.specs.world.Events.{recorded};
+ghost use Rattle.lease_facts.specs.Facts.{fact_of};
+ghost use Rattle.lease_facts.specs.Setups.{setup_of, event_of};
+ghost use Rattle.lease_texts.specs.Records.{record_text};
+ghost use Rattle.text_laws.specs.Runs.{IsJudgedSafe};
+
+use crate::reading_back::runs_are_read_back;
+use crate::typing::facts_are_typed;
+use lease_world::{Event, Fact, RunFault, Setup, run};
+use std::alloc::Global;
+
+/// What a replay prints of a run, its record and that it is safe, is the text of a record, and the verdict on that is that it is
+/// safe. Reads the facts, and does nothing with them.
+pub fn replays_are_judged_safe(setup: &Setup, events: &[Event], facts: &[Fact])
+    requires allowed { is_allowed_setup (setup_of setup.now) ≡ true }
+    requires record { map fact_of facts.now ≡ recorded (setup_of setup.now) (map event_of events.now) }
+    ensures safe { IsJudgedSafe (record_text facts.now ++ codes "# safe" ++ 10 ∷ []) }
+{
+    runs_are_read_back();
+    facts_are_typed(facts);
+}
+
+/// The record of a run, as `run` gives it, and of which what a replay prints is judged to be safe.
+///
+/// # Errors
+///
+/// `BadSetup` exactly where the setup breaks its limits, else `TooMany` exactly where there are too many events, else
+/// `Memory` where there is none left.
+pub fn judged_run(alloc: Global, setup: &Setup, events: &[Event]) -> Result<Vec<Fact>, RunFault>
+    ensures bad_setup { (result ≡ Err RunFault.BadSetup) ↔ (is_allowed_setup (setup_of setup.now) ≡ false) }
+    ensures too_many { (result ≡ Err RunFault.TooMany)
+        ↔ ((is_allowed_setup (setup_of setup.now) ≡ true) × (are_too_many (map event_of events.now) ≡ true)) }
+    ensures record { IfOk result (λ facts. map fact_of facts.items
+        ≡ recorded (setup_of setup.now) (map event_of events.now)) }
+    ensures safe { IfOk result (λ facts. IsJudgedSafe (record_text facts.items ++ codes "# safe" ++ 10 ∷ [])) }
+{
+    let facts = run(alloc, setup, events)?;
+    replays_are_judged_safe(setup, events, facts.as_slice());
+    Ok(facts)
+}
