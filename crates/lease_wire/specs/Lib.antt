@@ -6,6 +6,7 @@ pub mod Reading
 pub mod Names
 pub mod Faults
 pub mod Gathering
+pub mod Message
 pub mod Contexts
 pub mod Views
 pub mod Canonical

@@ -32,6 +32,16 @@ fault_place (BadData place) = place
 fault_place (BadLength place) = place
 fault_place (Twice place) = place
 
+-- the same fault at another place
+abbrev pub fault_at : ℕ → WireFault → WireFault
+fault_at place (Short other) = Short place
+fault_at place (WrongSize other) = WrongSize place
+fault_at place (BadNext other) = BadNext place
+fault_at place (BadName other) = BadName place
+fault_at place (BadData other) = BadData place
+fault_at place (BadLength other) = BadLength place
+fault_at place (Twice other) = Twice place
+
 -- number, name and place
 abbrev pub fault_text : WireFault → List ℕ
 fault_text fault =

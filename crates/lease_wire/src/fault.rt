@@ -23,7 +23,7 @@ pub enum WireFault {
 
 impl WireFault {
     ghost use Rattle.std.specs.Prelude.{◌≡◌};
-    ghost use Rattle.lease_wire.specs.WireFaults.{fault_number, fault_name, fault_place};
+    ghost use Rattle.lease_wire.specs.WireFaults.{fault_number, fault_name, fault_place, fault_at};
 
     /// The number of the fault's kind, from 1 to 7.
     pub fn number(self) -> u8
@@ -67,6 +67,21 @@ impl WireFault {
             | WireFault::BadData(place)
             | WireFault::BadLength(place)
             | WireFault::Twice(place) => place,
+        }
+    }
+
+    /// The same fault at another place, for bytes that stand in others.
+    pub fn at(self, place: usize) -> WireFault
+        ensures { result ≡ fault_at place self }
+    {
+        match self {
+            WireFault::Short(_) => WireFault::Short(place),
+            WireFault::WrongSize(_) => WireFault::WrongSize(place),
+            WireFault::BadNext(_) => WireFault::BadNext(place),
+            WireFault::BadName(_) => WireFault::BadName(place),
+            WireFault::BadData(_) => WireFault::BadData(place),
+            WireFault::BadLength(_) => WireFault::BadLength(place),
+            WireFault::Twice(_) => WireFault::Twice(place),
         }
     }
 }

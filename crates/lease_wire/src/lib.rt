@@ -27,6 +27,7 @@ mod chain;
 mod create;
 mod fault;
 mod field;
+mod message;
 mod notification;
 
 pub use acknowledgment::{Acknowledgment, BreakResponse, acknowledgment_laws};
@@ -37,4 +38,5 @@ pub use create::{
     write_create_reply,
 };
 pub use fault::WireFault;
+pub use message::{HEADER_SIZE, begins_message, contexts_of_create, first_message};
 pub use notification::{Notification, notification_laws};

@@ -1,12 +1,15 @@
 -- Why a task is refused, and the line that tells it.
-use Rattle.std.specs.Prelude.{◌≡◌, ℕ, ◌++◌, List, [], ◌∷◌, codes, Option, Some, None, Result, Ok, Err, MatchResult, ◌⊎◌, length}
+use Rattle.std.specs.Prelude.{◌≡◌, ℕ, ◌++◌, List, [], ◌∷◌, codes, drop, if◌then◌else◌, Option, Some, None, Result, Ok, Err, MatchResult, ◌⊎◌, length}
 use Rattle.std.specs.Fmt.{decimal}
 use Rattle.std.specs.Option.{option_map}
 use Rattle.std.specs.Result.{result_err}
 use Rattle.std.specs.String.{string_bytes}
 use Rattle.std.specs.Io.KnownBytes.{Appends, Keeps}
-use Rattle.lease_wire.specs.Gathering.{value_of}
-use Rattle.lease_wire.specs.WireFaults.{message_fault, fault_text}
+use Rattle.lease_wire.specs.Gathering.{gathered, no_values}
+use Rattle.lease_wire.specs.Message.{begins_message, header_fault, first_message, area_fault, items_in}
+use Rattle.lease_wire.specs.Reading.{Item, items_of}
+use Rattle.lease_wire.specs.WireFaults.{message_fault, fault_at, fault_text}
+use Rattle.lease_wire.specs.declared.create.Direction.{Direction}
 use Rattle.lease_wire.specs.declared.create.Direction.TheVariants.{Request, Reply}
 use Rattle.lease_wire.specs.declared.fault.WireFault.{WireFault}
 use Rattle.lease_texts.specs.declared.fault.TextFault.{TextFault}
@@ -24,13 +27,35 @@ use Rattle.leasecheck.specs.declared.tasks.Kind.TheVariants as kind
 use Rattle.leasecheck.specs.declared.tasks.Task.{Task}
 use Rattle.leasecheck.specs.declared.tasks.Task.TheVariants as task
 
+-- the fault of contexts
+abbrev pub items_fault : Direction → List Item → Option WireFault
+items_fault direction items = result_err (gathered direction no_values items)
+
+-- the fault of bytes without the SMB2 header
+abbrev pub bare_fault : Kind → List ℕ → Option WireFault
+bare_fault kind.Ask bytes = items_fault Request (items_of bytes)
+bare_fault kind.Reply bytes = items_fault Reply (items_of bytes)
+bare_fault kind.Break bytes = message_fault 44 bytes
+bare_fault kind.Ack bytes = message_fault 36 bytes
+bare_fault kind.Response bytes = message_fault 36 bytes
+
+-- the earlier of two faults
+abbrev pub or_else : Option WireFault → Option WireFault → Option WireFault
+or_else (Some fault) later = Some fault
+or_else None later = later
+
+-- the fault of a whole message, by its place from the header on
+abbrev pub whole_fault : Kind → List ℕ → Option WireFault
+whole_fault kind.Ask message = or_else (area_fault Request message) (items_fault Request (items_in Request message))
+whole_fault kind.Reply message = or_else (area_fault Reply message) (items_fault Reply (items_in Reply message))
+whole_fault kind.Break message = option_map (fault_at 64) (bare_fault kind.Break (drop 64 message))
+whole_fault kind.Ack message = option_map (fault_at 64) (bare_fault kind.Ack (drop 64 message))
+whole_fault kind.Response message = option_map (fault_at 64) (bare_fault kind.Response (drop 64 message))
+
 -- the fault of bytes that are shown
 abbrev pub shown_fault : Kind → List ℕ → Option WireFault
-shown_fault kind.Ask bytes = result_err (value_of Request bytes)
-shown_fault kind.Reply bytes = result_err (value_of Reply bytes)
-shown_fault kind.Break bytes = message_fault 44 bytes
-shown_fault kind.Ack bytes = message_fault 36 bytes
-shown_fault kind.Response bytes = message_fault 36 bytes
+shown_fault kind bytes =
+    if begins_message bytes then or_else (header_fault bytes) (whole_fault kind (first_message bytes)) else bare_fault kind bytes
 
 -- Where bytes have a fault they are refused as that, and else for want of memory alone.
 abbrev pub RefusesExactly : {X : Type 0} → Option WireFault → Result X Failure → Type 0

@@ -9,7 +9,7 @@ use Rattle.lease_wire.specs.Chain.{ContextView}
 use Rattle.lease_wire.specs.Names.{LeaseView, CreateView}
 use Rattle.lease_wire.specs.Notification.{Notice}
 use Rattle.lease_wire.specs.Acknowledgment.{KeyAndState}
-use Rattle.lease_wire.specs.Reading.{Item, items_of}
+use Rattle.lease_wire.specs.Reading.{Item}
 
 -- a key's bytes as they stand, hyphenated
 abbrev pub key_text : List ℕ → List ℕ
@@ -51,9 +51,9 @@ value_lines v =
     then lease_lines v.lease ++ durable_lines v.durable ++ reconnect_lines v.reconnect
     else codes "nothing" ++ 10 ∷ []
 
--- the contexts of a text and their value
-abbrev pub create_text : List ℕ → CreateView → List ℕ
-create_text bytes v = flat_map item_line (items_of bytes) ++ value_lines v
+-- contexts and their value
+abbrev pub create_text : List Item → CreateView → List ℕ
+create_text items v = flat_map item_line items ++ value_lines v
 
 abbrev pub break_line : Notice → List ℕ
 break_line v =

@@ -35,12 +35,13 @@ Exit status:
 docs/FORMATS.md in the project's repository has the layouts and the faults.";
 
 pub(crate) const SHOW: &str =
-    "Reads bytes of the given kind, without the SMB2 header. For the create contexts
-of a request (ask) or of a response (reply) it prints a line for each context
-and one for each part of what they ask for or grant, or 'nothing'. For a lease
-break notification (break), acknowledgment (ack) or response (response) it
-prints one line, and 'rest k' where k bytes follow. HEX may begin with 0x, and
-have one colon or one space between two bytes.";
+    "Reads bytes of the given kind, without the SMB2 header, or a whole SMB2 message,
+which begins with fe534d42. For the create contexts of a request (ask) or of a
+response (reply) it prints a line for each context and one for each part of what
+they ask for or grant, or 'nothing'. For a lease break notification (break),
+acknowledgment (ack) or response (response) it prints one line, and 'rest k'
+where k bytes follow. HEX may begin with 0x, and have one colon or one space
+between two bytes.";
 
 pub(crate) const SHOW_END: &str = "Example:
   $ leasecheck show break 2c00000001000000000102030405060708090a0b0c0d0e0f0700000003000000000000000000000000000000

@@ -1,3 +1,5 @@
+mod messages;
+
 use lease_state::{FileId, LeaseKey, LeaseState};
 use lease_wire::{
     Acknowledgment, BreakResponse, Context, CreateAnswer, CreateAsk, Notification, WireFault,

@@ -19,6 +19,7 @@ pub struct Contexts<'a> {
 impl<'a> Contexts<'a> {
     ghost use Rattle.lease_wire.specs.Reading.{items_of};
     ghost use Rattle.lease_wire.specs.Contexts.{items_left};
+    ghost use Rattle.lease_wire.specs.Message.{items_from};
 
     /// The contexts of a text from its start on: none of the empty text.
     pub(crate) fn from_start(bytes: &'a [u8]) -> Contexts<'a>
@@ -26,6 +27,17 @@ impl<'a> Contexts<'a> {
     {
         Contexts {
             place: 0,
+            rest: if bytes.is_empty() { None } else { Some(bytes) },
+        }
+    }
+
+    /// The contexts of a text that begins at a place.
+    pub(crate) fn from_place(place: usize, bytes: &'a [u8]) -> Contexts<'a>
+        requires { place + length bytes.now < 2 ^ 64 }
+        ensures { items_left result ≡ items_from place bytes.now }
+    {
+        Contexts {
+            place,
             rest: if bytes.is_empty() { None } else { Some(bytes) },
         }
     }

@@ -2,8 +2,7 @@ use Rattle.std.proofs.Common.{◌≡◌, ◌++◌, OnOk}
 use Rattle.std.specs.String.{string_bytes}
 use Rattle.std.specs.List.{flat_map}
 use Rattle.lease_wire.specs.Contexts.{items_left}
-use Rattle.lease_wire.specs.Gathering.{gathered, value_of}
-use Rattle.lease_wire.specs.Reading.{items_of}
+use Rattle.lease_wire.specs.Gathering.{gathered, no_values}
 use Rattle.lease_wire.specs.Views.{values_of}
 use Rattle.leasecheck.specs.Words.{item_line}
 use Rattle.leasecheck.proofs.wire.render.render_create.Given as goal
@@ -11,6 +10,6 @@ use Rattle.leasecheck.proofs.wire.render.render_create.Given as goal
 -- what is left gives the whole value, and the whole of the lines where there was memory so far
 abbrev pub invariant-loop-item : goal.invariant-loop-item
 invariant-loop-item l = record {
-  value : gathered l.direction (values_of l.values) (items_left l.item-iterator) ≡ value_of l.direction l.bytes;
-  lines : OnOk l.room (string_bytes l.text ++ flat_map item_line (items_left l.item-iterator) ≡ flat_map item_line (items_of l.bytes));
+  value : gathered l.direction (values_of l.values) (items_left l.item-iterator) ≡ gathered l.direction no_values (items_left l.contexts);
+  lines : OnOk l.room (string_bytes l.text ++ flat_map item_line (items_left l.item-iterator) ≡ flat_map item_line (items_left l.contexts));
 }
