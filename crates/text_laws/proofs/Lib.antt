@@ -7,3 +7,5 @@ pub mod Joined
 pub mod Runs
 pub mod Parts
 pub mod Schedules
+pub mod Grammar
+pub mod FactKinds

@@ -1,3 +1,5 @@
 pub mod Told
 pub mod Runs
 pub mod Schedules
+pub mod Kinds
+pub mod FactKinds

@@ -3,10 +3,12 @@
 #![tactic(auto)]
 
 mod judged;
+mod kinds;
 mod reading_back;
 mod typing;
 
 pub use judged::{judged_run, replays_are_judged_safe};
+pub use kinds::lines_tell_facts;
 pub use reading_back::{
     facts_are_read_back, records_are_read_back, runs_are_read_back, schedules_are_read_back,
 };
