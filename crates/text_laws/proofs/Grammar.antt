@@ -10,15 +10,15 @@ use Rattle.text_laws.specs.Told.{Each}
 -- ---- words
 
 -- what is told, where something is
-told_or : {A : Type 0} → A → Option A → A
+pub told_or : {A : Type 0} → A → Option A → A
 told_or other None = other
 told_or other (Some told) = told
 
-same_told : {A : Type 0} (first second : A) → Some first ≡ Some second → first ≡ second
+pub same_told : {A : Type 0} (first second : A) → Some first ≡ Some second → first ≡ second
 unfolding told_or
 same_told first second e = ap (λ (o : Option _). told_or first o) e
 
-none_told : {A : Type 0} (told : A) → None ≡ Some told → ⊥
+pub none_told : {A : Type 0} (told : A) → None ≡ Some told → ⊥
 none_told told e = cc
 
 -- The reader of a word gives the value that the word says.

@@ -9,3 +9,5 @@ pub mod Parts
 pub mod Schedules
 pub mod Grammar
 pub mod FactKinds
+pub mod Either
+pub mod PartKinds

@@ -3,3 +3,4 @@ pub mod Runs
 pub mod Schedules
 pub mod Kinds
 pub mod FactKinds
+pub mod PartKinds

@@ -8,7 +8,7 @@ mod reading_back;
 mod typing;
 
 pub use judged::{judged_run, replays_are_judged_safe};
-pub use kinds::lines_tell_facts;
+pub use kinds::{lines_tell_facts, lines_tell_parts};
 pub use reading_back::{
     facts_are_read_back, records_are_read_back, runs_are_read_back, schedules_are_read_back,
 };
