@@ -5,7 +5,8 @@ use Rattle.std.proofs.lemmas.Slice.Eq.{bytes_eq-Decides}
 use Rattle.lease_laws.specs.server.Laws.{Among}
 use Rattle.lease_texts.specs.Fields.{Words, last}
 use Rattle.text_laws.specs.Kinds.{Field, Value, Telling, Kind, Say}
-use Rattle.text_laws.proofs.Grammar.{Reads, Goes, ends, none_told, same_told}
+use Rattle.text_laws.proofs.Apart.{none_told, same_told}
+use Rattle.text_laws.proofs.Grammar.{Reads, Goes, ends}
 
 -- ---- two kinds, one with a word more
 

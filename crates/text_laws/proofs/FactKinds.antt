@@ -1,5 +1,5 @@
 -- The facts that lines are read as are those that they tell.
-use Rattle.std.proofs.Common.{◌≡◌, ℕ, drop, List, [], ◌∷◌, refl, Option, None}
+use Rattle.std.proofs.Common.{◌≡◌, ℕ, true, drop, List, [], ◌∷◌, refl, Option, None}
 use Rattle.lease_state.specs.declared.number.ClientNo.{ClientNo}
 use Rattle.lease_state.specs.declared.number.FileNo.{FileNo}
 use Rattle.lease_state.specs.declared.state.LeaseState.{LeaseState}
@@ -11,6 +11,7 @@ use Rattle.lease_texts.specs.Records.{way_in, outcome_in, of_client, of_both, st
 use Rattle.text_laws.specs.Kinds.{Field}
 use Rattle.text_laws.specs.FactKinds.{fact_kinds, LinesTellFacts}
 use Rattle.text_laws.specs.Told.{Each}
+use Rattle.text_laws.proofs.Apart.{word_of, differ, fields_apart, apart, all_apart}
 use Rattle.text_laws.proofs.Grammar.{Reads, Goes, ends, step, Alone, all_alone, Unnamed, by_fields, reads_exactly}
 
 -- ---- words
@@ -163,5 +164,14 @@ refuses name words none =
       last_ones.1.1.1.1.0,
     ) refl
 
+are_apart : all_apart fact_kinds ≡ true
+unfolding word_of differ fields_apart apart all_apart
+are_apart = refl
+
 pub facts_told : LinesTellFacts
-facts_told = reads_exactly (record { by_names = by_names; fits = all_alone named fact_kinds each_goes; refuses = refuses })
+facts_told = reads_exactly (record {
+  by_names = by_names;
+  fits = all_alone named fact_kinds each_goes;
+  refuses = refuses;
+  are_apart = are_apart;
+})

@@ -6,20 +6,9 @@ use Rattle.lease_texts.specs.Fields.{Words, last}
 use Rattle.lease_texts.specs.Pieces.{fields_of}
 use Rattle.text_laws.specs.Kinds.{Field, Value, Says, Telling, Kind, Say, Tells, ReadsExactly}
 use Rattle.text_laws.specs.Told.{Each}
+use Rattle.text_laws.proofs.Apart.{none_told, same_told, all_apart, one_kind}
 
 -- ---- words
-
--- what is told, where something is
-pub told_or : {A : Type 0} → A → Option A → A
-told_or other None = other
-told_or other (Some told) = told
-
-pub same_told : {A : Type 0} (first second : A) → Some first ≡ Some second → first ≡ second
-unfolding told_or
-same_told first second e = ap (λ (o : Option _). told_or first o) e
-
-pub none_told : {A : Type 0} (told : A) → None ≡ Some told → ⊥
-none_told told e = cc
 
 -- The reader of a word gives the value that the word says.
 pub record Reads {B : Type 0} (field : Field) (read : List ℕ → Option B) (view : B → Value field) : Type 0 where
@@ -121,6 +110,7 @@ pub record GoesBy {A : Type 0} (kinds : List (Kind A)) (named : List ℕ → Wor
   pub by_names : (line : List ℕ) → read line ≡ by_fields named (fields_of line)
   pub fits : Each (Fits named kinds) kinds
   pub refuses : (name : List ℕ) (words : Words) → Each (Unnamed name) kinds → named name words ≡ None
+  pub are_apart : all_apart kinds ≡ true
 
 told_line : {A : Type 0} {kinds : List (Kind A)} {named : List ℕ → Words → Option A} {read : List ℕ → Option A}
     (goes : GoesBy kinds named read) (line : List ℕ) (told : A) → read line ≡ Some told → Tells kinds line told
@@ -156,6 +146,7 @@ reads_exactly {A} {kinds} {named} {read} goes = record {
   refused = λ line. (λ e told is. none_told told (sym e ∙ line_told goes line told is), none line (read line) refl);
   one = λ line first second is other.
       same_told first second (sym (line_told goes line first is) ∙ line_told goes line second other);
+  one_kind = one_kind kinds goes.are_apart;
 }
   where
     none : (line : List ℕ) (got : Option A) → read line ≡ got → ((told : A) → Tells kinds line told → ⊥) → read line ≡ None

@@ -11,3 +11,4 @@ pub mod Grammar
 pub mod FactKinds
 pub mod Either
 pub mod PartKinds
+pub mod Apart

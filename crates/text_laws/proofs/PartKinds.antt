@@ -17,7 +17,8 @@ use Rattle.text_laws.specs.PartKinds.{app, raw, part_kinds, LinesTellParts}
 use Rattle.text_laws.specs.Told.{Each}
 use Rattle.text_laws.proofs.Either.{GoesEither, step_either, ends_either, among_at, row_at, decided}
 use Rattle.text_laws.proofs.FactKinds.{client_no, file_no, client_reads, file_reads, state_reads, number_reads, offset_reads, bytes_reads, content_reads}
-use Rattle.text_laws.proofs.Grammar.{Reads, Goes, ends, step, Fits, fits_alone, Unnamed, by_fields, reads_exactly, none_told}
+use Rattle.text_laws.proofs.Apart.{word_of, differ, fields_apart, apart, all_apart, none_told}
+use Rattle.text_laws.proofs.Grammar.{Reads, Goes, ends, step, Fits, fits_alone, Unnamed, by_fields, reads_exactly}
 
 -- ---- words
 
@@ -320,5 +321,9 @@ refuses name (first ∷ words) none = by_client (ordinal_in first) refl
     by_client None c = rw (none.0, none.1.0, c) refl
     by_client (Some client) c = rw (none.0, none.1.0, c, unknown name client words none.1.1) refl
 
+are_apart : all_apart part_kinds ≡ true
+unfolding word_of differ fields_apart apart all_apart
+are_apart = refl
+
 pub parts_told : LinesTellParts
-parts_told = reads_exactly (record { by_names = by_names; fits = each_fits; refuses = refuses })
+parts_told = reads_exactly (record { by_names = by_names; fits = each_fits; refuses = refuses; are_apart = are_apart })

@@ -98,8 +98,11 @@ pub record Tells {A : Type 0} (kinds : List (Kind A)) (line : List ℕ) (told : 
   pub are_fields : fields_of line ≡ kind.name ∷ words
   pub say : Say kind.fields kind.tells words told
 
--- A reader of lines gives exactly what they tell: it refuses those that tell nothing, and none tells two things.
+-- A reader of lines gives exactly what they tell: it refuses those that tell nothing, and none tells two things, or one by two
+-- of the kinds.
 pub record ReadsExactly {A : Type 0} (kinds : List (Kind A)) (read : List ℕ → Option A) : Type 0 where
   pub told : (line : List ℕ) (told : A) → (read line ≡ Some told) ↔ Tells kinds line told
   pub refused : (line : List ℕ) → (read line ≡ None) ↔ ((told : A) → Tells kinds line told → ⊥)
   pub one : (line : List ℕ) (first second : A) → Tells kinds line first → Tells kinds line second → first ≡ second
+  pub one_kind : (line : List ℕ) (first second : A) (is : Tells kinds line first) (also : Tells kinds line second)
+      → is.kind ≡ also.kind
