@@ -7,3 +7,8 @@ pub mod Joined
 pub mod Runs
 pub mod Parts
 pub mod Schedules
+pub mod Grammar
+pub mod FactKinds
+pub mod Either
+pub mod PartKinds
+pub mod Apart
