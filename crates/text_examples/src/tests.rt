@@ -4,6 +4,7 @@ use lease_texts::{LineFault, push_event, push_fact, push_setup, read_fact, read_
 use lease_world::{Event, Fact};
 use std::alloc::Global;
 use std::test::Fail;
+use text_laws::{facts_are_typed, judged_run};
 
 fn bytes(alloc: Global, list: &[u8]) -> Result<Bytes, Fail> {
     Ok(Bytes::new(Vec::from_slice(alloc, list)?))
@@ -190,5 +191,20 @@ client {00010203-0405-0607-0809-0A0B0C0D0E0F}",
     assert_eq!(rt; schedule.events.as_slice(), events.as_slice());
     assert_eq!(rt; schedule.setup.clients.as_slice(), setup.clients.as_slice());
     assert_eq!(rt; schedule.setup.files.len(), 2);
+    Ok(())
+}
+
+// The record of a run of which a replay's print is judged to be safe.
+#[test]
+fn a_run_is_judged(rt: HostRuntime) -> Result<(), Fail> {
+    let alloc = rt.alloc();
+    let text = b"file 616263\nclient 11111111111111111111111111111111\nconnect 1\nnotice 1";
+    let schedule = read_schedule(alloc, text)?;
+    let facts = judged_run(alloc, &schedule.setup, schedule.events.as_slice())?;
+    facts_are_typed(facts.as_slice());
+    let mut expected = Vec::new(alloc);
+    expected.push(Fact::Start(FileNo(1), bytes(alloc, b"abc")?))?;
+    expected.push(Fact::Joined(ClientNo(1)))?;
+    assert!(&rt; facts == expected);
     Ok(())
 }
