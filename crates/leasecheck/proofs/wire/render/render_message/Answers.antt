@@ -1,4 +1,3 @@
-use Rattle.std.proofs.Common.{List, ℕ}
 use Rattle.leasecheck.proofs.Headers.{shown_behind}
 use Rattle.leasecheck.proofs.wire.render.render_message.Goals as goal
 
