@@ -16,6 +16,8 @@ mod words;
 pub use fault::{LineFault, TextFault};
 pub use fields::{Fields, is, read_patch};
 pub use lines::{first_line, is_passed_over};
-pub use records::{push_fact, read_fact};
-pub use schedules::{Schedule, push_event, push_setup, read_schedule};
+pub use records::{digits_of, push_fact, push_patch, read_fact};
+pub use schedules::{
+    Schedule, push_event, push_request, push_setup, read_event, read_guid, read_request, read_schedule,
+};
 pub use words::state_letters;

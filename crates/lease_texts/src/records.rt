@@ -4,5 +4,4 @@ mod reading;
 mod writing;
 
 pub use reading::read_fact;
-pub use writing::push_fact;
-pub(crate) use writing::{digits_of, push_patch};
+pub use writing::{digits_of, push_fact, push_patch};

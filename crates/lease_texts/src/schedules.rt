@@ -4,5 +4,6 @@ mod events;
 mod reading;
 mod writing;
 
-pub use reading::{Schedule, read_schedule};
-pub use writing::{push_event, push_setup};
+pub use events::{read_event, read_request};
+pub use reading::{Schedule, read_guid, read_schedule};
+pub use writing::{push_event, push_request, push_setup};

@@ -6,3 +6,4 @@ pub mod Replayed
 pub mod Judging
 pub mod Printed
 pub mod Refusals
+pub mod Conversing

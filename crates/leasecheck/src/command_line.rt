@@ -1,7 +1,7 @@
 ghost use Rattle.std.specs.Prelude.{◌≡◌, ◌⊎◌, IfErr};
 
 use crate::help;
-use crate::tasks::{Kind, Task, Usage, VERSION};
+use crate::tasks::{Asked, Kind, Task, Usage, VERSION};
 use clap::error::ErrorKind;
 use clap::{Arg, ArgMatches, Command, Error};
 use std::alloc::{AllocError, Global};
@@ -62,6 +62,16 @@ fn judge_command<'a>(alloc: Global) -> Result<Command<'a>, AllocError> {
     command(alloc, "judge", about, help::JUDGE, help::JUDGE_END).arg(file)
 }
 
+fn client_command<'a>(alloc: Global) -> Command<'a> {
+    let about = "Runs client machines that speak lines on standard input and output";
+    command(alloc, "client", about, help::CLIENT, help::CLIENT_END)
+}
+
+fn server_command<'a>(alloc: Global) -> Command<'a> {
+    let about = "Runs a server that speaks lines on standard input and output";
+    command(alloc, "server", about, help::SERVER, help::SERVER_END)
+}
+
 fn kind_named(name: &str) -> Option<Kind> {
     match name {
         "ask" => Some(Kind::Ask),
@@ -83,7 +93,9 @@ fn program<'a>(alloc: Global) -> Result<Command<'a>, AllocError> {
         .subcommand(ack_command(alloc)?)?
         .subcommand(show_command(alloc)?)?
         .subcommand(replay_command(alloc)?)?
-        .subcommand(judge_command(alloc)?)
+        .subcommand(judge_command(alloc)?)?
+        .subcommand(client_command(alloc))?
+        .subcommand(server_command(alloc))
 }
 
 fn parse<'a>(alloc: Global, words: &'a [&'a str]) -> Result<ArgMatches<'a>, Error> {
@@ -133,13 +145,22 @@ fn show_task(alloc: Global, given: &ArgMatches) -> Result<Option<Task>, AllocErr
     Ok(kind_named(name).map(|kind| Task::Show(kind, argument)))
 }
 
-fn task_of(alloc: Global, matches: &ArgMatches) -> Result<Option<Task>, AllocError> {
-    match matches.subcommand() {
-        Some(("ack", given)) => Ok(owned(alloc, given, "HEX")?.map(|argument| Task::Ack(argument))),
-        Some(("show", given)) => show_task(alloc, given),
-        Some(("replay", given)) => Ok(owned(alloc, given, "FILE")?.map(|path| Task::Replay(path))),
-        Some(("judge", given)) => Ok(owned(alloc, given, "FILE")?.map(|path| Task::Judge(path))),
+fn task_of(alloc: Global, name: &str, given: &ArgMatches) -> Result<Option<Task>, AllocError> {
+    match name {
+        "ack" => Ok(owned(alloc, given, "HEX")?.map(|argument| Task::Ack(argument))),
+        "show" => show_task(alloc, given),
+        "replay" => Ok(owned(alloc, given, "FILE")?.map(|path| Task::Replay(path))),
+        "judge" => Ok(owned(alloc, given, "FILE")?.map(|path| Task::Judge(path))),
         _ => Ok(None),
+    }
+}
+
+fn asked_of(alloc: Global, matches: &ArgMatches) -> Result<Option<Asked>, AllocError> {
+    match matches.subcommand() {
+        Some(("client", _)) => Ok(Some(Asked::Clients)),
+        Some(("server", _)) => Ok(Some(Asked::Server)),
+        Some((name, given)) => Ok(task_of(alloc, name, given)?.map(|task| Asked::Task(task))),
+        None => Ok(None),
     }
 }
 
@@ -149,7 +170,7 @@ fn task_of(alloc: Global, matches: &ArgMatches) -> Result<Option<Task>, AllocErr
 ///
 /// Help, with status 0, where the words ask for it, and else why they are refused, with status 2.
 /// Where there is no memory for the answer the words are refused with no text.
-pub fn task(alloc: Global, words: &[&str]) -> Result<Task, Usage>
+pub fn asked(alloc: Global, words: &[&str]) -> Result<Asked, Usage>
     ensures { IfErr result (λ usage. (usage.status ≡ 0) ⊎ (usage.status ≡ 2)) }
 {
     let Ok(all) = with_name(alloc, words) else {
@@ -157,10 +178,12 @@ pub fn task(alloc: Global, words: &[&str]) -> Result<Task, Usage>
     };
     let matches = match parse(alloc, all.as_slice()) {
         Ok(matches) => matches,
-        Err(error) if error.kind() == ErrorKind::DisplayVersion => return Ok(Task::Version),
+        Err(error) if error.kind() == ErrorKind::DisplayVersion => return Ok(Asked::Task(
+            Task::Version,
+        )),
         Err(error) => return Err(usage_of(alloc, &error)),
     };
-    match task_of(alloc, &matches) {
+    match asked_of(alloc, &matches) {
         Ok(Some(asked)) => Ok(asked),
         _ => Err(refused_untold(alloc)),
     }

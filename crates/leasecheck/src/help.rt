@@ -101,3 +101,48 @@ Exit status:
 
 docs/FORMATS.md in the project's repository has the lines of records, the rules
 and the faults.";
+
+pub(crate) const CLIENT: &str =
+    "Runs client machines: reads standard input line by line, and answers each line
+before the next is read. 'files N' tells how many files there are, and a line
+'client GUID' makes each client. Then come the calls of applications, 'open',
+'close', 'read', 'write' and 'flush', as in schedules; 'connect C' and
+'notice C'; and 'take C' with what the server sent to client C. A line is
+answered by the requests that go to the server ('request ..'), what the client
+notes ('wrote', 'settled', 'believes', 'cachedread', as in records), and last
+by 'answer ..'. A line that is refused is answered 'fault line N', and changes
+nothing.";
+
+pub(crate) const CLIENT_END: &str = "Example:
+  $ printf 'files 1\nclient 11111111-1111-1111-1111-111111111111\nconnect 1\n' | leasecheck client
+  answer quiet
+
+Exit status:
+  0  standard input has ended
+  1  memory ran out, or a read or a write failed: one line on standard error
+     says which
+  2  the command line is refused
+
+docs/FORMATS.md in the project's repository has every line.";
+
+pub(crate) const SERVER: &str =
+    "Runs a server: reads standard input line by line, and answers each line before
+the next is read. 'file HEX' makes each file. Then 'join C', 'cut C',
+'expire C KEY', 'scavenge FID' and 'receive C' with a request are calls of the
+server, answered by what it sends ('sent C ..') and does ('opened', 'changed'),
+and last by 'answer done', or 'answer nothing' where the call did not apply;
+'breaking C KEY', 'kept C F' and 'content F' are questions. A line that is
+refused is answered 'fault line N', and changes nothing.";
+
+pub(crate) const SERVER_END: &str = "Example:
+  $ printf 'file 6162\njoin 1\ncontent 1\n' | leasecheck server
+  answer done
+  answer bytes 6162
+
+Exit status:
+  0  standard input has ended
+  1  memory ran out, or a read or a write failed: one line on standard error
+     says which
+  2  the command line is refused
+
+docs/FORMATS.md in the project's repository has every line.";

@@ -12,6 +12,7 @@
 #![tactic(auto)]
 
 mod command_line;
+mod conversing;
 mod failure;
 mod help;
 mod hexadecimal;

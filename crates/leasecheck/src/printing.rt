@@ -124,7 +124,7 @@ fn put<W: Write>(text: &[u8], out: &mut W) -> Result<(), Failure>
     Err(Failure::Output)
 }
 
-fn print_text<O: Write>(text: &str, out: &mut O) -> Result<(), Failure>
+pub(crate) fn print_text<O: Write>(text: &str, out: &mut O) -> Result<(), Failure>
     ensures ok { OnOk result (Appends (O.contents out.old) (O.contents out.new) text.now) }
     ensures refused { IfErr result (λ failure. (failure ≡ Failure.Output) × Begins (O.contents out.old) (O.contents out.new) text.now) }
 {

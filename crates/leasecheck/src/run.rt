@@ -2,10 +2,12 @@ ghost use Rattle.std.specs.Prelude.{◌≡◌, ◌≢◌, ◌≤◌, ◌⊎◌, 
 ghost use Rattle.std.specs.String.{string_bytes};
 ghost use Rattle.std.specs.Io.KnownBytes.{Appends, Keeps};
 
-use crate::command_line::task;
+use crate::command_line::asked;
+use crate::conversing::converse;
 use crate::failure::Failure;
 use crate::printing::{perform, tell_failure};
-use crate::tasks::{Task, Usage};
+use crate::tasks::{Asked, Task, Usage};
+use lease_lines::Machines;
 use std::alloc::{AllocError, Global};
 use std::io::Write;
 use std::rt::Files;
@@ -62,6 +64,25 @@ fn perform_on_file<R: Files + Input + AllocGlobal, O: Write, F: Write>(
     }
 }
 
+// Lets machines speak on standard input and output.
+fn speak<R: Input + AllocGlobal, O: Write, F: Write>(
+    rt: &R,
+    machines: Machines,
+    out: &mut O,
+    faults: &mut F,
+) -> u8
+    ensures status { result ≤ 1 }
+    ensures silent { result ≡ 0 → Keeps (F.contents faults.old) (F.contents faults.new) }
+{
+    match converse(rt.alloc(), machines, &mut rt.reader(), out) {
+        Ok(()) => 0,
+        Err(failure) => {
+            let _ = tell_failure(failure, faults);
+            1
+        }
+    }
+}
+
 /// Does what the words of a command line ask for, those after the program's name, and gives the exit
 /// status: 0 where it was done or help was told, 1 where the input is refused, memory ran out or a
 /// write failed, 2 where the words are refused, 3 where a judged record is unsafe.
@@ -90,8 +111,10 @@ pub fn run_words<R: Files + Input + AllocGlobal, O: Write, F: Write>(
         let _ = writeln!(faults, "fault memory");
         return 1;
     };
-    match task(rt.alloc(), words.as_slice()) {
+    match asked(rt.alloc(), words.as_slice()) {
         Err(usage) => tell_usage(&usage, out, faults),
-        Ok(asked) => perform_on_file(rt, &asked, out, faults),
+        Ok(Asked::Task(task)) => perform_on_file(rt, &task, out, faults),
+        Ok(Asked::Clients) => speak(rt, Machines::clients(rt.alloc()), out, faults),
+        Ok(Asked::Server) => speak(rt, Machines::server(rt.alloc()), out, faults),
     }
 }

@@ -28,6 +28,16 @@ pub enum Task {
     Version,
 }
 
+/// What a command line asks for: a task that ends by itself, or machines that answer line by line.
+#[derive(Debug, PartialEq, Eq, Drop)]
+pub enum Asked {
+    Task(Task),
+    /// Client machines that speak on standard input and output.
+    Clients,
+    /// A server that speaks on standard input and output.
+    Server,
+}
+
 /// The program's name and version, and the line of the kit that it is proved and built with.
 pub const VERSION: &str = "leasecheck 0.1\nrattle-kit-13b logic dac8208d650f15bf\n";
 

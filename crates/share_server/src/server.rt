@@ -179,6 +179,20 @@ impl Server {
         self.tables.allowed(own_key(client, key), file, want)
     }
 
+    /// Whether the client is connected (MS-SMB2 3.3.1.7, ConnectionList).
+    pub fn is_connected(&self, client: ClientNo) -> bool
+        ensures { result ≡ (server_of self.now).present client.0 }
+    {
+        self.tables.is_present(client)
+    }
+
+    /// Whether an open of this FileId waits for its client to connect again (MS-SMB2 3.3.1.10, IsDurable).
+    pub fn has_left_behind(&self, fid: FileId) -> bool
+        ensures { result ≡ list_any (rules.is_left_behind fid.0) (server_of self.now).opens }
+    {
+        self.tables.has_left_behind(fid)
+    }
+
     /// Whether a break of the client's lease of this key waits for its acknowledgment (MS-SMB2
     /// 3.3.1.12, Breaking). False where the key has no lease.
     pub fn breaking(&self, client: ClientNo, key: LeaseKey) -> bool

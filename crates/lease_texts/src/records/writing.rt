@@ -9,8 +9,8 @@ use lease_facts::Fact;
 use lease_state::{Bytes, ClientNo, FileNo, Patch};
 use std::alloc::{AllocError, Global};
 
-// The digits of bytes, or a hyphen where there are none.
-pub(crate) fn digits_of(alloc: Global, bytes: &Bytes) -> Result<String, AllocError>
+/// The digits of bytes, or a hyphen where there are none.
+pub fn digits_of(alloc: Global, bytes: &Bytes) -> Result<String, AllocError>
     ensures { IfOk result (λ text. string_bytes text ≡ digits_word bytes.now) }
 {
     if bytes.is_empty() {
@@ -31,8 +31,8 @@ fn outcome_word(outcome: Settlement) -> &'static str
     }
 }
 
-// The offset and the digits of a patch.
-pub(crate) fn push_patch(alloc: Global, text: &mut String, patch: &Patch) -> Result<(), AllocError>
+/// Adds the offset and the digits of a patch.
+pub fn push_patch(alloc: Global, text: &mut String, patch: &Patch) -> Result<(), AllocError>
     ensures { OnOk result (string_bytes text.new ≡ string_bytes text.old ++ patch_words patch.now) }
 {
     let digits = digits_of(alloc, &patch.bytes)?;

@@ -104,7 +104,12 @@ fn read_request_of(alloc: Global, kind: &[u8], fields: &mut Fields) -> Result<Re
     }
 }
 
-fn read_request(alloc: Global, fields: &mut Fields) -> Result<Request, LineFault>
+/// A request, by its word and the fields behind it.
+///
+/// # Errors
+///
+/// `Refused` where the next fields tell none, and `Memory` where there is none left for it.
+pub fn read_request(alloc: Global, fields: &mut Fields) -> Result<Request, LineFault>
     ensures { Takes (λ value. value) (request_in) fields.old fields.new result }
 {
     let kind = fields.next()?;

@@ -39,7 +39,12 @@ fn guid_of(text: &[u8]) -> Option<[u8; 16]>
     }
 }
 
-fn read_guid(fields: &mut Fields) -> Result<[u8; 16], LineFault>
+/// A GUID as 32 digits, hyphenated, in braces or as a URN.
+///
+/// # Errors
+///
+/// `Refused` where the next field is none.
+pub fn read_guid(fields: &mut Fields) -> Result<[u8; 16], LineFault>
     ensures { Takes (λ guid. guid) (one parsed) fields.old fields.new result }
 {
     guid_of(fields.next()?).ok_or(LineFault::Refused)

@@ -156,8 +156,8 @@ fn push_ack(alloc: Global, text: &mut String, message: &[u8; 36]) -> Result<(), 
     write!(text, "ack {digits}")
 }
 
-// A request in a client's name.
-fn push_request(alloc: Global, text: &mut String, asked: &Request) -> Result<(), AllocError>
+/// Adds a request: its word, and the fields behind it.
+pub fn push_request(alloc: Global, text: &mut String, asked: &Request) -> Result<(), AllocError>
     ensures { OnOk result (string_bytes text.new ≡ string_bytes text.old ++ request_words asked.now) }
 {
     match asked {

@@ -45,6 +45,9 @@ fn kept_for_its_client(rt: &impl Abort, alloc: Global) -> Result<Server, Fail> {
     let (server, outs) = server.cut(ClientNo(1))?;
     assert!(rt; outs.is_empty());
     assert_eq!(rt; server.kept(ClientNo(1), FileNo(1)), Some(FileId(1)));
+    assert!(rt; !server.is_connected(ClientNo(1)));
+    assert!(rt; server.has_left_behind(FileId(1)));
+    assert!(rt; !server.has_left_behind(FileId(2)));
     let (server, _) = server.join(ClientNo(1))?;
     Ok(server)
 }

@@ -1,0 +1,3 @@
+mod Notes
+pub mod Behind
+pub mod Places

@@ -1,0 +1,10 @@
+use Rattle.std.proofs.Common.{codes}
+use Rattle.std.specs.String.{string_bytes}
+use Rattle.lease_lines.specs.Replies.{numbered_words, write_failed_words}
+use Rattle.lease_lines.proofs.Behind.{put_behind}
+use Rattle.lease_lines.proofs.replies.push_write_failed.Goals as goal
+
+pub returns : goal.returns
+unfolding write_failed_words
+returns c = put_behind c.push_numbered.result _ _ (string_bytes c.args.text.now) (codes "writefailed ")
+    (numbered_words c.args.fid c.args.number c.args.status) c.in_ok-push_str.ensures.bytes c.push_numbered.ensures

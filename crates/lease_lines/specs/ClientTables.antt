@@ -1,0 +1,116 @@
+-- Client machines that are given lines.
+use Rattle.std.specs.Prelude.{◌≡◌, ℕ, zero, suc, Bool, true, false, ◌++◌, List, [], ◌∷◌, length, nat_lt, bytes_eq, if◌then◌else◌, Option, Some, None, slice_get, slice_set, codes}
+use Rattle.std.specs.Fmt.{decimal}
+use Rattle.std.specs.List.{list_any}
+use Rattle.lease_model.specs.client.Calls.{client_called}
+use Rattle.lease_model.specs.client.State.{Client, new_client}
+use Rattle.lease_model.specs.client.Step.{Step}
+use Rattle.lease_texts.specs.Reading.{is_passed_over}
+use Rattle.lease_lines.specs.ClientAnswers.{step_text}
+use Rattle.lease_lines.specs.ClientLines.{client_line_in, other_of, call_of}
+use Rattle.lease_lines.specs.declared.client_lines.Asked.{Asked}
+use Rattle.lease_lines.specs.declared.client_lines.ClientLine.{ClientLine}
+use Rattle.lease_lines.specs.declared.client_lines.ClientLine.TheVariants as line
+
+-- what a line comes to: the machines after it, and what is answered
+pub record Told (A : Type 0) : Type 0 where
+  pub state : A
+  pub text : List ℕ
+
+-- the number of files of each client, once it was told, and the clients with their ClientGuids, numbered from 1
+pub record Clients : Type 0 where
+  pub files : Option ℕ
+  pub guids : List (List ℕ)
+  pub clients : List Client
+
+abbrev pub no_clients : Clients
+no_clients = record { files = None; guids = []; clients = [] }
+
+abbrev pub quietly : {A : Type 0} → A → Option (Told A)
+quietly state = Some (record { state = state; text = [] })
+
+-- how many files there are is told once, before the first client
+abbrev pub with_files : Clients → ℕ → Option ℕ → Option (Told Clients)
+with_files clients count None = quietly (record clients { files = Some count })
+with_files clients count (Some told) = None
+
+abbrev pub with_new : Clients → List ℕ → ℕ → Clients
+with_new clients guid files =
+    record clients { guids = clients.guids ++ guid ∷ []; clients = clients.clients ++ new_client guid files ∷ [] }
+
+-- at most 255 clients, no two of them with one GUID
+abbrev pub with_client : Clients → List ℕ → Option ℕ → Option (Told Clients)
+with_client clients guid None = None
+with_client clients guid (Some files) =
+    if list_any (λ one. bytes_eq one guid) clients.guids then None
+    else if nat_lt (length clients.clients) 255
+    then quietly (with_new clients guid files)
+    else None
+
+-- the client of a number; the first is 1
+abbrev pub client_at : List Client → ℕ → Option Client
+client_at clients zero = None
+client_at clients (suc place) = slice_get clients place
+
+abbrev pub with_client_at : List Client → ℕ → Client → List Client
+with_client_at clients zero client = clients
+with_client_at clients (suc place) client = slice_set clients place client
+
+-- a client's call, where there is that client
+abbrev pub stepped : Clients → ℕ → Option ℕ → Step → Told Clients
+stepped clients number other step = record {
+  state = record clients { clients = with_client_at clients.clients number step.client };
+  text = step_text number other step;
+}
+
+abbrev pub called : Clients → ℕ → Option ℕ → (Client → Step) → Option Client → Option (Told Clients)
+called clients number other call None = None
+called clients number other call (Some client) = Some (stepped clients number other (call client))
+
+abbrev pub on_client : Clients → ℕ → Option ℕ → (Client → Step) → Option (Told Clients)
+on_client clients number other call = called clients number other call (client_at clients.clients number)
+
+unfoldable pub line_told : Clients → ClientLine → Option (Told Clients)
+line_told clients (line.Files count) = with_files clients count clients.files
+line_told clients (line.Client guid) = with_client clients guid clients.files
+line_told clients (line.Asks client asked) = on_client clients client.0 (other_of asked) (λ c. client_called c (call_of asked))
+
+abbrev pub told_of : Clients → Option ClientLine → Option (Told Clients)
+told_of clients None = None
+told_of clients (Some asked) = line_told clients asked
+
+abbrev pub fault_line : ℕ → List ℕ
+fault_line number = codes "fault line " ++ decimal number ++ 10 ∷ []
+
+-- a line that is refused changes nothing
+abbrev pub or_fault : {A : Type 0} → A → ℕ → Option (Told A) → Told A
+or_fault state number None = record { state = state; text = fault_line number }
+or_fault state number (Some told) = told
+
+-- The answer to a line was added to a text, and the machines are those after it.
+abbrev pub Adds : {A : Type 0} → Told A → A → List ℕ → List ℕ → Type 0
+Adds told state old new = (state ≡ told.state) × (new ≡ old ++ told.text)
+
+-- The line was taken, and answered so; or it is refused, and nothing is changed or added.
+abbrev pub Takes : {A : Type 0} → Option (Told A) → Bool → A → A → List ℕ → List ℕ → Type 0
+Takes None false before after old new = (after ≡ before) × (new ≡ old)
+Takes (Some told) true before after old new = Adds told after old new
+Takes told taken before after old new = ⊥
+
+-- Something was asked of a client, and its answer was added to a text.
+abbrev pub HasStepped : ℕ → Asked → Client → Client → List ℕ → List ℕ → Type 0
+HasStepped number asked before after old new = (after ≡ (client_called before (call_of asked)).client)
+    × (new ≡ old ++ step_text number (other_of asked) (client_called before (call_of asked)))
+
+-- the same of the client of a number, which is there
+abbrev pub HasAsked : ℕ → Asked → List Client → List Client → List ℕ → List ℕ → Type 0
+HasAsked number asked before after old new =
+    (client : Client) → client_at before number ≡ Some client
+    → (after ≡ with_client_at before number (client_called client (call_of asked)).client)
+    × (new ≡ old ++ step_text number (other_of asked) (client_called client (call_of asked)))
+
+-- a line of this number comes
+unfoldable pub client_answered : Clients → ℕ → List ℕ → Told Clients
+client_answered clients number text =
+    if is_passed_over text then record { state = clients; text = [] }
+    else or_fault clients number (told_of clients (client_line_in text))

@@ -1,0 +1,73 @@
+-- A server that is given lines.
+use Rattle.std.specs.Prelude.{ℕ, ◌++◌, Bool, not, List, [], ◌∷◌, length, nat_lt, if◌then◌else◌, Option, Some, None}
+use Rattle.std.specs.List.{list_any}
+use Rattle.lease_model.specs.server.Calls.{called, is_left_behind}
+use Rattle.lease_model.specs.server.Naming.{key_of}
+use Rattle.lease_model.specs.server.Progress.{Progress}
+use Rattle.lease_model.specs.server.Queries as queries
+use Rattle.lease_model.specs.server.State.{Server, new_server}
+use Rattle.lease_texts.specs.Reading.{is_passed_over}
+use Rattle.lease_lines.specs.ClientTables.{Told, quietly, or_fault}
+use Rattle.lease_lines.specs.ServerAnswers.{out_lines, answer, done_word, yes_word, fid_words, bytes_words}
+use Rattle.lease_lines.specs.ServerLines.{call_of, server_line_in}
+use Rattle.lease_lines.specs.declared.server_lines.Query.{Query}
+use Rattle.lease_lines.specs.declared.server_lines.Query.TheVariants as query
+use Rattle.lease_lines.specs.declared.server_lines.ServerCall.{ServerCall}
+use Rattle.lease_lines.specs.declared.server_lines.ServerCall.TheVariants as call
+use Rattle.lease_lines.specs.declared.server_lines.ServerLine.{ServerLine}
+use Rattle.lease_lines.specs.declared.server_lines.ServerLine.TheVariants as line
+
+-- files are told first; with the first other line the server begins
+pub data Stage : Type 0 where
+  Filling : (files : List (List ℕ)) → Stage
+  Serving : (server : Server) → Stage
+
+abbrev pub server_in : Stage → Server
+server_in (Stage.Filling files) = new_server files
+server_in (Stage.Serving server) = server
+
+-- at most 255 files, all before the server begins
+abbrev pub with_file : Stage → List ℕ → Option (Told Stage)
+with_file (Stage.Filling files) content =
+    if nat_lt (length files) 255 then quietly (Stage.Filling (files ++ content ∷ [])) else None
+with_file (Stage.Serving server) content = None
+
+-- a call of the server, and whether it applied
+abbrev pub after_call : Bool → Progress → Told Stage
+after_call applies after = record {
+  state = Stage.Serving after.server;
+  text = out_lines after.outs ++ answer (done_word applies);
+}
+
+-- whether a call changes anything: a client joins that isn't connected, one that is sends or is lost, a lease is breaking, or an
+-- open waits for its client
+abbrev pub applies : Server → ServerCall → Bool
+applies server (call.Join client) = not (server.present client.0)
+applies server (call.Cut client) = server.present client.0
+applies server (call.Expire client key) = queries.breaking server (key_of client.0 key.0)
+applies server (call.Scavenge fid) = list_any (is_left_behind fid.0) server.opens
+applies server (call.Receive client request) = server.present client.0
+
+abbrev pub found : Server → Query → List ℕ
+found server (query.Breaking client key) = yes_word (queries.breaking server (key_of client.0 key.0))
+found server (query.Kept client file) = fid_words (queries.kept server client.0 file.0)
+found server (query.Content file) = bytes_words (queries.content server file.0)
+
+-- a question, which changes nothing
+abbrev pub asked : Server → Query → Told Stage
+asked server query = record { state = Stage.Serving server; text = answer (found server query) }
+
+unfoldable pub line_told : Stage → ServerLine → Option (Told Stage)
+line_told stage (line.File content) = with_file stage content
+line_told stage (line.Call call) = Some (after_call (applies (server_in stage) call) (called (server_in stage) (call_of call)))
+line_told stage (line.Query query) = Some (asked (server_in stage) query)
+
+abbrev pub told_of : Stage → Option ServerLine → Option (Told Stage)
+told_of stage None = None
+told_of stage (Some told) = line_told stage told
+
+-- a line of this number comes
+unfoldable pub server_answered : Stage → ℕ → List ℕ → Told Stage
+server_answered stage number text =
+    if is_passed_over text then record { state = stage; text = [] }
+    else or_fault stage number (told_of stage (server_line_in text))

@@ -1,0 +1,160 @@
+ghost use Rattle.std.specs.Prelude.{◌≡◌, ◌++◌, OnOk, IfOk, None, map};
+ghost use Rattle.std.specs.List.{flat_map};
+ghost use Rattle.std.specs.String.{string_bytes};
+ghost use Rattle.lease_model.specs.client.Commands as model;
+ghost use Rattle.lease_model.specs.client.Step as steps;
+ghost use Rattle.lease_client.specs.Known.{client_of};
+ghost use Rattle.lease_texts.specs.Records.{fact_line};
+ghost use Rattle.lease_client.specs.Answers.{answer_of, note_of, refusal_of};
+ghost use Rattle.lease_client.specs.Steps.{IsStep};
+ghost use Rattle.lease_lines.specs.ClientAnswers.{request_line, note_line, refusal_word, answer_words, answer_line, step_text};
+
+use crate::status::push_given;
+use lease_client::{Answer, Client, Note, Refusal, Step};
+use lease_facts::Fact;
+use lease_state::{Bytes, ClientNo, Request};
+use lease_texts::{digits_of, push_fact, push_request};
+use std::alloc::{AllocError, Global};
+
+fn push_request_line(alloc: Global, text: &mut String, request: &Request) -> Result<(), AllocError>
+    ensures { OnOk result (string_bytes text.new ≡ string_bytes text.old ++ request_line request.now) }
+{
+    text.push_str("request ")?;
+    push_request(alloc, text, request)?;
+    text.push_str("\n")
+}
+
+/// Adds the lines of requests.
+pub fn push_requests(
+    alloc: Global,
+    text: &mut String,
+    requests: &[Request],
+) -> Result<(), AllocError>
+    ensures { OnOk result (string_bytes text.new ≡ string_bytes text.old ++ flat_map request_line requests.now) }
+{
+    for request in requests {
+        push_request_line(alloc, text, request)?;
+    }
+    Ok(())
+}
+
+// A client's note, as a fact of a record.
+#[tactic(auto, using(crate::proofs::Notes::outcome_told))]
+fn fact_noted(client: ClientNo, note: Note) -> Fact
+    ensures { fact_line result ≡ note_line client.0 (note_of note) }
+{
+    match note {
+        Note::Settled(number, outcome) => Fact::Settled(client, number, outcome),
+        Note::Wrote(file, number, patch, buffered) => {
+            Fact::Wrote(client, file, number, patch, buffered)
+        }
+        Note::Believes(file, state) => Fact::Believes(client, file, state),
+        Note::CachedRead(file, bytes) => Fact::CachedRead(client, file, bytes),
+    }
+}
+
+/// Adds the lines of a client's notes.
+pub fn push_notes(
+    alloc: Global,
+    text: &mut String,
+    client: ClientNo,
+    notes: Vec<Note>,
+) -> Result<(), AllocError>
+    ensures { OnOk result (string_bytes text.new
+        ≡ string_bytes text.old ++ flat_map (note_line client.0) (map note_of notes.items)) }
+{
+    for note in notes {
+        push_fact(alloc, text, &fact_noted(client, note))?;
+    }
+    Ok(())
+}
+
+fn refusal_word(refusal: Refusal) -> &'static str
+    ensures { result.now ≡ refusal_word (refusal_of refusal) }
+{
+    match refusal {
+        Refusal::NotOpen => "notopen",
+        Refusal::Busy => "busy",
+        Refusal::Differs => "differs",
+        Refusal::Offline => "offline",
+        Refusal::TooLong => "toolong",
+        Refusal::Denied => "denied",
+        Refusal::UsedUp => "usedup",
+    }
+}
+
+// The bytes of a file, and where they come from.
+fn push_bytes(
+    alloc: Global,
+    text: &mut String,
+    bytes: &Bytes,
+    cached: bool,
+) -> Result<(), AllocError>
+    ensures { OnOk result (string_bytes text.new
+        ≡ string_bytes text.old ++ answer_words None (model.Answer.Bytes bytes.now cached)) }
+{
+    let digits = digits_of(alloc, bytes)?;
+    let source = if cached { "cached" } else { "served" };
+    write!(text, "bytes {digits} {source}")
+}
+
+fn push_answer_words(
+    alloc: Global,
+    text: &mut String,
+    answer: &Answer,
+    other: Option<u32>,
+) -> Result<(), AllocError>
+    ensures { OnOk result (string_bytes text.new ≡ string_bytes text.old ++ answer_words other (answer_of answer.now)) }
+{
+    match answer {
+        Answer::Done => text.push_str("done"),
+        Answer::Waiting => text.push_str("waiting"),
+        Answer::Bytes(bytes, cached) => push_bytes(alloc, text, bytes, *cached),
+        Answer::Refused(refusal) => {
+            let name = refusal_word(*refusal);
+            write!(text, "refused {name}")
+        }
+        Answer::Failed(status) => {
+            text.push_str("failed ")?;
+            push_given(alloc, text, *status, other)
+        }
+        Answer::Quiet => text.push_str("quiet"),
+    }
+}
+
+/// Adds the line of an answer. Where it tells of a failure, `other` is the number of a status that was given by its number.
+pub fn push_answer(
+    alloc: Global,
+    text: &mut String,
+    answer: &Answer,
+    other: Option<u32>,
+) -> Result<(), AllocError>
+    ensures { OnOk result (string_bytes text.new ≡ string_bytes text.old ++ answer_line other (answer_of answer.now)) }
+{
+    text.push_str("answer ")?;
+    push_answer_words(alloc, text, answer, other)?;
+    text.push_str("\n")
+}
+
+/// Adds what a step of a client comes to, and gives the client after it.
+pub fn push_step(
+    alloc: Global,
+    text: &mut String,
+    number: ClientNo,
+    other: Option<u32>,
+    step: Step,
+) -> Result<Client, AllocError>
+    ensures { IfOk result (λ client. (after : steps.Step) → IsStep step after
+        → (client_of client ≡ after.client) × (string_bytes text.new ≡ string_bytes text.old ++ step_text number.0 other after)) }
+{
+    let Step {
+        client,
+        answer,
+        requests,
+        notes,
+    } = step;
+    push_requests(alloc, text, requests.as_slice())?;
+    push_notes(alloc, text, number, notes)?;
+    push_answer(alloc, text, &answer, other)?;
+    Ok(client)
+}

@@ -1,0 +1,130 @@
+ghost use Rattle.std.specs.Prelude.{◌≡◌, ◌++◌, IfOk, OnOk};
+ghost use Rattle.std.specs.List.{flat_map};
+ghost use Rattle.std.specs.Option.{option_map};
+ghost use Rattle.std.specs.String.{string_bytes};
+ghost use Rattle.share_server.specs.declared.out.Out.TheVariants as out;
+ghost use Rattle.lease_texts.specs.Records.{digits_word};
+ghost use Rattle.lease_lines.specs.ServerAnswers.{out_line, answer, done_word, yes_word, fid_words, bytes_words};
+
+use crate::replies::push_reply;
+use lease_state::{ClientNo, FileId, FileNo, Patch, Reply};
+use lease_texts::push_patch;
+use share_server::Out;
+use std::alloc::{AllocError, Global};
+
+fn push_sent(
+    alloc: Global,
+    text: &mut String,
+    client: ClientNo,
+    told: &Reply,
+) -> Result<(), AllocError>
+    ensures { OnOk result (string_bytes text.new ≡ string_bytes text.old ++ out_line (out.Sent client told.now)) }
+{
+    let client = client.0;
+    write!(text, "sent {client} ")?;
+    push_reply(alloc, text, told)?;
+    text.push_str("\n")
+}
+
+fn push_changed(
+    alloc: Global,
+    text: &mut String,
+    file: FileNo,
+    client: ClientNo,
+    number: u64,
+    patch: &Patch,
+) -> Result<(), AllocError>
+    ensures { OnOk result (string_bytes text.new
+        ≡ string_bytes text.old ++ out_line (out.Changed file client number patch.now)) }
+{
+    let (file, client) = (file.0, client.0);
+    write!(text, "changed {file} {client} {number} ")?;
+    push_patch(alloc, text, patch)?;
+    text.push_str("\n")
+}
+
+fn push_out(alloc: Global, text: &mut String, given: &Out) -> Result<(), AllocError>
+    ensures { OnOk result (string_bytes text.new ≡ string_bytes text.old ++ out_line given.now) }
+{
+    match given {
+        Out::Sent(client, told) => push_sent(alloc, text, *client, told),
+        Out::Opened(file, client) => {
+            let (file, client) = (file.0, client.0);
+            writeln!(text, "opened {file} {client}")
+        }
+        Out::Changed(file, client, number, patch) => {
+            push_changed(alloc, text, *file, *client, *number, patch)
+        }
+    }
+}
+
+/// Adds the lines of what a call gives out.
+pub fn push_outs(alloc: Global, text: &mut String, outs: &[Out]) -> Result<(), AllocError>
+    ensures { OnOk result (string_bytes text.new ≡ string_bytes text.old ++ flat_map out_line outs.now) }
+{
+    for given in outs {
+        push_out(alloc, text, given)?;
+    }
+    Ok(())
+}
+
+/// Adds the answer to a call: whether it applied.
+pub fn push_done(text: &mut String, applies: bool) -> Result<(), AllocError>
+    ensures { OnOk result (string_bytes text.new ≡ string_bytes text.old ++ answer (done_word applies)) }
+{
+    text.push_str(if applies {
+        "answer done\n"
+    } else {
+        "answer nothing\n"
+    })
+}
+
+/// Adds the answer yes or no.
+pub fn push_yes(text: &mut String, holds: bool) -> Result<(), AllocError>
+    ensures { OnOk result (string_bytes text.new ≡ string_bytes text.old ++ answer (yes_word holds)) }
+{
+    text.push_str(if holds { "answer yes\n" } else { "answer no\n" })
+}
+
+/// Adds the answer of a FileId, or that there is none.
+pub fn push_fid(text: &mut String, kept: Option<FileId>) -> Result<(), AllocError>
+    ensures { OnOk result (string_bytes text.new
+        ≡ string_bytes text.old ++ answer (fid_words (option_map (λ fid. fid.0) kept))) }
+{
+    match kept {
+        Some(fid) => {
+            let fid = fid.0;
+            writeln!(text, "answer fid {fid}")
+        }
+        None => text.push_str("answer none\n"),
+    }
+}
+
+// The digits of bytes, or a hyphen where there are none.
+fn digits_of(alloc: Global, bytes: &[u8]) -> Result<String, AllocError>
+    ensures { IfOk result (λ text. string_bytes text ≡ digits_word bytes.now) }
+{
+    if bytes.is_empty() {
+        String::from_str(alloc, "-")
+    } else {
+        hex::encode(alloc, bytes)
+    }
+}
+
+/// Adds the answer of a file's bytes, or that there are none.
+pub fn push_content(
+    alloc: Global,
+    text: &mut String,
+    content: Option<&[u8]>,
+) -> Result<(), AllocError>
+    ensures { OnOk result (string_bytes text.new
+        ≡ string_bytes text.old ++ answer (bytes_words (option_map (λ bytes. bytes.now) content.entry))) }
+{
+    match content {
+        Some(bytes) => {
+            let digits = digits_of(alloc, bytes)?;
+            writeln!(text, "answer bytes {digits}")
+        }
+        None => text.push_str("answer none\n"),
+    }
+}

@@ -1,0 +1,190 @@
+ghost use Rattle.std.specs.Prelude.{◌≡◌, ◌++◌, [], IfOk, OnOk};
+ghost use Rattle.std.specs.String.{string_bytes};
+ghost use Rattle.lease_model.specs.server.Progress.{Progress};
+ghost use Rattle.share_server.specs.Outs.{IsAfter};
+ghost use Rattle.share_server.specs.Table.{server_of};
+ghost use Rattle.lease_lines.specs.ClientTables.{Takes, Adds};
+ghost use Rattle.lease_lines.specs.ServerAnswers.{answer};
+ghost use Rattle.lease_lines.specs.ServerLines.{call_of, server_line_in};
+ghost use Rattle.lease_lines.specs.ServerTables.{after_call, applies, found, server_in, with_file, line_told, told_of, server_answered};
+ghost use Rattle.lease_lines.specs.ServerTables as tables;
+ghost use Rattle.lease_lines.specs.Tables.{stage_of};
+ghost use Rattle.lease_model.specs.server.Calls.{called};
+
+use crate::client_table::push_fault;
+use crate::server_answers::{push_content, push_done, push_fid, push_outs, push_yes};
+use crate::server_lines::{Query, ServerCall, ServerLine, read_server_line};
+use lease_state::{Content, Memory};
+use lease_texts::{LineFault, is_passed_over};
+use share_server::{Out, Server};
+use std::alloc::{AllocError, Global};
+
+// No more files than there are numbers.
+const FILES: usize = 255;
+
+/// A server whose files are told first; with the first other line it begins.
+#[derive(Debug, Drop)]
+pub enum Stage {
+    Filling(Vec<Content>),
+    Serving(Server),
+}
+
+// Adds what a call gives out, and whether it applied.
+fn push_after(
+    alloc: Global,
+    text: &mut String,
+    applies: bool,
+    after: (Server, Vec<Out>),
+) -> Result<Server, Memory>
+    ensures { IfOk result (λ server. (progress : Progress) → IsAfter after.0 after.1.items progress
+        → (server_of server ≡ progress.server)
+        × (string_bytes text.new ≡ string_bytes text.old ++ (after_call applies progress).text)) }
+{
+    let (server, outs) = after;
+    push_outs(alloc, text, outs.as_slice())?;
+    push_done(text, applies)?;
+    Ok(server)
+}
+
+// Whether a call changes anything.
+fn applies(server: &Server, call: &ServerCall) -> bool
+    ensures { result ≡ applies (server_of server.now) call.now }
+{
+    match call {
+        ServerCall::Join(client) => !server.is_connected(*client),
+        ServerCall::Cut(client) | ServerCall::Receive(client, _) => server.is_connected(*client),
+        ServerCall::Expire(client, key) => server.breaking(*client, *key),
+        ServerCall::Scavenge(fid) => server.has_left_behind(*fid),
+    }
+}
+
+fn call(server: Server, asked: ServerCall) -> Result<(Server, Vec<Out>), Memory>
+    ensures { IfOk result (λ r. IsAfter r.0 r.1.items (called (server_of server) (call_of asked))) }
+{
+    match asked {
+        ServerCall::Join(client) => server.join(client),
+        ServerCall::Cut(client) => server.cut(client),
+        ServerCall::Expire(client, key) => server.expire(client, key),
+        ServerCall::Scavenge(fid) => server.scavenge(fid),
+        ServerCall::Receive(client, request) => server.receive(client, request),
+    }
+}
+
+fn push_found(
+    alloc: Global,
+    text: &mut String,
+    server: &Server,
+    query: Query,
+) -> Result<(), AllocError>
+    ensures { OnOk result (string_bytes text.new ≡ string_bytes text.old ++ answer (found (server_of server.now) query)) }
+{
+    match query {
+        Query::Breaking(client, key) => push_yes(text, server.breaking(client, key)),
+        Query::Kept(client, file) => push_fid(text, server.kept(client, file)),
+        Query::Content(file) => push_content(alloc, text, server.content(file)),
+    }
+}
+
+impl Stage {
+    /// No files yet.
+    pub fn new(alloc: Global) -> Stage
+        ensures { stage_of result ≡ tables.Stage.Filling [] }
+    {
+        Stage::Filling(Vec::new(alloc))
+    }
+
+    // The server, which begins where it hasn't.
+    fn into_server(self, alloc: Global) -> Result<Server, Memory>
+        ensures { IfOk result (λ server. server_of server ≡ server_in (stage_of self)) }
+    {
+        match self {
+            Stage::Filling(files) => Server::new(alloc, files),
+            Stage::Serving(server) => Ok(server),
+        }
+    }
+
+    // One more file; none where the server has begun, or there is no number for it.
+    fn add_file(self, content: Content) -> Result<(Stage, bool), Memory>
+        ensures { IfOk result (λ r. Takes (with_file (stage_of self) content) r.1 (stage_of self) (stage_of r.0) [] []) }
+    {
+        match self {
+            Stage::Filling(mut files) => {
+                if files.len() >= FILES {
+                    return Ok((Stage::Filling(files), false));
+                }
+                files.push(content)?;
+                Ok((Stage::Filling(files), true))
+            }
+            Stage::Serving(server) => Ok((Stage::Serving(server), false)),
+        }
+    }
+
+    #[tactic(auto, unfolding(crate::specs::ServerTables::line_told))]
+    fn take_line(
+        self,
+        alloc: Global,
+        line: ServerLine,
+        text: &mut String,
+    ) -> Result<(Stage, bool), Memory>
+        ensures { IfOk result (λ r. Takes (line_told (stage_of self) line) r.1 (stage_of self) (stage_of r.0)
+            (string_bytes text.old) (string_bytes text.new)) }
+    {
+        match line {
+            ServerLine::File(content) => self.add_file(content),
+            ServerLine::Call(asked) => {
+                let server = self.into_server(alloc)?;
+                let applies = applies(&server, &asked);
+                let server = push_after(alloc, text, applies, call(server, asked)?)?;
+                Ok((Stage::Serving(server), true))
+            }
+            ServerLine::Query(query) => {
+                let server = self.into_server(alloc)?;
+                push_found(alloc, text, &server, query)?;
+                Ok((Stage::Serving(server), true))
+            }
+        }
+    }
+
+    // Takes a line where it is one.
+    fn take_text(
+        self,
+        alloc: Global,
+        line: &[u8],
+        text: &mut String,
+    ) -> Result<(Stage, bool), Memory>
+        ensures { IfOk result (λ r. Takes (told_of (stage_of self) (server_line_in line.now)) r.1 (stage_of self) (stage_of r.0)
+            (string_bytes text.old) (string_bytes text.new)) }
+    {
+        match read_server_line(alloc, line) {
+            Ok(asked) => self.take_line(alloc, asked, text),
+            Err(LineFault::Refused) => Ok((self, false)),
+            Err(LineFault::Memory) => Err(Memory),
+        }
+    }
+
+    /// A line of this number comes: what it is answered is added to a text.
+    ///
+    /// # Errors
+    ///
+    /// `Memory` where there is none left; the server is lost then.
+    #[tactic(auto, unfolding(crate::specs::ServerTables::server_answered))]
+    pub fn answer(
+        self,
+        alloc: Global,
+        number: u64,
+        line: &[u8],
+        text: &mut String,
+    ) -> Result<Stage, Memory>
+        ensures { IfOk result (λ after. Adds (server_answered (stage_of self) number line.now) (stage_of after)
+            (string_bytes text.old) (string_bytes text.new)) }
+    {
+        if is_passed_over(line) {
+            return Ok(self);
+        }
+        let (stage, taken) = self.take_text(alloc, line, text)?;
+        if !taken {
+            push_fault(text, number)?;
+        }
+        Ok(stage)
+    }
+}
