@@ -19,6 +19,10 @@ abbrev pub Converses : {T : Type 0} → Machines → Option (List ℕ) → Optio
 Converses machines None old new answer = (lines : List (List ℕ)) × Answers machines lines old new answer
 Converses machines (Some text) old new answer = Answers machines (lines_of text) old new answer
 
+-- no line more can be read
+abbrev pub EndsReading : Failure → Type 0
+EndsReading failure = (failure ≡ Memory) ⊎ (failure ≡ File)
+
 -- what ends machines before their input does
 abbrev pub EndsSpeaking : Failure → Type 0
 EndsSpeaking failure = (failure ≡ Memory) ⊎ (failure ≡ File) ⊎ (failure ≡ Output) ⊎ (failure ≡ Lines)
