@@ -6,3 +6,4 @@ pub mod Reading
 pub mod Records
 pub mod Schedules
 pub mod Drafts
+pub mod Quoting

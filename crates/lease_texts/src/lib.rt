@@ -9,6 +9,7 @@ mod fault;
 mod fields;
 mod lines;
 mod pieces;
+mod quoting;
 mod records;
 mod schedules;
 mod words;
@@ -16,6 +17,7 @@ mod words;
 pub use fault::{LineFault, TextFault};
 pub use fields::{Fields, is, read_patch};
 pub use lines::{first_line, is_passed_over};
+pub use quoting::push_quoted;
 pub use records::{digits_of, push_fact, push_patch, read_fact};
 pub use schedules::{
     Schedule, push_event, push_request, push_setup, read_event, read_guid, read_request, read_schedule,

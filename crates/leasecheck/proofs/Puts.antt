@@ -1,8 +1,15 @@
 -- Texts of which a beginning was written.
-use Rattle.std.proofs.Common.{◌≡◌, ℕ, ◌++◌, List, [], Option, Some, None, Result, Ok, Err, sym, ap, ◌∙◌, append_assoc, take, drop, ◌-◌, length, length-drop, arith}
+use Rattle.std.proofs.Common.{◌≡◌, inl, inr, ◌⊎◌, refl, ℕ, ◌++◌, List, [], Option, Some, None, Result, Ok, Err, sym, ap, ◌∙◌, append_assoc, take, drop, ◌-◌, length, length-drop, arith}
 use Rattle.std.proofs.lemmas.List.{append-nil, take_all, take-append-drop}
 use Rattle.std.specs.Io.KnownBytes.{Appends, Keeps}
-use Rattle.leasecheck.specs.Refusals.{Begins, Puts}
+use Rattle.std.specs.Prelude.{IfSome, unwrap_or}
+use Rattle.std.specs.Option.{option_map}
+use Rattle.std.specs.String.{string_bytes}
+use Rattle.leasecheck.specs.Remarks.{IsRemark, Says, second_of}
+use Rattle.leasecheck.specs.Refusals.{Begins, Puts, IsSecond}
+use Rattle.leasecheck.specs.declared.failure.Failure.{Failure}
+use Rattle.leasecheck.specs.declared.refusal.Refusal.{Refusal}
+use Rattle.leasecheck.specs.declared.tasks.Task.{Task}
 
 pub keeps_appends : (old new : Option (List ℕ)) → Keeps old new → Appends old new []
 keeps_appends None new keeps = tt
@@ -30,3 +37,35 @@ puts_more first old new text left part count n is cut had has = (
 pub puts_begin : {T E : Type 0} (old new : Option (List ℕ)) (text : List ℕ) (answer : Result T E) → Puts old new text answer → Begins old new text
 puts_begin old new text (Ok value) puts = (text, [], sym (append-nil text), puts)
 puts_begin old new text (Err e) puts = puts
+
+-- a text and a beginning of another one behind it
+pub begins_behind : {T E : Type 0} (first old new : Option (List ℕ)) (line second : List ℕ) (answer : Result T E) → Appends first old line
+    → Puts old new second answer → Begins first new (line ++ second)
+begins_behind first old new line second (Ok value) had has =
+    (line ++ second, [], sym (append-nil (line ++ second)), appends_more first old new line second had has)
+begins_behind first old new line second (Err e) had (part, rest, is, has) =
+    (line ++ part, rest, ap (λ t. line ++ t) is ∙ sym (append_assoc line part rest), appends_more first old new line part had has)
+
+pub begins_longer : (old new : Option (List ℕ)) (line second : List ℕ) → Begins old new line → Begins old new (line ++ second)
+begins_longer old new line second (part, rest, is, has) =
+    (part, rest ++ second, ap (λ t. t ++ second) is ∙ append_assoc part rest second, has)
+
+-- what is said, or nothing
+of_second : {X : Type 0} (bytes : X → List ℕ) (P : List ℕ → Type 0) (second : Option X) → IfSome second (λ x. P (bytes x))
+    → (unwrap_or (option_map bytes second) [] ≡ []) ⊎ P (unwrap_or (option_map bytes second) [])
+of_second bytes P None says = inl refl
+of_second bytes P (Some line) says = inr says
+
+pub is_second : (asked : Task) (file : Option (List ℕ)) (refusal : Refusal) → Says refusal (IsRemark asked file)
+    → IsSecond asked file refusal.failure (second_of refusal)
+is_second asked file refusal says =
+    of_second (λ line. string_bytes line) (IsRemark asked file refusal.failure) refusal.second says
+
+of_more : {X : Type 0} (bytes : X → List ℕ) (P Q : List ℕ → Type 0) (second : Option X) → ((line : List ℕ) → P line → Q line)
+    → IfSome second (λ x. P (bytes x)) → IfSome second (λ x. Q (bytes x))
+of_more bytes P Q None more says = tt
+of_more bytes P Q (Some line) more says = more (bytes line) says
+
+pub says_more : (refusal : Refusal) (P Q : Failure → List ℕ → Type 0)
+    → ((line : List ℕ) → P refusal.failure line → Q refusal.failure line) → Says refusal P → Says refusal Q
+says_more refusal P Q more says = of_more (λ line. string_bytes line) (P refusal.failure) (Q refusal.failure) refusal.second more says

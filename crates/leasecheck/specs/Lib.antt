@@ -1,9 +1,13 @@
 pub mod Arguments
+pub mod HexRemarks
+pub mod SetupRemarks
+pub mod WireRemarks
 pub mod Answer
 pub mod Words
 pub mod Shown
 pub mod Replayed
 pub mod Judging
 pub mod Printed
+pub mod Remarks
 pub mod Refusals
 pub mod Conversing

@@ -1,5 +1,5 @@
 -- Why a task is refused, and the line that tells it.
-use Rattle.std.specs.Prelude.{◌≡◌, ℕ, ◌++◌, List, [], ◌∷◌, codes, drop, if◌then◌else◌, Option, Some, None, Result, Ok, Err, MatchResult, ◌⊎◌, length}
+use Rattle.std.specs.Prelude.{◌≡◌, ℕ, ◌++◌, List, [], ◌∷◌, codes, drop, if◌then◌else◌, Option, Some, None, Result, Ok, Err, MatchResult, IfErr, ◌⊎◌, length}
 use Rattle.std.specs.Fmt.{decimal}
 use Rattle.std.specs.Option.{option_map}
 use Rattle.std.specs.Result.{result_err}
@@ -18,10 +18,12 @@ use Rattle.lease_texts.specs.Records.{record_in}
 use Rattle.leasecheck.specs.Arguments.{argument_bytes}
 use Rattle.leasecheck.specs.Judging.{RunsOut}
 use Rattle.leasecheck.specs.Printed.{IsTextOf, Prints}
+use Rattle.leasecheck.specs.Remarks.{IsRemark, Says}
 use Rattle.leasecheck.specs.Replayed.{replay_refusal}
 use Rattle.leasecheck.specs.declared.failure.Failure.{Failure}
 use Rattle.leasecheck.specs.declared.failure.Failure.TheVariants.{Hex, Wire, File, Lines, Line, Run, Memory, Output}
 use Rattle.lease_world.specs.declared.setup.RunFault.TheVariants as run
+use Rattle.leasecheck.specs.declared.refusal.Refusal.{Refusal}
 use Rattle.leasecheck.specs.declared.tasks.Kind.{Kind}
 use Rattle.leasecheck.specs.declared.tasks.Kind.TheVariants as kind
 use Rattle.leasecheck.specs.declared.tasks.Task.{Task}
@@ -117,8 +119,17 @@ MayEnd (task.Judge path) file failure = MayEndJudging file failure
 MayEnd asked file failure = (failure ≡ Memory) ⊎ (refusal_of asked file ≡ Some failure)
 
 -- An answer to a task is given only where nothing of it is refused.
-abbrev pub AnswersOrRefuses : {X : Type 0} → Task → Option (List ℕ) → Result X Failure → Type 0
-AnswersOrRefuses asked file answer = MatchResult answer (λ _. refusal_of asked file ≡ None) (MayEnd asked file)
+abbrev pub AnswersOrRefuses : {X : Type 0} → Task → Option (List ℕ) → Result X Refusal → Type 0
+AnswersOrRefuses asked file answer = MatchResult answer (λ _. refusal_of asked file ≡ None) (λ refusal. MayEnd asked file refusal.failure)
+
+-- What is said beside a refusal is about it.
+abbrev pub SaysOf : {X : Type 0} → Task → Option (List ℕ) → Result X Refusal → Type 0
+SaysOf asked file answer = IfErr answer (λ refusal. Says refusal (IsRemark asked file))
+
+-- An argument that has to write bytes without a fault is refused as that, or for want of memory.
+abbrev pub RefusesArgument : {X : Type 0} → (List ℕ → Option WireFault) → List ℕ → Result X Refusal → Type 0
+RefusesArgument fault argument answer = MatchResult answer (λ _. argument_refusal fault (argument_bytes argument) ≡ None)
+    (λ refusal. (refusal.failure ≡ Memory) ⊎ (argument_refusal fault (argument_bytes argument) ≡ Some refusal.failure))
 
 -- a writer whose bytes are known has got a beginning of a text
 abbrev pub Begins : Option (List ℕ) → Option (List ℕ) → List ℕ → Type 0
@@ -157,9 +168,14 @@ failure_text Output = codes "fault output"
 abbrev pub failure_line : Failure → List ℕ
 failure_line failure = failure_text failure ++ 10 ∷ []
 
--- How a task ends with status 1: it prints what tells so, as that a record is malformed; or it has a failure, whose line, or a
--- beginning of it, is told on the other stream.
+-- nothing, or what is said beside this failure of the task
+abbrev pub IsSecond : Task → Option (List ℕ) → Failure → List ℕ → Type 0
+IsSecond asked file failure second = (second ≡ []) ⊎ IsRemark asked file failure second
+
+-- How a task ends with status 1: it prints what tells so, as that a record is malformed; or it has a failure, whose line is told on
+-- the other stream, and behind it nothing or the second line about that failure; or a beginning of this.
 abbrev pub Ends : Task → Option (List ℕ) → Option (List ℕ) → Option (List ℕ) → Option (List ℕ) → Option (List ℕ) → Type 0
 Ends asked file old new faults told =
     (Prints asked file old new 1 × Keeps faults told)
-    ⊎ ((failure : Failure) × EndsWith asked file old new failure × Begins faults told (failure_line failure))
+    ⊎ ((failure : Failure) × (second : List ℕ) × EndsWith asked file old new failure × IsSecond asked file failure second
+    × Begins faults told (failure_line failure ++ second))

@@ -17,6 +17,7 @@ use Rattle.lease_texts.specs.Records.{record_text}
 use Rattle.lease_texts.specs.Schedules.{Draft, schedule_in}
 use Rattle.leasecheck.specs.declared.failure.Failure.{Failure}
 use Rattle.leasecheck.specs.declared.failure.Failure.TheVariants as failure
+use Rattle.leasecheck.specs.declared.refusal.Refusal.{Refusal}
 
 abbrev pub setup_of : Draft → Setup
 setup_of draft = record { files = draft.files; clients = draft.clients }
@@ -61,6 +62,6 @@ abbrev pub replay_refusal : List ℕ → Option Failure
 replay_refusal schedule = run_refusal (schedule_in schedule)
 
 -- It is answered only where it isn't refused, and refused as that, or for want of memory.
-abbrev pub RefusesReplay : {X : Type 0} → List ℕ → Result X Failure → Type 0
+abbrev pub RefusesReplay : {X : Type 0} → List ℕ → Result X Refusal → Type 0
 RefusesReplay schedule answer = MatchResult answer (λ _. replay_refusal schedule ≡ None)
-    (λ told. (told ≡ failure.Memory) ⊎ (replay_refusal schedule ≡ Some told))
+    (λ told. (told.failure ≡ failure.Memory) ⊎ (replay_refusal schedule ≡ Some told.failure))

@@ -1,12 +1,13 @@
-ghost use Rattle.std.specs.Prelude.{◌≡◌, ◌⊎◌, ◌<◌, ◌++◌, ℕ, List, length, IfOk, IfErr, IsErr};
-ghost use Rattle.hex.specs.Hex.{decode_of};
+ghost use Rattle.std.specs.Prelude.{◌≡◌, ◌⊎◌, ◌<◌, ◌++◌, ◌&&◌, true, ℕ, List, length, slice_index, IfOk, IfErr, IsErr};
+ghost use Rattle.hex.specs.Hex.{decode_of, is_hex_digit};
 ghost use Rattle.leasecheck.specs.Arguments.{is_separator, digits_in, without_prefix, argument_bytes};
+ghost use Rattle.leasecheck.specs.HexRemarks.{from_bad};
 
 use crate::failure::Failure;
 use hex::FromHexError;
 use std::alloc::{AllocError, Global};
 
-fn without_prefix(text: &[u8]) -> &[u8]
+pub(crate) fn without_prefix(text: &[u8]) -> &[u8]
     ensures { result.now ≡ without_prefix text.now }
 {
     text.strip_prefix(b"0x").unwrap_or(text)
@@ -19,9 +20,11 @@ fn is_separator(code: u8) -> bool
 }
 
 // A byte's two digits, and the text from the next byte on.
-fn split_byte(text: &[u8]) -> (&[u8], &[u8])
+pub(crate) fn split_byte(text: &[u8]) -> (&[u8], &[u8])
     requires { 3 < length text.now }
     ensures digits { digits_in text.now ≡ result.0.now ++ digits_in result.1.now }
+    ensures bad { (is_hex_digit (slice_index text.now 0) && is_hex_digit (slice_index text.now 1)) ≡ true
+        → from_bad text.now ≡ from_bad result.1.now }
     ensures shorter { length result.1.now < length text.now }
 {
     let (digits, behind) = text.split_at(2);
@@ -33,7 +36,7 @@ fn split_byte(text: &[u8]) -> (&[u8], &[u8])
 }
 
 // The digits of a text without what stands between its bytes.
-fn digits_in(alloc: Global, text: &[u8]) -> Result<Vec<u8>, AllocError>
+pub(crate) fn digits_in(alloc: Global, text: &[u8]) -> Result<Vec<u8>, AllocError>
     ensures { IfOk result (λ digits. digits.items ≡ digits_in text.now) }
 {
     let mut digits = Vec::new(alloc);

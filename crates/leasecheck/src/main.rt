@@ -18,6 +18,8 @@ mod help;
 mod hexadecimal;
 mod judging;
 mod printing;
+mod refusal;
+mod remarks;
 mod replaying;
 mod run;
 mod tasks;

@@ -1,17 +1,25 @@
-ghost use Rattle.std.specs.Prelude.{◌≡◌, ◌≢◌, ◌≤◌, ◌⊎◌, Some, None, MatchResult, IfSome, IfOk, IfErr, IsSome, OnOk, length, take};
+ghost use Rattle.std.specs.Prelude.{◌≡◌, ◌≢◌, ◌≤◌, ◌⊎◌, ◌++◌, ℕ, List, Ok, Some, None, MatchResult, IfSome, IfOk, IfErr, IsSome, OnOk, length, take};
 ghost use Rattle.std.specs.String.{string_bytes};
 ghost use Rattle.std.specs.Io.KnownBytes.{Appends, Keeps};
 ghost use Rattle.leasecheck.specs.Printed.{IsTextOf, Prints};
 ghost use Rattle.lease_world.specs.declared.verdict.Verdict.{Verdict};
 ghost use Rattle.leasecheck.specs.Replayed.{Replays, verdict_line, status_of};
 ghost use Rattle.leasecheck.specs.Judging.{IsVerdictOn};
-ghost use Rattle.leasecheck.specs.Refusals.{AnswersOrRefuses, EndsWith, Ends, Begins, Puts, MayEndReplay, MayEndJudging, known_refusal, judge_refusal, refusal_of, failure_line};
+ghost use Rattle.lease_wire.specs.WireFaults.{message_fault};
+ghost use Rattle.leasecheck.specs.Answer.{AnswersWith};
+ghost use Rattle.leasecheck.specs.Arguments.{argument_bytes};
+ghost use Rattle.leasecheck.specs.Shown.{Shows};
+ghost use Rattle.leasecheck.specs.WireRemarks.{bare_remark, shown_remark};
+ghost use Rattle.leasecheck.specs.Remarks.{Says, IsArgumentRemark, IsFileRemark, schedule_remark, second_of};
+ghost use Rattle.leasecheck.specs.declared.tasks.Kind.TheVariants as kind;
+ghost use Rattle.leasecheck.specs.Refusals.{AnswersOrRefuses, SaysOf, RefusesArgument, shown_fault, EndsWith, Ends, Begins, Puts, MayEndReplay, MayEndJudging, known_refusal, judge_refusal, refusal_of, failure_line};
 
 use crate::failure::Failure;
 use crate::hexadecimal;
 use crate::judging::{judge_text, push_verdict, status_of};
+use crate::refusal::Refusal;
 use crate::replaying::replay;
-use crate::tasks::{Task, VERSION};
+use crate::tasks::{Kind, Task, VERSION};
 use crate::wire::{ack_lines, render};
 use arrayvec::ArrayString;
 use std::alloc::Global;
@@ -34,11 +42,12 @@ fn done(text: String) -> Printed
     Printed { text, status: 0 }
 }
 
-fn judged<I: Read>(alloc: Global, input: &mut I) -> Result<Printed, Failure>
+fn judged<I: Read>(alloc: Global, input: &mut I) -> Result<Printed, Refusal>
     ensures printed { IfOk result (λ printed. (verdict : Verdict) × (string_bytes printed.text ≡ verdict_line verdict)
         × (printed.status ≡ status_of verdict) × IfSome (I.remaining input.old) (λ bytes. IsVerdictOn bytes verdict)) }
     ensures accepted { OnOk result (judge_refusal (I.remaining input.old) ≡ None) }
-    ensures refused { IfErr result (MayEndJudging (I.remaining input.old)) }
+    ensures refused { IfErr result (λ refusal. MayEndJudging (I.remaining input.old) refusal.failure) }
+    ensures said { IfErr result (λ refusal. refusal.second ≡ None) }
 {
     match judge_text(alloc, input) {
         Ok(verdict) => {
@@ -49,42 +58,69 @@ fn judged<I: Read>(alloc: Global, input: &mut I) -> Result<Printed, Failure>
                 status: status_of(&verdict),
             })
         }
-        Err(failure) => Err(failure),
+        Err(failure) => Err(Refusal::bare(failure)),
     }
 }
 
-fn replayed<I: Read>(alloc: Global, input: &mut I) -> Result<Printed, Failure>
+fn replayed<I: Read>(alloc: Global, input: &mut I) -> Result<Printed, Refusal>
     ensures printed { IfOk result (λ printed. (printed.status ≡ 0)
         × IfSome (I.remaining input.old) (λ schedule. Replays schedule (string_bytes printed.text))) }
-    ensures refused { MatchResult result (λ _. known_refusal (I.remaining input.old) ≡ None) (MayEndReplay (I.remaining input.old)) }
+    ensures refused { MatchResult result (λ _. known_refusal (I.remaining input.old) ≡ None)
+        (λ refusal. MayEndReplay (I.remaining input.old) refusal.failure) }
+    ensures said { IfErr result (λ refusal. Says refusal (IsFileRemark schedule_remark (I.remaining input.old))) }
 {
     let mut bytes = Vec::new(alloc);
     let Ok(_) = input.read_to_end(&mut bytes) else {
-        return Err(Failure::File);
+        return Err(Refusal::bare(Failure::File));
     };
     match replay(alloc, bytes.as_slice()) {
         Ok((text, verdict)) => Ok(Printed {
             text,
             status: status_of(&verdict),
         }),
-        Err(failure) => Err(failure),
+        Err(refusal) => Err(refusal),
+    }
+}
+
+fn acknowledged(alloc: Global, argument: &str) -> Result<Printed, Refusal>
+    ensures printed { IfOk result (λ printed. (printed.status ≡ 0)
+        × (bytes : List ℕ) × (argument_bytes argument.now ≡ Ok bytes) × AnswersWith bytes (string_bytes printed.text)) }
+    ensures refused { RefusesArgument (message_fault 44) argument.now result }
+    ensures said { IfErr result (λ refusal. Says refusal (IsArgumentRemark (bare_remark kind.Break) argument.now)) }
+{
+    match hexadecimal::bytes_of(alloc, argument) {
+        Err(failure) => Err(Refusal::of_digits(alloc, failure, argument)),
+        Ok(bytes) => match ack_lines(alloc, bytes.as_slice()) {
+            Ok(text) => Ok(done(text)),
+            Err(failure) => Err(Refusal::of_notification(alloc, failure, bytes.as_slice())),
+        },
+    }
+}
+
+fn shown(alloc: Global, kind: Kind, argument: &str) -> Result<Printed, Refusal>
+    ensures printed { IfOk result (λ printed. (printed.status ≡ 0)
+        × (bytes : List ℕ) × (argument_bytes argument.now ≡ Ok bytes) × Shows kind bytes (string_bytes printed.text)) }
+    ensures refused { RefusesArgument (shown_fault kind) argument.now result }
+    ensures said { IfErr result (λ refusal. Says refusal (IsArgumentRemark (shown_remark kind) argument.now)) }
+{
+    match hexadecimal::bytes_of(alloc, argument) {
+        Err(failure) => Err(Refusal::of_digits(alloc, failure, argument)),
+        Ok(bytes) => match render(alloc, kind, bytes.as_slice()) {
+            Ok(text) => Ok(done(text)),
+            Err(failure) => Err(Refusal::of_shown(alloc, failure, kind, bytes.as_slice())),
+        },
     }
 }
 
 // All that the task prints.
-fn text_of<I: Read>(alloc: Global, task: &Task, input: &mut I) -> Result<Printed, Failure>
+fn text_of<I: Read>(alloc: Global, task: &Task, input: &mut I) -> Result<Printed, Refusal>
     ensures text { IfOk result (λ printed. IsTextOf task.now (I.remaining input.old) (string_bytes printed.text) printed.status) }
     ensures refused { AnswersOrRefuses task.now (I.remaining input.old) result }
+    ensures said { SaysOf task.now (I.remaining input.old) result }
 {
     match task {
-        Task::Ack(argument) => {
-            let bytes = hexadecimal::bytes_of(alloc, argument.as_str())?;
-            Ok(done(ack_lines(alloc, bytes.as_slice())?))
-        }
-        Task::Show(kind, argument) => {
-            let bytes = hexadecimal::bytes_of(alloc, argument.as_str())?;
-            Ok(done(render(alloc, *kind, bytes.as_slice())?))
-        }
+        Task::Ack(argument) => acknowledged(alloc, argument.as_str()),
+        Task::Show(kind, argument) => shown(alloc, *kind, argument.as_str()),
         Task::Replay(_) => replayed(alloc, input),
         Task::Judge(_) => judged(alloc, input),
         Task::Version => Ok(done(String::from_str(alloc, VERSION)?)),
@@ -139,10 +175,11 @@ fn print_task<I: Read, O: Write>(
     task: &Task,
     input: &mut I,
     out: &mut O,
-) -> Result<u8, Failure>
+) -> Result<u8, Refusal>
     ensures printed { IfOk result (λ status. Prints task.now (I.remaining input.old) (O.contents out.old) (O.contents out.new) status) }
     ensures accepted { OnOk result (refusal_of task.now (I.remaining input.old) ≡ None) }
-    ensures refused { IfErr result (EndsWith task.now (I.remaining input.old) (O.contents out.old) (O.contents out.new)) }
+    ensures refused { IfErr result (λ refusal. EndsWith task.now (I.remaining input.old) (O.contents out.old) (O.contents out.new) refusal.failure) }
+    ensures said { SaysOf task.now (I.remaining input.old) result }
 {
     let printed = text_of(alloc, task, input)?;
     print_text(printed.text.as_str(), out)?;
@@ -169,12 +206,29 @@ pub(crate) fn tell_failure<F: Write>(failure: Failure, faults: &mut F) -> Result
     }
 }
 
+fn second_bytes(refusal: &Refusal) -> &[u8]
+    ensures { result.now ≡ second_of refusal.now }
+{
+    match &refusal.second {
+        Some(line) => line.as_bytes(),
+        None => &[],
+    }
+}
+
+// The line of a failure, and the second line where there is one.
+fn tell_refusal<F: Write>(refusal: &Refusal, faults: &mut F) -> Result<(), Failure>
+    ensures { Begins (F.contents faults.old) (F.contents faults.new) (failure_line refusal.now.failure ++ second_of refusal.now) }
+{
+    tell_failure(refusal.failure, faults)?;
+    put(second_bytes(refusal), faults)
+}
+
 /// Does a task, and gives the exit status: 0 where it was done, 1 where its input is refused, where
 /// memory ran out or where a write to `out` failed, 3 where the record of a judge is unsafe.
 ///
 /// The whole text is made before anything is written to `out`; on a refusal nothing is, and
-/// `faults` gets one line, or a beginning of it where a write there fails, which changes no status. `input` has the bytes of
-/// the task's file, none for a task without one.
+/// `faults` gets the line of the failure and mostly a second one, which says more of it, or a beginning of this where a write
+/// there fails, which changes no status. `input` has the bytes of the task's file, none for a task without one.
 pub fn perform<I: Read, O: Write, F: Write>(
     alloc: Global,
     task: &Task,
@@ -196,8 +250,8 @@ pub fn perform<I: Read, O: Write, F: Write>(
 {
     match print_task(alloc, task, input, out) {
         Ok(status) => status,
-        Err(failure) => {
-            let _ = tell_failure(failure, faults);
+        Err(refusal) => {
+            let _ = tell_refusal(&refusal, faults);
             1
         }
     }

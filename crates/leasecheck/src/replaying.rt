@@ -1,14 +1,16 @@
-ghost use Rattle.std.specs.Prelude.{◌≡◌, ◌⊎◌, ◌++◌, map, codes, Some, None, Ok, IfOk, OnOk, MatchResult};
+ghost use Rattle.std.specs.Prelude.{◌≡◌, ◌⊎◌, ◌++◌, map, codes, Some, None, Ok, IfOk, IfErr, OnOk, MatchResult};
 ghost use Rattle.std.specs.String.{string_bytes};
 ghost use Rattle.lease_model.specs.records.Safe.{Safe};
 ghost use Rattle.lease_facts.specs.Facts.{fact_of};
 ghost use Rattle.lease_world.specs.declared.verdict.Verdict.TheVariants as verdict;
 ghost use Rattle.lease_texts.specs.Drafts.{draft_of};
 ghost use Rattle.lease_texts.specs.Records.{record_text};
+ghost use Rattle.leasecheck.specs.Remarks.{Says, run_remark, schedule_remark};
 ghost use Rattle.leasecheck.specs.Replayed.{Replays, RefusesReplay, record_of, run_failure, run_refusal, verdict_line};
 
 use crate::failure::Failure;
 use crate::judging::push_verdict;
+use crate::refusal::Refusal;
 use lease_laws::verdict_decides;
 use lease_texts::{Schedule, push_fact, read_schedule};
 use lease_world::{Fact, RunFault, Verdict, judge, run};
@@ -43,15 +45,16 @@ fn not_run(fault: RunFault) -> Failure
     }
 }
 
-fn run_schedule(alloc: Global, schedule: &Schedule) -> Result<Vec<Fact>, Failure>
+fn run_schedule(alloc: Global, schedule: &Schedule) -> Result<Vec<Fact>, Refusal>
     ensures record { IfOk result (λ facts. map fact_of facts.items ≡ record_of (draft_of schedule.now)) }
     ensures safe { IfOk result (λ facts. Safe (map fact_of facts.items)) }
     ensures refused { MatchResult result (λ _. run_refusal (Ok (draft_of schedule.now)) ≡ None)
-        (λ failure. (failure ≡ Failure.Memory) ⊎ (run_refusal (Ok (draft_of schedule.now)) ≡ Some failure)) }
+        (λ told. (told.failure ≡ Failure.Memory) ⊎ (run_refusal (Ok (draft_of schedule.now)) ≡ Some told.failure)) }
+    ensures said { IfErr result (λ told. Says told (λ failure line. run_remark failure (draft_of schedule.now) ≡ Some line)) }
 {
     match run(alloc, &schedule.setup, schedule.events.as_slice()) {
         Ok(facts) => Ok(facts),
-        Err(fault) => Err(not_run(fault)),
+        Err(fault) => Err(Refusal::of_run(alloc, not_run(fault), schedule)),
     }
 }
 
@@ -61,11 +64,12 @@ fn run_schedule(alloc: Global, schedule: &Schedule) -> Result<Vec<Fact>, Failure
 /// # Errors
 ///
 /// `Line` with the number of the first line that is refused, else `Run` where there is no run of the schedule, and
-/// `Memory` where there is none left.
-pub fn replay(alloc: Global, schedule: &[u8]) -> Result<(String, Verdict), Failure>
+/// `Memory` where there is none left; with what is said beside it.
+pub fn replay(alloc: Global, schedule: &[u8]) -> Result<(String, Verdict), Refusal>
     ensures printed { IfOk result (λ answer. Replays schedule.now (string_bytes answer.0)) }
     ensures safe { IfOk result (λ answer. answer.1 ≡ verdict.Safe) }
     ensures refused { RefusesReplay schedule.now result }
+    ensures said { IfErr result (λ told. Says told (λ failure line. schedule_remark schedule.now failure ≡ Some line)) }
 {
     verdict_decides();
     let schedule = read_schedule(alloc, schedule)?;

@@ -2,6 +2,8 @@ use Rattle.std.proofs.Common.{◌≡◌, ◌⊎◌, List, ℕ, [], ◌++◌, Opt
 use Rattle.std.specs.Prelude.{IfSome}
 use Rattle.leasecheck.specs.Replayed.{replay_refusal}
 use Rattle.leasecheck.specs.Refusals.{MayEndReplay}
+use Rattle.leasecheck.specs.Remarks.{IsFileRemark, schedule_remark}
+use Rattle.leasecheck.proofs.Puts.{says_more}
 use Rattle.leasecheck.specs.declared.failure.Failure.{Failure}
 use Rattle.leasecheck.specs.declared.failure.Failure.TheVariants.{Memory}
 use Rattle.leasecheck.proofs.printing.replayed.Goals as goal
@@ -15,6 +17,20 @@ of_known None text items start failure is none same (inr refused) = inr (inr (te
 of_known (Some bytes) text items start failure is none same (inr refused) =
     inr (inr (subst (λ t. replay_refusal t ≡ Some failure) (is ∙ (same ∙ ap (λ s. s ++ bytes) none)) refused))
 
+said_of_known : (known : Option (List ℕ)) (text items start : List ℕ) (failure : Failure) (line : List ℕ) → text ≡ items → start ≡ []
+    → IfSome known (λ bytes. items ≡ start ++ bytes)
+    → schedule_remark text failure ≡ Some line → IsFileRemark schedule_remark known failure line
+said_of_known None text items start failure line is none same said = (text, said)
+said_of_known (Some bytes) text items start failure line is none same said =
+    subst (λ t. schedule_remark t failure ≡ Some line) (is ∙ (same ∙ ap (λ s. s ++ bytes) none)) said
+
+pub returns-clause-said : goal.returns-clause-said
+returns-clause-said g c =
+    says_more c.in-Err.refusal (λ failure line. schedule_remark c.as_slice.result.now failure ≡ Some line)
+    (IsFileRemark schedule_remark (g.I.Read.remaining c.args.input.now))
+    (λ line. said_of_known _ c.as_slice.result.now _ _ c.in-Err.refusal.failure line c.as_slice.ensures.value c.new-bytes.ensures.items c.in-Ok.ensures.bytes)
+    c.in-Err.ensures.said
+
 pub returns-clause-refused : goal.returns-clause-refused
 returns-clause-refused g c =
-    of_known _ c.as_slice.result.now _ _ c.in-Err.failure c.as_slice.ensures.value c.new-bytes.ensures.items c.in-Ok.ensures.bytes c.in-Err.ensures.refused
+    of_known _ c.as_slice.result.now _ _ c.in-Err.refusal.failure c.as_slice.ensures.value c.new-bytes.ensures.items c.in-Ok.ensures.bytes c.in-Err.ensures.refused

@@ -1,0 +1,71 @@
+-- The second line that a refusal may have: what was expected where, and what stands there.
+use Rattle.std.specs.Prelude.{◌≡◌, ◌⊎◌, ℕ, List, [], Option, Some, None, Result, Ok, Err, IfSome, unwrap_or}
+use Rattle.std.specs.Option.{option_map}
+use Rattle.std.specs.String.{string_bytes}
+use Rattle.lease_texts.specs.Schedules.{Draft, schedule_in}
+use Rattle.lease_wire.specs.declared.fault.WireFault.{WireFault}
+use Rattle.lease_world.specs.declared.setup.RunFault.TheVariants as run
+use Rattle.leasecheck.specs.Arguments.{argument_bytes}
+use Rattle.leasecheck.specs.HexRemarks.{hex_remark}
+use Rattle.leasecheck.specs.SetupRemarks.{setup_remark, events_remark}
+use Rattle.leasecheck.specs.WireRemarks.{bare_remark, shown_remark}
+use Rattle.leasecheck.specs.declared.failure.Failure.{Failure}
+use Rattle.leasecheck.specs.declared.failure.Failure.TheVariants.{Hex, Wire, File, Lines, Line, Run, Memory, Output}
+use Rattle.leasecheck.specs.declared.refusal.Refusal.{Refusal}
+use Rattle.leasecheck.specs.declared.tasks.Kind.TheVariants as kind
+use Rattle.leasecheck.specs.declared.tasks.Task.{Task}
+use Rattle.leasecheck.specs.declared.tasks.Task.TheVariants as task
+
+-- what is said of an argument, by what is said of the bytes that it writes
+abbrev pub IsArgumentRemark : (List ℕ → WireFault → List ℕ) → List ℕ → Failure → List ℕ → Type 0
+IsArgumentRemark remark argument Hex line = line ≡ hex_remark argument
+IsArgumentRemark remark argument (Wire fault) line =
+    (bytes : List ℕ) × (argument_bytes argument ≡ Ok bytes) × (line ≡ remark bytes fault)
+IsArgumentRemark remark argument File line = ⊥
+IsArgumentRemark remark argument Lines line = ⊥
+IsArgumentRemark remark argument (Line number) line = ⊥
+IsArgumentRemark remark argument (Run fault) line = ⊥
+IsArgumentRemark remark argument Memory line = ⊥
+IsArgumentRemark remark argument Output line = ⊥
+
+-- what is said of a schedule that no run accepts
+abbrev pub draft_remark : (Draft → Option (List ℕ)) → Result Draft ℕ → Option (List ℕ)
+draft_remark remark (Ok draft) = remark draft
+draft_remark remark (Err number) = None
+
+abbrev pub run_remark : Failure → Draft → Option (List ℕ)
+run_remark (Run run.BadSetup) draft = setup_remark draft
+run_remark (Run run.TooMany) draft = Some (events_remark draft)
+run_remark (Run run.Memory) draft = None
+run_remark Hex draft = None
+run_remark (Wire fault) draft = None
+run_remark File draft = None
+run_remark Lines draft = None
+run_remark (Line number) draft = None
+run_remark Memory draft = None
+run_remark Output draft = None
+
+-- what is said of a schedule
+abbrev pub schedule_remark : List ℕ → Failure → Option (List ℕ)
+schedule_remark text failure = draft_remark (run_remark failure) (schedule_in text)
+
+-- what is said of a file; of one that isn't known, what is said of some one
+abbrev pub IsFileRemark : (List ℕ → Failure → Option (List ℕ)) → Option (List ℕ) → Failure → List ℕ → Type 0
+IsFileRemark remark None failure line = (text : List ℕ) × (remark text failure ≡ Some line)
+IsFileRemark remark (Some text) failure line = remark text failure ≡ Some line
+
+-- The line is what is said beside this failure of a task.
+abbrev pub IsRemark : Task → Option (List ℕ) → Failure → List ℕ → Type 0
+IsRemark (task.Ack argument) file failure line = IsArgumentRemark (bare_remark kind.Break) (string_bytes argument) failure line
+IsRemark (task.Show kind argument) file failure line = IsArgumentRemark (shown_remark kind) (string_bytes argument) failure line
+IsRemark (task.Replay path) file failure line = IsFileRemark schedule_remark file failure line
+IsRemark (task.Judge path) file failure line = ⊥
+IsRemark task.Version file failure line = ⊥
+
+-- A refusal has no second line, or this one.
+abbrev pub Says : Refusal → (Failure → List ℕ → Type 0) → Type 0
+Says refusal IsSaid = IfSome refusal.second (λ line. IsSaid refusal.failure (string_bytes line))
+
+-- its second line, or nothing
+abbrev pub second_of : Refusal → List ℕ
+second_of refusal = unwrap_or (option_map (λ line. string_bytes line) refusal.second) []

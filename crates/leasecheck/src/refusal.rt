@@ -1,0 +1,170 @@
+ghost use Rattle.std.specs.Prelude.{◌≡◌, Some, None, MatchResult};
+
+use crate::failure::Failure;
+use crate::remarks::{bare_remark, events_remark, hex_remark, setup_remark, shown_remark};
+use crate::tasks::Kind;
+use lease_state::Memory;
+use lease_texts::{Schedule, TextFault};
+use lease_world::RunFault;
+use std::alloc::{AllocError, AllocFailed, Global};
+
+/// Why a task is refused, and what is said beside that.
+#[derive(Debug, Drop)]
+pub struct Refusal {
+    pub failure: Failure,
+    /// A second line, with its line feed. There is none where no more is to be said, or no memory for it.
+    pub second: Option<String>,
+}
+
+// A text that there was memory for.
+fn some(text: Result<String, AllocError>) -> Option<String>
+    ensures { MatchResult text (λ text. result ≡ Some text) (λ _. result ≡ None) }
+{
+    match text {
+        Ok(text) => Some(text),
+        Err(_) => None,
+    }
+}
+
+fn some_of(text: Result<Option<String>, AllocError>) -> Option<String>
+    ensures { MatchResult text (λ text. result ≡ text) (λ _. result ≡ None) }
+{
+    match text {
+        Ok(text) => text,
+        Err(_) => None,
+    }
+}
+
+impl Refusal {
+    ghost use Rattle.std.specs.Prelude.{List, ℕ, Ok, IfSome};
+    ghost use Rattle.std.specs.String.{string_bytes};
+    ghost use Rattle.lease_texts.specs.Drafts.{draft_of};
+    ghost use Rattle.lease_wire.specs.declared.fault.WireFault.{WireFault};
+    ghost use Rattle.leasecheck.specs.Arguments.{argument_bytes};
+    ghost use Rattle.leasecheck.specs.Remarks.{Says, IsArgumentRemark, run_remark};
+    ghost use Rattle.leasecheck.specs.WireRemarks.{bare_remark, shown_remark};
+    ghost use Rattle.leasecheck.specs.declared.tasks.Kind.TheVariants as kind;
+
+    /// A failure beside which no more is said.
+    pub fn bare(failure: Failure) -> Refusal
+        ensures failure { result.failure ≡ failure }
+        ensures silent { result.second ≡ None }
+    {
+        Refusal {
+            failure,
+            second: None,
+        }
+    }
+
+    /// The failure of an argument that is to write bytes.
+    pub fn of_digits(alloc: Global, failure: Failure, argument: &str) -> Refusal
+        ensures failure { result.failure ≡ failure }
+        ensures said { (remark : List ℕ → WireFault → List ℕ) → Says result (IsArgumentRemark remark argument.now) }
+    {
+        match failure {
+            Failure::Hex => Refusal {
+                failure,
+                second: some(hex_remark(alloc, argument.as_bytes())),
+            },
+            _ => Refusal::bare(failure),
+        }
+    }
+
+    /// The failure of the bytes that an argument writes, of a notification without a header.
+    pub fn of_notification(alloc: Global, failure: Failure, bytes: &[u8]) -> Refusal
+        ensures failure { result.failure ≡ failure }
+        ensures said { (argument : List ℕ) → argument_bytes argument ≡ Ok bytes.now
+            → Says result (IsArgumentRemark (bare_remark kind.Break) argument) }
+    {
+        match failure {
+            Failure::Wire(fault) => Refusal {
+                failure,
+                second: some_of(bare_remark(alloc, Kind::Break, bytes, fault)),
+            },
+            _ => Refusal::bare(failure),
+        }
+    }
+
+    /// The same of bytes that are shown.
+    pub fn of_shown(alloc: Global, failure: Failure, kind: Kind, bytes: &[u8]) -> Refusal
+        ensures failure { result.failure ≡ failure }
+        ensures said { (argument : List ℕ) → argument_bytes argument ≡ Ok bytes.now
+            → Says result (IsArgumentRemark (shown_remark kind) argument) }
+    {
+        match failure {
+            Failure::Wire(fault) => Refusal {
+                failure,
+                second: some_of(shown_remark(alloc, kind, bytes, fault)),
+            },
+            _ => Refusal::bare(failure),
+        }
+    }
+
+    /// Why there is no run of a schedule.
+    pub fn of_run(alloc: Global, failure: Failure, schedule: &Schedule) -> Refusal
+        ensures failure { result.failure ≡ failure }
+        ensures said { IfSome result.second (λ line. run_remark failure (draft_of schedule.now) ≡ Some (string_bytes line)) }
+    {
+        match failure {
+            Failure::Run(RunFault::BadSetup) => Refusal {
+                failure,
+                second: some_of(setup_remark(alloc, schedule)),
+            },
+            Failure::Run(RunFault::TooMany) => Refusal {
+                failure,
+                second: some(events_remark(alloc, schedule)),
+            },
+            _ => Refusal::bare(failure),
+        }
+    }
+}
+
+impl From<Failure> for Refusal {
+    ghost use Rattle.leasecheck.specs.declared.refusal.Refusal.{Refusal};
+
+    ghost from_gives = { λ failure refusal. refusal ≡ record { failure = failure; second = None } };
+
+    fn from(failure: Failure) -> Refusal {
+        Refusal::bare(failure)
+    }
+}
+
+impl From<AllocError> for Refusal {
+    ghost use Rattle.leasecheck.specs.declared.failure.Failure.TheVariants as failure;
+
+    ghost from_gives = { λ _ refusal. refusal ≡ record { failure = failure.Memory; second = None } };
+
+    fn from(_error: AllocError) -> Refusal {
+        Refusal::bare(Failure::Memory)
+    }
+}
+
+impl<T: Drop> From<AllocFailed<T>> for Refusal {
+    ghost use Rattle.leasecheck.specs.declared.failure.Failure.TheVariants as failure;
+
+    ghost from_gives = { λ _ refusal. refusal ≡ record { failure = failure.Memory; second = None } };
+
+    fn from(_error: AllocFailed<T>) -> Refusal {
+        Refusal::bare(Failure::Memory)
+    }
+}
+
+impl From<Memory> for Refusal {
+    ghost use Rattle.leasecheck.specs.declared.failure.Failure.TheVariants as failure;
+
+    ghost from_gives = { λ _ refusal. refusal ≡ record { failure = failure.Memory; second = None } };
+
+    fn from(_error: Memory) -> Refusal {
+        Refusal::bare(Failure::Memory)
+    }
+}
+
+impl From<TextFault> for Refusal {
+    ghost use Rattle.leasecheck.specs.Refusals.{text_failure};
+
+    ghost from_gives = { λ fault refusal. refusal ≡ record { failure = text_failure fault; second = None } };
+
+    fn from(fault: TextFault) -> Refusal {
+        Refusal::bare(Failure::from(fault))
+    }
+}

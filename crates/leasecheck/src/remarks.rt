@@ -1,0 +1,9 @@
+//! What is said of a refused input beside its fault: what was expected, where, and what stands there.
+
+mod bytes;
+mod digits;
+mod setup;
+
+pub(crate) use bytes::{bare_remark, shown_remark};
+pub(crate) use digits::hex_remark;
+pub(crate) use setup::{events_remark, setup_remark};
