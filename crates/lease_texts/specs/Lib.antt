@@ -7,3 +7,5 @@ pub mod Records
 pub mod Schedules
 pub mod Drafts
 pub mod Quoting
+pub mod Complaints
+pub mod Complaining

@@ -161,7 +161,7 @@ impl<'a> Fields<'a> {
 }
 
 #[tactic(auto, unfolding(crate::specs::Fields::access_in))]
-fn access_named(field: &[u8]) -> Option<Access>
+pub(crate) fn access_named(field: &[u8]) -> Option<Access>
     ensures { result ≡ access_in field.now }
 {
     match field {
@@ -173,7 +173,7 @@ fn access_named(field: &[u8]) -> Option<Access>
 }
 
 #[tactic(auto, unfolding(crate::specs::Fields::share_in))]
-fn share_named(field: &[u8]) -> Option<Share>
+pub(crate) fn share_named(field: &[u8]) -> Option<Share>
     ensures { result ≡ share_in field.now }
 {
     match field {
@@ -195,7 +195,7 @@ fn state_of(bits: u32) -> LeaseState
 }
 
 #[tactic(auto, unfolding(crate::specs::Fields::state_in))]
-fn state_named(field: &[u8]) -> Option<LeaseState>
+pub(crate) fn state_named(field: &[u8]) -> Option<LeaseState>
     ensures { option_map (λ state. state.0) result ≡ state_in field.now }
 {
     match field {
@@ -220,7 +220,7 @@ pub fn is(field: &[u8], word: &[u8]) -> bool
 
 // Bytes as digits, or a hyphen for none.
 #[tactic(auto, unfolding(crate::specs::Fields::bytes_in))]
-fn bytes_of(alloc: Global, digits: &[u8]) -> Result<Bytes, LineFault>
+pub(crate) fn bytes_of(alloc: Global, digits: &[u8]) -> Result<Bytes, LineFault>
     ensures { MatchResult result (λ bytes. bytes_in digits.now ≡ Some bytes)
         (λ fault. fault ≡ LineFault.Refused → bytes_in digits.now ≡ None) }
 {
@@ -237,7 +237,7 @@ fn bytes_of(alloc: Global, digits: &[u8]) -> Result<Bytes, LineFault>
 
 // The number whose decimal digits these are.
 #[tactic(auto, unfolding(crate::specs::Fields::number_in))]
-fn number(digits: &[u8]) -> Option<u64>
+pub(crate) fn number(digits: &[u8]) -> Option<u64>
     ensures { result ≡ number_in digits.now }
 {
     match digits {

@@ -5,6 +5,7 @@
 //! other. docs/FORMATS.md has every line.
 #![tactic(auto)]
 
+mod complaints;
 mod fault;
 mod fields;
 mod lines;
@@ -14,6 +15,7 @@ mod records;
 mod schedules;
 mod words;
 
+pub use complaints::{Complaint, Expected, fact_complaint, part_complaint, push_complaint};
 pub use fault::{LineFault, TextFault};
 pub use fields::{Fields, is, read_patch};
 pub use lines::{first_line, is_passed_over};

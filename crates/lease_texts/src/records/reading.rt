@@ -11,7 +11,7 @@ use std::alloc::Global;
 
 // The last word of a write.
 #[tactic(auto, unfolding(crate::specs::Records::way_in))]
-fn way_named(field: &[u8]) -> Option<bool>
+pub(crate) fn way_named(field: &[u8]) -> Option<bool>
     ensures { result ≡ way_in field.now }
 {
     if is(field, b"buffered") {
@@ -24,7 +24,7 @@ fn way_named(field: &[u8]) -> Option<bool>
 }
 
 #[tactic(auto, unfolding(crate::specs::Records::outcome_in))]
-fn outcome_named(field: &[u8]) -> Option<Settlement>
+pub(crate) fn outcome_named(field: &[u8]) -> Option<Settlement>
     ensures { result ≡ outcome_in field.now }
 {
     if is(field, b"done") {

@@ -72,15 +72,20 @@ fn read_raw_write(alloc: Global, fields: &mut Fields) -> Result<Request, LineFau
     })
 }
 
-// An acknowledgment's bytes.
+// The bytes of an acknowledgment.
+pub(crate) fn message_of(field: &[u8]) -> Option<[u8; 36]>
+    ensures { result ≡ message_in field.now }
+{
+    match <[u8; 36] as FromHex>::from_hex(field) {
+        Ok(message) => Some(message),
+        Err(_) => None,
+    }
+}
+
 fn read_message(fields: &mut Fields) -> Result<[u8; 36], LineFault>
     ensures { Takes (λ message. message) (one message_in) fields.old fields.new result }
 {
-    let field = fields.next()?;
-    match <[u8; 36] as FromHex>::from_hex(field) {
-        Ok(message) => Ok(message),
-        Err(_) => Err(LineFault::Refused),
-    }
+    message_of(fields.next()?).ok_or(LineFault::Refused)
 }
 
 #[tactic(auto, unfolding(crate::specs::Schedules::request_named))]

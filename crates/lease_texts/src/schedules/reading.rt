@@ -30,7 +30,7 @@ enum Part {
     Event(Event),
 }
 
-fn guid_of(text: &[u8]) -> Option<[u8; 16]>
+pub(crate) fn guid_of(text: &[u8]) -> Option<[u8; 16]>
     ensures { result ≡ parsed text.now }
 {
     match Uuid::try_parse_ascii(text) {

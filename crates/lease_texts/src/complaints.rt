@@ -1,0 +1,9 @@
+//! What is said of a line that is refused: the first field that holds something else than its kind expects there.
+
+mod expected;
+mod finding;
+mod telling;
+
+pub use expected::Expected;
+pub use finding::{Complaint, fact_complaint, part_complaint};
+pub use telling::push_complaint;

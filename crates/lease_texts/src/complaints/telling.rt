@@ -1,0 +1,88 @@
+ghost use Rattle.std.specs.Prelude.{◌≡◌, ◌++◌, ◌∷◌, [], bytes_eq, take, OnOk};
+ghost use Rattle.std.specs.String.{string_bytes};
+ghost use Rattle.lease_texts.specs.Complaints as complaints;
+ghost use Rattle.lease_texts.specs.Complaining.{complaint_of};
+
+use crate::complaints::{Complaint, Expected};
+use crate::quoting::push_quoted;
+use std::alloc::{AllocError, Global};
+
+fn has(byte: u8, word: &[u8]) -> bool
+    ensures { result ≡ complaints.has byte word.now }
+{
+    word.iter().any(|other| *other == byte)
+}
+
+fn has_mark(word: &[u8]) -> bool
+    ensures { result ≡ bytes_eq (take 3 word.now) (239 ∷ 187 ∷ 191 ∷ []) }
+{
+    word.starts_with(&[0xef, 0xbb, 0xbf])
+}
+
+// What was put there by mistake.
+fn hint(word: &[u8]) -> &'static str
+    ensures { result.now ≡ complaints.hint word.now }
+{
+    if has_mark(word) {
+        ", with a byte order mark"
+    } else if has(b'\r', word) {
+        ", with the carriage return of a Windows line end"
+    } else if has(b'\t', word) {
+        ", with a tab"
+    } else {
+        ""
+    }
+}
+
+// An empty field.
+fn blank_words(number: u64, last: bool) -> &'static str
+    ensures { result.now ≡ complaints.blank_words number last }
+{
+    if number == 1 {
+        "the line begins with a space or is empty"
+    } else if last {
+        "the line ends with a space"
+    } else {
+        "two spaces stand before it"
+    }
+}
+
+#[tactic(auto, unfolding(crate::specs::Complaints::word_words))]
+fn push_word(alloc: Global, text: &mut String, word: &[u8]) -> Result<(), AllocError>
+    ensures { OnOk result (string_bytes text.new ≡ string_bytes text.old ++ complaints.word_words word.now) }
+{
+    text.push_str("it is ")?;
+    push_quoted(alloc, text, word)?;
+    text.push_str(hint(word))
+}
+
+fn push_found(alloc: Global, text: &mut String, complaint: &Complaint<'_>) -> Result<(), AllocError>
+    ensures { OnOk result (string_bytes text.new
+        ≡ string_bytes text.old ++ complaints.found_words (complaint_of complaint.now)) }
+{
+    match complaint.found {
+        None => text.push_str("the line ends before it"),
+        Some([]) => text.push_str(blank_words(complaint.field, complaint.is_last)),
+        Some(word) => push_word(alloc, text, word),
+    }
+}
+
+#[tactic(auto, unfolding(crate::specs::Complaints::expected_part))]
+fn push_expected(text: &mut String, field: u64, expected: Expected) -> Result<(), AllocError>
+    ensures { OnOk result (string_bytes text.new ≡ string_bytes text.old ++ complaints.expected_part field expected) }
+{
+    write!(text, "field {field}: {expected}; ")
+}
+
+/// Says what was expected in which field, and what stands there.
+pub fn push_complaint(
+    alloc: Global,
+    text: &mut String,
+    complaint: &Complaint<'_>,
+) -> Result<(), AllocError>
+    ensures { OnOk result (string_bytes text.new
+        ≡ string_bytes text.old ++ complaints.complaint_words (complaint_of complaint.now)) }
+{
+    push_expected(text, complaint.field, complaint.expected)?;
+    push_found(alloc, text, complaint)
+}
