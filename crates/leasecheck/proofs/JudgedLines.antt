@@ -7,11 +7,12 @@ use Rattle.lease_facts.specs.declared.fact.Fact.{Fact}
 use Rattle.lease_world.specs.judge.Judged.{Judging, HasJudged}
 use Rattle.lease_texts.specs.Reading.{reads_on, is_passed_over}
 use Rattle.lease_texts.specs.Records.{fact_in, with_fact, with_line, record_in}
-use Rattle.leasecheck.specs.Judging.{HasRead, HasReadText, ReadsBlock, EndsLine, RunsOut, RefusesLine}
+use Rattle.leasecheck.specs.Judging.{HasRead, HasReadText, ReadsBlock, EndsLine, RunsOut, RefusesLine, SaysLine, bare}
+use Rattle.leasecheck.proofs.LinesAt.{line_behind}
 use Rattle.leasecheck.proofs.Blocks.{lines_behind, lines_count, ends_with_take}
 use Rattle.leasecheck.specs.declared.judging.Progress.{Progress}
-use Rattle.leasecheck.specs.declared.failure.Failure.{Failure}
 use Rattle.leasecheck.specs.declared.failure.Failure.TheVariants as failure
+use Rattle.leasecheck.specs.declared.refusal.Refusal.{Refusal}
 
 -- what a line adds to a record
 pub line_passed : (facts : List Fact) (line : List ℕ) → is_passed_over line ≡ true → with_line facts line ≡ Some facts
@@ -65,16 +66,21 @@ read_line old new line lines has next taken = record {
   counted = next ∙ (ap (λ n. n + 1) has.counted ∙ ap (λ n. n + 1) (sym (length_more lines line)));
 }
 
-pub refuse_line : (old : Progress) (line : List ℕ) (lines : List (List ℕ)) (told : Failure) → (has : HasRead old lines)
-    → (told ≡ failure.Memory) ⊎ ((with_line has.facts line ≡ None) × (told ≡ failure.Line old.number))
-    → (told ≡ failure.Memory) ⊎ RunsOut (length (lines ++ line ∷ [])) told
-    ⊎ ((more : List (List ℕ)) → RefusesLine (reads_on with_line 1 [] (lines ++ (line ∷ [] ++ more))) told)
+pub refuse_line : (old : Progress) (line : List ℕ) (lines : List (List ℕ)) (told : Refusal) → (has : HasRead old lines)
+    → (told ≡ bare failure.Memory) ⊎ ((with_line has.facts line ≡ None) × (told.failure ≡ failure.Line old.number) × SaysLine old.number line told)
+    → (told ≡ bare failure.Memory) ⊎ RunsOut (length (lines ++ line ∷ [])) told
+    ⊎ ((more : List (List ℕ)) → RefusesLine (lines ++ (line ∷ [] ++ more)) told)
 refuse_line old line lines told has (inl memory) = inl memory
 refuse_line old line lines told has (inr refused) =
-    inr (inr (λ more. (old.number, refused_line line more old.number has.facts _ refused.0 (has.read (line ∷ more)), refused.1)))
+    inr (inr (λ more. (
+      old.number,
+      refused_line line more old.number has.facts _ refused.0 (has.read (line ∷ more)),
+      refused.1,
+      subst (λ l. SaysLine old.number l told) (sym (line_behind lines line more old.number has.counted)) refused.2,
+    )))
 
 pub run_out : (old : Progress) (line : List ℕ) (lines : List (List ℕ)) → HasRead old lines → old.number ≡ 2 ^ 64 - 1
-    → RunsOut (length (lines ++ line ∷ [])) failure.Lines
+    → RunsOut (length (lines ++ line ∷ [])) (bare failure.Lines)
 run_out old line lines has last = (refl, omega (arith, has.counted, last, length_more lines line))
 
 -- where nothing is left the whole text was read
@@ -96,19 +102,19 @@ go_on next line behind rest text lines taken has first same = (
 )
 
 -- the next line of what is left is refused, whatever follows the text
-pub stop_at : (told : Failure) (line behind rest text : List ℕ) (lines taken : List (List ℕ))
-    → (told ≡ failure.Memory) ⊎ RunsOut (length ((lines ++ taken) ++ line ∷ [])) told
-    ⊎ ((more : List (List ℕ)) → RefusesLine (reads_on with_line 1 [] ((lines ++ taken) ++ (line ∷ [] ++ more))) told)
+pub stop_at : (told : Refusal) (line behind rest text : List ℕ) (lines taken : List (List ℕ))
+    → (told ≡ bare failure.Memory) ⊎ RunsOut (length ((lines ++ taken) ++ line ∷ [])) told
+    ⊎ ((more : List (List ℕ)) → RefusesLine ((lines ++ taken) ++ (line ∷ [] ++ more)) told)
     → lines_of rest ≡ line ∷ lines_of behind → taken ++ lines_of rest ≡ lines_of text
-    → (told ≡ failure.Memory) ⊎ RunsOut (length (lines ++ lines_of text)) told
-    ⊎ ((more : List (List ℕ)) → RefusesLine (reads_on with_line 1 [] (lines ++ (lines_of text ++ more))) told)
+    → (told ≡ bare failure.Memory) ⊎ RunsOut (length (lines ++ lines_of text)) told
+    ⊎ ((more : List (List ℕ)) → RefusesLine (lines ++ (lines_of text ++ more)) told)
 stop_at told line behind rest text lines taken (inl memory) first same = inl memory
 stop_at told line behind rest text lines taken (inr (inl out)) first same =
     let whole : taken ++ (line ∷ lines_of behind) ≡ lines_of text = ap (λ all. taken ++ all) (sym first) ∙ same in
     let counted : length (lines ++ lines_of text) ≡ length (lines ++ (taken ++ (line ∷ lines_of behind))) = ap (λ all. length (lines ++ all)) (sym whole) in
     inr (inl (out.0, omega (arith, out.1, counted, length-append {A = List ℕ})))
 stop_at told line behind rest text lines taken (inr (inr refused)) first same =
-    inr (inr (λ more. subst (λ all. RefusesLine (reads_on with_line 1 [] all) told)
+    inr (inr (λ more. subst (λ all. RefusesLine all told)
     (append_assoc lines taken (line ∷ (lines_of behind ++ more))
     ∙ ap (λ all. lines ++ all) (sym (append_assoc taken (line ∷ lines_of behind) more)
     ∙ ap (λ all. all ++ more) (ap (λ all. taken ++ all) (sym first) ∙ same)))
@@ -125,33 +131,33 @@ text_read progress text more ends whole has = record {
 }
 
 -- a refused line of a text that is cut at the end of a line
-pub refused_in : (told : Failure) (text more : List ℕ) → EndsLine text → EndsLine (text ++ more)
-    → ((lines : List (List ℕ)) → RefusesLine (reads_on with_line 1 [] (lines_of text ++ (lines_of more ++ lines))) told)
-    → (rest : List ℕ) → RefusesLine (record_in ((text ++ more) ++ rest)) told
+pub refused_in : (told : Refusal) (text more : List ℕ) → EndsLine text → EndsLine (text ++ more)
+    → ((lines : List (List ℕ)) → RefusesLine (lines_of text ++ (lines_of more ++ lines)) told)
+    → (rest : List ℕ) → RefusesLine (lines_of ((text ++ more) ++ rest)) told
 refused_in told text more ends whole refused rest =
-    subst (λ lines. RefusesLine (reads_on with_line 1 [] lines) told)
+    subst (λ lines. RefusesLine lines told)
     (sym (append_assoc (lines_of text) (lines_of more) (lines_of rest))
     ∙ (ap (λ lines. lines ++ lines_of rest) (sym (lines_behind text more ends)) ∙ sym (lines_behind (text ++ more) rest whole)))
     (refused (lines_of rest))
 
 -- where more lines than numbers were met, there are as many bytes
-pub ran_out_in : (told : Failure) (text more : List ℕ) → RunsOut (length (lines_of text ++ lines_of more)) told
+pub ran_out_in : (told : Refusal) (text more : List ℕ) → RunsOut (length (lines_of text ++ lines_of more)) told
     → (count : ℕ) → length text + length more ≤ count → RunsOut count told
 ran_out_in told text more out count least =
     (out.0, omega (arith, out.1, least, lines_count text, lines_count more, length-append {A = List ℕ}))
 
 -- A refused line of whole lines, behind which more stands.
-pub refuse_in : (told : Failure) (text lines all more : List ℕ) → EndsLine text → EndsLine (text ++ lines) → all ≡ lines ++ more
-    → (told ≡ failure.Memory) ⊎ RunsOut (length (lines_of text ++ lines_of lines)) told
-    ⊎ ((rest : List (List ℕ)) → RefusesLine (reads_on with_line 1 [] (lines_of text ++ (lines_of lines ++ rest))) told)
-    → (told ≡ failure.Memory) ⊎ RunsOut (length (text ++ all)) told
-    ⊎ ((rest : List ℕ) → RefusesLine (record_in (text ++ (all ++ rest))) told)
+pub refuse_in : (told : Refusal) (text lines all more : List ℕ) → EndsLine text → EndsLine (text ++ lines) → all ≡ lines ++ more
+    → (told ≡ bare failure.Memory) ⊎ RunsOut (length (lines_of text ++ lines_of lines)) told
+    ⊎ ((rest : List (List ℕ)) → RefusesLine (lines_of text ++ (lines_of lines ++ rest)) told)
+    → (told ≡ bare failure.Memory) ⊎ RunsOut (length (text ++ all)) told
+    ⊎ ((rest : List ℕ) → RefusesLine (lines_of (text ++ (all ++ rest))) told)
 refuse_in told text lines all more ends whole is (inl memory) = inl memory
 refuse_in told text lines all more ends whole is (inr (inl out)) =
     let counted : length (text ++ all) ≡ length (text ++ (lines ++ more)) = ap (λ t. length (text ++ t)) is in
     inr (inl (ran_out_in told text lines out (length (text ++ all)) (omega (arith, counted, length-append {A = ℕ}))))
 refuse_in told text lines all more ends whole is (inr (inr refused)) =
-    inr (inr (λ rest. subst (λ t. RefusesLine (record_in t) told)
+    inr (inr (λ rest. subst (λ t. RefusesLine (lines_of t) told)
     (append_assoc text lines (more ++ rest)
     ∙ ap (λ t. text ++ t) (sym (append_assoc lines more rest) ∙ ap (λ t. t ++ rest) (sym is)))
     (refused_in told text lines ends whole refused (more ++ rest))))
@@ -170,7 +176,7 @@ took_whole next text block old new place n ends inside feed read rest none is =
     )
 
 -- What a block goes on with is read behind what was read before it.
-pub block_behind : (text lines old new block rest : List ℕ) (answer : Result Progress Failure) → old ++ block ≡ lines ++ rest
+pub block_behind : (text lines old new block rest : List ℕ) (answer : Result Progress Refusal) → old ++ block ≡ lines ++ rest
     → ReadsBlock (text ++ lines) [] new rest answer → ReadsBlock text old new block answer
 block_behind text lines old new block rest (Ok progress) is read = (
   lines ++ read.0,
@@ -181,7 +187,7 @@ block_behind text lines old new block rest (Err told) is (inl memory) = inl memo
 block_behind text lines old new block rest (Err told) is (inr (inl out)) =
     inr (inl (subst (λ t. RunsOut (length t) told) (append_assoc text lines rest ∙ ap (λ t. text ++ t) (sym is)) out))
 block_behind text lines old new block rest (Err told) is (inr (inr refused)) =
-    inr (inr (λ more. subst (λ t. RefusesLine (record_in t) told)
+    inr (inr (λ more. subst (λ t. RefusesLine (lines_of t) told)
     (append_assoc text lines (rest ++ more) ∙ ap (λ t. text ++ t) (sym (append_assoc lines rest more) ∙ ap (λ t. t ++ more) (sym is)))
     (refused more)))
 

@@ -12,10 +12,10 @@ use Rattle.lease_world.specs.judge.Judged.{HasJudged}
 use Rattle.lease_texts.specs.Pieces.{lines_of, pieces}
 use Rattle.lease_texts.specs.Reading.{reads_on}
 use Rattle.lease_texts.specs.Records.{with_line, record_in}
-use Rattle.leasecheck.specs.Judging.{EndsLine, HasRead, HasReadText, ReadsMore, ReadsBlock, RefusesLine, JudgesText, Judges}
+use Rattle.leasecheck.specs.Judging.{EndsLine, HasRead, HasReadText, ReadsMore, ReadsBlock, RefusesLine, JudgesText, Judges, bare}
 use Rattle.leasecheck.specs.declared.judging.Progress.{Progress}
-use Rattle.leasecheck.specs.declared.failure.Failure.{Failure}
 use Rattle.leasecheck.specs.declared.failure.Failure.TheVariants as failure
+use Rattle.leasecheck.specs.declared.refusal.Refusal.{Refusal}
 use Rattle.leasecheck.proofs.Blocks.{lines_behind, lines_count}
 
 -- What was read, the line that has begun and what is left are the whole text, and each round took some of it.
@@ -63,7 +63,7 @@ goes_on (Some all) (Some rest) (Some left) progress next begun more block round 
     }
 
 -- a refusal in a block is that of the whole text
-pub stops : (whole old new : Option (List ℕ)) (progress : Progress) (told : Failure) (begun more block : List ℕ) (round : ℕ)
+pub stops : (whole old new : Option (List ℕ)) (progress : Progress) (told : Refusal) (begun more block : List ℕ) (round : ℕ)
     → IsSoFar whole old progress begun round → Consumes old new block
     → ((text : List ℕ) → HasReadText progress text → ReadsBlock text begun more block (Err told))
     → Judges whole (Err told)
@@ -72,7 +72,7 @@ stops None old new progress told begun more block round so_far consumes reads = 
     unknown : ReadsBlock so_far.text begun more block (Err told) → Judges None (Err told)
     unknown (inl memory) = inl memory
     unknown (inr (inl out)) = inr (inr (inl out.0))
-    unknown (inr (inr refused)) = let line = refused [] in inr (inr (inr (line.0, line.2)))
+    unknown (inr (inr refused)) = inr (inr (inr (so_far.text ++ ((begun ++ block) ++ []), refused [])))
 stops (Some all) None new progress told begun more block round so_far consumes reads = absurd (let e = so_far.known.1 in cc)
 stops (Some all) (Some rest) None progress told begun more block round so_far consumes reads = absurd consumes
 stops (Some all) (Some rest) (Some left) progress told begun more block round so_far consumes reads =
@@ -87,10 +87,10 @@ stops (Some all) (Some rest) (Some left) progress told begun more block round so
     known : ReadsBlock so_far.text begun more block (Err told) → Judges (Some all) (Err told)
     known (inl memory) = inl memory
     known (inr (inl out)) = inr (inr (inl (out.0, omega (arith, out.1, ap length is, length-append {A = ℕ}))))
-    known (inr (inr refused)) = inr (inr (inr (subst (λ t. RefusesLine (record_in t) told) is (refused left))))
+    known (inr (inr refused)) = inr (inr (inr (subst (λ t. RefusesLine (lines_of t) told) is (refused left))))
 
 -- at the end what has begun is the last line
-pub ends : (whole old new : Option (List ℕ)) (progress : Progress) (begun : List ℕ) (round : ℕ) (answer : Result Verdict Failure)
+pub ends : (whole old new : Option (List ℕ)) (progress : Progress) (begun : List ℕ) (round : ℕ) (answer : Result Verdict Refusal)
     → IsSoFar whole old progress begun round → Consumes old new [] → IsAtEnd new
     → ((text : List ℕ) → HasReadText progress text → JudgesText (text ++ begun) answer) → Judges whole answer
 ends None old new progress begun round (Ok verdict) so_far consumes done judges = tt
@@ -100,7 +100,7 @@ ends None old new progress begun round (Err told) so_far consumes done judges = 
     unknown (inl memory) = inl memory
     unknown (inr (inl file)) = inr (inl file)
     unknown (inr (inr (inl out))) = inr (inr (inl out.0))
-    unknown (inr (inr (inr line))) = inr (inr (inr (line.0, line.2)))
+    unknown (inr (inr (inr line))) = inr (inr (inr (so_far.text ++ begun, line)))
 ends (Some all) None new progress begun round answer so_far consumes done judges = absurd (let e = so_far.known.1 in cc)
 ends (Some all) (Some rest) None progress begun round answer so_far consumes done judges = absurd consumes
 ends (Some all) (Some rest) (Some left) progress begun round answer so_far consumes done judges =
@@ -111,7 +111,7 @@ ends (Some all) (Some rest) (Some left) progress begun round answer so_far consu
 
 -- rounds run out only in a text of as many bytes
 pub runs_out : (whole left : Option (List ℕ)) (progress : Progress) (begun : List ℕ) (round : ℕ) → IsSoFar whole left progress begun round
-    → round ≡ 2 ^ 64 - 1 → Judges whole (Err failure.Lines)
+    → round ≡ 2 ^ 64 - 1 → Judges whole (Err (bare failure.Lines))
 runs_out None left progress begun round so_far last = inr (inr (inl refl))
 runs_out (Some all) left progress begun round so_far last =
     inr (inr (inl (refl, omega (arith, so_far.known.3, last, ap length so_far.known.2, length-append {A = ℕ}))))
@@ -132,11 +132,11 @@ judged_whole next verdict text begun whole has tells = (
   tells (map fact_of has.facts) has.judged,
 )
 
-pub refused_whole : (told : Failure) (text begun : List ℕ) → EndsLine text
+pub refused_whole : (told : Refusal) (text begun : List ℕ) → EndsLine text
     → ReadsMore (lines_of text) (lines_of begun) (Err told) → JudgesText (text ++ begun) (Err told)
 refused_whole told text begun whole (inl memory) = inl memory
 refused_whole told text begun whole (inr (inl out)) =
     inr (inr (inl (out.0, omega (arith, out.1, lines_count text, lines_count begun, length-append {A = List ℕ}, length-append {A = ℕ}))))
 refused_whole told text begun whole (inr (inr refused)) =
-    inr (inr (inr (subst (λ lines. RefusesLine (reads_on with_line 1 [] lines) told)
+    inr (inr (inr (subst (λ lines. RefusesLine lines told)
     (ap (λ lines. lines_of text ++ lines) (append-nil (lines_of begun)) ∙ sym (lines_behind text begun whole)) (refused []))))

@@ -1,6 +1,7 @@
 pub mod Arguments
 pub mod HexRemarks
 pub mod SetupRemarks
+pub mod LineRemarks
 pub mod WireRemarks
 pub mod Answer
 pub mod Words

@@ -1,5 +1,5 @@
 -- Why a task is refused, and the line that tells it.
-use Rattle.std.specs.Prelude.{◌≡◌, ℕ, ◌++◌, List, [], ◌∷◌, codes, drop, if◌then◌else◌, Option, Some, None, Result, Ok, Err, MatchResult, IfErr, ◌⊎◌, length}
+use Rattle.std.specs.Prelude.{◌≡◌, ℕ, ◌+◌, ◌^◌, ◌≤◌, ◌++◌, List, [], ◌∷◌, codes, drop, if◌then◌else◌, Option, Some, None, Result, Ok, Err, MatchResult, IfErr, ◌⊎◌, length}
 use Rattle.std.specs.Fmt.{decimal}
 use Rattle.std.specs.Option.{option_map}
 use Rattle.std.specs.Result.{result_err}
@@ -12,11 +12,8 @@ use Rattle.lease_wire.specs.WireFaults.{message_fault, fault_at, fault_text}
 use Rattle.lease_wire.specs.declared.create.Direction.{Direction}
 use Rattle.lease_wire.specs.declared.create.Direction.TheVariants.{Request, Reply}
 use Rattle.lease_wire.specs.declared.fault.WireFault.{WireFault}
-use Rattle.lease_texts.specs.declared.fault.TextFault.{TextFault}
-use Rattle.lease_texts.specs.declared.fault.TextFault.TheVariants as text
 use Rattle.lease_texts.specs.Records.{record_in}
 use Rattle.leasecheck.specs.Arguments.{argument_bytes}
-use Rattle.leasecheck.specs.Judging.{RunsOut}
 use Rattle.leasecheck.specs.Printed.{IsTextOf, Prints}
 use Rattle.leasecheck.specs.Remarks.{IsRemark, Says}
 use Rattle.leasecheck.specs.Replayed.{replay_refusal}
@@ -103,7 +100,7 @@ IsRecordRefusal (Some text) failure = line_refusal (record_in text) ≡ Some fai
 -- a record has more lines than there are numbers
 abbrev pub RunsOutOf : Option (List ℕ) → Failure → Type 0
 RunsOutOf None failure = failure ≡ Lines
-RunsOutOf (Some text) failure = RunsOut (length text) failure
+RunsOutOf (Some text) failure = (failure ≡ Lines) × (2 ^ 64 ≤ length text + 2)
 
 -- What may end a replay or a judging: its file is refused, or there was no memory, or a read failed.
 abbrev pub MayEndReplay : Option (List ℕ) → Failure → Type 0
@@ -146,11 +143,6 @@ EndsWith asked file old new failure =
     ((failure ≡ Output) × (refusal_of asked file ≡ None)
     × (text : List ℕ) × (status : ℕ) × IsTextOf asked file text status × Begins old new text)
     ⊎ (Keeps old new × MayEnd asked file failure)
-
--- a text's fault, as the program tells it
-abbrev pub text_failure : TextFault → Failure
-text_failure (text.Line number) = Line number
-text_failure text.Memory = Memory
 
 -- a failure as it is told
 abbrev pub failure_text : Failure → List ℕ

@@ -2,11 +2,13 @@
 use Rattle.std.specs.Prelude.{◌≡◌, ◌⊎◌, ℕ, List, [], Option, Some, None, Result, Ok, Err, IfSome, unwrap_or}
 use Rattle.std.specs.Option.{option_map}
 use Rattle.std.specs.String.{string_bytes}
+use Rattle.lease_texts.specs.Pieces.{lines_of}
 use Rattle.lease_texts.specs.Schedules.{Draft, schedule_in}
 use Rattle.lease_wire.specs.declared.fault.WireFault.{WireFault}
 use Rattle.lease_world.specs.declared.setup.RunFault.TheVariants as run
 use Rattle.leasecheck.specs.Arguments.{argument_bytes}
 use Rattle.leasecheck.specs.HexRemarks.{hex_remark}
+use Rattle.leasecheck.specs.LineRemarks.{fact_remark, part_remark, line_among, line_at}
 use Rattle.leasecheck.specs.SetupRemarks.{setup_remark, events_remark}
 use Rattle.leasecheck.specs.WireRemarks.{bare_remark, shown_remark}
 use Rattle.leasecheck.specs.declared.failure.Failure.{Failure}
@@ -47,7 +49,25 @@ run_remark Output draft = None
 
 -- what is said of a schedule
 abbrev pub schedule_remark : List ℕ → Failure → Option (List ℕ)
-schedule_remark text failure = draft_remark (run_remark failure) (schedule_in text)
+schedule_remark text (Line number) = Some (part_remark number (line_at text number))
+schedule_remark text (Run fault) = draft_remark (run_remark (Run fault)) (schedule_in text)
+schedule_remark text Hex = None
+schedule_remark text (Wire fault) = None
+schedule_remark text File = None
+schedule_remark text Lines = None
+schedule_remark text Memory = None
+schedule_remark text Output = None
+
+-- what is said of a record
+abbrev pub record_remark : List ℕ → Failure → Option (List ℕ)
+record_remark text (Line number) = fact_remark number (line_among (lines_of text) number)
+record_remark text Hex = None
+record_remark text (Wire fault) = None
+record_remark text (Run fault) = None
+record_remark text File = None
+record_remark text Lines = None
+record_remark text Memory = None
+record_remark text Output = None
 
 -- what is said of a file; of one that isn't known, what is said of some one
 abbrev pub IsFileRemark : (List ℕ → Failure → Option (List ℕ)) → Option (List ℕ) → Failure → List ℕ → Type 0
@@ -59,7 +79,7 @@ abbrev pub IsRemark : Task → Option (List ℕ) → Failure → List ℕ → Ty
 IsRemark (task.Ack argument) file failure line = IsArgumentRemark (bare_remark kind.Break) (string_bytes argument) failure line
 IsRemark (task.Show kind argument) file failure line = IsArgumentRemark (shown_remark kind) (string_bytes argument) failure line
 IsRemark (task.Replay path) file failure line = IsFileRemark schedule_remark file failure line
-IsRemark (task.Judge path) file failure line = ⊥
+IsRemark (task.Judge path) file failure line = IsFileRemark record_remark file failure line
 IsRemark task.Version file failure line = ⊥
 
 -- A refusal has no second line, or this one.

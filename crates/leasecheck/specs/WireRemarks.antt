@@ -99,9 +99,10 @@ short_line wanted =
     kind_words wanted ++ codes ", whose fixed part has " ++ decimal (kind_count wanted) ++ codes " bytes; they end before that" ++ 10 ∷ []
 
 -- without the header nothing says which message it is
-abbrev pub bare_message_remark : Kind → List ℕ → List ℕ
+unfoldable pub bare_message_remark : Kind → List ℕ → List ℕ
 bare_message_remark wanted bytes =
-    if nat_lt (length bytes) (kind_count wanted) then short_line wanted
+    if nat_lt (length bytes) 2 then short_line wanted
+    else if number_at 0 2 bytes == kind_size wanted then short_line wanted
     else size_line wanted (codes "another", []) (number_at 0 2 bytes)
 
 -- ---- whole messages
@@ -161,10 +162,14 @@ message_name message = message_words (number_at 12 2 message) (is_from_server me
 abbrev pub area_line : List ℕ
 area_line = codes "CreateContextsOffset and CreateContextsLength lead into the fixed part or past the end" ++ 10 ∷ []
 
+-- the wanted message ends too early, or its contexts are not within it
+abbrev pub wanted_line : Kind → ℕ → List ℕ
+wanted_line wanted count = if nat_lt count (64 + kind_count wanted) then short_line wanted else area_line
+
 unfoldable pub whole_message_remark : Kind → List ℕ → List ℕ
 whole_message_remark wanted message =
-    if nat_lt (length message) (64 + kind_count wanted) then short_line wanted
-    else if number_at 64 2 message == kind_size wanted then area_line
+    if nat_lt (length message) 66 then short_line wanted
+    else if number_at 64 2 message == kind_size wanted then wanted_line wanted (length message)
     else size_line wanted (message_name message) (number_at 64 2 message)
 
 unfoldable pub header_remark : List ℕ → List ℕ

@@ -2,7 +2,6 @@ ghost use Rattle.std.specs.Prelude.{◌≡◌};
 ghost use Rattle.leasecheck.specs.declared.failure.Failure.TheVariants.{Wire, Run, Memory};
 
 use lease_state::Memory;
-use lease_texts::TextFault;
 use lease_wire::WireFault;
 use lease_world::RunFault;
 use std::alloc::{AllocError, AllocFailed};
@@ -86,18 +85,5 @@ impl From<RunFault> for Failure {
 
     fn from(fault: RunFault) -> Failure {
         Failure::Run(fault)
-    }
-}
-
-impl From<TextFault> for Failure {
-    ghost use Rattle.leasecheck.specs.Refusals.{text_failure};
-
-    ghost from_gives = { λ fault failure. failure ≡ text_failure fault };
-
-    fn from(fault: TextFault) -> Failure {
-        match fault {
-            TextFault::Line(number) => Failure::Line(number),
-            TextFault::Memory => Failure::Memory,
-        }
     }
 }

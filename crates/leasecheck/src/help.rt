@@ -6,8 +6,9 @@ that share files, and judges records of such runs";
 
 pub(crate) const PROGRAM_END: &str = "Exit status:
   0  done: the answer is on standard output
-  1  the input is refused, memory ran out, or a read or a write failed: one line
-     on standard error says which; or the record that was judged is malformed
+  1  the input is refused, memory ran out, or a read or a write failed: a line on
+     standard error says which, and mostly a second one what was expected where;
+     or the record that was judged is malformed
   2  the command line is refused
   3  the record that was judged is unsafe
 
@@ -29,7 +30,8 @@ pub(crate) const ACK_END: &str = "Example:
 Exit status:
   0  the answer is printed
   1  the bytes are refused, memory ran out, or a write failed: one line on
-     standard error says which, as 'fault hex' or 'fault 1 Short at 0'
+     standard error says which, as 'fault hex' or 'fault 1 Short at 0', and a
+     second one what was expected
   2  the command line is refused
 
 docs/FORMATS.md in the project's repository has the layouts and the faults.";
@@ -50,7 +52,8 @@ pub(crate) const SHOW_END: &str = "Example:
 Exit status:
   0  what the bytes hold is printed
   1  the bytes are refused, memory ran out, or a write failed: one line on
-     standard error says which, as 'fault hex' or 'fault 3 BadNext at 56'
+     standard error says which, as 'fault hex' or 'fault 3 BadNext at 56', and a
+     second one what was expected
   2  the command line is refused
 
 docs/FORMATS.md in the project's repository has the layouts, the lines that are
@@ -70,7 +73,8 @@ pub(crate) const REPLAY_END: &str = "Example:
 Exit status:
   0  the record is printed
   1  the schedule is refused, memory ran out, or a read or a write failed: one
-     line on standard error says which, as 'fault line 7' or 'fault file'
+     line on standard error says which, as 'fault line 7' or 'fault file', and
+     of a refused schedule a second one what was expected where
   2  the command line is refused
 
 docs/FORMATS.md in the project's repository has the lines of schedules and of
@@ -95,7 +99,8 @@ Exit status:
   0  the record is safe
   1  the record is malformed, which standard output tells; or it is refused,
      memory ran out, or a read or a write failed: then one line on standard
-     error says which, as 'fault line 7' or 'fault file'
+     error says which, as 'fault line 7' or 'fault file', and of a refused
+     record a second one what was expected where
   2  the command line is refused
   3  the record is unsafe
 

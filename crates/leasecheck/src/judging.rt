@@ -9,6 +9,7 @@ ghost use Rattle.leasecheck.specs.Judging.{HasRead, HasReadText, TakesLine, Read
 ghost use Rattle.leasecheck.specs.Replayed.{verdict_line, status_of};
 
 use crate::failure::Failure;
+use crate::refusal::Refusal;
 use lease_texts::{LineFault, first_line, is_passed_over, read_fact};
 use lease_world::{Judge, Verdict};
 use memchr::{memchr, memrchr};
@@ -35,24 +36,27 @@ impl Progress {
         }
     }
 
-    fn take_line(self, alloc: Global, line: &[u8]) -> Result<Progress, Failure>
+    fn take_line(self, alloc: Global, line: &[u8]) -> Result<Progress, Refusal>
         ensures { (lines : List (List ℕ)) → HasRead self lines → ReadsMore lines (line.now ∷ []) result }
     {
         let Progress { judge, number } = self;
         if number == u64::MAX {
-            return Err(Failure::Lines);
+            return Err(Refusal {
+                failure: Failure::Lines,
+                second: None,
+            });
         }
         match take_fact(alloc, judge, line, number) {
             Ok(judge) => Ok(Progress {
                 judge,
                 number: number + 1,
             }),
-            Err(failure) => Err(failure),
+            Err(refusal) => Err(refusal),
         }
     }
 
     // Takes all lines of a text.
-    fn take_lines(self, alloc: Global, text: &[u8]) -> Result<Progress, Failure>
+    fn take_lines(self, alloc: Global, text: &[u8]) -> Result<Progress, Refusal>
         ensures { (lines : List (List ℕ)) → HasRead self lines → ReadsMore lines (lines_of text.now) result }
     {
         let mut progress = self;
@@ -61,7 +65,7 @@ impl Progress {
             let (line, behind) = first_line(rest);
             match progress.take_line(alloc, line) {
                 Ok(next) => progress = next,
-                Err(failure) => return Err(failure),
+                Err(refusal) => return Err(refusal),
             }
             rest = behind;
         }
@@ -74,7 +78,7 @@ impl Progress {
         alloc: Global,
         begun: &mut Vec<u8>,
         block: &[u8],
-    ) -> Result<Progress, Failure>
+    ) -> Result<Progress, Refusal>
         requires { begun.old.items ≡ [] }
         ensures { (text : List ℕ) → HasReadText self text → ReadsBlock text [] begun.new.items block.now result }
     {
@@ -87,7 +91,7 @@ impl Progress {
                 begun.extend_from_slice(&block[place + 1..])?;
                 Ok(progress)
             }
-            Err(failure) => Err(failure),
+            Err(refusal) => Err(refusal),
         }
     }
 
@@ -97,7 +101,7 @@ impl Progress {
         alloc: Global,
         begun: &mut Vec<u8>,
         block: &[u8],
-    ) -> Result<Progress, Failure>
+    ) -> Result<Progress, Refusal>
         ensures { (text : List ℕ) → HasReadText self text
             → ReadsBlock text begun.old.items begun.new.items block.now result }
     {
@@ -111,24 +115,23 @@ impl Progress {
                 begun.clear();
                 progress.take_whole_lines(alloc, begun, &block[place + 1..])
             }
-            Err(failure) => Err(failure),
+            Err(refusal) => Err(refusal),
         }
     }
 
     // The verdict, where nothing follows a line that had begun.
-    fn end(self, alloc: Global, begun: &[u8]) -> Result<Verdict, Failure>
+    fn end(self, alloc: Global, begun: &[u8]) -> Result<Verdict, Refusal>
         ensures { (text : List ℕ) → HasReadText self text → JudgesText (text ++ begun.now) result }
     {
         match self.take_lines(alloc, begun) {
             Ok(whole) => Ok(whole.judge.verdict()),
-            Err(failure) => Err(failure),
+            Err(refusal) => Err(refusal),
         }
     }
 }
 
 // The judge after the line of this number.
-
-fn take_fact(alloc: Global, judge: Judge, line: &[u8], number: u64) -> Result<Judge, Failure>
+fn take_fact(alloc: Global, judge: Judge, line: &[u8], number: u64) -> Result<Judge, Refusal>
     ensures { (facts : List Fact) → HasJudged judge (map fact_of facts) → TakesLine facts line.now number result }
 {
     if is_passed_over(line) {
@@ -136,8 +139,11 @@ fn take_fact(alloc: Global, judge: Judge, line: &[u8], number: u64) -> Result<Ju
     }
     match read_fact(alloc, line) {
         Ok(fact) => Ok(judge.take(&fact)?),
-        Err(LineFault::Refused) => Err(Failure::Line(number)),
-        Err(LineFault::Memory) => Err(Failure::Memory),
+        Err(LineFault::Refused) => Err(Refusal::of_fact(alloc, number, line)),
+        Err(LineFault::Memory) => Err(Refusal {
+            failure: Failure::Memory,
+            second: None,
+        }),
     }
 }
 
@@ -163,7 +169,7 @@ fn read_block<I: Read>(input: &mut I, block: &mut [u8]) -> Result<usize, Failure
 }
 
 // Judges what a reader gives, block by block.
-fn judge_blocks<I: Read>(alloc: Global, input: &mut I, block: &mut [u8]) -> Result<Verdict, Failure>
+fn judge_blocks<I: Read>(alloc: Global, input: &mut I, block: &mut [u8]) -> Result<Verdict, Refusal>
     requires { 0 < length block.old }
     ensures { Judges (I.remaining input.old) result }
 {
@@ -176,10 +182,13 @@ fn judge_blocks<I: Read>(alloc: Global, input: &mut I, block: &mut [u8]) -> Resu
         }
         match progress.take_block(alloc, &mut begun, &block[..count]) {
             Ok(next) => progress = next,
-            Err(failure) => return Err(failure),
+            Err(refusal) => return Err(refusal),
         }
     }
-    Err(Failure::Lines)
+    Err(Refusal {
+        failure: Failure::Lines,
+        second: None,
+    })
 }
 
 // Memory for a block.
@@ -193,9 +202,9 @@ fn new_block(alloc: Global) -> Result<Vec<u8>, AllocError>
 ///
 /// # Errors
 ///
-/// `Line` with the number of the first line that is refused, `File` where the reader fails, `Memory` where there is
-/// none left, and `Lines` where there are more lines than numbers of 64 bits.
-pub fn judge_text<I: Read>(alloc: Global, input: &mut I) -> Result<Verdict, Failure>
+/// `Line` with the number of the first line that is refused, and what is said of that, `File` where the reader fails, `Memory` where
+/// there is none left, and `Lines` where there are more lines than numbers of 64 bits.
+pub fn judge_text<I: Read>(alloc: Global, input: &mut I) -> Result<Verdict, Refusal>
     ensures { Judges (I.remaining input.old) result }
 {
     let mut block = new_block(alloc)?;

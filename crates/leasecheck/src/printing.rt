@@ -10,7 +10,7 @@ ghost use Rattle.leasecheck.specs.Answer.{AnswersWith};
 ghost use Rattle.leasecheck.specs.Arguments.{argument_bytes};
 ghost use Rattle.leasecheck.specs.Shown.{Shows};
 ghost use Rattle.leasecheck.specs.WireRemarks.{bare_remark, shown_remark};
-ghost use Rattle.leasecheck.specs.Remarks.{Says, IsArgumentRemark, IsFileRemark, schedule_remark, second_of};
+ghost use Rattle.leasecheck.specs.Remarks.{Says, IsArgumentRemark, IsFileRemark, record_remark, schedule_remark, second_of};
 ghost use Rattle.leasecheck.specs.declared.tasks.Kind.TheVariants as kind;
 ghost use Rattle.leasecheck.specs.Refusals.{AnswersOrRefuses, SaysOf, RefusesArgument, shown_fault, EndsWith, Ends, Begins, Puts, MayEndReplay, MayEndJudging, known_refusal, judge_refusal, refusal_of, failure_line};
 
@@ -47,7 +47,7 @@ fn judged<I: Read>(alloc: Global, input: &mut I) -> Result<Printed, Refusal>
         × (printed.status ≡ status_of verdict) × IfSome (I.remaining input.old) (λ bytes. IsVerdictOn bytes verdict)) }
     ensures accepted { OnOk result (judge_refusal (I.remaining input.old) ≡ None) }
     ensures refused { IfErr result (λ refusal. MayEndJudging (I.remaining input.old) refusal.failure) }
-    ensures said { IfErr result (λ refusal. refusal.second ≡ None) }
+    ensures said { IfErr result (λ refusal. Says refusal (IsFileRemark record_remark (I.remaining input.old))) }
 {
     match judge_text(alloc, input) {
         Ok(verdict) => {
@@ -58,7 +58,7 @@ fn judged<I: Read>(alloc: Global, input: &mut I) -> Result<Printed, Refusal>
                 status: status_of(&verdict),
             })
         }
-        Err(failure) => Err(Refusal::bare(failure)),
+        Err(refusal) => Err(refusal),
     }
 }
 

@@ -1,10 +1,12 @@
 ghost use Rattle.std.specs.Prelude.{◌≡◌, Some, None, MatchResult};
 
 use crate::failure::Failure;
-use crate::remarks::{bare_remark, events_remark, hex_remark, setup_remark, shown_remark};
+use crate::remarks::{
+    bare_remark, events_remark, fact_remark, hex_remark, line_at, part_remark, setup_remark, shown_remark,
+};
 use crate::tasks::Kind;
 use lease_state::Memory;
-use lease_texts::{Schedule, TextFault};
+use lease_texts::Schedule;
 use lease_world::RunFault;
 use std::alloc::{AllocError, AllocFailed, Global};
 
@@ -41,6 +43,8 @@ impl Refusal {
     ghost use Rattle.lease_texts.specs.Drafts.{draft_of};
     ghost use Rattle.lease_wire.specs.declared.fault.WireFault.{WireFault};
     ghost use Rattle.leasecheck.specs.Arguments.{argument_bytes};
+    ghost use Rattle.leasecheck.specs.Judging.{SaysLine};
+    ghost use Rattle.leasecheck.specs.LineRemarks.{line_at, part_remark};
     ghost use Rattle.leasecheck.specs.Remarks.{Says, IsArgumentRemark, run_remark};
     ghost use Rattle.leasecheck.specs.WireRemarks.{bare_remark, shown_remark};
     ghost use Rattle.leasecheck.specs.declared.tasks.Kind.TheVariants as kind;
@@ -100,6 +104,28 @@ impl Refusal {
         }
     }
 
+    /// A line of a record that is no fact.
+    pub fn of_fact(alloc: Global, number: u64, line: &[u8]) -> Refusal
+        ensures failure { result.failure ≡ Failure.Line number }
+        ensures said { SaysLine number line.now result }
+    {
+        Refusal {
+            failure: Failure::Line(number),
+            second: fact_remark(alloc, number, line),
+        }
+    }
+
+    /// A text of which the line of this number is none of a schedule, or stands in a wrong place.
+    pub fn of_part(alloc: Global, number: u64, text: &[u8]) -> Refusal
+        ensures failure { result.failure ≡ Failure.Line number }
+        ensures said { IfSome result.second (λ line. string_bytes line ≡ part_remark number (line_at text.now number)) }
+    {
+        Refusal {
+            failure: Failure::Line(number),
+            second: part_remark(alloc, number, line_at(text, number)),
+        }
+    }
+
     /// Why there is no run of a schedule.
     pub fn of_run(alloc: Global, failure: Failure, schedule: &Schedule) -> Refusal
         ensures failure { result.failure ≡ failure }
@@ -156,15 +182,5 @@ impl From<Memory> for Refusal {
 
     fn from(_error: Memory) -> Refusal {
         Refusal::bare(Failure::Memory)
-    }
-}
-
-impl From<TextFault> for Refusal {
-    ghost use Rattle.leasecheck.specs.Refusals.{text_failure};
-
-    ghost from_gives = { λ fault refusal. refusal ≡ record { failure = text_failure fault; second = None } };
-
-    fn from(fault: TextFault) -> Refusal {
-        Refusal::bare(Failure::from(fault))
     }
 }

@@ -2,8 +2,10 @@
 
 mod bytes;
 mod digits;
+mod lines;
 mod setup;
 
 pub(crate) use bytes::{bare_remark, shown_remark};
 pub(crate) use digits::hex_remark;
+pub(crate) use lines::{fact_remark, line_at, part_remark};
 pub(crate) use setup::{events_remark, setup_remark};

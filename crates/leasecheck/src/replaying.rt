@@ -1,10 +1,11 @@
-ghost use Rattle.std.specs.Prelude.{◌≡◌, ◌⊎◌, ◌++◌, map, codes, Some, None, Ok, IfOk, IfErr, OnOk, MatchResult};
+ghost use Rattle.std.specs.Prelude.{◌≡◌, ◌⊎◌, ◌++◌, ℕ, map, codes, Some, None, Ok, Err, IfOk, IfErr, OnOk, MatchResult};
 ghost use Rattle.std.specs.String.{string_bytes};
 ghost use Rattle.lease_model.specs.records.Safe.{Safe};
 ghost use Rattle.lease_facts.specs.Facts.{fact_of};
 ghost use Rattle.lease_world.specs.declared.verdict.Verdict.TheVariants as verdict;
 ghost use Rattle.lease_texts.specs.Drafts.{draft_of};
 ghost use Rattle.lease_texts.specs.Records.{record_text};
+ghost use Rattle.lease_texts.specs.Schedules.{schedule_in};
 ghost use Rattle.leasecheck.specs.Remarks.{Says, run_remark, schedule_remark};
 ghost use Rattle.leasecheck.specs.Replayed.{Replays, RefusesReplay, record_of, run_failure, run_refusal, verdict_line};
 
@@ -12,7 +13,7 @@ use crate::failure::Failure;
 use crate::judging::push_verdict;
 use crate::refusal::Refusal;
 use lease_laws::verdict_decides;
-use lease_texts::{Schedule, push_fact, read_schedule};
+use lease_texts::{Schedule, TextFault, push_fact, read_schedule};
 use lease_world::{Fact, RunFault, Verdict, judge, run};
 use std::alloc::{AllocError, Global};
 
@@ -58,6 +59,19 @@ fn run_schedule(alloc: Global, schedule: &Schedule) -> Result<Vec<Fact>, Refusal
     }
 }
 
+fn schedule_of(alloc: Global, text: &[u8]) -> Result<Schedule, Refusal>
+    ensures schedule { IfOk result (λ schedule. schedule_in text.now ≡ Ok (draft_of schedule)) }
+    ensures refused { IfErr result (λ told. (told.failure ≡ Failure.Memory)
+        ⊎ ((number : ℕ) × (schedule_in text.now ≡ Err number) × (told.failure ≡ Failure.Line number))) }
+    ensures said { IfErr result (λ told. Says told (λ failure line. schedule_remark text.now failure ≡ Some line)) }
+{
+    match read_schedule(alloc, text) {
+        Ok(schedule) => Ok(schedule),
+        Err(TextFault::Line(number)) => Err(Refusal::of_part(alloc, number, text)),
+        Err(TextFault::Memory) => Err(Refusal::bare(Failure::Memory)),
+    }
+}
+
 /// What `leasecheck replay` prints for the text of a schedule: the record of its run, and the verdict on it, which is that it
 /// is safe.
 ///
@@ -72,7 +86,7 @@ pub fn replay(alloc: Global, schedule: &[u8]) -> Result<(String, Verdict), Refus
     ensures said { IfErr result (λ told. Says told (λ failure line. schedule_remark schedule.now failure ≡ Some line)) }
 {
     verdict_decides();
-    let schedule = read_schedule(alloc, schedule)?;
+    let schedule = schedule_of(alloc, schedule)?;
     let facts = run_schedule(alloc, &schedule)?;
     let verdict = judge(alloc, facts.as_slice())?;
     let text = text_of(alloc, facts.as_slice(), &verdict)?;

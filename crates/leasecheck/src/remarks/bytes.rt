@@ -203,13 +203,18 @@ fn number_at(bytes: &[u8], place: usize) -> u16
     LittleEndian::read_u16(&bytes[place..])
 }
 
+#[tactic(auto, unfolding(crate::specs::WireRemarks::bare_message_remark))]
 fn bare_message_remark(alloc: Global, wanted: Kind, bytes: &[u8]) -> Result<String, AllocError>
     ensures { IfOk result (λ text. string_bytes text ≡ remarks.bare_message_remark wanted bytes.now) }
 {
-    if bytes.len() < kind_count(wanted) {
+    if bytes.len() < 2 {
+        return short_line(alloc, wanted);
+    }
+    let size = number_at(bytes, 0);
+    if size == kind_size(wanted) {
         short_line(alloc, wanted)
     } else {
-        size_line(alloc, wanted, "another", "", number_at(bytes, 0))
+        size_line(alloc, wanted, "another", "", size)
     }
 }
 
@@ -286,19 +291,29 @@ fn message_name(message: &[u8]) -> (&'static str, &'static str)
     }
 }
 
+// The wanted message ends too early, or its contexts are not within it.
+fn wanted_line(alloc: Global, wanted: Kind, count: usize) -> Result<String, AllocError>
+    ensures { IfOk result (λ text. string_bytes text ≡ remarks.wanted_line wanted count) }
+{
+    if count < HEADER_SIZE + kind_count(wanted) {
+        return short_line(alloc, wanted);
+    }
+    String::from_str(
+        alloc,
+        "CreateContextsOffset and CreateContextsLength lead into the fixed part or past the end\n",
+    )
+}
+
 #[tactic(auto, unfolding(crate::specs::WireRemarks::whole_message_remark))]
 fn whole_message_remark(alloc: Global, wanted: Kind, message: &[u8]) -> Result<String, AllocError>
     ensures { IfOk result (λ text. string_bytes text ≡ remarks.whole_message_remark wanted message.now) }
 {
-    if message.len() < HEADER_SIZE + kind_count(wanted) {
+    if message.len() < HEADER_SIZE + 2 {
         return short_line(alloc, wanted);
     }
     let size = number_at(message, HEADER_SIZE);
     if size == kind_size(wanted) {
-        return String::from_str(
-            alloc,
-            "CreateContextsOffset and CreateContextsLength lead into the fixed part or past the end\n",
-        );
+        return wanted_line(alloc, wanted, message.len());
     }
     let (name, side) = message_name(message);
     size_line(alloc, wanted, name, side, size)

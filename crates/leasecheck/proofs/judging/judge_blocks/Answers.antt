@@ -16,7 +16,7 @@ loop-round-preserved g c =
 
 pub returns-in-Err : goal.returns-in-Err
 returns-in-Err g c =
-    stops (g.I.Read.remaining c.args.input.now) _ (g.I.Read.remaining c.read_block.new.input) c.loop-round.progress c.in-Err.failure
+    stops (g.I.Read.remaining c.args.input.now) _ (g.I.Read.remaining c.read_block.new.input) c.loop-round.progress c.in-Err.refusal
     c.loop-round.begun.items c.take_block.new.begun.items _ c.loop-round._round c.loop-round.invariant c.in_ok-count.ensures.bytes c.in-Err.ensures
 
 pub returns-then-count-eq0 : goal.returns-then-count-eq0

@@ -21,6 +21,6 @@ returns-in-Err c = λ text has.
     let is = c.as_slice.ensures.value ∙ c.in_ok-extend_from_slice-2.ensures.items in
     let ends = first_ends text c.args.begun.now.items c.args.block.now c.as_slice.result.now c.in-Some.place found.0.high
     (grind (arith, nat_tests, found.1)) is in
-    refuse_in c.in-Err.failure text c.as_slice.result.now _ _ has.whole ends
+    refuse_in c.in-Err.refusal text c.as_slice.result.now _ _ has.whole ends
     (first_cut c.args.begun.now.items c.args.block.now c.as_slice.result.now c.in-Some.place _ found.0.high is refl)
     (c.in-Err.ensures (lines_of text) has.read)

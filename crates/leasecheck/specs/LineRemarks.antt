@@ -1,0 +1,35 @@
+-- What is said of a line that is refused.
+use Rattle.std.specs.Prelude.{ℕ, ◌-◌, ◌++◌, List, [], ◌∷◌, codes, slice_index_or, Option, Some, None}
+use Rattle.std.specs.Fmt.{decimal}
+use Rattle.std.specs.Option.{option_map}
+use Rattle.lease_texts.specs.Complaints.{Complaint, complaint_words, fact_complaint, part_complaint}
+use Rattle.lease_texts.specs.Pieces.{lines_of}
+
+-- what stands before the complaint: the number of the line
+unfoldable pub line_words : ℕ → List ℕ
+line_words number = codes "line " ++ decimal number ++ codes ", "
+
+abbrev pub complaint_line : ℕ → Complaint → List ℕ
+complaint_line number complaint = line_words number ++ complaint_words complaint ++ 10 ∷ []
+
+-- of a line of a record
+abbrev pub fact_remark : ℕ → List ℕ → Option (List ℕ)
+fact_remark number line = option_map (complaint_line number) (fact_complaint line)
+
+-- a line of a schedule that is one is refused where it stands
+abbrev pub place_line : ℕ → List ℕ
+place_line number = codes "line " ++ decimal number ++ (codes ": files and clients stand before the first event" ++ 10 ∷ [])
+
+abbrev pub line_or_place : ℕ → Option Complaint → List ℕ
+line_or_place number None = place_line number
+line_or_place number (Some complaint) = complaint_line number complaint
+
+abbrev pub part_remark : ℕ → List ℕ → List ℕ
+part_remark number line = line_or_place number (part_complaint line)
+
+-- the line of a number, from 1
+abbrev pub line_among : List (List ℕ) → ℕ → List ℕ
+line_among lines number = slice_index_or lines (number - 1) []
+
+unfoldable pub line_at : List ℕ → ℕ → List ℕ
+line_at text number = line_among (lines_of text) number

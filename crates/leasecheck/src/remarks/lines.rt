@@ -1,0 +1,81 @@
+ghost use Rattle.std.specs.Prelude.{◌≡◌, ◌++◌, Some, IfOk, IfSome, OnOk};
+ghost use Rattle.std.specs.String.{string_bytes};
+ghost use Rattle.lease_texts.specs.Complaining.{complaint_of};
+ghost use Rattle.leasecheck.specs.LineRemarks as remarks;
+
+use lease_texts::{Complaint, fact_complaint, first_line, part_complaint, push_complaint};
+use std::alloc::{AllocError, Global};
+
+#[tactic(auto, unfolding(crate::specs::LineRemarks::line_words))]
+fn push_number(text: &mut String, number: u64) -> Result<(), AllocError>
+    ensures { OnOk result (string_bytes text.new ≡ string_bytes text.old ++ remarks.line_words number) }
+{
+    write!(text, "line {number}, ")
+}
+
+fn complaint_line(
+    alloc: Global,
+    number: u64,
+    complaint: &Complaint<'_>,
+) -> Result<String, AllocError>
+    ensures { IfOk result (λ text. string_bytes text ≡ remarks.complaint_line number (complaint_of complaint.now)) }
+{
+    let mut text = String::new(alloc);
+    push_number(&mut text, number)?;
+    push_complaint(alloc, &mut text, complaint)?;
+    text.push_str("\n")?;
+    Ok(text)
+}
+
+/// What is said of a line of a record that is refused; nothing where there is no memory for it.
+pub(crate) fn fact_remark(alloc: Global, number: u64, line: &[u8]) -> Option<String>
+    ensures { IfSome result (λ text. remarks.fact_remark number line.now ≡ Some (string_bytes text)) }
+{
+    match fact_complaint(alloc, line) {
+        Ok(Some(complaint)) => complaint_line(alloc, number, &complaint).ok(),
+        _ => None,
+    }
+}
+
+fn place_line(alloc: Global, number: u64) -> Result<String, AllocError>
+    ensures { IfOk result (λ text. string_bytes text ≡ remarks.place_line number) }
+{
+    let mut text = String::new(alloc);
+    writeln!(text, "line {number}: files and clients stand before the first event")?;
+    Ok(text)
+}
+
+/// What is said of a line of a schedule that is refused; nothing where there is no memory for it.
+pub(crate) fn part_remark(alloc: Global, number: u64, line: &[u8]) -> Option<String>
+    ensures { IfSome result (λ text. string_bytes text ≡ remarks.part_remark number line.now) }
+{
+    match part_complaint(alloc, line) {
+        Ok(Some(complaint)) => complaint_line(alloc, number, &complaint).ok(),
+        Ok(None) => place_line(alloc, number).ok(),
+        Err(_) => None,
+    }
+}
+
+fn first_of(text: &[u8]) -> &[u8]
+    ensures { result.now ≡ remarks.line_at text.now 1 }
+{
+    if text.is_empty() {
+        &[]
+    } else {
+        first_line(text).0
+    }
+}
+
+/// The line of a number, from 1; no bytes where there is none.
+pub(crate) fn line_at(text: &[u8], number: u64) -> &[u8]
+    ensures { result.now ≡ remarks.line_at text.now number }
+{
+    let mut rest = text;
+    for _passed in 1..number {
+        if rest.is_empty() {
+            return &[];
+        }
+        rest = first_line(rest).1;
+    }
+    first_of(rest)
+}
