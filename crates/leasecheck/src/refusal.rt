@@ -2,7 +2,8 @@ ghost use Rattle.std.specs.Prelude.{◌≡◌, Some, None, MatchResult};
 
 use crate::failure::Failure;
 use crate::remarks::{
-    bare_remark, events_remark, fact_remark, hex_remark, line_at, part_remark, setup_remark, shown_remark,
+    bare_remark, events_remark, fact_remark, hex_remark, line_at, part_remark, setup_remark,
+    shown_remark,
 };
 use crate::tasks::Kind;
 use lease_state::Memory;

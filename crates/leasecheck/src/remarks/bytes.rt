@@ -191,7 +191,10 @@ fn short_line(alloc: Global, wanted: Kind) -> Result<String, AllocError>
 {
     let (words, count) = (kind_words(wanted), kind_count(wanted));
     let mut text = String::new(alloc);
-    writeln!(text, "{words}, whose fixed part has {count} bytes; they end before that")?;
+    writeln!(
+        text,
+        "{words}, whose fixed part has {count} bytes; they end before that"
+    )?;
     Ok(text)
 }
 
@@ -285,7 +288,10 @@ fn message_name(message: &[u8]) -> (&'static str, &'static str)
     let command = number_at(message, 12);
     let from_server = is_from_server(message);
     if command == 18 {
-        (break_words(from_server, number_at(message, HEADER_SIZE)), "")
+        (
+            break_words(from_server, number_at(message, HEADER_SIZE)),
+            "",
+        )
     } else {
         (command_word(command), side_word(from_server))
     }

@@ -74,7 +74,10 @@ pub(crate) fn hex_remark(alloc: Global, argument: &[u8]) -> Result<String, Alloc
         [] => {
             let count = digits_in(alloc, written)?.len();
             let mut text = String::new(alloc);
-            writeln!(text, "HEX: two digits for each byte; there are {count} digits")?;
+            writeln!(
+                text,
+                "HEX: two digits for each byte; there are {count} digits"
+            )?;
             Ok(text)
         }
         [code, rest @ ..] => {

@@ -41,7 +41,10 @@ fn place_line(alloc: Global, number: u64) -> Result<String, AllocError>
     ensures { IfOk result (λ text. string_bytes text ≡ remarks.place_line number) }
 {
     let mut text = String::new(alloc);
-    writeln!(text, "line {number}: files and clients stand before the first event")?;
+    writeln!(
+        text,
+        "line {number}: files and clients stand before the first event"
+    )?;
     Ok(text)
 }
 

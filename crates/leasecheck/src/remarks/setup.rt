@@ -40,7 +40,10 @@ fn twins_text(alloc: Global, first: usize, second: usize) -> Result<String, Allo
     ensures { IfOk result (λ text. Some (string_bytes text) ≡ twins_line (Some (first, second))) }
 {
     let mut text = String::new(alloc);
-    writeln!(text, "no two clients with one GUID; clients {first} and {second} have one")?;
+    writeln!(
+        text,
+        "no two clients with one GUID; clients {first} and {second} have one"
+    )?;
     Ok(text)
 }
 
