@@ -1,0 +1,69 @@
+"""What the command lines of drive/run, drive/explore and drive/compare have in common."""
+from __future__ import annotations
+
+import argparse
+import logging
+import sys
+from typing import Callable, Optional, Sequence
+
+from drive.connections import Place
+from drive.faults import DriveFault, Usage
+from drive.program import OWN
+from drive.runs import Runner, private_server
+from drive.servers import NamedServer, Server
+
+SAFE, NOT_DRIVEN, REFUSED, UNSAFE = 0, 1, 2, 3
+
+
+def server_arguments(parser: argparse.ArgumentParser) -> None:
+    parser.add_argument("--smbd", action="store_true", help="a private smbd, started afresh for each schedule and ended")
+    parser.add_argument("--server", metavar="HOST:PORT", help="a server that is there, in place of a private one")
+    parser.add_argument("--share", metavar="NAME", help="its share")
+    parser.add_argument("--user", metavar="USER%PASSWORD", help="who asks it")
+    parser.add_argument("--break-time", metavar="SECONDS", type=float, default=40.0,
+                        help="how long `expire` waits for a break timer of a server that was named (40)")
+    parser.add_argument("--leasecheck", metavar="PATH", default=OWN, help="the program leasecheck")
+    parser.add_argument("--skip", action="store_true", help="leave out events that can't be driven")
+    parser.add_argument("--verbose", action="store_true", help="tell on standard error what each event did")
+
+
+def runner_of(arguments: argparse.Namespace) -> Runner:
+    return Runner(arguments.leasecheck, _server_maker(arguments), arguments.skip)
+
+
+def _server_maker(arguments: argparse.Namespace) -> Callable[[], Server]:
+    if arguments.smbd == bool(arguments.server):
+        raise Usage("one of --smbd and --server is needed")
+    if arguments.smbd:
+        return private_server
+    place = _place(arguments.server, arguments.share, arguments.user)
+    return lambda: NamedServer(place, arguments.break_time)
+
+
+def _place(server: str, share: Optional[str], user: Optional[str]) -> Place:
+    host, colon, port = server.rpartition(":")
+    if not colon or not host or not port.isdigit() or not 0 < int(port) < 65536:
+        raise Usage("--server is HOST:PORT")
+    name, percent, password = (user or "").partition("%")
+    if not share or not percent:
+        raise Usage("--server needs --share NAME and --user USER%PASSWORD")
+    return Place(host.strip("[]"), int(port), share, name, password)
+
+
+def ended(parser: argparse.ArgumentParser, main: Callable[[argparse.Namespace], int], words: Sequence[str]) -> int:
+    """Runs a command; what goes wrong is one line on standard error, and a status."""
+    arguments = parser.parse_args(words)
+    logging.basicConfig(format="%(message)s", level=logging.DEBUG if arguments.verbose else logging.WARNING)
+    logging.getLogger("impacket").setLevel(logging.ERROR)
+    try:
+        return main(arguments)
+    except Usage as fault:
+        print(f"{parser.prog}: {fault}", file=sys.stderr)
+        return REFUSED
+    except DriveFault as fault:
+        print(f"{parser.prog}: {fault}", file=sys.stderr)
+        return NOT_DRIVEN
+    except BrokenPipeError:
+        return NOT_DRIVEN
+    except KeyboardInterrupt:
+        return NOT_DRIVEN

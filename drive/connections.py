@@ -1,0 +1,220 @@
+"""SMB 2.1 connections: one for each client, over impacket's transport, NTLM and structures."""
+from __future__ import annotations
+
+import select
+import time
+from dataclasses import dataclass
+from typing import Optional, Tuple
+
+from impacket import nmb, ntlm  # type: ignore[import]
+from impacket import smb3structs as smb2  # type: ignore[import]
+from impacket.smb3 import SMB3, SessionError  # type: ignore[import]
+
+from drive.faults import DriveFault
+from drive.messages import (Acknowledgment, Close, Create, Read, Reply, ReplyKind, Request, Write, created, failed)
+from drive.schedules import digits
+
+STATUS_SUCCESS = 0
+STATUS_PENDING = 0x00000103
+STATUS_END_OF_FILE = 0xC0000011
+NOTIFICATION_ID = 0xFFFFFFFFFFFFFFFF
+OPLOCK_LEVEL_LEASE = 0xFF
+LIMIT = 1048576
+CREDIT_BYTES = 65536
+# A server may stand still for some seconds (smbd does while it retries a lock).
+PATIENCE = 25.0
+ACCESS = {"r": 0x120089, "w": 0x120116, "rw": 0x12019F}
+SHARES = {"-": 0, "r": 1, "w": 2, "rw": 3}
+
+
+@dataclass(frozen=True)
+class Place:
+    """Where a server is, and who asks."""
+
+    host: str
+    port: int
+    share: str
+    user: str
+    password: str
+
+
+@dataclass(frozen=True)
+class FileId:
+    persistent: int
+    volatile: int
+
+
+@dataclass(frozen=True)
+class Message:
+    """What came: `number` is that of the request, or NOTIFICATION_ID."""
+
+    number: int
+    status: int
+    data: bytes
+
+
+class _Protocol(SMB3):  # type: ignore[misc]
+    """impacket's client, with the given ClientGuid, and no capabilities, as dialect 2.1 asks (2.2.3)."""
+
+    def __init__(self, place: Place, guid: bytes) -> None:
+        self._guid = guid
+        super().__init__(place.host, place.host, sess_port=place.port, timeout=PATIENCE,
+                         preferredDialect=smb2.SMB2_DIALECT_21)
+
+    def negotiateSession(self, preferredDialect: Optional[int] = None, negSessionResponse: object = None) -> None:
+        self.ClientGuid = self._guid
+        super().negotiateSession(preferredDialect, negSessionResponse)
+
+    def sendSMB(self, packet: smb2.SMB2Packet) -> int:
+        if packet["Command"] == smb2.SMB2_NEGOTIATE:
+            packet["Data"]["Capabilities"] = 0
+        return int(super().sendSMB(packet))
+
+
+class Connection:
+    """A connection with its session and tree. What it can't do is a DriveFault."""
+
+    def __init__(self, place: Place, guid: bytes) -> None:
+        self._place = place
+        try:
+            self._smb = _Protocol(place, guid)
+            self._smb.login(place.user, place.password)
+            self._tree = self._smb.connectTree(place.share)
+        except (SessionError, nmb.NetBIOSError, nmb.NetBIOSTimeout, OSError) as fault:
+            raise DriveFault(f"no connection to {place.host}:{place.port}: {fault}") from None
+        if self._smb.getDialect() != smb2.SMB2_DIALECT_21:
+            raise DriveFault("the server doesn't speak dialect 2.1")
+
+    def send(self, request: Request, name: str, file_id: FileId) -> int:
+        """Sends a request, whose file has this name, or whose FileId is this one; answers its number."""
+        if isinstance(request, Create):
+            return self._send(smb2.SMB2_CREATE, _create(request, name))
+        if isinstance(request, Read):
+            return self._send(smb2.SMB2_READ, _read(file_id), LIMIT)
+        if isinstance(request, Write):
+            return self._send(smb2.SMB2_WRITE, _write(request, file_id), len(request.data))
+        if isinstance(request, Close):
+            close = smb2.SMB2Close()
+            close["FileID"] = _wire_id(file_id)
+            return self._send(smb2.SMB2_CLOSE, close)
+        return self._send(smb2.SMB2_OPLOCK_BREAK, request.body)
+
+    def echo(self) -> int:
+        return self._send(smb2.SMB2_ECHO, smb2.SMB2Echo())
+
+    def receive(self, until: float) -> Optional[Message]:
+        """The next message, or none where none comes until this time."""
+        try:
+            socket = self._smb._NetBIOSSession.get_socket()
+            if not select.select([socket], [], [], max(0.0, until - time.monotonic()))[0]:
+                return None
+            packet = smb2.SMB2Packet(self._smb._NetBIOSSession.recv_packet(PATIENCE).get_trailer())
+        except (nmb.NetBIOSError, nmb.NetBIOSTimeout, OSError):
+            raise DriveFault("the server closed a connection") from None
+        return Message(packet["MessageID"], packet["Status"], bytes(packet["Data"]))
+
+    def make_file(self, name: str, data: bytes) -> None:
+        try:
+            file = self._smb.create(self._tree, name, ACCESS["rw"], 0, smb2.FILE_NON_DIRECTORY_FILE, smb2.FILE_CREATE, 0)
+            for offset in range(0, len(data), CREDIT_BYTES):
+                part = data[offset:offset + CREDIT_BYTES]
+                self._smb.write(self._tree, file, part, offset, len(part))
+            self._smb.close(self._tree, file)
+        except SessionError as fault:
+            raise DriveFault(f"file {name} can't be made: {fault}") from None
+
+    def remove_file(self, name: str) -> None:
+        options = smb2.FILE_NON_DIRECTORY_FILE | smb2.FILE_DELETE_ON_CLOSE
+        try:
+            file = self._smb.create(self._tree, name, smb2.DELETE, SHARES["rw"] | 4, options, smb2.FILE_OPEN, 0)
+            self._smb.close(self._tree, file)
+        except SessionError as fault:
+            raise DriveFault(f"file {name} can't be removed: {fault}") from None
+
+    def close(self) -> None:
+        self._smb._NetBIOSSession.close()
+
+    def _send(self, command: int, data: object, length: int = 0) -> int:
+        packet = self._smb.SMB_PACKET()
+        packet["Command"] = command
+        packet["TreeID"] = self._tree
+        packet["CreditCharge"] = max(1, -(-length // CREDIT_BYTES))
+        packet["Data"] = data
+        try:
+            number = self._smb.sendSMB(packet)
+        except OSError:
+            raise DriveFault("the server closed a connection") from None
+        # A request of several credits takes as many numbers (3.2.4.1.5); impacket counts them at the answer.
+        self._smb._Connection["SequenceWindow"] += packet["CreditCharge"] - 1
+        return number
+
+
+def _wire_id(file_id: FileId) -> smb2.SMB2_FILEID:
+    wire = smb2.SMB2_FILEID()
+    wire["Persistent"], wire["Volatile"] = file_id.persistent, file_id.volatile
+    return wire
+
+
+def _create(request: Create, name: str) -> smb2.SMB2Create:
+    create = smb2.SMB2Create()
+    create["RequestedOplockLevel"] = OPLOCK_LEVEL_LEASE if b"RqLs" in request.contexts else 0
+    create["ImpersonationLevel"] = smb2.SMB2_IL_IMPERSONATION
+    create["DesiredAccess"] = ACCESS[request.access]
+    create["ShareAccess"] = SHARES[request.share]
+    create["CreateDisposition"] = smb2.FILE_OPEN
+    create["CreateOptions"] = smb2.FILE_NON_DIRECTORY_FILE
+    text = name.encode("utf-16le")
+    create["NameLength"] = len(text)
+    create["Buffer"] = text
+    if request.contexts:
+        padded = text + bytes(-len(text) % 8)
+        create["CreateContextsOffset"] = 64 + smb2.SMB2Create.SIZE + len(padded)
+        create["CreateContextsLength"] = len(request.contexts)
+        create["Buffer"] = padded + request.contexts
+    return create
+
+
+def _read(file_id: FileId) -> smb2.SMB2Read:
+    read = smb2.SMB2Read()
+    read["Padding"] = 0x50
+    read["FileID"] = _wire_id(file_id)
+    read["Length"] = LIMIT
+    return read
+
+
+def _write(request: Write, file_id: FileId) -> smb2.SMB2Write:
+    write = smb2.SMB2Write()
+    write["FileID"] = _wire_id(file_id)
+    write["Offset"] = request.offset
+    write["Length"] = len(request.data)
+    write["Buffer"] = request.data
+    return write
+
+
+def reply_of(request: Request, message: Message) -> Tuple[Reply, Optional[FileId]]:
+    """What a message answers to its request, and the FileId of an open that was made."""
+    if message.status != STATUS_SUCCESS:
+        if isinstance(request, Read) and message.status == STATUS_END_OF_FILE:
+            return Reply(ReplyKind.READ_DONE, f"{request.file_id} -"), None
+        return failed(request, message.status), None
+    if isinstance(request, Create):
+        answer = smb2.SMB2Create_Response(message.data)
+        file_id = FileId(answer["FileID"]["Persistent"], answer["FileID"]["Volatile"])
+        start = answer["CreateContextsOffset"] - 64
+        contexts = message.data[start:start + answer["CreateContextsLength"]] if answer["CreateContextsLength"] else b""
+        return created(request, file_id.persistent, contexts), file_id
+    if isinstance(request, Read):
+        read = smb2.SMB2Read_Response(message.data)
+        start = read["DataOffset"] - 64
+        return Reply(ReplyKind.READ_DONE, f"{request.file_id} {digits(message.data[start:start + read['DataLength']])}"), None
+    if isinstance(request, Write):
+        if smb2.SMB2Write_Response(message.data)["Count"] != len(request.data):
+            raise DriveFault("the server wrote a part of what it was given")
+        return Reply(ReplyKind.WRITE_DONE, f"{request.file_id} {request.number}"), None
+    if isinstance(request, Close):
+        return Reply(ReplyKind.CLOSED, f"{request.file_id}"), None
+    return Reply(ReplyKind.ACK_DONE, message.data[:36].hex()), None
+
+
+def password_hash(password: str) -> str:
+    return str(ntlm.compute_nthash(password).hex().upper())

@@ -1,0 +1,96 @@
+"""The proved client machines, in a process of `leasecheck client` that is told a line and answers some."""
+from __future__ import annotations
+
+import subprocess
+from dataclasses import dataclass
+from typing import IO, List, Protocol, Sequence, Tuple
+
+from drive.faults import DriveFault
+from drive.messages import Request, read_request
+
+
+class Speaker(Protocol):
+    """Whoever answers a machine's line with lines, the last of them `answer ..` or `fault ..`."""
+
+    def say(self, line: str) -> List[str]:
+        ...
+
+    def close(self) -> None:
+        ...
+
+
+@dataclass(frozen=True)
+class Step:
+    requests: Tuple[Request, ...]
+    notes: Tuple[str, ...]
+    answer: str
+
+
+class ClientProcess:
+    """`leasecheck client`, which holds the machines of all clients of a run."""
+
+    def __init__(self, program: str, files: int, clients: Sequence[str]) -> None:
+        try:
+            self._process = subprocess.Popen([program, "client"], stdin=subprocess.PIPE, stdout=subprocess.PIPE,
+                                             stderr=subprocess.DEVNULL, text=True, bufsize=1)
+        except OSError as fault:
+            raise DriveFault(f"{program}: {fault.strerror}") from None
+        self._tell(f"files {files}")
+        for client in clients:
+            self._tell(f"client {client}")
+
+    def say(self, line: str) -> List[str]:
+        self._tell(line)
+        lines: List[str] = []
+        while not lines or not lines[-1].startswith(("answer ", "fault ")):
+            told = self._stream(self._process.stdout).readline()
+            if not told:
+                raise DriveFault(f"the client machine ended at: {line}")
+            lines.append(told.rstrip("\n"))
+        return lines
+
+    def close(self) -> None:
+        self._stream(self._process.stdin).close()
+        try:
+            self._process.wait(timeout=5)
+        except subprocess.TimeoutExpired:
+            self._process.kill()
+            self._process.wait()
+        self._stream(self._process.stdout).close()
+
+    def _tell(self, line: str) -> None:
+        try:
+            self._stream(self._process.stdin).write(f"{line}\n")
+            self._stream(self._process.stdin).flush()
+        except OSError:
+            raise DriveFault(f"the client machine ended before: {line}") from None
+
+    @staticmethod
+    def _stream(stream: IO[str] | None) -> IO[str]:
+        if stream is None:
+            raise DriveFault("the client machine has no stream")
+        return stream
+
+
+class Machines:
+    """The machines of all clients, asked by lines."""
+
+    def __init__(self, speaker: Speaker) -> None:
+        self._speaker = speaker
+
+    def step(self, line: str) -> Step:
+        lines = self._speaker.say(line)
+        if lines[-1].startswith("fault "):
+            raise DriveFault(f"the client machine refused: {line}")
+        requests: List[Request] = []
+        notes: List[str] = []
+        for told in lines[:-1]:
+            word, _, rest = told.partition(" ")
+            if word == "request":
+                requests.append(read_request(rest))
+            else:
+                notes.append(told)
+        return Step(tuple(requests), tuple(notes), lines[-1].partition(" ")[2])
+
+    def close(self) -> None:
+        self._speaker.close()

@@ -1,0 +1,77 @@
+"""drive/run: one schedule on a real server."""
+from __future__ import annotations
+
+import argparse
+import sys
+from typing import Sequence
+
+from drive.arguments import SAFE, UNSAFE, NOT_DRIVEN, ended, runner_of, server_arguments
+from drive.faults import DriveFault
+from drive.program import replayed
+from drive.records import Order
+from drive.runs import Outcome
+from drive.schedules import Schedule, read_schedule
+
+EPILOG = """The record is printed, and behind it the verdict as a line `# safe` or `# unsafe PLACE RULE`, so that all of it is a
+record still. With --record it goes to a file, and the verdict alone is printed.
+
+Exit status: 0 the record is safe; 1 the schedule couldn't be driven to its end; 2 the command line is refused; 3 the
+record is unsafe."""
+
+
+def parser() -> argparse.ArgumentParser:
+    made = argparse.ArgumentParser(prog="drive/run", description="Drives a real SMB 2.1 server through a schedule.",
+                                   epilog=EPILOG, formatter_class=argparse.RawDescriptionHelpFormatter)
+    made.add_argument("schedule", metavar="SCHEDULE", help="a file with a schedule (docs/FORMATS.md), - for standard input")
+    made.add_argument("--record", metavar="FILE", help="write the record there")
+    server_arguments(made)
+    return made
+
+
+def schedule_in(path: str, program: str) -> Schedule:
+    """The schedule of a file, which `leasecheck replay` has to take."""
+    try:
+        if path == "-":
+            text = sys.stdin.read()
+        else:
+            with open(path, encoding="utf-8", errors="replace") as stream:
+                text = stream.read()
+    except OSError as fault:
+        raise DriveFault(f"{path}: {fault.strerror}") from None
+    replayed(program, text)
+    return read_schedule(text)
+
+
+def told(outcome: Outcome) -> str:
+    """The lines of a verdict."""
+    lines = [outcome.verdict.text]
+    if outcome.orders_differ:
+        lines.append(f"with {Order.BREAKS_LAST.value}: {outcome.verdicts[Order.BREAKS_LAST].text}")
+    return "".join(f"{it}\n" for it in lines)
+
+
+def status_of(outcome: Outcome) -> int:
+    if outcome.rule is not None:
+        return UNSAFE
+    return SAFE if outcome.verdict.is_safe else NOT_DRIVEN
+
+
+def main(arguments: argparse.Namespace) -> int:
+    runner = runner_of(arguments)
+    outcome = runner.run(schedule_in(arguments.schedule, arguments.leasecheck))
+    for line in outcome.skipped:
+        print(f"left out: {line}", file=sys.stderr)
+    if arguments.record:
+        try:
+            with open(arguments.record, "w", encoding="utf-8") as stream:
+                stream.write(outcome.record.text())
+        except OSError as fault:
+            raise DriveFault(f"{arguments.record}: {fault.strerror}") from None
+        sys.stdout.write(told(outcome))
+    else:
+        sys.stdout.write(outcome.record.text() + "".join(f"# {it}\n" for it in told(outcome).splitlines()))
+    return status_of(outcome)
+
+
+def run(words: Sequence[str]) -> int:
+    return ended(parser(), main, words)

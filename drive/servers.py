@@ -1,0 +1,284 @@
+"""Servers that are driven: one that was named, and a private smbd that is started afresh and ended."""
+from __future__ import annotations
+
+import os
+import shutil
+import signal
+import socket
+import subprocess
+import tempfile
+import time
+from typing import Dict, List, Optional, Protocol, Set
+
+from drive.clock import Clocks, library
+from drive.connections import Place, password_hash
+from drive.faults import DriveFault, Undrivable
+
+SMBD = "/usr/sbin/smbd"
+SHARE = "share"
+PASSWORD = "private"
+FOLDERS = ("private", "lock", "state", "cache", "pid", "ncalrpc", "binddns", SHARE)
+CONFIGURATION = """[global]
+  server role = standalone server
+  workgroup = PRIVATE
+  netbios name = PRIVATE
+  interfaces = 127.0.0.1
+  bind interfaces only = yes
+  disable netbios = yes
+  smb ports = {port}
+  server min protocol = SMB2_10
+  server max protocol = SMB2_10
+  server multi channel support = no
+  smb2 leases = yes
+  oplocks = yes
+  private dir = {folder}/private
+  lock directory = {folder}/lock
+  state directory = {folder}/state
+  cache directory = {folder}/cache
+  pid directory = {folder}/pid
+  ncalrpc dir = {folder}/ncalrpc
+  binddns dir = {folder}/binddns
+  passdb backend = smbpasswd:{folder}/private/smbpasswd
+  log file = {folder}/log
+  log level = 1
+  load printers = no
+  disable spoolss = yes
+  printing = bsd
+  printcap name = /dev/null
+[share]
+  path = {folder}/share
+  read only = no
+  durable handles = yes
+  kernel oplocks = no
+  kernel share modes = no
+  posix locking = no
+  strict locking = no
+"""
+# The times of smbd, in seconds: a break is waited for 35, and a disconnected open is kept for 960.
+BREAK_TIME = 36
+DURABLE_TIME = 961
+SETTLED = 0.05
+
+
+class Server(Protocol):
+    @property
+    def place(self) -> Place:
+        ...
+
+    def name_of(self, file: int) -> str:
+        """The name of a file of the schedule."""
+
+    def is_prepared(self) -> None:
+        """Waits until the connection that made the files is forgotten."""
+
+    def new_process(self) -> Optional[int]:
+        """The process that serves the connection made last, where it is known."""
+
+    def wait_for_end(self, process: Optional[int]) -> None:
+        """Waits until what a closed connection leaves to do is done."""
+
+    def begin_break_timer(self, process: Optional[int]) -> None:
+        """Has the break timers of a connection run out."""
+
+    def end_break_timer(self, process: Optional[int]) -> None:
+        ...
+
+    def pass_durable_timer(self) -> None:
+        """Has the timers of disconnected opens run out."""
+
+    def content(self, file: int) -> Optional[bytes]:
+        """The file as it is on disk, where that can be looked at."""
+
+    def close(self) -> None:
+        ...
+
+
+class NamedServer:
+    """A server that somebody named. Its timers are waited for, and its files have names of their own."""
+
+    def __init__(self, place: Place, break_time: float) -> None:
+        self._place = place
+        self._break_time = break_time
+        self._prefix = f"leasecheck-{os.getpid():x}-{int(time.time()):x}"
+
+    @property
+    def place(self) -> Place:
+        return self._place
+
+    def name_of(self, file: int) -> str:
+        return f"{self._prefix}-{file}"
+
+    def is_prepared(self) -> None:
+        time.sleep(SETTLED)
+
+    def new_process(self) -> Optional[int]:
+        return None
+
+    def wait_for_end(self, process: Optional[int]) -> None:
+        time.sleep(0.5)
+
+    def begin_break_timer(self, process: Optional[int]) -> None:
+        time.sleep(self._break_time)
+
+    def end_break_timer(self, process: Optional[int]) -> None:
+        pass
+
+    def pass_durable_timer(self) -> None:
+        raise Undrivable("the timer of a disconnected open is too long to be waited for")
+
+    def content(self, file: int) -> Optional[bytes]:
+        return None
+
+    def close(self) -> None:
+        pass
+
+
+class PrivateServer:
+    """An smbd of one's own on loopback, in a folder of its own, with clocks that can be put forward."""
+
+    def __init__(self) -> None:
+        if os.geteuid() != 0 or not os.path.exists(SMBD):
+            raise DriveFault("a private smbd needs root and /usr/sbin/smbd (drive/setup installs it)")
+        self._folder = tempfile.mkdtemp(prefix="leasecheck-drive-")
+        self._port = free_port()
+        self._write_folder()
+        self._clocks = Clocks(f"{self._folder}/clocks")
+        environment = dict(os.environ, LD_PRELOAD=library(), DRIVE_CLOCK=self._clocks.path)
+        self._process = self._start(environment)
+        self._known: Set[int] = set()
+        try:
+            self._wait_for_port()
+        except DriveFault:
+            self.close()
+            raise
+
+    @property
+    def place(self) -> Place:
+        return Place("127.0.0.1", self._port, SHARE, "root", PASSWORD)
+
+    @property
+    def folder(self) -> str:
+        return self._folder
+
+    def name_of(self, file: int) -> str:
+        return f"file-{file}"
+
+    def new_process(self) -> Optional[int]:
+        now = self._children()
+        new = [it for it, name in now.items() if it not in self._known and name == "smbd"]
+        self._known = set(now)
+        if len(new) != 1:
+            raise DriveFault(f"{len(new)} processes of smbd came with one connection")
+        return new[0]
+
+    def wait_for_end(self, process: Optional[int]) -> None:
+        until = time.monotonic() + 25
+        while process in self._children():
+            if time.monotonic() > until:
+                raise DriveFault("smbd's process of a closed connection doesn't end")
+            time.sleep(0.002)
+
+    def begin_break_timer(self, process: Optional[int]) -> None:
+        self._clocks.put_forward(process or 0, BREAK_TIME)
+
+    def end_break_timer(self, process: Optional[int]) -> None:
+        self._clocks.put_forward(process or 0, 0)
+
+    def pass_durable_timer(self) -> None:
+        keepers = [it for it, name in self._children().items() if "scavenger" in name]
+        for keeper in keepers:
+            self._clocks.put_forward(keeper, DURABLE_TIME)
+            # A stop and its end wake a process out of its wait.
+            os.kill(keeper, signal.SIGSTOP)
+            os.kill(keeper, signal.SIGCONT)
+        time.sleep(SETTLED)
+        for keeper in keepers:
+            self._clocks.put_forward(keeper, 0)
+
+    def content(self, file: int) -> Optional[bytes]:
+        try:
+            # A changed access time would make smbd refuse a durable reconnect.
+            opened = os.open(f"{self._folder}/{SHARE}/{self.name_of(file)}", os.O_RDONLY | os.O_NOATIME)
+        except OSError as fault:
+            raise DriveFault(f"file {file} can't be looked at: {fault.strerror}") from None
+        with open(opened, "rb") as stream:
+            return stream.read()
+
+    def log(self) -> str:
+        with open(f"{self._folder}/log", encoding="utf-8", errors="replace") as text:
+            return text.read()
+
+    def close(self) -> None:
+        # The group is the one that was made for this smbd.
+        for sign in (signal.SIGTERM, signal.SIGKILL):
+            try:
+                os.killpg(self._process.pid, sign)
+                self._process.wait(timeout=10)
+                break
+            except ProcessLookupError:
+                break
+            except subprocess.TimeoutExpired:
+                continue
+        self._clocks.close()
+        shutil.rmtree(self._folder, ignore_errors=True)
+
+    def _write_folder(self) -> None:
+        for name in FOLDERS:
+            os.mkdir(f"{self._folder}/{name}", 0o755)
+        with open(f"{self._folder}/smb.conf", "w", encoding="utf-8") as text:
+            text.write(CONFIGURATION.format(folder=self._folder, port=self._port))
+        with open(f"{self._folder}/private/smbpasswd", "w", encoding="utf-8") as text:
+            text.write(f"root:0:{32 * 'X'}:{password_hash(PASSWORD)}:[U          ]:LCT-00000001:\n")
+
+    def _start(self, environment: Dict[str, str]) -> "subprocess.Popen[bytes]":
+        with open(f"{self._folder}/output", "wb") as output:
+            return subprocess.Popen([SMBD, "--foreground", "--no-process-group", "-s", f"{self._folder}/smb.conf"],
+                                    stdin=subprocess.DEVNULL, stdout=output, stderr=subprocess.STDOUT,
+                                    env=environment, start_new_session=True)
+
+    def _wait_for_port(self) -> None:
+        until = time.monotonic() + 25
+        while time.monotonic() < until and self._process.poll() is None:
+            try:
+                socket.create_connection(("127.0.0.1", self._port), 5).close()
+                break
+            except OSError:
+                time.sleep(0.005)
+        else:
+            raise DriveFault("smbd doesn't start")
+
+    def is_prepared(self) -> None:
+        until = time.monotonic() + 25
+        while "smbd" in self._children().values():
+            if time.monotonic() > until:
+                raise DriveFault("smbd doesn't come to rest")
+            time.sleep(0.002)
+        self._known = set(self._children())
+
+    def _children(self) -> Dict[int, str]:
+        """smbd's own processes with their names, those that have ended left out."""
+        found: Dict[int, str] = {}
+        for text in _words(f"/proc/{self._process.pid}/task/{self._process.pid}/children"):
+            status = _words(f"/proc/{text}/stat")
+            name = _line(f"/proc/{text}/comm")
+            if len(status) > 2 and "Z" not in status[2:4]:
+                found[int(text)] = name
+        return found
+
+
+def _line(path: str) -> str:
+    try:
+        with open(path, encoding="utf-8", errors="replace") as text:
+            return text.read().strip()
+    except OSError:
+        return ""
+
+
+def _words(path: str) -> List[str]:
+    return _line(path).split()
+
+
+def free_port() -> int:
+    with socket.socket() as one:
+        one.bind(("127.0.0.1", 0))
+        return int(one.getsockname()[1])
