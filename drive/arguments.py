@@ -3,6 +3,7 @@ from __future__ import annotations
 
 import argparse
 import logging
+import signal
 import sys
 from typing import Callable, Optional, Sequence
 
@@ -54,7 +55,8 @@ def ended(parser: argparse.ArgumentParser, main: Callable[[argparse.Namespace], 
     """Runs a command; what goes wrong is one line on standard error, and a status."""
     arguments = parser.parse_args(words)
     logging.basicConfig(format="%(message)s", level=logging.DEBUG if arguments.verbose else logging.WARNING)
-    logging.getLogger("impacket").setLevel(logging.ERROR)
+    # A private server is ended too where the tool is.
+    signal.signal(signal.SIGTERM, lambda number, frame: sys.exit(NOT_DRIVEN))
     try:
         return main(arguments)
     except Usage as fault:

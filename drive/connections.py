@@ -6,12 +6,11 @@ import time
 from dataclasses import dataclass
 from typing import Optional, Tuple
 
-from impacket import nmb, ntlm  # type: ignore[import]
-from impacket import smb3structs as smb2  # type: ignore[import]
+from impacket import nmb, ntlm, smb3structs as smb2  # type: ignore[import]
 from impacket.smb3 import SMB3, SessionError  # type: ignore[import]
 
 from drive.faults import DriveFault
-from drive.messages import (Acknowledgment, Close, Create, Read, Reply, ReplyKind, Request, Write, created, failed)
+from drive.messages import Close, Create, Read, Reply, ReplyKind, Request, Write, created, failed
 from drive.schedules import digits
 
 STATUS_SUCCESS = 0

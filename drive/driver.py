@@ -14,14 +14,17 @@ from drive.schedules import Event, EventKind, Schedule, digits
 from drive.servers import Server
 from drive.wire import Wire
 
+FILE_LIMIT = 1048576
 APPLICATION = {EventKind.OPEN, EventKind.CLOSE, EventKind.READ, EventKind.FLUSH, EventKind.WRITE}
 
 
 class Driver:
     """One run. The files of the schedule have to be there, as `files_made` makes them."""
 
-    def __init__(self, schedule: Schedule, server: Server, machines: Machines) -> None:
+    def __init__(self, schedule: Schedule, server: Server, machines: Machines, known_opens: int = 0) -> None:
+        """`known_opens` is how many opens the schedule's raw lines can mean; a higher FileId is that of none."""
         self.record = Record()
+        self._known_opens = known_opens
         self.peers = {number: Peer(guid) for number, guid in enumerate(schedule.clients, 1)}
         # the persistent halves of the FileIds that the server gave, in the order of opening
         self.opened: List[int] = []
@@ -144,13 +147,17 @@ class Driver:
             contexts = request.contexts[:place + 8] + real + request.contexts[place + 24:]
             return Create(request.file, request.access, request.share, contexts)
         if isinstance(request, Write):
+            if request.offset + len(request.data) > FILE_LIMIT:
+                raise Undrivable("a record doesn't tell writes past the limit of a file")
             return Write(self._real(request.file_id), request.number, request.offset, request.data)
         return type(request)(self._real(request.file_id))
 
     def _real(self, file_id: int) -> int:
-        if not 1 <= file_id <= len(self.opened):
+        if 1 <= file_id <= len(self.opened):
+            return self.opened[file_id - 1]
+        if 1 <= file_id <= self._known_opens or file_id in self.opened:
             raise Undrivable(f"no file was opened under FileId {file_id}")
-        return self.opened[file_id - 1]
+        return file_id
 
     def _settle(self) -> None:
         """Waits for all that comes of an event, and writes it down."""

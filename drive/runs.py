@@ -10,9 +10,9 @@ from typing import Callable, Dict, Iterator, List, Optional
 from drive.driver import Driver, files_made, files_removed
 from drive.faults import Undrivable
 from drive.machine import ClientProcess, Machines, Speaker
-from drive.program import Verdict, judged
+from drive.program import Verdict, judged, replayed
 from drive.records import Order, Record
-from drive.schedules import Event, Schedule
+from drive.schedules import Event, EventKind, Schedule
 from drive.servers import NamedServer, PrivateServer, Server
 
 LOG = logging.getLogger("drive")
@@ -71,8 +71,9 @@ class Runner:
         return applied
 
     def judged(self, outcome: Outcome) -> Outcome:
-        for order in Order:
-            outcome.verdicts[order] = judged(self.program, outcome.record.text(order))
+        texts = {order: outcome.record.text(order) for order in Order}
+        verdicts = {text: judged(self.program, text) for text in set(texts.values())}
+        outcome.verdicts = {order: verdicts[text] for order, text in texts.items()}
         return outcome
 
     @contextmanager
@@ -83,7 +84,7 @@ class Runner:
             files_made(schedule, server)
             machines = self._machines(schedule)
             try:
-                driver = Driver(schedule, server, machines)
+                driver = Driver(schedule, server, machines, self._known_opens(schedule))
                 try:
                     yield driver
                 finally:
@@ -94,6 +95,12 @@ class Runner:
                 files_removed(schedule, server)
         finally:
             server.close()
+
+    def _known_opens(self, schedule: Schedule) -> int:
+        """How many opens there are where the schedule is replayed, by which its raw lines can name them."""
+        if all(event.kind is not EventKind.RAW for event in schedule.events):
+            return 0
+        return sum(fact.startswith("opened ") for fact in replayed(self.program, schedule.text()))
 
     def _machines(self, schedule: Schedule) -> Machines:
         guids = [str(uuid.UUID(bytes=it)) for it in schedule.clients]

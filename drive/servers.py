@@ -139,16 +139,16 @@ class PrivateServer:
     def __init__(self) -> None:
         if os.geteuid() != 0 or not os.path.exists(SMBD):
             raise DriveFault("a private smbd needs root and /usr/sbin/smbd (drive/setup installs it)")
+        clock = library()
         self._folder = tempfile.mkdtemp(prefix="leasecheck-drive-")
         self._port = free_port()
         self._write_folder()
         self._clocks = Clocks(f"{self._folder}/clocks")
-        environment = dict(os.environ, LD_PRELOAD=library(), DRIVE_CLOCK=self._clocks.path)
-        self._process = self._start(environment)
         self._known: Set[int] = set()
+        self._process = self._start(dict(os.environ, LD_PRELOAD=clock, DRIVE_CLOCK=self._clocks.path))
         try:
             self._wait_for_port()
-        except DriveFault:
+        except BaseException:
             self.close()
             raise
 

@@ -90,14 +90,13 @@ def _effect(client: int, peer: Peer, request: Request, reply: Reply, file_id: Op
         peer.is_opened(request.file, file_id)
         return None if b"DHnC" in request.contexts else Opened(request.file, client, file_id.persistent)
     if isinstance(request, Write) and reply.kind is ReplyKind.WRITE_DONE:
-        file = peer.files.get(request.file_id)
-        if file is None:
+        if request.file_id not in peer.files:
             raise DriveFault(f"client {client} wrote by a FileId that it doesn't have")
-        return Changed(file, client, request.number, request.offset, request.data)
+        return Changed(peer.files[request.file_id], client, request.number, request.offset, request.data)
     if isinstance(request, Close) and reply.kind is ReplyKind.CLOSED:
         peer.is_closed(request.file_id)
     if isinstance(request, Acknowledgment) and reply.kind is ReplyKind.ACK_DONE:
-        file, = struct.unpack_from("<L", request.body, 20)
-        if request.body[8:24] == peer.key_of(file):
-            peer.breaking.discard(file)
+        acknowledged, = struct.unpack_from("<L", request.body, 20)
+        if request.body[8:24] == peer.key_of(acknowledged):
+            peer.breaking.discard(acknowledged)
     return None
