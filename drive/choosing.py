@@ -1,0 +1,120 @@
+"""Random schedules: events that are chosen by weights, blindly or by what a run has come to."""
+from __future__ import annotations
+
+import random
+from dataclasses import dataclass
+from typing import Callable, Dict, List, Tuple
+
+from drive.driver import Driver
+from drive.peers import Link, Peer
+from drive.schedules import Event, EventKind, Schedule
+
+FILE = b"abc"
+BLIND_WEIGHTS: Dict[EventKind, float] = {
+    EventKind.OPEN: 3, EventKind.CLOSE: 1, EventKind.READ: 2, EventKind.FLUSH: 0.5, EventKind.WRITE: 2,
+    EventKind.SERVE: 8, EventKind.TAKE: 8, EventKind.CUT: 0.6, EventKind.NOTICE: 1, EventKind.CONNECT: 1,
+    EventKind.EXPIRE: 0.5, EventKind.SCAVENGE: 0.2,
+}
+
+
+@dataclass(frozen=True)
+class Temper:
+    """What a schedule likes to do: how often its rarer events come, and what it opens files for."""
+
+    cuts: float
+    timers: float
+    durable: float
+    wants: Tuple[str, ...]
+    accesses: Tuple[str, ...]
+    shares: Tuple[str, ...]
+
+
+def temper(chance: random.Random) -> Temper:
+    return Temper(
+        cuts=chance.choice((0.0, 0.3, 1.0)),
+        timers=chance.choice((0.0, 0.5, 1.5)),
+        durable=chance.choice((0.0, 0.5, 0.9)),
+        wants=chance.choice((("RWH",), ("RWH", "RH", "R"), ("RWH", "RW", "RH", "R", "none"))),
+        accesses=chance.choice((("rw",), ("rw", "r"), ("rw", "r", "w"))),
+        shares=chance.choice((("rw",), ("rw", "rw", "-"), ("rw", "r", "w", "-"))),
+    )
+
+
+class Chooser:
+    """Chooses the setup of a schedule, and its events one by one."""
+
+    def __init__(self, chance: random.Random) -> None:
+        self._chance = chance
+        self._temper = temper(chance)
+        self._written = 0
+        self.clients = chance.choice((2, 2, 3))
+        self.files = chance.choice((1, 1, 1, 2))
+        self.length = chance.randint(30, 80)
+
+    def setup(self) -> Schedule:
+        guids = tuple(bytes([16 * number + number]) * 16 for number in range(1, self.clients + 1))
+        return Schedule(self.files * (FILE,), guids, ())
+
+    def blind(self) -> Event:
+        """An event of any client, whether it applies or not."""
+        weights = dict(BLIND_WEIGHTS)
+        weights[EventKind.CUT] *= self._temper.cuts
+        for kind in (EventKind.EXPIRE, EventKind.SCAVENGE):
+            weights[kind] *= self._temper.timers
+        kind = self._chance.choices(list(weights), list(weights.values()))[0]
+        return self._event(kind, self._chance.randint(1, self.clients))
+
+    def guided(self, driver: Driver) -> Event:
+        """An event that applies as things stand, or may."""
+        events: List[Tuple[EventKind, int]] = []
+        weights: List[float] = []
+        for client, peer in driver.peers.items():
+            for kind, weight in self._possible(peer).items():
+                if weight:
+                    events.append((kind, client))
+                    weights.append(weight)
+        return self._event(*self._chance.choices(events, weights)[0])
+
+    def _possible(self, peer: Peer) -> Dict[EventKind, float]:
+        likes = self._temper
+        scavenge = 0.4 * likes.timers if peer.kept else 0.0
+        if peer.link is Link.DOWN:
+            return {EventKind.CONNECT: 3, EventKind.SCAVENGE: scavenge}
+        if peer.link is Link.CUT:
+            return {EventKind.NOTICE: 2, EventKind.SCAVENGE: scavenge, EventKind.READ: 0.2}
+        busy = 1.0 if peer.files else 0.1
+        return {
+            EventKind.SERVE: 6 if peer.requests else 0, EventKind.TAKE: 5 if peer.replies else 0,
+            EventKind.OPEN: 0.7 if peer.files else 3, EventKind.WRITE: 2 * busy, EventKind.READ: 2 * busy,
+            EventKind.CLOSE: 0.7 * busy, EventKind.FLUSH: 0.4 * busy, EventKind.CUT: 0.4 * likes.cuts * busy,
+            EventKind.EXPIRE: likes.timers if peer.breaking else 0, EventKind.SCAVENGE: scavenge,
+        }
+
+    def _event(self, kind: EventKind, client: int) -> Event:
+        words: Dict[EventKind, Callable[[], Tuple[str, ...]]] = {
+            EventKind.OPEN: self._open, EventKind.WRITE: self._write, EventKind.CLOSE: self._file,
+            EventKind.READ: self._file, EventKind.FLUSH: self._file, EventKind.EXPIRE: self._file,
+            EventKind.SCAVENGE: self._file,
+        }
+        return Event(kind, client, words[kind]() if kind in words else ())
+
+    def _file(self) -> Tuple[str, ...]:
+        return (str(self._chance.randint(1, self.files)),)
+
+    def _open(self) -> Tuple[str, ...]:
+        likes = self._temper
+        words = (*self._file(), self._chance.choice(likes.accesses), self._chance.choice(likes.shares),
+                 self._chance.choice(likes.wants))
+        return (*words, "durable") if self._chance.random() < likes.durable else words
+
+    def _write(self) -> Tuple[str, ...]:
+        """Each write has a byte of its own, so that a file shows whose write it has."""
+        self._written = self._written % 200 + 1
+        return (*self._file(), str(self._chance.randint(0, 3)), f"{self._written:02x}")
+
+
+def blind_schedule(chooser: Chooser) -> Schedule:
+    """All clients connect, and then events come as they may."""
+    setup = chooser.setup()
+    connects = [Event(EventKind.CONNECT, client) for client in range(1, chooser.clients + 1)]
+    return setup.with_events((*connects, *(chooser.blind() for _ in range(chooser.length))))

@@ -1,0 +1,199 @@
+"""drive/explore: random schedules on a real server; what is unsafe is kept and shrunk."""
+from __future__ import annotations
+
+import argparse
+import os
+import random
+import sys
+import time
+from dataclasses import dataclass
+from typing import Callable, List, Optional, Sequence
+
+from drive.arguments import NOT_DRIVEN, SAFE, UNSAFE, ended, runner_of, server_arguments
+from drive.choosing import Chooser, blind_schedule
+from drive.faults import DriveFault, Usage
+from drive.program import replayed
+from drive.records import Order
+from drive.runs import Outcome, Runner
+from drive.schedules import Event, Schedule
+from drive.shrinking import shrunk
+
+EPILOG = """FOLDER/table gets a line for each schedule: its number; `blind` (its events were chosen beforehand) or `guided`
+(each by what the run had come to); its events, and how many of them did something; the verdict; `same` where
+the record is that of `leasecheck replay`, else `other`; and for an unsafe one `shrunk N`, the events that
+are left. An unsafe schedule, its record and what is left of it stand beside the table, by number. A schedule counts as
+unsafe where it is so in both orders of messages (docs/REAL_SERVERS.md). One seed gives one table, as far as the server
+does the same again.
+
+Exit status: 0 all records are safe; 1 a schedule couldn't be driven; 2 the command line is refused; 3 a record is
+unsafe."""
+
+
+def parser() -> argparse.ArgumentParser:
+    made = argparse.ArgumentParser(prog="drive/explore", description="Drives a server through random schedules.",
+                                   epilog=EPILOG, formatter_class=argparse.RawDescriptionHelpFormatter)
+    made.add_argument("--seed", type=int, required=True, metavar="S", help="what the schedules are drawn from")
+    made.add_argument("--count", type=int, required=True, metavar="N", help="how many")
+    made.add_argument("--folder", metavar="FOLDER", help="where the table and what is unsafe go (explored-S)")
+    made.add_argument("--resume", action="store_true", help="go on behind the last line of the table")
+    made.add_argument("--no-shrink", action="store_true", help="keep what is unsafe as it is")
+    server_arguments(made)
+    return made
+
+
+@dataclass(frozen=True)
+class Row:
+    number: int
+    manner: str
+    events: int
+    applied: int
+    told: str
+    same: str
+    left: Optional[int] = None
+
+    @property
+    def text(self) -> str:
+        tail = f" shrunk {self.left}" if self.left is not None else ""
+        return f"{self.number} {self.manner} {self.events} {self.applied} {self.told} {self.same}{tail}\n"
+
+
+class Explorer:
+    def __init__(self, runner: Runner, seed: int, folder: str, shrinks: bool) -> None:
+        self._runner = runner
+        self._seed = seed
+        self._folder = folder
+        self._shrinks = shrinks
+
+    def explore(self, number: int) -> Row:
+        """Drives the schedule of a number, which draws by itself, and keeps it where it is unsafe."""
+        chooser = Chooser(random.Random(f"{self._seed}:{number}"))
+        guided = number % 4 != 0
+        manner = "guided" if guided else "blind"
+        try:
+            schedule, outcome = self._guided(chooser) if guided else self._blind(chooser)
+        except DriveFault as fault:
+            return Row(number, manner, 0, 0, f"fault {fault}", "-")
+        same = "same" if outcome.record.facts() == replayed(self._runner.program, schedule.text()) else "other"
+        left = self._kept(number, schedule, outcome) if rule_of(outcome) else None
+        return Row(number, manner, len(schedule.events), len(outcome.applied), told(outcome), same, left)
+
+    def _blind(self, chooser: Chooser) -> "tuple[Schedule, Outcome]":
+        schedule = blind_schedule(chooser)
+        return schedule, self._runner.run(schedule)
+
+    def _guided(self, chooser: Chooser) -> "tuple[Schedule, Outcome]":
+        setup = chooser.setup()
+        events: List[Event] = []
+        with self._runner.driving(setup) as driver:
+            outcome = Outcome(driver.record)
+            for _ in range(chooser.length):
+                events.append(chooser.guided(driver))
+                self._runner.happens(driver, events[-1], outcome)
+        return setup.with_events(tuple(events)), self._runner.judged(outcome)
+
+    def _kept(self, number: int, schedule: Schedule, outcome: Outcome) -> Optional[int]:
+        """Writes down an unsafe schedule and what is left of it; answers how many events those are."""
+        self._write(f"{number}.schedule", schedule.text())
+        self._write(f"{number}.record", outcome.record.text())
+        if not self._shrinks:
+            return None
+        least = shrunk(schedule.with_events(tuple(outcome.applied)), stays_unsafe(self._runner, rule_of(outcome)))
+        self._write(f"{number}.shrunk", least.text())
+        self._write(f"{number}.shrunk.record", self._runner.run(least).record.text())
+        return len(least.events)
+
+    def _write(self, name: str, text: str) -> None:
+        with open(os.path.join(self._folder, name), "w", encoding="utf-8") as stream:
+            stream.write(text)
+
+
+def rule_of(outcome: Outcome) -> Optional[int]:
+    """The rule that is broken in both orders of messages."""
+    rules = {it.rule for it in outcome.verdicts.values()}
+    return rules.pop() if len(rules) == 1 else None
+
+
+def told(outcome: Outcome) -> str:
+    text = outcome.verdict.text
+    other = outcome.verdicts[Order.BREAKS_LAST]
+    return text if outcome.verdict.rule == other.rule else f"{text} ({Order.BREAKS_LAST.value}: {other.text})"
+
+
+def stays_unsafe(runner: Runner, rule: Optional[int]) -> Callable[[Schedule], bool]:
+    """Whether a schedule breaks this rule twice in a row; a server may be racy."""
+    def stays(schedule: Schedule) -> bool:
+        try:
+            return all(rule_of(runner.run(schedule)) == rule for _ in range(2))
+        except DriveFault:
+            return False
+    return stays
+
+
+def explored(path: str, resume: bool) -> int:
+    """How many schedules the table has already. A line that was cut short is taken away."""
+    if not os.path.exists(path):
+        return 0
+    if not resume:
+        raise Usage(f"{path} is there already: --resume goes on with it, --folder names another one")
+    with open(path, "r+", encoding="utf-8") as table:
+        text = table.read()
+        whole = text[:text.rfind("\n") + 1]
+        table.seek(0)
+        table.truncate()
+        table.write(whole)
+    return whole.count("\n")
+
+
+class Progress:
+    """A line on standard error that is written over, where that is a terminal."""
+
+    def __init__(self, count: int, begun: int) -> None:
+        self._count = count
+        self._begun = begun
+        self._start = time.monotonic()
+        self._shows = sys.stderr.isatty()
+
+    def show(self, number: int, unsafe: int, faults: int) -> None:
+        if self._shows:
+            each = (time.monotonic() - self._start) / max(1, number - self._begun)
+            sys.stderr.write(f"\r{number} of {self._count}, {unsafe} unsafe, {faults} not driven, {each:.1f} s each\x1b[K")
+            sys.stderr.flush()
+
+    def end(self) -> None:
+        if self._shows:
+            sys.stderr.write("\n")
+
+
+def main(arguments: argparse.Namespace) -> int:
+    if arguments.count < 1:
+        raise Usage("--count is at least 1")
+    runner = runner_of(arguments)
+    folder = arguments.folder or f"explored-{arguments.seed}"
+    try:
+        os.makedirs(folder, exist_ok=True)
+        begun = explored(f"{folder}/table", arguments.resume)
+        explorer = Explorer(runner, arguments.seed, folder, not arguments.no_shrink)
+        unsafe, faults = _all(explorer, begun, arguments.count, f"{folder}/table")
+    except OSError as fault:
+        raise DriveFault(f"{folder}: {fault.strerror}") from None
+    print(f"{arguments.count - begun} driven, {unsafe} unsafe, {faults} not driven to the end; {folder}/table has them")
+    return UNSAFE if unsafe else NOT_DRIVEN if faults else SAFE
+
+
+def _all(explorer: Explorer, begun: int, count: int, path: str) -> "tuple[int, int]":
+    progress = Progress(count, begun)
+    unsafe = faults = 0
+    with open(path, "a", encoding="utf-8") as table:
+        for number in range(begun + 1, count + 1):
+            row = explorer.explore(number)
+            unsafe += row.told.startswith("unsafe")
+            faults += row.told.startswith("fault")
+            table.write(row.text)
+            table.flush()
+            progress.show(number, unsafe, faults)
+    progress.end()
+    return unsafe, faults
+
+
+def run(words: Sequence[str]) -> int:
+    return ended(parser(), main, words)
