@@ -10,6 +10,7 @@ from drive.peers import Link, Peer
 from drive.schedules import Event, EventKind, Schedule
 
 FILE = b"abc"
+MOST_CLIENTS = 3
 BLIND_WEIGHTS: Dict[EventKind, float] = {
     EventKind.OPEN: 3, EventKind.CLOSE: 1, EventKind.READ: 2, EventKind.FLUSH: 0.5, EventKind.WRITE: 2,
     EventKind.SERVE: 8, EventKind.TAKE: 8, EventKind.CUT: 0.6, EventKind.NOTICE: 1, EventKind.CONNECT: 1,
@@ -19,8 +20,10 @@ BLIND_WEIGHTS: Dict[EventKind, float] = {
 
 @dataclass(frozen=True)
 class Temper:
-    """What a schedule likes to do: how often its rarer events come, and what it opens files for."""
+    """What a schedule likes to do: how often its rarer events come, how soon clients take what was sent to them, and what
+    they open files for."""
 
+    takes: Tuple[float, ...]
     cuts: float
     timers: float
     durable: float
@@ -31,12 +34,13 @@ class Temper:
 
 def temper(chance: random.Random) -> Temper:
     return Temper(
-        cuts=chance.choice((0.0, 0.3, 1.0)),
-        timers=chance.choice((0.0, 0.5, 1.5)),
+        takes=tuple(chance.choice((0.5, 2.0, 6.0)) for _ in range(MOST_CLIENTS)),
+        cuts=chance.choice((0.0, 0.5, 1.5)),
+        timers=chance.choice((0.0, 1.0, 3.0)),
         durable=chance.choice((0.0, 0.5, 0.9)),
-        wants=chance.choice((("RWH",), ("RWH", "RH", "R"), ("RWH", "RW", "RH", "R", "none"))),
+        wants=chance.choice((("RWH",), ("RWH", "RH"), ("RWH", "RH", "R", "none"), ("RWH", "RW", "RH", "R", "none"))),
         accesses=chance.choice((("rw",), ("rw", "r"), ("rw", "r", "w"))),
-        shares=chance.choice((("rw",), ("rw", "rw", "-"), ("rw", "r", "w", "-"))),
+        shares=chance.choice((("rw",), ("rw",), ("rw", "rw", "-"), ("rw", "r", "w", "-"))),
     )
 
 
@@ -47,8 +51,8 @@ class Chooser:
         self._chance = chance
         self._temper = temper(chance)
         self._written = 0
-        self.clients = chance.choice((2, 2, 3))
-        self.files = chance.choice((1, 1, 1, 2))
+        self.clients = chance.choice((2, 2, MOST_CLIENTS))
+        self.files = chance.choice((1, 1, 1, 1, 2))
         self.length = chance.randint(30, 80)
 
     def setup(self) -> Schedule:
@@ -69,22 +73,22 @@ class Chooser:
         events: List[Tuple[EventKind, int]] = []
         weights: List[float] = []
         for client, peer in driver.peers.items():
-            for kind, weight in self._possible(peer).items():
+            for kind, weight in self._possible(client, peer).items():
                 if weight:
                     events.append((kind, client))
                     weights.append(weight)
         return self._event(*self._chance.choices(events, weights)[0])
 
-    def _possible(self, peer: Peer) -> Dict[EventKind, float]:
+    def _possible(self, client: int, peer: Peer) -> Dict[EventKind, float]:
         likes = self._temper
         scavenge = 0.4 * likes.timers if peer.kept else 0.0
         if peer.link is Link.DOWN:
-            return {EventKind.CONNECT: 3, EventKind.SCAVENGE: scavenge}
+            return {EventKind.CONNECT: 2, EventKind.SCAVENGE: scavenge}
         if peer.link is Link.CUT:
-            return {EventKind.NOTICE: 2, EventKind.SCAVENGE: scavenge, EventKind.READ: 0.2}
+            return {EventKind.NOTICE: 1, EventKind.SCAVENGE: scavenge, EventKind.READ: 0.2}
         busy = 1.0 if peer.files else 0.1
         return {
-            EventKind.SERVE: 6 if peer.requests else 0, EventKind.TAKE: 5 if peer.replies else 0,
+            EventKind.SERVE: 6 if peer.requests else 0, EventKind.TAKE: likes.takes[client - 1] if peer.replies else 0,
             EventKind.OPEN: 0.7 if peer.files else 3, EventKind.WRITE: 2 * busy, EventKind.READ: 2 * busy,
             EventKind.CLOSE: 0.7 * busy, EventKind.FLUSH: 0.4 * busy, EventKind.CUT: 0.4 * likes.cuts * busy,
             EventKind.EXPIRE: likes.timers if peer.breaking else 0, EventKind.SCAVENGE: scavenge,

@@ -7,7 +7,7 @@ from typing import Callable, Dict, List
 from drive.connections import Connection
 from drive.faults import DriveFault, Undrivable
 from drive.machine import Machines, Step
-from drive.messages import Acknowledgment, Create, Request, Write, read_request
+from drive.messages import Acknowledgment, Create, Request, Write, read_request, text_of
 from drive.peers import Link, Peer
 from drive.records import Changed, Opened, Order, Record, in_order
 from drive.schedules import Event, EventKind, Schedule, digits
@@ -68,6 +68,7 @@ class Driver:
         if not peer.requests:
             return False
         request = peer.requests.popleft()
+        self.record.remark(f"served {event.client} {text_of(request)}")
         self._wire.send(event.client, request, self._server.name_of(request.file) if isinstance(request, Create) else "")
         self._settle()
         return True
@@ -76,6 +77,7 @@ class Driver:
         if not peer.replies:
             return False
         reply = peer.replies.popleft()
+        self.record.remark(f"took {event.client} {reply.text}")
         self.record.fact(f"took {event.client}")
         self._stepped(event.client, self._machines.step(f"take {event.client} {reply.text}"))
         return True

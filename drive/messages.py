@@ -73,6 +73,19 @@ def read_request(text: str) -> Request:
     raise ValueError(f"no request: {text}")
 
 
+def text_of(request: Request) -> str:
+    """The words that `read_request` reads."""
+    if isinstance(request, Create):
+        return f"create {request.file} {request.access} {request.share} {digits(request.contexts)}"
+    if isinstance(request, Read):
+        return f"read {request.file_id}"
+    if isinstance(request, Write):
+        return f"write {request.file_id} {request.number} {request.offset} {digits(request.data)}"
+    if isinstance(request, Close):
+        return f"close {request.file_id}"
+    return f"ack {digits(request.body)}"
+
+
 class ReplyKind(Enum):
     CREATED = "created"
     CREATE_FAILED = "createfailed"

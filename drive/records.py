@@ -66,16 +66,18 @@ RANKS: Dict[Order, Dict[ArrivalKind, int]] = {
 
 @dataclass(frozen=True)
 class Arrival:
-    """A message that came to a client. `place` is that of its request among all, or of a break its client's number. What
-    the message shows that the server did stands directly before its `sent`."""
+    """A message that came to a client, in the machine's words. `place` is that of its request among all, or of a break its
+    client's number. What the message shows that the server did stands directly before its `sent`."""
 
     client: int
     kind: ArrivalKind
     place: int
+    message: str
     effect: Optional[Effect] = None
 
-    def facts(self) -> List[str]:
-        return ([self.effect.text] if self.effect else []) + [f"sent {self.client}"]
+    def lines(self) -> List[str]:
+        effect = [self.effect.text] if self.effect else []
+        return [*effect, f"# sent {self.client} {self.message}", f"sent {self.client}"]
 
 
 def in_order(arrivals: Sequence[Arrival], order: Order) -> List[Arrival]:
@@ -94,25 +96,36 @@ def in_order(arrivals: Sequence[Arrival], order: Order) -> List[Arrival]:
 
 
 class Record:
+    """Facts, with remarks that tell the messages: a request that was sent, what `sent` and `took` are about."""
+
     def __init__(self) -> None:
         self._items: List[Union[str, Tuple[Arrival, ...]]] = []
 
     def fact(self, text: str) -> None:
         self._items.append(text)
 
+    def remark(self, text: str) -> None:
+        self._items.append(f"# {text}")
+
     def step(self, arrivals: Sequence[Arrival]) -> None:
         if arrivals:
             self._items.append(tuple(arrivals))
 
-    def facts(self, order: Order = Order.BREAKS_FIRST) -> List[str]:
-        facts: List[str] = []
+    def lines(self, order: Order = Order.BREAKS_FIRST) -> List[str]:
+        lines: List[str] = []
         for item in self._items:
             if isinstance(item, str):
-                facts.append(item)
+                lines.append(item)
             else:
                 for arrival in in_order(item, order):
-                    facts += arrival.facts()
-        return facts
+                    lines += arrival.lines()
+        return lines
+
+    def facts(self, order: Order = Order.BREAKS_FIRST) -> List[str]:
+        return [it for it in self.lines(order) if not it.startswith("#")]
 
     def text(self, order: Order = Order.BREAKS_FIRST) -> str:
         return "".join(f"{it}\n" for it in self.facts(order))
+
+    def text_with_messages(self) -> str:
+        return "".join(f"{it}\n" for it in self.lines())

@@ -13,7 +13,8 @@ from drive.runs import Outcome
 from drive.schedules import Schedule, read_schedule
 
 EPILOG = """The record is printed, and behind it the verdict as a line `# safe` or `# unsafe PLACE RULE`, so that all of it is a
-record still. With --record it goes to a file, and the verdict alone is printed.
+record still. With --record it goes to a file, and the verdict alone is printed. Remarks of --messages begin with
+`# served`, a request that was sent to the server, `# sent` and `# took`, each with the client and the words of the message.
 
 Exit status: 0 the record is safe; 1 the schedule couldn't be driven to its end; 2 the command line is refused; 3 the
 record is unsafe."""
@@ -24,6 +25,8 @@ def parser() -> argparse.ArgumentParser:
                                    epilog=EPILOG, formatter_class=argparse.RawDescriptionHelpFormatter)
     made.add_argument("schedule", metavar="SCHEDULE", help="a file with a schedule (docs/FORMATS.md), - for standard input")
     made.add_argument("--record", metavar="FILE", help="write the record there")
+    made.add_argument("--messages", action="store_true",
+                      help="write the messages into the record too, as remarks before what they are about")
     server_arguments(made)
     return made
 
@@ -61,15 +64,16 @@ def main(arguments: argparse.Namespace) -> int:
     outcome = runner.run(schedule_in(arguments.schedule, arguments.leasecheck))
     for line in outcome.skipped:
         print(f"left out: {line}", file=sys.stderr)
+    record = outcome.record.text_with_messages() if arguments.messages else outcome.record.text()
     if arguments.record:
         try:
             with open(arguments.record, "w", encoding="utf-8") as stream:
-                stream.write(outcome.record.text())
+                stream.write(record)
         except OSError as fault:
             raise DriveFault(f"{arguments.record}: {fault.strerror}") from None
         sys.stdout.write(told(outcome))
     else:
-        sys.stdout.write(outcome.record.text() + "".join(f"# {it}\n" for it in told(outcome).splitlines()))
+        sys.stdout.write(record + "".join(f"# {it}\n" for it in told(outcome).splitlines()))
     return status_of(outcome)
 
 

@@ -64,16 +64,17 @@ class Wire:
     def _arrival(self, client: int, message: Message) -> Arrival:
         peer = self._peers[client]
         if message.number == NOTIFICATION_ID:
-            peer.replies.append(Reply(ReplyKind.BREAK, message.data[:44].hex()))
+            notice = Reply(ReplyKind.BREAK, message.data[:44].hex())
+            peer.replies.append(notice)
             self._note_break(peer, message.data)
-            return Arrival(client, ArrivalKind.BREAK, client)
+            return Arrival(client, ArrivalKind.BREAK, client, notice.text)
         sent = peer.unanswered.pop(message.number, None)
         if sent is None:
             raise DriveFault(f"an answer to no request came to client {client}")
         reply, file_id = reply_of(sent.request, message)
         peer.replies.append(reply)
         kind = ArrivalKind.END if isinstance(sent.request, (Acknowledgment, Close)) else ArrivalKind.ANSWER
-        return Arrival(client, kind, sent.place, _effect(client, peer, sent.request, reply, file_id))
+        return Arrival(client, kind, sent.place, reply.text, _effect(client, peer, sent.request, reply, file_id))
 
     @staticmethod
     def _note_break(peer: Peer, data: bytes) -> None:
