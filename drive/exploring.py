@@ -11,19 +11,19 @@ from typing import Callable, List, Optional, Sequence
 
 from drive.arguments import NOT_DRIVEN, SAFE, UNSAFE, ended, runner_of, server_arguments
 from drive.choosing import Chooser, blind_schedule
+from drive.comparing import likeness_of
 from drive.faults import DriveFault, Usage
-from drive.program import replayed
 from drive.records import Order
 from drive.runs import Outcome, Runner
 from drive.schedules import Event, Schedule
 from drive.shrinking import shrunk
 
 EPILOG = """FOLDER/table gets a line for each schedule: its number; `blind` (its events were chosen beforehand) or `guided`
-(each by what the run had come to); its events, and how many of them did something; the verdict; `same` where
-the record is that of `leasecheck replay`, else `other`; and for an unsafe one `shrunk N`, the events that
-are left. An unsafe schedule, its record and what is left of it stand beside the table, by number. A schedule counts as
-unsafe where it is so in both orders of messages (docs/REAL_SERVERS.md). One seed gives one table, as far as the server
-does the same again.
+(each by what the run had come to); its events, and how many of them did something; the verdict; `same` where the
+record is the profile's, else the known departures that explain it, or `unexplained` (docs/REAL_SERVERS.md); and for an
+unsafe one `shrunk N`, the events that are left. A schedule that is unsafe or unexplained stands beside the table by its
+number, with its record and what is left of it. A schedule is shrunk where it breaks one rule in both orders of messages.
+One seed gives one table, as far as the server does the same again.
 
 Exit status: 0 all records are safe; 1 a schedule couldn't be driven; 2 the command line is refused; 3 a record is
 unsafe."""
@@ -48,13 +48,13 @@ class Row:
     events: int
     applied: int
     told: str
-    same: str
+    likeness: str
     left: Optional[int] = None
 
     @property
     def text(self) -> str:
         tail = f" shrunk {self.left}" if self.left is not None else ""
-        return f"{self.number} {self.manner} {self.events} {self.applied} {self.told} {self.same}{tail}\n"
+        return f"{self.number} {self.manner} {self.events} {self.applied} {self.told} {self.likeness}{tail}\n"
 
 
 class Explorer:
@@ -73,9 +73,14 @@ class Explorer:
             schedule, outcome = self._guided(chooser) if guided else self._blind(chooser)
         except DriveFault as fault:
             return Row(number, manner, 0, 0, f"fault {fault}", "-")
-        same = "same" if outcome.record.facts() == replayed(self._runner.program, schedule.text()) else "other"
-        left = self._kept(number, schedule, outcome) if rule_of(outcome) else None
-        return Row(number, manner, len(schedule.events), len(outcome.applied), told(outcome), same, left)
+        likeness = likeness_of(self._runner.program, schedule, outcome.record.facts())
+        left = None
+        if likeness.is_open or not outcome.verdict.is_safe:
+            self._write(f"{number}.schedule", schedule.text())
+            self._write(f"{number}.record", outcome.record.text())
+        if rule_of(outcome) and self._shrinks:
+            left = self._shrunk(number, schedule.with_events(tuple(outcome.applied)), rule_of(outcome))
+        return Row(number, manner, len(schedule.events), len(outcome.applied), told(outcome), likeness.word, left)
 
     def _blind(self, chooser: Chooser) -> "tuple[Schedule, Outcome]":
         schedule = blind_schedule(chooser)
@@ -91,13 +96,9 @@ class Explorer:
                 self._runner.happens(driver, events[-1], outcome)
         return setup.with_events(tuple(events)), self._runner.judged(outcome)
 
-    def _kept(self, number: int, schedule: Schedule, outcome: Outcome) -> Optional[int]:
-        """Writes down an unsafe schedule and what is left of it; answers how many events those are."""
-        self._write(f"{number}.schedule", schedule.text())
-        self._write(f"{number}.record", outcome.record.text())
-        if not self._shrinks:
-            return None
-        least = shrunk(schedule.with_events(tuple(outcome.applied)), stays_unsafe(self._runner, rule_of(outcome)))
+    def _shrunk(self, number: int, schedule: Schedule, rule: Optional[int]) -> int:
+        """Writes down what is left of an unsafe schedule, and its record; answers how many events those are."""
+        least = shrunk(schedule, stays_unsafe(self._runner, rule))
         self._write(f"{number}.shrunk", least.text())
         self._write(f"{number}.shrunk.record", self._runner.run(least).record.text())
         return len(least.events)

@@ -1,0 +1,90 @@
+"""drive/compare: where a record differs from the profile's, and which known departures explain it."""
+from __future__ import annotations
+
+import argparse
+import difflib
+from dataclasses import dataclass
+from typing import FrozenSet, List, Optional, Sequence
+
+from drive.arguments import NOT_DRIVEN, SAFE, ended, runner_of, server_arguments
+from drive.faults import DriveFault, Usage
+from drive.model import Departure
+from drive.modelled import NONE, explained, facts_of, is_told
+from drive.program import replayed
+from drive.running import schedule_in
+from drive.schedules import Schedule
+
+EPILOG = """Without --record the schedule is driven first. The lines of the difference begin with `- ` where the profile's server
+has a fact that this one hasn't, and with `+ ` the other way round. Behind them stands what explains it: the departures
+of smbd (docs/REAL_SERVERS.md) with which a model server gives the whole record, fact by fact, and none of which can be
+left out. Within a step messages on different connections are told in the driver's order.
+
+Exit status: 0 the record is the profile's, or explained; 1 it isn't explained, or wasn't to be had; 2 the command line
+is refused."""
+
+
+@dataclass(frozen=True)
+class Likeness:
+    """What was found of a record: the departures that explain it, none at all where it is the profile's."""
+
+    departures: Optional[FrozenSet[Departure]]
+
+    @property
+    def is_open(self) -> bool:
+        return self.departures is None
+
+    @property
+    def word(self) -> str:
+        if self.departures is None:
+            return "unexplained"
+        return ",".join(sorted(it.name.lower() for it in self.departures)) or "same"
+
+
+def likeness_of(program: str, schedule: Schedule, facts: List[str]) -> Likeness:
+    if facts == replayed(program, schedule.text()):
+        return Likeness(NONE)
+    return Likeness(explained(program, schedule, facts) if is_told(schedule) else None)
+
+
+def parser() -> argparse.ArgumentParser:
+    made = argparse.ArgumentParser(prog="drive/compare", description="Compares a driven record with the profile's.",
+                                   epilog=EPILOG, formatter_class=argparse.RawDescriptionHelpFormatter)
+    made.add_argument("schedule", metavar="SCHEDULE", help="a file with a schedule, - for standard input")
+    made.add_argument("--record", metavar="FILE", help="its record, as drive/run wrote it")
+    server_arguments(made)
+    return made
+
+
+def _facts(arguments: argparse.Namespace, schedule: Schedule) -> List[str]:
+    if not arguments.record:
+        return runner_of(arguments).run(schedule).record.facts()
+    if arguments.smbd or arguments.server:
+        raise Usage("--record is of a run that was driven already")
+    try:
+        with open(arguments.record, encoding="utf-8", errors="replace") as stream:
+            return [it for it in stream.read().splitlines() if it and not it.startswith("#")]
+    except OSError as fault:
+        raise DriveFault(f"{arguments.record}: {fault.strerror}") from None
+
+
+def main(arguments: argparse.Namespace) -> int:
+    schedule = schedule_in(arguments.schedule, arguments.leasecheck)
+    facts = _facts(arguments, schedule)
+    likeness = likeness_of(arguments.leasecheck, schedule, facts)
+    if likeness.departures == NONE:
+        print("same")
+        return SAFE
+    profile = facts_of(arguments.leasecheck, schedule) if is_told(schedule) else replayed(arguments.leasecheck, schedule.text())
+    for line in difflib.ndiff(profile, facts):
+        if line[:2] in ("- ", "+ "):
+            print(line)
+    if likeness.departures is None:
+        print("not explained")
+        return NOT_DRIVEN
+    for departure in sorted(likeness.departures, key=lambda it: it.name):
+        print(f"explained by {departure.name.lower()}: {departure.value}")
+    return SAFE
+
+
+def run(words: Sequence[str]) -> int:
+    return ended(parser(), main, words)

@@ -1,0 +1,373 @@
+"""A model of the profile's server (docs/PROFILE.md), with a switch for each known way in which smbd departs from it."""
+from __future__ import annotations
+
+import struct
+from dataclasses import dataclass, field
+from enum import Enum
+from typing import Dict, FrozenSet, List, Optional, Set, Tuple, Union
+
+from drive.contexts import Ask, answer, read_ask
+from drive.messages import (Acknowledgment, Close, Create, Read, Reply, ReplyKind, Request, Write, created, failed)
+from drive.records import Arrival, ArrivalKind, Changed, Effect, Opened
+from drive.schedules import digits
+
+R, H, W = 1, 2, 4
+LIMIT = 1048576
+ACCESSES = {"-": 0, "r": 1, "w": 2, "rw": 3}
+UNSUCCESSFUL, INVALID, DENIED, NOT_FOUND = 0xC0000001, 0xC000000D, 0xC0000022, 0xC0000034
+SHARING, NOT_ACCEPTED, FILE_CLOSED = 0xC0000043, 0xC00000D0, 0xC0000128
+Key = Tuple[int, bytes]
+
+
+class Departure(Enum):
+    """What smbd was seen to do otherwise; the texts are those of docs/REAL_SERVERS.md."""
+
+    OPENS_STAY = "a break that times out takes the lease away and leaves its opens"
+    CREATES_WAIT = "a create waits for any other lease of the file that is breaking"
+    GIVEN_BACK = "the lease of a dropped disconnected open is given back to its key"
+    OPEN_DROPS = "a new open drops the disconnected opens of other keys"
+    RISES_WHOLE = "a lease rises only where all that is wanted may be granted"
+    NOTHING_BEHIND = "nothing waits behind a held request of the same client"
+    WRITES_GO_ON = "a write never waits"
+    BY_ARRIVAL = "held requests are tried again by their arrival, whatever their files"
+    LAST_FIRST = "held requests are tried again from the last to the first"
+    KEPT_ALONE = "an open is kept at a cut only where no other client has the file open"
+    OWN_DROPPED = "a new open drops its own key's disconnected open"
+    REFUSED_BESIDE = "a reconnect is refused beside another open"
+    BREAKING_KEPT = "a disconnected open whose lease is breaking is kept, and holds creates"
+    BREAKS_ALL = "a create that conflicts breaks the handle caching of all keys"
+
+
+@dataclass
+class Open:
+    file_id: int
+    client: int
+    file: int
+    key: Optional[Key]
+    access: int
+    share: int
+    durable: bool
+    connected: bool = True
+
+
+@dataclass
+class Lease:
+    file: int
+    state: int
+    # the state that it is breaking to, and whether a break to none has to follow
+    to: Optional[int] = None
+    none_next: bool = False
+
+
+@dataclass
+class Held:
+    client: int
+    file: int
+    request: Request
+    place: int
+
+
+@dataclass
+class Tables:
+    opens: List[Open] = field(default_factory=list)
+    leases: Dict[Key, Lease] = field(default_factory=dict)
+    given_back: Dict[Key, int] = field(default_factory=dict)
+    held: List[Held] = field(default_factory=list)
+    expired: Set[Key] = field(default_factory=set)
+    connected: Set[int] = field(default_factory=set)
+
+
+def granted_form(state: int) -> int:
+    return state if state & R else 0
+
+
+class Model:
+    """Answers calls with what arrives at clients, in the order in which it is sent, each with the client's reply."""
+
+    def __init__(self, files: Dict[int, bytes], departures: FrozenSet[Departure]) -> None:
+        self.contents = dict(files)
+        self.tables = Tables()
+        self._departures = departures
+        self._file_ids = 0
+        self._outs: List[Tuple[Arrival, Reply]] = []
+
+    def taken(self) -> List[Tuple[Arrival, Reply]]:
+        outs, self._outs = self._outs, []
+        return outs
+
+    def join(self, client: int) -> None:
+        self.tables.connected.add(client)
+        self.tables.expired = {it for it in self.tables.expired if it[0] != client}
+
+    def receive(self, client: int, request: Request, place: int) -> None:
+        if isinstance(request, Acknowledgment):
+            self._acknowledge(client, request, place)
+            self._passes()
+            return
+        held = Held(client, self._file_of(client, request), request, place)
+        refusal = self._refused_at_once(held)
+        if refusal is not None:
+            self._answer(held, failed(request, refusal))
+        elif self._is_behind(held) or not self._tried(held):
+            self.tables.held.append(held)
+        if isinstance(request, Close):
+            self._passes()
+
+    def cut(self, client: int) -> None:
+        self.tables.connected.discard(client)
+        self.tables.held = [it for it in self.tables.held if it.client != client]
+        for one in [it for it in self.tables.opens if it.client == client and it.connected]:
+            one.connected = False
+            if not self._is_kept(one):
+                self._close(one)
+        self._passes()
+
+    def expire(self, key: Key) -> None:
+        lease = self.tables.leases[key]
+        if Departure.OPENS_STAY in self._departures:
+            lease.state, lease.to, lease.none_next = 0, None, False
+        else:
+            for one in [it for it in self.tables.opens if it.key == key]:
+                self._close(one)
+            self.tables.expired.add(key)
+        self._passes()
+
+    def scavenge(self, client: int, file: int) -> bool:
+        kept = self.kept(client, file)
+        if kept:
+            self._close(kept)
+            self._passes()
+        return kept is not None
+
+    def kept(self, client: int, file: int) -> Optional[Open]:
+        found = [it for it in self.tables.opens if (it.client, it.file, it.connected) == (client, file, False)]
+        return min(found, key=lambda it: it.file_id) if found else None
+
+    def is_breaking(self, key: Key) -> bool:
+        return key in self.tables.leases and self.tables.leases[key].to is not None
+
+    # what a request meets
+
+    def _file_of(self, client: int, request: Union[Create, Read, Write, Close]) -> int:
+        if isinstance(request, Create):
+            return request.file
+        one = self._open_of(client, request.file_id)
+        return one.file if one else 0
+
+    def _refused_at_once(self, held: Held) -> Optional[int]:
+        if isinstance(held.request, Create):
+            try:
+                read_ask(held.request.contexts)
+            except ValueError:
+                return INVALID
+            return None if held.file in self.contents else NOT_FOUND
+        return None if held.file else FILE_CLOSED
+
+    def _is_behind(self, held: Held) -> bool:
+        if Departure.NOTHING_BEHIND in self._departures:
+            return False
+        return any((it.client, it.file) == (held.client, held.file) and it is not held and it.place < held.place
+                   for it in self.tables.held)
+
+    def _open_of(self, client: int, file_id: int) -> Optional[Open]:
+        return next((it for it in self.tables.opens if (it.file_id, it.client, it.connected) == (file_id, client, True)), None)
+
+    def _is_kept(self, one: Open) -> bool:
+        lease = self.tables.leases.get(one.key) if one.key else None
+        if not one.durable or lease is None or not lease.state & H:
+            return False
+        if Departure.KEPT_ALONE in self._departures and any(
+                it.file == one.file and it.connected and it.client != one.client for it in self.tables.opens):
+            return False
+        return lease.to is None or Departure.BREAKING_KEPT in self._departures
+
+    def _tried(self, held: Held) -> bool:
+        """Tries a request; answers whether it was answered, and isn't to be held."""
+        if isinstance(held.request, Create):
+            return self._tried_create(held, held.request, read_ask(held.request.contexts))
+        if isinstance(held.request, Acknowledgment):
+            return True
+        one = self._open_of(held.client, held.request.file_id)
+        if one is None:
+            self._answer(held, failed(held.request, FILE_CLOSED))
+        elif isinstance(held.request, Read):
+            self._read(held, held.request, one)
+        elif isinstance(held.request, Write):
+            return self._tried_write(held, held.request, one)
+        else:
+            self._close(one)
+            self._answer(held, Reply(ReplyKind.CLOSED, f"{one.file_id}"))
+        return True
+
+    def _read(self, held: Held, request: Read, one: Open) -> None:
+        if not one.access & 1:
+            self._answer(held, failed(request, DENIED))
+        else:
+            self._answer(held, Reply(ReplyKind.READ_DONE, f"{one.file_id} {digits(self.contents[one.file])}"))
+
+    def _tried_write(self, held: Held, request: Write, one: Open) -> bool:
+        if not one.access & 2:
+            self._answer(held, failed(request, DENIED))
+            return True
+        if request.offset + len(request.data) > LIMIT:
+            self._answer(held, failed(request, INVALID))
+            return True
+        for _ in range(3):
+            wanted = {key: 0 for key in self._other_keys(one.file, one.key) if self.tables.leases[key].state}
+            waits = self._broken(wanted, to_none=True)
+            if any(self.tables.leases[key].to for key in waits) and Departure.WRITES_GO_ON not in self._departures:
+                return False
+            if waits or not wanted:
+                break
+        change = Changed(one.file, held.client, request.number, request.offset, request.data)
+        self.contents[one.file] = change.applied(self.contents[one.file])
+        self._answer(held, Reply(ReplyKind.WRITE_DONE, f"{one.file_id} {request.number}"), change)
+        return True
+
+    def _tried_create(self, held: Held, request: Create, ask: Ask) -> bool:
+        key = (held.client, ask.key) if ask.key else None
+        if ask.reconnect is not None:
+            self._reconnect(held, request, key, ask.reconnect)
+            return True
+        lease = self.tables.leases.get(key) if key else None
+        if lease and lease.file != held.file:
+            self._answer(held, failed(request, INVALID))
+            return True
+        self._drop_disconnected(held.file, key)
+        if Departure.CREATES_WAIT in self._departures and any(
+                self.is_breaking(it) for it in self._other_keys(held.file, key)):
+            return False
+        for _ in range(3):
+            wanted = self._wanted(request, key)
+            if wanted is None:
+                self._answer(held, failed(request, SHARING))
+                return True
+            if not wanted:
+                break
+            if self._broken(wanted):
+                return False
+        self._grant(held, request, ask, key)
+        return True
+
+    def _wanted(self, request: Create, key: Optional[Key]) -> Optional[Dict[Key, int]]:
+        """The keys that a create wants lowered, and what is taken of each; none where it is refused."""
+        access, share = ACCESSES[request.access], ACCESSES[request.share]
+        opens = [it for it in self.tables.opens if it.file == request.file]
+        conflicts = [it for it in opens if it.access & ~share or access & ~it.share]
+        others = self._other_keys(request.file, key)
+        if not conflicts:
+            return {it: self.tables.leases[it].state & ~W for it in others if self.tables.leases[it].state & W}
+        conflicting = {it.key for it in conflicts}
+        wanted = {it: self.tables.leases[it].state & ~H for it in others
+                  if self.tables.leases[it].state & H and it in conflicting}
+        if wanted and Departure.BREAKS_ALL in self._departures:
+            wanted = {it: self.tables.leases[it].state & ~H for it in others if self.tables.leases[it].state & H}
+        return wanted or None
+
+    def _other_keys(self, file: int, key: Optional[Key]) -> List[Key]:
+        return sorted({it.key for it in self.tables.opens if it.file == file and it.key and it.key != key})
+
+    # what a request does
+
+    def _drop_disconnected(self, file: int, key: Optional[Key]) -> None:
+        for one in [it for it in self.tables.opens if it.file == file and not it.connected and it.key]:
+            own = one.key == key
+            if Departure.OWN_DROPPED in self._departures and own or Departure.OPEN_DROPS in self._departures and not own:
+                if Departure.BREAKING_KEPT not in self._departures or not self.is_breaking(one.key or (0, b"")):
+                    self._close(one, dropped=True)
+
+    def _broken(self, wanted: Dict[Key, int], to_none: bool = False) -> List[Key]:
+        """Breaks these keys to these states; answers those that are breaking then."""
+        for key in sorted(wanted):
+            for one in [it for it in self.tables.opens if it.key == key and not it.connected]:
+                self._close(one, dropped=True)
+            lease = self.tables.leases.get(key)
+            if lease and lease.to is None:
+                self._send_break(key, lease, wanted[key])
+            elif lease and to_none and lease.to:
+                lease.none_next = Departure.WRITES_GO_ON in self._departures
+        return [key for key in wanted if self.is_breaking(key)]
+
+    def _send_break(self, key: Key, lease: Lease, state: int) -> None:
+        needs = lease.state != R
+        notice = struct.pack("<HHL16sLLLLL", 44, 0, int(needs), key[1], lease.state, state, 0, 0, 0)
+        lease.to, lease.state = (state, lease.state) if needs else (None, 0)
+        reply = Reply(ReplyKind.BREAK, notice.hex())
+        self._outs.append((Arrival(key[0], ArrivalKind.BREAK, key[0], reply.text), reply))
+
+    def _grant(self, held: Held, request: Create, ask: Ask, key: Optional[Key]) -> None:
+        lease = self._granted(held, ask, key) if key else None
+        durable = ask.durable and lease is not None and bool(lease.state & H)
+        self._file_ids += 1
+        self.tables.opens.append(Open(self._file_ids, held.client, held.file, key, ACCESSES[request.access],
+                                      ACCESSES[request.share], durable))
+        contexts = answer(ask.key, lease.state if lease else 0, bool(lease and lease.to is not None), durable)
+        self._answer(held, created(request, self._file_ids, contexts), Opened(held.file, held.client, self._file_ids))
+
+    def _granted(self, held: Held, ask: Ask, key: Key) -> Lease:
+        want = granted_form(ask.want)
+        alone = all(it.key == key for it in self.tables.opens if it.file == held.file)
+        offered = 0 if key in self.tables.expired else want if alone else granted_form(want & ~W)
+        back = self.tables.given_back.pop(key, None)
+        lease = self.tables.leases.get(key)
+        if lease is None:
+            lease = self.tables.leases[key] = Lease(held.file, offered)
+            if Departure.GIVEN_BACK in self._departures and back is not None and offered & ~back == 0:
+                lease.state = back
+        elif lease.to is None and lease.state & ~want == 0:
+            if Departure.RISES_WHOLE not in self._departures or offered == want:
+                lease.state = offered
+        return lease
+
+    def _reconnect(self, held: Held, request: Create, key: Optional[Key], file_id: int) -> None:
+        one = next((it for it in self.tables.opens if (it.file_id, it.client, it.file, it.connected, it.key)
+                    == (file_id, held.client, held.file, False, key)), None)
+        beside = any(it.file == held.file and it is not one for it in self.tables.opens)
+        if one is None or key is None or beside and Departure.REFUSED_BESIDE in self._departures:
+            self._answer(held, failed(request, NOT_FOUND))
+            return
+        one.connected = True
+        lease = self.tables.leases[key]
+        contexts = answer(key[1], lease.state, lease.to is not None, False)
+        self._answer(held, created(request, one.file_id, contexts))
+
+    def _acknowledge(self, client: int, request: Acknowledgment, place: int) -> None:
+        held = Held(client, 0, request, place)
+        key = (client, request.body[8:24])
+        state = struct.unpack_from("<L", request.body, 24)[0] & 7
+        lease = self.tables.leases.get(key)
+        if lease is None or lease.to is None or state & ~lease.to:
+            refusal = NOT_FOUND if lease is None else UNSUCCESSFUL if lease.to is None else NOT_ACCEPTED
+            self._answer(held, failed(request, refusal))
+            return
+        lease.state, lease.to = granted_form(state), None
+        body = struct.pack("<HHL16sLQ", 36, 0, 0, key[1], lease.state, 0)
+        self._answer(held, Reply(ReplyKind.ACK_DONE, body.hex()))
+        if lease.none_next and lease.state:
+            self._send_break(key, lease, 0)
+        lease.none_next = False
+
+    def _close(self, one: Open, dropped: bool = False) -> None:
+        self.tables.opens.remove(one)
+        if one.key and all(it.key != one.key for it in self.tables.opens):
+            lease = self.tables.leases.pop(one.key)
+            if dropped:
+                self.tables.given_back[one.key] = lease.state
+
+    def _passes(self) -> None:
+        answered = True
+        while answered:
+            answered = False
+            waiting = sorted(self.tables.held, key=lambda it: (it.file, it.place))
+            if Departure.BY_ARRIVAL in self._departures:
+                waiting.sort(key=lambda it: it.place)
+            if Departure.LAST_FIRST in self._departures:
+                waiting.reverse()
+            for held in waiting:
+                if held in self.tables.held and not self._is_behind(held) and self._tried(held):
+                    self.tables.held.remove(held)
+                    answered = True
+
+    def _answer(self, held: Held, reply: Reply, effect: Optional[Effect] = None) -> None:
+        kind = ArrivalKind.END if isinstance(held.request, (Acknowledgment, Close)) else ArrivalKind.ANSWER
+        self._outs.append((Arrival(held.client, kind, held.place, reply.text, effect), reply))

@@ -1,0 +1,98 @@
+"""Clients that break their rules: filters between the driver and the lines of the proved machines."""
+from __future__ import annotations
+
+import struct
+from typing import Dict, List, Set, Tuple
+
+from drive.machine import Speaker
+
+
+class Filter:
+    """Passes all on; a broken client changes the lines of some answers."""
+
+    def __init__(self, machine: Speaker) -> None:
+        self._machine = machine
+
+    def say(self, line: str) -> List[str]:
+        return self.changed(line.split(" "), self._machine.say(line))
+
+    def close(self) -> None:
+        self._machine.close()
+
+    def changed(self, words: List[str], lines: List[str]) -> List[str]:
+        return lines
+
+
+class IgnoresBreaks(Filter):
+    """Its machine never hears of a break, and nobody acknowledges it."""
+
+    def say(self, line: str) -> List[str]:
+        return ["answer quiet"] if line.split(" ")[2:3] == ["break"] else super().say(line)
+
+
+class GoesOnBehindItsAcknowledgment(Filter):
+    """It acknowledges a break, and goes on by the lease that it had."""
+
+    def say(self, line: str) -> List[str]:
+        words = line.split(" ")
+        if words[2:3] != ["break"]:
+            return super().say(line)
+        notice = bytes.fromhex(words[3])
+        state, = struct.unpack_from("<L", notice, 28)
+        return [f"request ack {struct.pack('<HHL16sLQ', 36, 0, 0, notice[8:24], state, 0).hex()}", "answer quiet"]
+
+
+class AcknowledgesFirst(Filter):
+    """It acknowledges a break before the writes that it had buffered."""
+
+    def changed(self, words: List[str], lines: List[str]) -> List[str]:
+        return sorted(lines, key=lambda line: 0 if line.startswith("request ack") else 1)
+
+
+class TellsDoneOnSending(Filter):
+    """It tells a write as done when it sends it."""
+
+    def __init__(self, machine: Speaker) -> None:
+        super().__init__(machine)
+        self._told: Set[Tuple[str, str]] = set()
+
+    def changed(self, words: List[str], lines: List[str]) -> List[str]:
+        kept = [line for line in lines if not (line.startswith("settled ") and self._is_told(line))]
+        sent = [(words[1], line.split(" ")[3]) for line in lines if line.startswith("request write ")]
+        self._told.update(sent)
+        done = [f"settled {client} {number} done" for client, number in sent]
+        return [*kept[:-1], *done, kept[-1]]
+
+    def _is_told(self, line: str) -> bool:
+        _, client, number, _ = line.split(" ")
+        return (client, number) in self._told
+
+
+class KeepsItsBase(Filter):
+    """It answers a read from the file as it once knew it, also behind the loss of its lease or connection, where it may
+    read by a lease again."""
+
+    def __init__(self, machine: Speaker) -> None:
+        super().__init__(machine)
+        self._bases: Dict[Tuple[str, str], str] = {}
+        self._believes: Dict[Tuple[str, str], str] = {}
+        self._reading: List[Tuple[str, str]] = []
+
+    def say(self, line: str) -> List[str]:
+        words = line.split(" ")
+        file = (words[1], words[2]) if len(words) > 2 else ("", "")
+        if words[0] == "read" and file in self._bases and "R" in self._believes.get(file, ""):
+            base = self._bases[file]
+            return [f"cachedread {file[0]} {file[1]} {base}", f"answer bytes {base} cached"]
+        if words[0] == "read":
+            self._reading.append(file)
+        return super().say(line)
+
+    def changed(self, words: List[str], lines: List[str]) -> List[str]:
+        for line in lines:
+            told = line.split(" ")
+            if told[0] == "believes":
+                self._believes[told[1], told[2]] = told[3]
+            if told[:2] == ["answer", "bytes"] and words[0] == "take":
+                self._bases[self._reading.pop(0)] = told[2]
+        return lines
