@@ -24,6 +24,7 @@ class Temper:
     they open files for."""
 
     takes: Tuple[float, ...]
+    closes: float
     cuts: float
     timers: float
     durable: float
@@ -35,7 +36,8 @@ class Temper:
 def temper(chance: random.Random) -> Temper:
     return Temper(
         takes=tuple(chance.choice((0.5, 2.0, 6.0)) for _ in range(MOST_CLIENTS)),
-        cuts=chance.choice((0.0, 0.5, 1.5)),
+        closes=chance.choice((0.3, 1.0, 3.0)),
+        cuts=chance.choice((0.0, 0.7, 2.5)),
         timers=chance.choice((0.0, 1.0, 3.0)),
         durable=chance.choice((0.0, 0.5, 0.9)),
         wants=chance.choice((("RWH",), ("RWH", "RH"), ("RWH", "RH", "R", "none"), ("RWH", "RW", "RH", "R", "none"))),
@@ -83,14 +85,14 @@ class Chooser:
         likes = self._temper
         scavenge = 0.4 * likes.timers if peer.kept else 0.0
         if peer.link is Link.DOWN:
-            return {EventKind.CONNECT: 2, EventKind.SCAVENGE: scavenge}
+            return {EventKind.CONNECT: 4, EventKind.SCAVENGE: scavenge}
         if peer.link is Link.CUT:
-            return {EventKind.NOTICE: 1, EventKind.SCAVENGE: scavenge, EventKind.READ: 0.2}
+            return {EventKind.NOTICE: 3, EventKind.SCAVENGE: scavenge, EventKind.READ: 0.2}
         busy = 1.0 if peer.files else 0.1
         return {
             EventKind.SERVE: 6 if peer.requests else 0, EventKind.TAKE: likes.takes[client - 1] if peer.replies else 0,
             EventKind.OPEN: 0.7 if peer.files else 3, EventKind.WRITE: 2 * busy, EventKind.READ: 2 * busy,
-            EventKind.CLOSE: 0.7 * busy, EventKind.FLUSH: 0.4 * busy, EventKind.CUT: 0.4 * likes.cuts * busy,
+            EventKind.CLOSE: 0.7 * likes.closes * busy, EventKind.FLUSH: 0.4 * busy, EventKind.CUT: 0.4 * likes.cuts * busy,
             EventKind.EXPIRE: likes.timers if peer.breaking else 0, EventKind.SCAVENGE: scavenge,
         }
 
