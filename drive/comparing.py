@@ -9,7 +9,7 @@ from typing import FrozenSet, List, Optional, Sequence
 from drive.arguments import NOT_DRIVEN, SAFE, ended, runner_of, server_arguments
 from drive.faults import DriveFault, Usage
 from drive.model import Departure
-from drive.modelled import NONE, explained, facts_of, is_told
+from drive.modelled import NONE, explained, facts_of
 from drive.program import replayed
 from drive.running import schedule_in
 from drive.schedules import Schedule
@@ -43,7 +43,7 @@ class Likeness:
 def likeness_of(program: str, schedule: Schedule, facts: List[str]) -> Likeness:
     if facts == replayed(program, schedule.text()):
         return Likeness(NONE)
-    return Likeness(explained(program, schedule, facts) if is_told(schedule) else None)
+    return Likeness(explained(program, schedule, facts))
 
 
 def parser() -> argparse.ArgumentParser:
@@ -74,7 +74,7 @@ def main(arguments: argparse.Namespace) -> int:
     if likeness.departures == NONE:
         print("same")
         return SAFE
-    profile = facts_of(arguments.leasecheck, schedule) if is_told(schedule) else replayed(arguments.leasecheck, schedule.text())
+    profile = facts_of(arguments.leasecheck, schedule)
     for line in difflib.ndiff(profile, facts):
         if line[:2] in ("- ", "+ "):
             print(line)

@@ -8,7 +8,7 @@ from drive.machine import ClientProcess, Machines
 from drive.messages import Request
 from drive.model import Departure, Model
 from drive.peers import Link, Peer
-from drive.schedules import Event, EventKind, Schedule
+from drive.schedules import Event, Schedule
 from drive.world import World
 
 NONE: FrozenSet[Departure] = frozenset()
@@ -74,11 +74,6 @@ def facts_of(program: str, schedule: Schedule, departures: FrozenSet[Departure] 
         return world.record.facts()
     finally:
         machines.close()
-
-
-def is_told(schedule: Schedule) -> bool:
-    """Whether the model knows all that happens in a schedule: raw requests it doesn't."""
-    return all(event.kind is not EventKind.RAW for event in schedule.events)
 
 
 def alike(one: List[str], other: List[str]) -> int:
