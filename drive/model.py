@@ -34,7 +34,9 @@ class Departure(Enum):
     KEPT_ALONE = "an open is kept at a cut only where no other client has the file open"
     OWN_DROPPED = "a new open drops its own key's disconnected open"
     REFUSED_BESIDE = "a reconnect is refused beside another open"
-    BREAKING_KEPT = "a disconnected open whose lease is breaking is kept, and holds creates"
+    BREAKING_KEPT = "an open whose lease is breaking is kept at a cut too"
+    KEPT_HOLDS = "such an open goes on holding a create that conflicts with it"
+    TIMERS_TOGETHER = "the break timers of a connection run out together"
     BREAKS_ALL = "a create that conflicts breaks the handle caching of all keys"
 
 
@@ -71,7 +73,7 @@ class Held:
 class Tables:
     opens: List[Open] = field(default_factory=list)
     leases: Dict[Key, Lease] = field(default_factory=dict)
-    given_back: Dict[Key, int] = field(default_factory=dict)
+    given_back: Dict[Key, Lease] = field(default_factory=dict)
     held: List[Held] = field(default_factory=list)
     expired: Set[Key] = field(default_factory=set)
     connected: Set[int] = field(default_factory=set)
@@ -122,7 +124,12 @@ class Model:
                 self._close(one)
         self._passes()
 
-    def expire(self, key: Key) -> None:
+    def expire(self, keys: List[Key]) -> None:
+        for key in keys:
+            self._expire(key)
+        self._passes()
+
+    def _expire(self, key: Key) -> None:
         lease = self.tables.leases[key]
         if Departure.OPENS_STAY in self._departures:
             lease.state, lease.to, lease.none_next = 0, None, False
@@ -130,7 +137,12 @@ class Model:
             for one in [it for it in self.tables.opens if it.key == key]:
                 self._close(one)
             self.tables.expired.add(key)
-        self._passes()
+
+    def expired_with(self, key: Key) -> List[Key]:
+        """The keys whose breaks run out when the one of this key does."""
+        if Departure.TIMERS_TOGETHER not in self._departures:
+            return [key]
+        return sorted(it for it in self.tables.leases if it[0] == key[0] and self.is_breaking(it))
 
     def scavenge(self, client: int, file: int) -> bool:
         kept = self.kept(client, file)
@@ -233,7 +245,7 @@ class Model:
         if lease and lease.file != held.file:
             self._answer(held, failed(request, INVALID))
             return True
-        self._drop_disconnected(held.file, key)
+        self._drop_disconnected(held, request, key)
         if Departure.CREATES_WAIT in self._departures and any(
                 self.is_breaking(it) for it in self._other_keys(held.file, key)):
             return False
@@ -251,9 +263,7 @@ class Model:
 
     def _wanted(self, request: Create, key: Optional[Key]) -> Optional[Dict[Key, int]]:
         """The keys that a create wants lowered, and what is taken of each; none where it is refused."""
-        access, share = ACCESSES[request.access], ACCESSES[request.share]
-        opens = [it for it in self.tables.opens if it.file == request.file]
-        conflicts = [it for it in opens if it.access & ~share or access & ~it.share]
+        conflicts = self._conflicts(request)
         others = self._other_keys(request.file, key)
         if not conflicts:
             return {it: self.tables.leases[it].state & ~W for it in others if self.tables.leases[it].state & W}
@@ -269,12 +279,17 @@ class Model:
 
     # what a request does
 
-    def _drop_disconnected(self, file: int, key: Optional[Key]) -> None:
-        for one in [it for it in self.tables.opens if it.file == file and not it.connected and it.key]:
-            own = one.key == key
-            if Departure.OWN_DROPPED in self._departures and own or Departure.OPEN_DROPS in self._departures and not own:
-                if Departure.BREAKING_KEPT not in self._departures or not self.is_breaking(one.key or (0, b"")):
-                    self._close(one, dropped=True)
+    def _drop_disconnected(self, held: Held, request: Create, key: Optional[Key]) -> None:
+        waits = held in self.tables.held and Departure.KEPT_HOLDS in self._departures and bool(self._conflicts(request))
+        for one in [it for it in self.tables.opens if it.file == held.file and not it.connected and it.key]:
+            departure = Departure.OWN_DROPPED if one.key == key else Departure.OPEN_DROPS
+            if departure in self._departures and not (waits and one.key and self.is_breaking(one.key)):
+                self._close(one, dropped=True)
+
+    def _conflicts(self, request: Create) -> List[Open]:
+        access, share = ACCESSES[request.access], ACCESSES[request.share]
+        return [it for it in self.tables.opens
+                if it.file == request.file and (it.access & ~share or access & ~it.share)]
 
     def _broken(self, wanted: Dict[Key, int], to_none: bool = False) -> List[Key]:
         """Breaks these keys to these states; answers those that are breaking then."""
@@ -312,8 +327,8 @@ class Model:
         lease = self.tables.leases.get(key)
         if lease is None:
             lease = self.tables.leases[key] = Lease(held.file, offered)
-            if Departure.GIVEN_BACK in self._departures and back is not None and offered & ~back == 0:
-                lease.state = back
+            if Departure.GIVEN_BACK in self._departures and back is not None and offered & ~back.state == 0:
+                lease.state, lease.to = back.state, back.to
         elif lease.to is None and lease.state & ~want == 0:
             if Departure.RISES_WHOLE not in self._departures or offered == want:
                 lease.state = offered
@@ -352,7 +367,7 @@ class Model:
         if one.key and all(it.key != one.key for it in self.tables.opens):
             lease = self.tables.leases.pop(one.key)
             if dropped:
-                self.tables.given_back[one.key] = lease.state
+                self.tables.given_back[one.key] = lease
 
     def _passes(self) -> None:
         answered = True

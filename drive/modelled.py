@@ -39,11 +39,14 @@ class ModelWorld(World):
         return True
 
     def _expire(self, event: Event, peer: Peer) -> bool:
-        file = int(event.words[0])
-        if not self._model.is_breaking((event.client, peer.key_of(file))):
+        key = (event.client, peer.key_of(int(event.words[0])))
+        if not self._model.is_breaking(key):
             return False
-        self.record.fact(f"expired {event.client} {file}")
-        self._model.expire((event.client, peer.key_of(file)))
+        keys = self._model.expired_with(key)
+        for file in self.contents:
+            if (event.client, peer.key_of(file)) in keys:
+                self.record.fact(f"expired {event.client} {file}")
+        self._model.expire(keys)
         self._settle()
         return True
 
@@ -102,7 +105,8 @@ def explained(program: str, schedule: Schedule, facts: List[str]) -> Optional[Fr
 
 def _from_all(program: str, schedule: Schedule, facts: List[str]) -> Optional[FrozenSet[Departure]]:
     every = frozenset(Departure)
-    for chosen in (every, every - {Departure.LAST_FIRST}):
+    racy = frozenset((Departure.LAST_FIRST, Departure.BY_ARRIVAL, Departure.KEPT_HOLDS))
+    for chosen in (every - racy, *(every - racy | {it} for it in racy), every):
         if facts_of(program, schedule, chosen) == facts:
             return _needed(program, schedule, facts, chosen)
     return None
