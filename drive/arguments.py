@@ -10,8 +10,8 @@ from typing import Callable, Optional, Sequence
 from drive.connections import Place
 from drive.faults import DriveFault, Usage
 from drive.program import OWN
-from drive.runs import Runner, private_server
-from drive.servers import NamedServer, Server
+from drive.runs import Runner
+from drive.servers import NamedServer, PrivateServer, Server
 
 SAFE, NOT_DRIVEN, REFUSED, UNSAFE = 0, 1, 2, 3
 
@@ -23,6 +23,7 @@ def server_arguments(parser: argparse.ArgumentParser) -> None:
     parser.add_argument("--user", metavar="USER%PASSWORD", help="who asks it")
     parser.add_argument("--break-time", metavar="SECONDS", type=float, default=40.0,
                         help="how long `expire` waits for a break timer of a server that was named (40)")
+    parser.add_argument("--smbd-log", metavar="FILE", help="keep the log of the private smbd there, at level 10")
     parser.add_argument("--leasecheck", metavar="PATH", default=OWN, help="the program leasecheck")
     parser.add_argument("--skip", action="store_true", help="leave out events that can't be driven")
     parser.add_argument("--verbose", action="store_true", help="tell on standard error what each event did")
@@ -36,7 +37,9 @@ def _server_maker(arguments: argparse.Namespace) -> Callable[[], Server]:
     if arguments.smbd == bool(arguments.server):
         raise Usage("one of --smbd and --server is needed")
     if arguments.smbd:
-        return private_server
+        return lambda: PrivateServer(arguments.smbd_log)
+    if arguments.smbd_log:
+        raise Usage("--smbd-log is of a private smbd")
     place = _place(arguments.server, arguments.share, arguments.user)
     return lambda: NamedServer(place, arguments.break_time)
 

@@ -20,9 +20,10 @@ BLIND_WEIGHTS: Dict[EventKind, float] = {
 
 @dataclass(frozen=True)
 class Temper:
-    """What a schedule likes to do: how often its rarer events come, how soon clients take what was sent to them, and what
-    they open files for."""
+    """What a schedule likes to do: how often its rarer events come, how soon each client opens files and takes what was sent
+    to it, and what files are opened for."""
 
+    opens: Tuple[float, ...]
     takes: Tuple[float, ...]
     closes: float
     cuts: float
@@ -35,6 +36,7 @@ class Temper:
 
 def temper(chance: random.Random) -> Temper:
     return Temper(
+        opens=tuple(chance.choice((0.2, 1.0, 3.0)) for _ in range(MOST_CLIENTS)),
         takes=tuple(chance.choice((0.5, 2.0, 6.0)) for _ in range(MOST_CLIENTS)),
         closes=chance.choice((0.3, 1.0, 3.0)),
         cuts=chance.choice((0.0, 0.7, 2.5)),
@@ -91,7 +93,7 @@ class Chooser:
         busy = 1.0 if peer.files else 0.1
         return {
             EventKind.SERVE: 6 if peer.requests else 0, EventKind.TAKE: likes.takes[client - 1] if peer.replies else 0,
-            EventKind.OPEN: 0.7 if peer.files else 3, EventKind.WRITE: 2 * busy, EventKind.READ: 2 * busy,
+            EventKind.OPEN: 0.7 if peer.files else likes.opens[client - 1], EventKind.WRITE: 2 * busy, EventKind.READ: 2 * busy,
             EventKind.CLOSE: 0.7 * likes.closes * busy, EventKind.FLUSH: 0.4 * busy, EventKind.CUT: 0.4 * likes.cuts * busy,
             EventKind.EXPIRE: likes.timers if peer.breaking else 0, EventKind.SCAVENGE: scavenge,
         }

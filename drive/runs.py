@@ -13,7 +13,7 @@ from drive.machine import ClientProcess, Machines, Speaker
 from drive.program import Verdict, judged, replayed
 from drive.records import Order, Record
 from drive.schedules import Event, EventKind, Schedule
-from drive.servers import NamedServer, PrivateServer, Server
+from drive.servers import NamedServer, Server
 
 LOG = logging.getLogger("drive")
 # What a test puts between the driver and the machines.
@@ -106,7 +106,3 @@ class Runner:
         guids = [str(uuid.UUID(bytes=it)) for it in schedule.clients]
         speaker: Speaker = ClientProcess(self.program, len(schedule.files), guids)
         return Machines(self.filtered(speaker) if self.filtered else speaker)
-
-
-def private_server() -> Server:
-    return PrivateServer()

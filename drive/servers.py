@@ -40,7 +40,8 @@ CONFIGURATION = """[global]
   binddns dir = {folder}/binddns
   passdb backend = smbpasswd:{folder}/private/smbpasswd
   log file = {folder}/log
-  log level = 1
+  log level = {level}
+  max log size = 0
   load printers = no
   disable spoolss = yes
   printing = bsd
@@ -136,10 +137,12 @@ class NamedServer:
 class PrivateServer:
     """An smbd of one's own on loopback, in a folder of its own, with clocks that can be put forward."""
 
-    def __init__(self) -> None:
+    def __init__(self, log: Optional[str] = None) -> None:
+        """`log` is a file that gets smbd's log, at level 10, when it is ended."""
         if os.geteuid() != 0 or not os.path.exists(SMBD):
             raise DriveFault("a private smbd needs root and /usr/sbin/smbd (drive/setup installs it)")
         clock = library()
+        self._log = log
         self._folder = tempfile.mkdtemp(prefix="leasecheck-drive-")
         self._port = free_port()
         self._write_folder()
@@ -155,10 +158,6 @@ class PrivateServer:
     @property
     def place(self) -> Place:
         return Place("127.0.0.1", self._port, SHARE, "root", PASSWORD)
-
-    @property
-    def folder(self) -> str:
-        return self._folder
 
     def name_of(self, file: int) -> str:
         return f"file-{file}"
@@ -204,10 +203,6 @@ class PrivateServer:
         with open(opened, "rb") as stream:
             return stream.read()
 
-    def log(self) -> str:
-        with open(f"{self._folder}/log", encoding="utf-8", errors="replace") as text:
-            return text.read()
-
     def close(self) -> None:
         # The group is the one that was made for this smbd.
         for sign in (signal.SIGTERM, signal.SIGKILL):
@@ -220,13 +215,19 @@ class PrivateServer:
             except subprocess.TimeoutExpired:
                 continue
         self._clocks.close()
-        shutil.rmtree(self._folder, ignore_errors=True)
+        try:
+            if self._log:
+                shutil.copyfile(f"{self._folder}/log", self._log)
+        except OSError as fault:
+            raise DriveFault(f"{self._log}: {fault.strerror}") from None
+        finally:
+            shutil.rmtree(self._folder, ignore_errors=True)
 
     def _write_folder(self) -> None:
         for name in FOLDERS:
             os.mkdir(f"{self._folder}/{name}", 0o755)
         with open(f"{self._folder}/smb.conf", "w", encoding="utf-8") as text:
-            text.write(CONFIGURATION.format(folder=self._folder, port=self._port))
+            text.write(CONFIGURATION.format(folder=self._folder, port=self._port, level=10 if self._log else 1))
         with open(f"{self._folder}/private/smbpasswd", "w", encoding="utf-8") as text:
             text.write(f"root:0:{32 * 'X'}:{password_hash(PASSWORD)}:[U          ]:LCT-00000001:\n")
 

@@ -7,12 +7,14 @@ from typing import Dict, List, Optional, Tuple
 
 from drive.connections import NOTIFICATION_ID, PATIENCE, STATUS_PENDING, FileId, Message, reply_of
 from drive.faults import DriveFault
-from drive.messages import Acknowledgment, Close, Create, Reply, ReplyKind, Request, Write
+from drive.messages import Acknowledgment, Close, Create, Read, Reply, ReplyKind, Request, Write
 from drive.peers import Peer, Sent
 from drive.records import Arrival, ArrivalKind, Changed, Effect, Opened
 
 QUIET_ROUNDS = 3
 BETWEEN_ROUNDS = 0.004
+# How long a read or a write may be pending, while it is done and not held.
+DOING = 0.3
 ACK_REQUIRED = 1
 
 
@@ -35,7 +37,8 @@ class Wire:
     def settled(self) -> List[Arrival]:
         """Rounds of ECHO over every connection until some bring nothing new; answers what came, as it came."""
         quiet = 0
-        while quiet < QUIET_ROUNDS:
+        until = time.monotonic() + DOING
+        while quiet < QUIET_ROUNDS or (self._is_doing() and time.monotonic() < until):
             if quiet:
                 time.sleep(BETWEEN_ROUNDS)
             before = len(self._arrived)
@@ -48,6 +51,12 @@ class Wire:
         arrivals = [self._arrival(client, message) for client, message in self._arrived]
         self._arrived.clear()
         return arrivals
+
+    def _is_doing(self) -> bool:
+        """Whether the request that was sent last is a read or a write without an answer."""
+        answered = {(client, message.number) for client, message in self._arrived}
+        return any(sent.place == self._sent and isinstance(sent.request, (Read, Write)) and (client, number) not in answered
+                   for client, peer in self._peers.items() for number, sent in peer.unanswered.items())
 
     def _wait_for(self, client: int, number: int) -> None:
         connection = self._peers[client].connection
