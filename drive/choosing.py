@@ -5,9 +5,9 @@ import random
 from dataclasses import dataclass
 from typing import Callable, Dict, List, Tuple
 
-from drive.driver import Driver
 from drive.peers import Link, Peer
 from drive.schedules import Event, EventKind, Schedule
+from drive.world import World
 
 FILE = b"abc"
 MOST_CLIENTS = 3
@@ -72,29 +72,36 @@ class Chooser:
         kind = self._chance.choices(list(weights), list(weights.values()))[0]
         return self._event(kind, self._chance.randint(1, self.clients))
 
-    def guided(self, driver: Driver) -> Event:
+    def guided(self, world: World) -> Event:
         """An event that applies as things stand, or may."""
         events: List[Tuple[EventKind, int]] = []
         weights: List[float] = []
-        for client, peer in driver.peers.items():
-            for kind, weight in self._possible(client, peer).items():
+        for client, peer in world.peers.items():
+            others = [it for number, it in world.peers.items() if number != client]
+            for kind, weight in self._possible(client, peer, others).items():
                 if weight:
                     events.append((kind, client))
                     weights.append(weight)
         return self._event(*self._chance.choices(events, weights)[0])
 
-    def _possible(self, client: int, peer: Peer) -> Dict[EventKind, float]:
+    def _possible(self, client: int, peer: Peer, others: List[Peer]) -> Dict[EventKind, float]:
+        """What a client may do, with its weight. A server has most to decide where a client that is alone with a file loses
+        its connection, and where another one opens what it left."""
         likes = self._temper
-        scavenge = 0.4 * likes.timers if peer.kept else 0.0
+        scavenge = 0.3 * likes.timers if peer.kept else 0.0
         if peer.link is Link.DOWN:
             return {EventKind.CONNECT: 4, EventKind.SCAVENGE: scavenge}
         if peer.link is Link.CUT:
             return {EventKind.NOTICE: 3, EventKind.SCAVENGE: scavenge, EventKind.READ: 0.2}
         busy = 1.0 if peer.files else 0.1
+        alone = bool(peer.files) and not any(it.files for it in others)
+        left = any(it.kept for it in others)
+        opens = 0.7 if peer.files else likes.opens[client - 1] * (3 if left else 1)
         return {
             EventKind.SERVE: 6 if peer.requests else 0, EventKind.TAKE: likes.takes[client - 1] if peer.replies else 0,
-            EventKind.OPEN: 0.7 if peer.files else likes.opens[client - 1], EventKind.WRITE: 2 * busy, EventKind.READ: 2 * busy,
-            EventKind.CLOSE: 0.7 * likes.closes * busy, EventKind.FLUSH: 0.4 * busy, EventKind.CUT: 0.4 * likes.cuts * busy,
+            EventKind.OPEN: opens, EventKind.WRITE: 1.5 * busy, EventKind.READ: 1.5 * busy,
+            EventKind.CLOSE: 0.7 * likes.closes * busy, EventKind.FLUSH: 0.4 * busy,
+            EventKind.CUT: likes.cuts * (1.0 if alone and not left else 0.1 * busy),
             EventKind.EXPIRE: likes.timers if peer.breaking else 0, EventKind.SCAVENGE: scavenge,
         }
 

@@ -53,6 +53,7 @@ class Peer:
     def is_opened(self, file: int, file_id: FileId) -> None:
         self.file_ids[file_id.persistent] = file_id
         self.files[file_id.persistent] = file
+        self.kept.discard(file)
 
     def is_closed(self, file_id: int) -> None:
         file = self.files.pop(file_id, None)
