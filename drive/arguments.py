@@ -3,6 +3,7 @@ from __future__ import annotations
 
 import argparse
 import logging
+import os
 import signal
 import sys
 from typing import Callable, Optional, Sequence
@@ -61,14 +62,19 @@ def ended(parser: argparse.ArgumentParser, main: Callable[[argparse.Namespace], 
     # A private server is ended too where the tool is.
     signal.signal(signal.SIGTERM, lambda number, frame: sys.exit(NOT_DRIVEN))
     try:
-        return main(arguments)
+        status = main(arguments)
+        sys.stdout.flush()
+        return status
     except Usage as fault:
         print(f"{parser.prog}: {fault}", file=sys.stderr)
         return REFUSED
     except DriveFault as fault:
         print(f"{parser.prog}: {fault}", file=sys.stderr)
         return NOT_DRIVEN
-    except BrokenPipeError:
+    except OSError as fault:
+        # Standard output doesn't take it; nor shall the interpreter try again at its end.
+        os.dup2(os.open(os.devnull, os.O_WRONLY), sys.stdout.fileno())
+        print(f"{parser.prog}: output: {fault.strerror}", file=sys.stderr)
         return NOT_DRIVEN
     except KeyboardInterrupt:
         return NOT_DRIVEN

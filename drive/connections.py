@@ -2,6 +2,7 @@
 from __future__ import annotations
 
 import select
+import struct
 import time
 from dataclasses import dataclass
 from typing import Optional, Tuple
@@ -20,6 +21,8 @@ NOTIFICATION_ID = 0xFFFFFFFFFFFFFFFF
 OPLOCK_LEVEL_LEASE = 0xFF
 LIMIT = 1048576
 CREDIT_BYTES = 65536
+# What impacket raises where a connection is lost, is refused, or brings what it can't read.
+FAULTS = (SessionError, nmb.NetBIOSError, nmb.NetBIOSTimeout, OSError, struct.error, LookupError, ValueError, TypeError)
 # A server may stand still for some seconds (smbd does while it retries a lock).
 PATIENCE = 25.0
 ACCESS = {"r": 0x120089, "w": 0x120116, "rw": 0x12019F}
@@ -79,7 +82,7 @@ class Connection:
             self._smb = _Protocol(place, guid)
             self._smb.login(place.user, place.password)
             self._tree = self._smb.connectTree(place.share)
-        except (SessionError, nmb.NetBIOSError, nmb.NetBIOSTimeout, OSError) as fault:
+        except FAULTS as fault:
             raise DriveFault(f"no connection to {place.host}:{place.port}: {fault}") from None
         if self._smb.getDialect() != smb2.SMB2_DIALECT_21:
             raise DriveFault("the server doesn't speak dialect 2.1")
@@ -108,9 +111,9 @@ class Connection:
             if not select.select([socket], [], [], max(0.0, until - time.monotonic()))[0]:
                 return None
             packet = smb2.SMB2Packet(self._smb._NetBIOSSession.recv_packet(PATIENCE).get_trailer())
-        except (nmb.NetBIOSError, nmb.NetBIOSTimeout, OSError):
-            raise DriveFault("the server closed a connection") from None
-        return Message(packet["MessageID"], packet["Status"], bytes(packet["Data"]))
+            return Message(packet["MessageID"], packet["Status"], bytes(packet["Data"]))
+        except FAULTS as fault:
+            raise DriveFault(f"a connection is lost: {fault}") from None
 
     def make_file(self, name: str, data: bytes) -> None:
         try:
@@ -119,7 +122,7 @@ class Connection:
                 part = data[offset:offset + CREDIT_BYTES]
                 self._smb.write(self._tree, file, part, offset, len(part))
             self._smb.close(self._tree, file)
-        except SessionError as fault:
+        except FAULTS as fault:
             raise DriveFault(f"file {name} can't be made: {fault}") from None
 
     def remove_file(self, name: str) -> None:
@@ -127,7 +130,7 @@ class Connection:
         try:
             file = self._smb.create(self._tree, name, smb2.DELETE, SHARES["rw"] | 4, options, smb2.FILE_OPEN, 0)
             self._smb.close(self._tree, file)
-        except SessionError as fault:
+        except FAULTS as fault:
             raise DriveFault(f"file {name} can't be removed: {fault}") from None
 
     def close(self) -> None:
@@ -141,8 +144,8 @@ class Connection:
         packet["Data"] = data
         try:
             number = self._smb.sendSMB(packet)
-        except OSError:
-            raise DriveFault("the server closed a connection") from None
+        except FAULTS as fault:
+            raise DriveFault(f"a connection is lost: {fault}") from None
         # A request of several credits takes as many numbers (3.2.4.1.5); impacket counts them at the answer.
         self._smb._Connection["SequenceWindow"] += packet["CreditCharge"] - 1
         return number
@@ -192,6 +195,13 @@ def _write(request: Write, file_id: FileId) -> smb2.SMB2Write:
 
 def reply_of(request: Request, message: Message) -> Tuple[Reply, Optional[FileId]]:
     """What a message answers to its request, and the FileId of an open that was made."""
+    try:
+        return _reply_of(request, message)
+    except (struct.error, LookupError, ValueError, TypeError) as fault:
+        raise DriveFault(f"an answer can't be read: {fault}") from None
+
+
+def _reply_of(request: Request, message: Message) -> Tuple[Reply, Optional[FileId]]:
     if message.status != STATUS_SUCCESS:
         if isinstance(request, Read) and message.status == STATUS_END_OF_FILE:
             return Reply(ReplyKind.READ_DONE, f"{request.file_id} -"), None

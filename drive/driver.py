@@ -1,6 +1,7 @@
 """Drives a real server through the events of a schedule, and writes down what happened."""
 from __future__ import annotations
 
+import logging
 import struct
 from typing import List
 
@@ -15,6 +16,7 @@ from drive.servers import Server
 from drive.wire import Wire
 from drive.world import World
 
+LOG = logging.getLogger("drive")
 FILE_LIMIT = 1048576
 
 
@@ -127,7 +129,11 @@ def files_made(schedule: Schedule, server: Server) -> None:
 
 
 def files_removed(schedule: Schedule, server: Server) -> None:
-    connection = Connection(server.place, bytes(16))
-    for file in range(1, len(schedule.files) + 1):
-        connection.remove_file(server.name_of(file))
-    connection.close()
+    """Removes them again. What can't be removed is told, and left."""
+    try:
+        connection = Connection(server.place, bytes(16))
+        for file in range(1, len(schedule.files) + 1):
+            connection.remove_file(server.name_of(file))
+        connection.close()
+    except DriveFault as fault:
+        LOG.warning("files are left in the share: %s", fault)

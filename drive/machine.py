@@ -1,6 +1,7 @@
 """The proved client machines, in a process of `leasecheck client` that is told a line and answers some."""
 from __future__ import annotations
 
+import logging
 import subprocess
 from dataclasses import dataclass
 from typing import IO, List, Protocol, Sequence, Tuple
@@ -8,6 +9,7 @@ from typing import IO, List, Protocol, Sequence, Tuple
 from drive.faults import DriveFault
 from drive.messages import Request, read_request
 
+LOG = logging.getLogger("drive")
 
 class Speaker(Protocol):
     """Whoever answers a machine's line with lines, the last of them `answer ..` or `fault ..`."""
@@ -50,7 +52,10 @@ class ClientProcess:
         return lines
 
     def close(self) -> None:
-        self._stream(self._process.stdin).close()
+        try:
+            self._stream(self._process.stdin).close()
+        except OSError:
+            LOG.debug("the client machine had ended already")
         try:
             self._process.wait(timeout=5)
         except subprocess.TimeoutExpired:

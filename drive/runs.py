@@ -3,7 +3,7 @@ from __future__ import annotations
 
 import logging
 import uuid
-from contextlib import contextmanager
+from contextlib import closing, contextmanager
 from dataclasses import dataclass, field
 from typing import Callable, Dict, Iterator, List, Optional
 
@@ -13,7 +13,7 @@ from drive.machine import ClientProcess, Machines, Speaker
 from drive.program import Verdict, judged, replayed
 from drive.records import Order, Record
 from drive.schedules import Event, EventKind, Schedule
-from drive.servers import NamedServer, Server
+from drive.servers import Server
 
 LOG = logging.getLogger("drive")
 # What a test puts between the driver and the machines.
@@ -82,17 +82,13 @@ class Runner:
         server = self.server()
         try:
             files_made(schedule, server)
-            machines = self._machines(schedule)
             try:
-                driver = Driver(schedule, server, machines, self._known_opens(schedule))
-                try:
+                with closing(self._machines(schedule)) as machines, \
+                        closing(Driver(schedule, server, machines, self._known_opens(schedule))) as driver:
                     yield driver
-                finally:
-                    driver.close()
             finally:
-                machines.close()
-            if isinstance(server, NamedServer):
-                files_removed(schedule, server)
+                if server.stays:
+                    files_removed(schedule, server)
         finally:
             server.close()
 

@@ -62,6 +62,9 @@ SETTLED = 0.05
 
 
 class Server(Protocol):
+    # whether it is there behind the run, with the files that were made
+    stays: bool
+
     @property
     def place(self) -> Place:
         ...
@@ -96,6 +99,8 @@ class Server(Protocol):
 
 class NamedServer:
     """A server that somebody named. Its timers are waited for, and its files have names of their own."""
+
+    stays = True
 
     def __init__(self, place: Place, break_time: float) -> None:
         self._place = place
@@ -136,6 +141,8 @@ class NamedServer:
 
 class PrivateServer:
     """An smbd of one's own on loopback, in a folder of its own, with clocks that can be put forward."""
+
+    stays = False
 
     def __init__(self, log: Optional[str] = None) -> None:
         """`log` is a file that gets smbd's log, at level 10, when it is ended."""
