@@ -22,7 +22,8 @@ EPILOG = """FOLDER/table gets a line for each schedule: its number; `blind` (its
 (each by what the run had come to); its events, and how many of them did something; the verdict; `same` where the
 record is the profile's, else the known departures that explain it, or `unexplained` (docs/REAL_SERVERS.md); and for an
 unsafe one `shrunk N`, the events that are left. A schedule that is unsafe or unexplained stands beside the table by its
-number, with its record and what is left of it. A schedule is shrunk where it breaks one rule in both orders of messages.
+number, with its record and what is left of it. It counts as unsafe, and is shrunk, where it breaks one rule in both orders
+of messages; where the rules differ the table says `unsure` and both verdicts.
 One seed gives one table, as far as the server does the same again.
 
 Exit status: 0 all records are safe; 1 a schedule couldn't be driven; 2 the command line is refused; 3 a record is
@@ -115,9 +116,9 @@ def rule_of(outcome: Outcome) -> Optional[int]:
 
 
 def told(outcome: Outcome) -> str:
-    text = outcome.verdict.text
-    other = outcome.verdicts[Order.BREAKS_LAST]
-    return text if outcome.verdict.rule == other.rule else f"{text} ({Order.BREAKS_LAST.value}: {other.text})"
+    text, other = (outcome.verdicts[order].text for order in (Order.BREAKS_FIRST, Order.BREAKS_LAST))
+    alike = outcome.verdicts[Order.BREAKS_LAST].rule == outcome.rule
+    return text if alike else f"unsure: {text}, {Order.BREAKS_LAST.value} {other}"
 
 
 def stays_unsafe(runner: Runner, rule: Optional[int]) -> Callable[[Schedule], bool]:

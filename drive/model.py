@@ -325,13 +325,15 @@ class Model:
         offered = 0 if key in self.tables.expired else want if alone else granted_form(want & ~W)
         back = self.tables.given_back.pop(key, None)
         lease = self.tables.leases.get(key)
+        if lease is None and back is not None and Departure.GIVEN_BACK in self._departures:
+            lease = self.tables.leases[key] = back
+            rises = back.state & ~offered == 0
+        else:
+            rises = Departure.RISES_WHOLE not in self._departures or offered == want
         if lease is None:
             lease = self.tables.leases[key] = Lease(held.file, offered)
-            if Departure.GIVEN_BACK in self._departures and back is not None and offered & ~back.state == 0:
-                lease.state, lease.to = back.state, back.to
-        elif lease.to is None and lease.state & ~want == 0:
-            if Departure.RISES_WHOLE not in self._departures or offered == want:
-                lease.state = offered
+        elif lease.to is None and lease.state & ~want == 0 and rises:
+            lease.state = offered
         return lease
 
     def _reconnect(self, held: Held, request: Create, key: Optional[Key], file_id: int) -> None:
