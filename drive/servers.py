@@ -8,6 +8,7 @@ import socket
 import subprocess
 import tempfile
 import time
+import uuid
 from typing import Dict, List, Optional, Protocol, Set
 
 from drive.clock import Clocks, library
@@ -85,7 +86,7 @@ class Server(Protocol):
         """Has the break timers of a connection run out."""
 
     def end_break_timer(self, process: Optional[int]) -> None:
-        ...
+        """Puts back what that took."""
 
     def pass_durable_timer(self) -> None:
         """Has the timers of disconnected opens run out."""
@@ -105,7 +106,7 @@ class NamedServer:
     def __init__(self, place: Place, break_time: float) -> None:
         self._place = place
         self._break_time = break_time
-        self._prefix = f"leasecheck-{os.getpid():x}-{int(time.time()):x}"
+        self._prefix = f"leasecheck-{uuid.uuid4()}"
 
     @property
     def place(self) -> Place:
