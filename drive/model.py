@@ -268,10 +268,8 @@ class Model:
         if not conflicts:
             return {it: self.tables.leases[it].state & ~W for it in others if self.tables.leases[it].state & W}
         conflicting = {it.key for it in conflicts}
-        wanted = {it: self.tables.leases[it].state & ~H for it in others
-                  if self.tables.leases[it].state & H and it in conflicting}
-        if wanted and Departure.BREAKS_ALL in self._departures:
-            wanted = {it: self.tables.leases[it].state & ~H for it in others if self.tables.leases[it].state & H}
+        wanted = {it: self.tables.leases[it].state & ~H for it in others if self.tables.leases[it].state & H
+                  and (it in conflicting or Departure.BREAKS_ALL in self._departures)}
         return wanted or None
 
     def _other_keys(self, file: int, key: Optional[Key]) -> List[Key]:

@@ -2,6 +2,7 @@
 from __future__ import annotations
 
 import uuid
+from itertools import combinations
 from typing import FrozenSet, List, Optional
 
 from drive.machine import ClientProcess, Machines
@@ -12,6 +13,7 @@ from drive.schedules import Event, Schedule
 from drive.world import World
 
 NONE: FrozenSet[Departure] = frozenset()
+SOMETIMES = (Departure.LAST_FIRST, Departure.BY_ARRIVAL, Departure.KEPT_HOLDS, Departure.KEPT_ALONE)
 
 
 class ModelWorld(World):
@@ -104,11 +106,12 @@ def explained(program: str, schedule: Schedule, facts: List[str]) -> Optional[Fr
 
 
 def _from_all(program: str, schedule: Schedule, facts: List[str]) -> Optional[FrozenSet[Departure]]:
-    every = frozenset(Departure)
-    racy = frozenset((Departure.LAST_FIRST, Departure.BY_ARRIVAL, Departure.KEPT_HOLDS))
-    for chosen in (every - racy, *(every - racy | {it} for it in racy), every):
-        if facts_of(program, schedule, chosen) == facts:
-            return _needed(program, schedule, facts, chosen)
+    """Begins with all departures, but for some of those that smbd doesn't always show."""
+    for count in range(len(SOMETIMES) + 1):
+        for left_out in combinations(SOMETIMES, count):
+            chosen = frozenset(Departure) - frozenset(left_out)
+            if facts_of(program, schedule, chosen) == facts:
+                return _needed(program, schedule, facts, chosen)
     return None
 
 

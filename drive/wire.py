@@ -14,7 +14,7 @@ from drive.records import Arrival, ArrivalKind, Changed, Effect, Opened
 QUIET_ROUNDS = 3
 BETWEEN_ROUNDS = 0.004
 # How long a read or a write may be pending, while it is done and not held.
-DOING = 0.3
+DOING = 1.0
 ACK_REQUIRED = 1
 
 
