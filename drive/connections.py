@@ -2,7 +2,6 @@
 from __future__ import annotations
 
 import select
-import struct
 import time
 from dataclasses import dataclass
 from typing import Optional, Tuple
@@ -21,12 +20,15 @@ NOTIFICATION_ID = 0xFFFFFFFFFFFFFFFF
 OPLOCK_LEVEL_LEASE = 0xFF
 LIMIT = 1048576
 CREDIT_BYTES = 65536
-# What impacket raises where a connection is lost, is refused, or brings what it can't read.
-FAULTS = (SessionError, nmb.NetBIOSError, nmb.NetBIOSTimeout, OSError, struct.error, LookupError, ValueError, TypeError)
 # A server may stand still for some seconds (smbd does while it retries a lock).
 PATIENCE = 25.0
 ACCESS = {"r": 0x120089, "w": 0x120116, "rw": 0x12019F}
 SHARES = {"-": 0, "r": 1, "w": 2, "rw": 3}
+
+
+def told(fault: Exception) -> str:
+    """What a fault says, as far as it fits a line."""
+    return (str(fault).splitlines() or [type(fault).__name__])[0][:120]
 
 
 @dataclass(frozen=True)
@@ -82,8 +84,8 @@ class Connection:
             self._smb = _Protocol(place, guid)
             self._smb.login(place.user, place.password)
             self._tree = self._smb.connectTree(place.share)
-        except FAULTS as fault:
-            raise DriveFault(f"no connection to {place.host}:{place.port}: {fault}") from None
+        except Exception as fault:  # impacket raises bare ones too
+            raise DriveFault(f"no connection to {place.host}:{place.port}: {told(fault)}") from None
         if self._smb.getDialect() != smb2.SMB2_DIALECT_21:
             raise DriveFault("the server doesn't speak dialect 2.1")
 
@@ -112,8 +114,8 @@ class Connection:
                 return None
             packet = smb2.SMB2Packet(self._smb._NetBIOSSession.recv_packet(PATIENCE).get_trailer())
             return Message(packet["MessageID"], packet["Status"], bytes(packet["Data"]))
-        except FAULTS as fault:
-            raise DriveFault(f"a connection is lost: {fault}") from None
+        except Exception as fault:  # impacket raises bare ones too
+            raise DriveFault(f"a connection is lost: {told(fault)}") from None
 
     def make_file(self, name: str, data: bytes) -> None:
         try:
@@ -122,16 +124,16 @@ class Connection:
                 part = data[offset:offset + CREDIT_BYTES]
                 self._smb.write(self._tree, file, part, offset, len(part))
             self._smb.close(self._tree, file)
-        except FAULTS as fault:
-            raise DriveFault(f"file {name} can't be made: {fault}") from None
+        except Exception as fault:  # impacket raises bare ones too
+            raise DriveFault(f"file {name} can't be made: {told(fault)}") from None
 
     def remove_file(self, name: str) -> None:
         options = smb2.FILE_NON_DIRECTORY_FILE | smb2.FILE_DELETE_ON_CLOSE
         try:
             file = self._smb.create(self._tree, name, smb2.DELETE, SHARES["rw"] | 4, options, smb2.FILE_OPEN, 0)
             self._smb.close(self._tree, file)
-        except FAULTS as fault:
-            raise DriveFault(f"file {name} can't be removed: {fault}") from None
+        except Exception as fault:  # impacket raises bare ones too
+            raise DriveFault(f"file {name} can't be removed: {told(fault)}") from None
 
     def close(self) -> None:
         self._smb._NetBIOSSession.close()
@@ -144,8 +146,8 @@ class Connection:
         packet["Data"] = data
         try:
             number = self._smb.sendSMB(packet)
-        except FAULTS as fault:
-            raise DriveFault(f"a connection is lost: {fault}") from None
+        except Exception as fault:  # impacket raises bare ones too
+            raise DriveFault(f"a connection is lost: {told(fault)}") from None
         # A request of several credits takes as many numbers (3.2.4.1.5); impacket counts them at the answer.
         self._smb._Connection["SequenceWindow"] += packet["CreditCharge"] - 1
         return number
@@ -197,8 +199,10 @@ def reply_of(request: Request, message: Message) -> Tuple[Reply, Optional[FileId
     """What a message answers to its request, and the FileId of an open that was made."""
     try:
         return _reply_of(request, message)
-    except (struct.error, LookupError, ValueError, TypeError) as fault:
-        raise DriveFault(f"an answer can't be read: {fault}") from None
+    except DriveFault:
+        raise
+    except Exception as fault:  # impacket raises bare ones too
+        raise DriveFault(f"an answer can't be read: {told(fault)}") from None
 
 
 def _reply_of(request: Request, message: Message) -> Tuple[Reply, Optional[FileId]]:

@@ -16,6 +16,7 @@ BETWEEN_ROUNDS = 0.004
 # How long a read or a write may be pending, while it is done and not held.
 DOING = 1.0
 ACK_REQUIRED = 1
+NOTIFICATION_SIZE = 44
 
 
 class Wire:
@@ -73,7 +74,9 @@ class Wire:
     def _arrival(self, client: int, message: Message) -> Arrival:
         peer = self._peers[client]
         if message.number == NOTIFICATION_ID:
-            notice = Reply(ReplyKind.BREAK, message.data[:44].hex())
+            if len(message.data) < NOTIFICATION_SIZE or message.data[0] != NOTIFICATION_SIZE:
+                raise DriveFault(f"what came to client {client} unasked is no break of a lease")
+            notice = Reply(ReplyKind.BREAK, message.data[:NOTIFICATION_SIZE].hex())
             peer.replies.append(notice)
             self._note_break(peer, message.data)
             return Arrival(client, ArrivalKind.BREAK, client, notice.text)
