@@ -2,6 +2,7 @@
 from __future__ import annotations
 
 import argparse
+import logging
 import os
 import random
 import sys
@@ -18,6 +19,7 @@ from drive.runs import Outcome, Runner
 from drive.schedules import Event, Schedule
 from drive.shrinking import shrunk
 
+LOG = logging.getLogger("drive")
 EPILOG = """FOLDER/table gets a line for each schedule: its number; `blind` (its events were chosen beforehand) or `guided`
 (each by what the run had come to); its events, and how many of them did something; the verdict; `same` where the
 record is the profile's, else the known departures that explain it, or `unexplained` (docs/REAL_SERVERS.md); and for an
@@ -101,7 +103,10 @@ class Explorer:
         """Writes down what is left of an unsafe schedule, and its record; answers how many events those are."""
         least = shrunk(schedule, stays_unsafe(self._runner, rule))
         self._write(f"{number}.shrunk", least.text())
-        self._write(f"{number}.shrunk.record", self._runner.run(least).record.text())
+        try:
+            self._write(f"{number}.shrunk.record", self._runner.run(least).record.text())
+        except DriveFault as fault:
+            LOG.warning("%d has no record of what is left: %s", number, fault)
         return len(least.events)
 
     def _write(self, name: str, text: str) -> None:
