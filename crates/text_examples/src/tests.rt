@@ -1,6 +1,9 @@
 use lease_client::{Command, Settlement};
 use lease_state::{Access, Bytes, ClientNo, FileId, FileNo, LeaseState, Patch, Request, Share};
-use lease_texts::{LineFault, push_event, push_fact, push_setup, read_fact, read_schedule};
+use lease_texts::{
+    Complaint, LineFault, fact_complaint, part_complaint, push_complaint, push_event, push_fact,
+    push_quoted, push_setup, read_fact, read_schedule,
+};
 use lease_world::{Event, Fact};
 use std::alloc::Global;
 use std::test::Fail;
@@ -206,5 +209,58 @@ fn a_run_is_judged(rt: HostRuntime) -> Result<(), Fail> {
     expected.push(Fact::Start(FileNo(1), bytes(alloc, b"abc")?))?;
     expected.push(Fact::Joined(ClientNo(1)))?;
     assert!(&rt; facts == expected);
+    Ok(())
+}
+
+fn said(alloc: Global, complaint: Option<Complaint<'_>>) -> Result<String, Fail> {
+    let mut text = String::new(alloc);
+    if let Some(complaint) = complaint {
+        push_complaint(alloc, &mut text, &complaint)?;
+    }
+    Ok(text)
+}
+
+#[test]
+fn refused_facts_are_complained_of(rt: HostRuntime) -> Result<(), Fail> {
+    let alloc = rt.alloc();
+    let state = said(alloc, fact_complaint(alloc, b"believes 1 1 HR")?)?;
+    let wanted = "field 4: a state, which is none or letters of RWH in that order; it is \"HR\"";
+    assert_eq!(rt; state.as_str(), wanted);
+    let short = said(alloc, fact_complaint(alloc, b"settled 1 7")?)?;
+    let wanted =
+        "field 4: an outcome, which is done, failed, unknown or lost; the line ends before it";
+    assert_eq!(rt; short.as_str(), wanted);
+    let long = said(alloc, fact_complaint(alloc, b"sent 1 ")?)?;
+    assert_eq!(rt;
+        long.as_str(),
+        "field 3: the line's end; the line ends with a space"
+    );
+    assert_eq!(rt;
+        said(alloc, fact_complaint(alloc, b"sent 1")?)?.as_str(),
+        ""
+    );
+    Ok(())
+}
+
+#[test]
+fn refused_parts_are_complained_of(rt: HostRuntime) -> Result<(), Fail> {
+    let alloc = rt.alloc();
+    let word = said(alloc, part_complaint(alloc, b"open 1 1 r r none always")?)?;
+    let wanted = "field 7: the word durable or the line's end; it is \"always\"";
+    assert_eq!(rt; word.as_str(), wanted);
+    let asked = said(alloc, part_complaint(alloc, b"raw 1 ask")?)?;
+    let wanted = "field 3: a request, which is create, read, close, write or ack; it is \"ask\"";
+    assert_eq!(rt; asked.as_str(), wanted);
+    let open = part_complaint(alloc, b"open 1 1 r r none")?;
+    assert_eq!(rt; said(alloc, open)?.as_str(), "");
+    Ok(())
+}
+
+#[test]
+fn bytes_are_quoted(rt: HostRuntime) -> Result<(), Fail> {
+    let alloc = rt.alloc();
+    let mut text = String::new(alloc);
+    push_quoted(alloc, &mut text, b"a\"\\\xff\n")?;
+    assert_eq!(rt; text.as_str(), "\"a\\x22\\x5c\\xff\\x0a\"");
     Ok(())
 }
