@@ -28,9 +28,9 @@ mod tests {
     fn answers(alloc: Global, machines: Machines, lines: &[&str]) -> Result<String, Fail> {
         let mut text = String::new(alloc);
         let mut machines = machines;
-        let mut number = 0;
+        let mut number = 0u64;
         for line in lines {
-            number += 1;
+            number = number.saturating_add(1);
             machines = machines.answer(alloc, number, line.as_bytes(), &mut text)?;
         }
         Ok(text)

@@ -22,6 +22,7 @@ pub use lines::{first_line, is_passed_over};
 pub use quoting::push_quoted;
 pub use records::{digits_of, push_fact, push_patch, read_fact};
 pub use schedules::{
-    Schedule, push_event, push_request, push_setup, read_event, read_guid, read_request, read_schedule,
+    Schedule, push_event, push_request, push_setup, read_event, read_guid, read_request,
+    read_schedule,
 };
 pub use words::state_letters;

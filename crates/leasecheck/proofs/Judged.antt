@@ -1,9 +1,8 @@
 -- What a record is refused as, and what is said beside that.
-use Rattle.std.proofs.Common.{◌≡◌, ◌⊎◌, inl, inr, ℕ, List, Option, Some, None, Err, sym, ap, ◌∙◌, subst}
+use Rattle.std.proofs.Common.{◌≡◌, inl, inr, ℕ, List, Option, Some, None, Err, sym, ap, ◌∙◌, subst}
 use Rattle.std.specs.Prelude.{IfSome}
 use Rattle.std.specs.String.{string_bytes}
 use Rattle.lease_texts.specs.Pieces.{lines_of}
-use Rattle.lease_texts.specs.Records.{record_in}
 use Rattle.leasecheck.proofs.Puts.{says_more}
 use Rattle.leasecheck.specs.Judging.{Judges, RefusesLine, bare}
 use Rattle.leasecheck.specs.Refusals.{MayEndJudging, line_refusal}

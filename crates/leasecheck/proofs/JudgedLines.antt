@@ -6,7 +6,7 @@ use Rattle.lease_facts.specs.Facts.{fact_of}
 use Rattle.lease_facts.specs.declared.fact.Fact.{Fact}
 use Rattle.lease_world.specs.judge.Judged.{Judging, HasJudged}
 use Rattle.lease_texts.specs.Reading.{reads_on, is_passed_over}
-use Rattle.lease_texts.specs.Records.{fact_in, with_fact, with_line, record_in}
+use Rattle.lease_texts.specs.Records.{fact_in, with_fact, with_line}
 use Rattle.leasecheck.specs.Judging.{HasRead, HasReadText, ReadsBlock, EndsLine, RunsOut, RefusesLine, SaysLine, bare}
 use Rattle.leasecheck.proofs.LinesAt.{line_behind}
 use Rattle.leasecheck.proofs.Blocks.{lines_behind, lines_count, ends_with_take}

@@ -11,7 +11,7 @@ use Rattle.lease_world.specs.Verdicts.{verdict_of}
 use Rattle.lease_world.specs.judge.Judged.{HasJudged}
 use Rattle.lease_texts.specs.Pieces.{lines_of, pieces}
 use Rattle.lease_texts.specs.Reading.{reads_on}
-use Rattle.lease_texts.specs.Records.{with_line, record_in}
+use Rattle.lease_texts.specs.Records.{with_line}
 use Rattle.leasecheck.specs.Judging.{EndsLine, HasRead, HasReadText, ReadsMore, ReadsBlock, RefusesLine, JudgesText, Judges, bare}
 use Rattle.leasecheck.specs.declared.judging.Progress.{Progress}
 use Rattle.leasecheck.specs.declared.failure.Failure.TheVariants as failure

@@ -1,5 +1,5 @@
 -- What is said of an argument that writes no bytes.
-use Rattle.std.specs.Prelude.{ℕ, ◌-◌, ◌++◌, ◌&&◌, Bool, if◌then◌else◌, List, [], ◌∷◌, length, codes}
+use Rattle.std.specs.Prelude.{ℕ, ◌-◌, ◌++◌, ◌&&◌, if◌then◌else◌, List, [], ◌∷◌, length, codes}
 use Rattle.std.specs.Fmt.{decimal}
 use Rattle.hex.specs.Hex.{is_hex_digit}
 use Rattle.lease_texts.specs.Quoting.{quoted}

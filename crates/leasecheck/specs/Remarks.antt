@@ -1,5 +1,5 @@
 -- The second line that a refusal may have: what was expected where, and what stands there.
-use Rattle.std.specs.Prelude.{◌≡◌, ◌⊎◌, ℕ, List, [], Option, Some, None, Result, Ok, Err, IfSome, unwrap_or}
+use Rattle.std.specs.Prelude.{◌≡◌, ℕ, List, [], Option, Some, None, Result, Ok, Err, IfSome, unwrap_or}
 use Rattle.std.specs.Option.{option_map}
 use Rattle.std.specs.String.{string_bytes}
 use Rattle.lease_texts.specs.Pieces.{lines_of}
