@@ -2,7 +2,8 @@
 
 pub(crate) const PROGRAM: &str =
     "Reads and answers the messages of SMB 2.1 leases, replays schedules of clients
-that share files, and judges records of such runs";
+that share files, judges records of such runs, and runs client machines or a
+server that other programs drive by lines";
 
 pub(crate) const PROGRAM_END: &str = "Exit status:
   0  done: the answer is on standard output
@@ -119,7 +120,7 @@ by 'answer ..'. A line that is refused is answered 'fault line N', and changes
 nothing.";
 
 pub(crate) const CLIENT_END: &str = "Example:
-  $ printf 'files 1\nclient 11111111-1111-1111-1111-111111111111\nconnect 1\n' | leasecheck client
+  $ printf 'files 1\\nclient 11111111-1111-1111-1111-111111111111\\nconnect 1\\n' | leasecheck client
   answer quiet
 
 Exit status:
@@ -140,7 +141,7 @@ and last by 'answer done', or 'answer nothing' where the call did not apply;
 refused is answered 'fault line N', and changes nothing.";
 
 pub(crate) const SERVER_END: &str = "Example:
-  $ printf 'file 6162\njoin 1\ncontent 1\n' | leasecheck server
+  $ printf 'file 6162\\njoin 1\\ncontent 1\\n' | leasecheck server
   answer done
   answer bytes 6162
 
