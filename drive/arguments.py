@@ -2,19 +2,13 @@
 from __future__ import annotations
 
 import argparse
-import logging
-import os
-import signal
-import sys
-from typing import Callable, Optional, Sequence
+from typing import Callable, Optional
 
 from drive.connections import Place
-from drive.faults import DriveFault, Usage
+from drive.faults import Usage
 from drive.program import OWN
 from drive.runs import Runner
 from drive.servers import NamedServer, PrivateServer, Server
-
-SAFE, NOT_DRIVEN, REFUSED, UNSAFE = 0, 1, 2, 3
 
 
 def server_arguments(parser: argparse.ArgumentParser) -> None:
@@ -53,28 +47,3 @@ def _place(server: str, share: Optional[str], user: Optional[str]) -> Place:
     if not share or not percent:
         raise Usage("--server needs --share NAME and --user USER%PASSWORD")
     return Place(host.strip("[]"), int(port), share, name, password)
-
-
-def ended(parser: argparse.ArgumentParser, main: Callable[[argparse.Namespace], int], words: Sequence[str]) -> int:
-    """Runs a command; what goes wrong is one line on standard error, and a status."""
-    arguments = parser.parse_args(words)
-    logging.basicConfig(format="%(message)s", level=logging.DEBUG if arguments.verbose else logging.WARNING)
-    # A private server is ended too where the tool is.
-    signal.signal(signal.SIGTERM, lambda number, frame: sys.exit(NOT_DRIVEN))
-    try:
-        status = main(arguments)
-        sys.stdout.flush()
-        return status
-    except Usage as fault:
-        print(f"{parser.prog}: {fault}", file=sys.stderr)
-        return REFUSED
-    except DriveFault as fault:
-        print(f"{parser.prog}: {fault}", file=sys.stderr)
-        return NOT_DRIVEN
-    except OSError as fault:
-        # Standard output doesn't take it; nor shall the interpreter try again at its end.
-        os.dup2(os.open(os.devnull, os.O_WRONLY), sys.stdout.fileno())
-        print(f"{parser.prog}: output: {fault.strerror}", file=sys.stderr)
-        return NOT_DRIVEN
-    except KeyboardInterrupt:
-        return NOT_DRIVEN

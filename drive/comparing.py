@@ -6,7 +6,8 @@ import difflib
 from dataclasses import dataclass
 from typing import FrozenSet, List, Optional, Sequence
 
-from drive.arguments import NOT_DRIVEN, SAFE, ended, runner_of, server_arguments
+from drive.arguments import runner_of, server_arguments
+from drive.ending import NOT_DRIVEN, SAFE, ended
 from drive.faults import DriveFault, Usage
 from drive.model import Departure
 from drive.modelled import NONE, explained, facts_of

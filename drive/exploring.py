@@ -10,9 +10,10 @@ import time
 from dataclasses import dataclass
 from typing import Callable, List, Optional, Sequence
 
-from drive.arguments import NOT_DRIVEN, SAFE, UNSAFE, ended, runner_of, server_arguments
+from drive.arguments import runner_of, server_arguments
 from drive.choosing import Chooser, blind_schedule
 from drive.comparing import likeness_of
+from drive.ending import NOT_DRIVEN, SAFE, UNSAFE, ended
 from drive.faults import DriveFault, Usage
 from drive.records import Order
 from drive.runs import Outcome, Runner

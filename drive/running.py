@@ -5,7 +5,8 @@ import argparse
 import sys
 from typing import Sequence
 
-from drive.arguments import SAFE, UNSAFE, NOT_DRIVEN, ended, runner_of, server_arguments
+from drive.arguments import runner_of, server_arguments
+from drive.ending import NOT_DRIVEN, SAFE, UNSAFE, ended
 from drive.faults import DriveFault
 from drive.program import replayed
 from drive.records import Order

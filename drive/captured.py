@@ -1,0 +1,124 @@
+"""The record of a capture, with remarks that lead back to its packets."""
+from __future__ import annotations
+
+from dataclasses import dataclass
+from typing import Dict, List, Optional, Tuple
+
+from drive.beliefs import Placed, Search
+from drive.packets import Capture
+from drive.schedules import digits
+from drive.shown import NONE, Shower, State, word_of
+from drive.sightings import MOST, Connection, File
+from drive.walking import Fact, Walk
+
+CANT = ("A capture shows no cached read, no buffered write, and not what applications were told: so rules 2 and 3, and that half",
+        "of rule 4, aren't judged. What clients believed of their leases is judged by rule 1.")
+
+
+@dataclass(frozen=True)
+class CaptureRecord:
+    facts: Tuple[Fact, ...]
+    numbers: Dict[File, int]
+    head: Tuple[str, ...]
+    notes: Tuple[str, ...]
+
+    def lines(self) -> List[str]:
+        lines = [f"# {it}" for it in (*self.head, *self.notes)]
+        for file, number in self.numbers.items():
+            lines += [f"start {number} {digits(file.start or b'')}", f"# {_bytes_told(file, number)}"]
+        for fact in self.facts:
+            lines += [self.text(fact), f"# {fact.told}"]
+        return lines
+
+    def text(self, fact: Fact) -> str:
+        return fact.text.replace("{file}", str(self.numbers[fact.file])) if fact.file else fact.text
+
+    def told_at(self, place: int) -> List[str]:
+        """What is believed at a place of the record, with the packets that show it."""
+        beliefs: Dict[Tuple[str, str], Fact] = {}
+        facts = self.facts[:place - len(self.numbers)]
+        for fact in facts:
+            words = self.text(fact).split(" ")
+            if words[0] == "believes":
+                beliefs[words[2], words[1]] = fact
+        file = self.text(facts[-1]).split(" ")[2] if facts and facts[-1].text.startswith("believes") else None
+        return [f"{self.text(fact)}: {fact.told}" for (number, _), fact in beliefs.items()
+                if number == file and not fact.text.endswith(" none")]
+
+
+def _bytes_told(file: File, number: int) -> str:
+    known = "was read whole before it was changed" if file.start else "was made in the capture" if file.is_made_here \
+        else "its first bytes aren't known"
+    return f"file {number} is {file.told}: {known}"
+
+
+def record_of(capture: Capture, program: str, at_client: bool) -> CaptureRecord:
+    walk = Walk(Shower(program), at_client)
+    for packet in capture.packets:
+        walk.goes(packet)
+    numbers = _numbers(walk)
+    facts = [fact for fact in walk.facts if fact.file is None or fact.file in numbers]
+    notes = list(walk.notes)
+    for file in numbers:
+        placed = Search(list(file.chains.values())).placed()
+        if placed is None:
+            notes.append(f"{file.told} isn't judged: too many orders fit the capture")
+        else:
+            facts += _beliefs(file, placed)
+    for connection in walk.connections.values():
+        facts += _taken(connection)
+    notes += [f"{it.packet.told}: the break of {it.told.key} from {word_of(it.told.held)} to {word_of(it.told.left)} to client "
+              f"{it.client.number} is never acknowledged" for it in walk.breaks if not it.is_answered]
+    ordered = sorted(facts, key=lambda it: (it.position, it.rank))
+    return CaptureRecord(tuple(ordered), numbers, tuple(_head(capture, walk, at_client)), tuple(notes))
+
+
+def _numbers(walk: Walk) -> Dict[File, int]:
+    """The files of a record: all of them, or those with leases first where there are too many."""
+    files = walk.files
+    if len(files) > MOST:
+        files = sorted(files, key=lambda it: not it.chains)[:MOST]
+        walk.left_out["files beyond the 255 that a record can name"] = len(walk.files) - MOST
+    return {file: number for number, file in enumerate(files, 1)}
+
+
+def _beliefs(file: File, placed: List[Placed]) -> List[Fact]:
+    """What each client believes, which may have leases under several keys."""
+    states: Dict[int, Dict[str, State]] = {}
+    facts: List[Fact] = []
+    for one in placed:
+        keys = states.setdefault(one.chain.client, {})
+        held = NONE.union(*keys.values())
+        keys[one.chain.key] = one.turn.state
+        if one.turn.delivery and not one.turn.is_doubt:
+            one.turn.delivery.taken = one.position
+        state = NONE.union(*keys.values())
+        if state != held or not one.turn.is_doubt and one.turn.delivery:
+            text = f"believes {one.chain.client} {{file}} {word_of(state)}"
+            facts.append(Fact(one.position, 5, text, one.turn.told, file))
+    return facts
+
+
+def _taken(connection: Connection) -> List[Fact]:
+    """Messages are taken in their order: each no later than what came behind it."""
+    facts: List[Fact] = []
+    latest: Optional[int] = None
+    for delivery in reversed(connection.deliveries):
+        place = delivery.taken if delivery.taken is not None else delivery.latest
+        if place is not None:
+            latest = place if latest is None else min(place, latest)
+        if latest is not None and connection.client:
+            told = f"what packet {delivery.sent // 2} brought, by then"
+            facts.append(Fact(max(latest, delivery.sent), 4, f"took {connection.client.number}", told))
+    return facts[::-1]
+
+
+def _head(capture: Capture, walk: Walk, at_client: bool) -> List[str]:
+    side = "at a client: it shows when clients took messages" if at_client \
+        else "at a server: it only bounds when clients took messages"
+    head = [*CANT, f"The capture is taken as one {side} (--at)."]
+    if capture.fault:
+        head.append(f"The capture is read up to packet {capture.packets[-1].number} only: {capture.fault}")
+    head += [f"Left out: {count} {what}" for what, count in walk.left_out.items()]
+    head += [f"Client {it.number} has the ClientGuid {it.guid.hex()}" for it in walk.clients]
+    return head

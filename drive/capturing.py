@@ -1,0 +1,66 @@
+"""drive/capture: a record of a capture, and its verdict."""
+from __future__ import annotations
+
+import argparse
+import os
+import sys
+from typing import List, Sequence
+
+from drive.captured import CaptureRecord, record_of
+from drive.ending import NOT_DRIVEN, SAFE, UNSAFE, ended
+from drive.faults import DriveFault, Usage
+from drive.packets import read_capture
+from drive.program import OWN, Verdict, judged
+
+EPILOG = """The record is printed, and behind it the verdict as a line `# safe` or `# unsafe PLACE RULE` with the packets that
+show it, so that all of it is a record still. With --record it goes to a file, and the verdict and what else is told are
+printed. Behind each fact of a record a remark tells the packet that shows it.
+
+Exit status: 0 the record is safe; 1 the capture can't be read, or there is no SMB2 in it; 2 the command line is refused;
+3 the record is unsafe: whatever the order of what the capture doesn't tell, rule 1 is broken."""
+
+
+def parser() -> argparse.ArgumentParser:
+    made = argparse.ArgumentParser(prog="drive/capture", description="Makes a record of a capture of SMB 2.1, and judges it.",
+                                   epilog=EPILOG, formatter_class=argparse.RawDescriptionHelpFormatter)
+    made.add_argument("capture", metavar="FILE", help="a capture that tshark reads, as pcapng")
+    made.add_argument("--record", metavar="OUT", help="write the record there")
+    made.add_argument("--at", choices=("client", "server"), default="server",
+                      help="where it was made; at a server, which is presumed, it only bounds when clients took messages")
+    made.add_argument("--port", metavar="PORT", type=int, action="append", default=[],
+                      help="a port of a server, beside 445 and 139; may be given more than once")
+    made.add_argument("--leasecheck", metavar="PATH", default=OWN, help="the program leasecheck")
+    return made
+
+
+def told(record: CaptureRecord, verdict: Verdict) -> List[str]:
+    """The verdict, and what is believed where it is unsafe."""
+    if verdict.rule is None:
+        return [verdict.text]
+    return [verdict.text, *record.told_at(int(verdict.text.split(" ")[1]))]
+
+
+def main(arguments: argparse.Namespace) -> int:
+    if any(not 0 < port < 65536 for port in arguments.port):
+        raise Usage("--port is a number from 1 to 65535")
+    if not os.path.isfile(arguments.capture):
+        raise DriveFault(f"{arguments.capture}: no such file")
+    record = record_of(read_capture(arguments.capture, arguments.port), arguments.leasecheck, arguments.at == "client")
+    text = "".join(f"{it}\n" for it in record.lines())
+    verdict = judged(arguments.leasecheck, text)
+    if arguments.record:
+        try:
+            with open(arguments.record, "w", encoding="utf-8") as stream:
+                stream.write(text)
+        except OSError as fault:
+            raise DriveFault(f"{arguments.record}: {fault.strerror}") from None
+        sys.stdout.write("".join(f"{it}\n" for it in (*told(record, verdict), *record.head, *record.notes)))
+    else:
+        sys.stdout.write(text + "".join(f"# {it}\n" for it in told(record, verdict)))
+    if verdict.rule is not None:
+        return UNSAFE
+    return SAFE if verdict.is_safe else NOT_DRIVEN
+
+
+def run(words: Sequence[str]) -> int:
+    return ended(parser(), main, words)

@@ -1,0 +1,153 @@
+"""SMB2 messages of a capture, as far as their fixed parts go (2.2.1 and the parts named at each field)."""
+from __future__ import annotations
+
+import struct
+from dataclasses import dataclass
+from enum import IntEnum
+from typing import Optional, Tuple
+
+HEADER = 64
+UNASKED = 0xFFFFFFFFFFFFFFFF
+SUCCESS = 0
+PENDING = 0x103
+FROM_SERVER, ASYNC, RELATED = 1, 2, 4
+# the FileId of a request that means the one before it in its compound
+PREVIOUS = b"\xff" * 16
+
+
+class Command(IntEnum):
+    NEGOTIATE = 0
+    SESSION_SETUP = 1
+    LOGOFF = 2
+    TREE_CONNECT = 3
+    TREE_DISCONNECT = 4
+    CREATE = 5
+    CLOSE = 6
+    FLUSH = 7
+    READ = 8
+    WRITE = 9
+    LOCK = 10
+    IOCTL = 11
+    CANCEL = 12
+    ECHO = 13
+    QUERY_DIRECTORY = 14
+    CHANGE_NOTIFY = 15
+    QUERY_INFO = 16
+    SET_INFO = 17
+    OPLOCK_BREAK = 18
+
+
+# where a request has its FileId
+FILE_IDS = {Command.CLOSE: 72, Command.FLUSH: 72, Command.READ: 80, Command.WRITE: 80, Command.LOCK: 72, Command.IOCTL: 72,
+            Command.QUERY_DIRECTORY: 72, Command.CHANGE_NOTIFY: 72, Command.QUERY_INFO: 88, Command.SET_INFO: 80}
+
+
+class Unreadable(Exception):
+    """A message is shorter than what has to be read of it."""
+
+
+@dataclass(frozen=True)
+class Message:
+    """A whole message, with its header."""
+
+    data: bytes
+
+    def __post_init__(self) -> None:
+        if len(self.data) < HEADER:
+            raise Unreadable
+
+    def number(self, place: int, size: int) -> int:
+        return int.from_bytes(self.part(place, size), "little")
+
+    def part(self, place: int, length: int) -> bytes:
+        if place + length > len(self.data):
+            raise Unreadable
+        return self.data[place:place + length]
+
+    def text(self, place: int, length: int) -> str:
+        return self.part(place, length).decode("utf-16le", errors="replace")
+
+    @property
+    def command(self) -> Optional[Command]:
+        code, = struct.unpack_from("<H", self.data, 12)
+        return Command(code) if code <= Command.OPLOCK_BREAK else None
+
+    @property
+    def name(self) -> str:
+        return self.command.name if self.command is not None else "unknown command"
+
+    @property
+    def status(self) -> int:
+        return self.number(8, 4)
+
+    @property
+    def flags(self) -> int:
+        return self.number(16, 4)
+
+    @property
+    def is_from_server(self) -> bool:
+        return bool(self.flags & FROM_SERVER)
+
+    @property
+    def identifier(self) -> int:
+        return self.number(24, 8)
+
+    @property
+    def tree(self) -> int:
+        return self.number(36, 4)
+
+    @property
+    def session(self) -> int:
+        return self.number(40, 8)
+
+    @property
+    def file_id(self) -> Optional[bytes]:
+        place = FILE_IDS.get(self.command) if self.command is not None else None
+        return self.part(place, 16) if place else None
+
+
+@dataclass(frozen=True)
+class Span:
+    """Bytes at a place of a file."""
+
+    offset: int
+    data: bytes
+
+
+def tree_path(message: Message) -> str:
+    return message.text(message.number(68, 2), message.number(70, 2))
+
+
+def create_name(message: Message) -> str:
+    length = message.number(110, 2)
+    return message.text(message.number(108, 2), length) if length else ""
+
+
+def is_directory(request: Message, response: Message) -> bool:
+    return bool(request.number(104, 4) & 1 or response.number(120, 4) & 0x10)
+
+
+def was_made(response: Message) -> bool:
+    """Whether a CREATE made the file (CreateAction is FILE_CREATED)."""
+    return response.number(68, 4) == 2
+
+
+def written(request: Message) -> Span:
+    return Span(request.number(72, 8), request.part(request.number(66, 2), request.number(68, 4)))
+
+
+def read(request: Message, response: Message) -> Span:
+    return Span(request.number(72, 8), response.part(response.number(66, 1), response.number(68, 4)))
+
+
+def renamed(request: Message) -> Optional[str]:
+    """The new name, where a SET_INFO asks for one (FileRenameInformation)."""
+    if (request.number(66, 1), request.number(67, 1)) != (1, 10):
+        return None
+    start = request.number(72, 2)
+    return request.text(start + 20, request.number(start + 16, 4))
+
+
+def negotiated(message: Message) -> Tuple[int, bytes]:
+    """The dialect of a response, or the ClientGuid of a request."""
+    return (message.number(68, 2), b"") if message.is_from_server else (0, message.part(76, 16))

@@ -1,0 +1,123 @@
+"""What is known of clients, connections, files and opens while a capture is gone through."""
+from __future__ import annotations
+
+from dataclasses import dataclass, field
+from typing import Dict, List, Optional, Tuple
+
+from drive.beliefs import Chain, Delivery, Turn
+from drive.headers import Message
+from drive.packets import Packet
+from drive.shown import Break, Contexts
+
+FILE_LIMIT = 1048576
+MOST = 255
+
+
+@dataclass(eq=False)
+class File:
+    """A file under a name. Where a CREATE makes a file of a name that is known, that is another file."""
+
+    name: str
+    share: str
+    chains: Dict[Tuple[int, str], Chain] = field(default_factory=dict)
+    is_made_here: bool = False
+    # its bytes, once it was read whole before it was changed
+    start: Optional[bytes] = None
+    is_changed: bool = False
+    length: int = 0
+    is_judged: bool = True
+
+    @property
+    def told(self) -> str:
+        text = f"{self.share}\\{self.name}"
+        return "".join(it if it.isprintable() else "?" for it in text)
+
+
+@dataclass(eq=False)
+class Client:
+    number: int
+    guid: bytes
+    connections: int = 0
+    writes: int = 0
+    is_judged: bool = True
+
+
+@dataclass(eq=False)
+class Open:
+    client: Optional[Client]
+    file: File
+    key: Optional[str]
+    stream: int
+    session: int
+    tree: int
+    file_id: bytes
+    delivery: Delivery
+
+
+@dataclass(eq=False)
+class Pending:
+    """A request that isn't answered, or not yet for good."""
+
+    request: Message
+    packet: Packet
+    # where it can have been sent first
+    earliest: int
+    previous: Optional["Pending"] = None
+    asked: Contexts = Contexts()
+    opened: Optional[Open] = None
+    number: int = 0
+    broken: Optional["BreakSeen"] = None
+
+
+@dataclass(eq=False)
+class BreakSeen:
+    """A break that asks for an acknowledgment."""
+
+    packet: Packet
+    told: Break
+    client: Client
+    file: File
+    turn: Turn
+    doubt: Turn
+    is_answered: bool = False
+
+
+@dataclass(eq=False)
+class Connection:
+    stream: int
+    client: Optional[Client] = None
+    # who sends the requests, and to whom
+    near: str = ""
+    dialect: int = 0
+    is_begun: bool = False
+    is_over: bool = False
+    pending: Dict[int, Pending] = field(default_factory=dict)
+    deliveries: List[Delivery] = field(default_factory=list)
+    proved: int = 0
+    # the ends of the server's messages in the stream of bytes, with their positions
+    ends: List[Tuple[int, int]] = field(default_factory=list)
+    last: int = 0
+    trees: Dict[Tuple[int, int], str] = field(default_factory=dict)
+
+    @property
+    def judged(self) -> Optional[Client]:
+        """Its client, where what that believes is judged."""
+        if self.client and self.client.is_judged and self.dialect in (0x202, 0x210) and not self.is_over:
+            return self.client
+        return None
+
+    def had(self, packet: Packet) -> int:
+        """The position of the last message of the server that the sender's host had when it sent a packet."""
+        return max((position for end, position in self.ends if end <= packet.acknowledged), default=0)
+
+    def prove(self, delivery: Delivery, position: int) -> None:
+        """The client has taken this message by now, and so each one before it on the connection."""
+        if delivery not in self.deliveries[self.proved:]:
+            return
+        while True:
+            one = self.deliveries[self.proved]
+            self.proved += 1
+            if one.latest is None:
+                one.latest = position
+            if one is delivery:
+                return

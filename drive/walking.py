@@ -1,0 +1,409 @@
+"""Goes through a capture, packet by packet, and tells what it shows."""
+from __future__ import annotations
+
+from dataclasses import dataclass
+from typing import Callable, Dict, List, Optional, Tuple
+
+from drive import headers
+from drive.beliefs import Chain, Delivery, Turn
+from drive.headers import PENDING, PREVIOUS, RELATED, SUCCESS, UNASKED, Command, Message, Unreadable
+from drive.packets import COMPRESSED, ENCRYPTED, PROTOCOL, Packet
+from drive.shown import NONE, Contexts, Shower, word_of
+from drive.sightings import FILE_LIMIT, MOST, BreakSeen, Client, Connection, File, Open, Pending
+
+
+@dataclass(frozen=True)
+class Fact:
+    """A fact at a position. `text` has `{file}` where the number of its file stands."""
+
+    position: int
+    rank: int
+    text: str
+    told: str
+    file: Optional[File] = None
+
+
+def at(packet: Packet) -> int:
+    return 2 * packet.number
+
+
+def before(packet: Packet) -> int:
+    return 2 * packet.number - 1
+
+
+class Walk:
+    """`at_client` says that the capture shows when clients took messages and sent theirs."""
+
+    def __init__(self, shower: Shower, at_client: bool) -> None:
+        self._shower = shower
+        self._at_client = at_client
+        self.facts: List[Fact] = []
+        self.files: List[File] = []
+        self.clients: List[Client] = []
+        self.notes: List[str] = []
+        self.left_out: Dict[str, int] = {}
+        self.connections: Dict[int, Connection] = {}
+        self.breaks: List[BreakSeen] = []
+        self._named: Dict[Tuple[str, str], File] = {}
+        self._kept: Dict[bytes, File] = {}
+        self._opens: Dict[Tuple[int, int, bytes], Open] = {}
+        self._asking: Dict[Command, Callable[[Connection, Pending], None]] = {
+            Command.NEGOTIATE: self._negotiating, Command.SESSION_SETUP: self._setting_up, Command.LOGOFF: self._logging_off,
+            Command.TREE_DISCONNECT: self._leaving, Command.CREATE: self._creating, Command.CLOSE: self._closing,
+            Command.WRITE: self._writing, Command.OPLOCK_BREAK: self._acknowledging,
+        }
+        self._answered: Dict[Command, Callable[[Connection, Pending, Packet, Message, Delivery], None]] = {
+            Command.NEGOTIATE: self._negotiated, Command.TREE_CONNECT: self._joined_tree, Command.CREATE: self._created,
+            Command.CLOSE: self._closed, Command.WRITE: self._written, Command.READ: self._read,
+            Command.SET_INFO: self._renamed, Command.OPLOCK_BREAK: self._acknowledged,
+        }
+
+    def goes(self, packet: Packet) -> None:
+        connection = self.connections.setdefault(packet.stream, Connection(packet.stream))
+        if packet.is_gap:
+            self._lost(connection, packet, "packets, or parts of them, aren't in the capture")
+        for data in packet.messages:
+            try:
+                self._message(connection, packet, data)
+            except Unreadable:
+                self._lost(connection, packet, "a message can't be read")
+        connection.last = at(packet)
+        if packet.ends:
+            self._ended(connection, packet)
+
+    def _leave_out(self, what: str) -> None:
+        self.left_out[what] = self.left_out.get(what, 0) + 1
+
+    def _note(self, packet: Packet, text: str) -> None:
+        self.notes.append(f"{packet.told}: {text}")
+
+    def _fact(self, position: int, rank: int, text: str, packet: Packet, told: str, file: Optional[File] = None) -> None:
+        self.facts.append(Fact(position, rank, text, f"{packet.told}: {told}", file))
+
+    def _message(self, connection: Connection, packet: Packet, data: bytes) -> None:
+        if data[:4] in (ENCRYPTED, COMPRESSED):
+            self._leave_out("messages that are encrypted or compressed")
+            self._lost(connection, packet, "a message is encrypted or compressed")
+            return
+        if data[:4] != PROTOCOL:
+            return
+        message = Message(data)
+        if message.is_from_server:
+            self._answer(connection, packet, message)
+        else:
+            self._request(connection, packet, message)
+
+    def _earliest(self, connection: Connection, packet: Packet) -> int:
+        return before(packet) if self._at_client else connection.had(packet)
+
+    # Requests
+
+    def _request(self, connection: Connection, packet: Packet, message: Message) -> None:
+        connection.near = connection.near or packet.sender
+        if not connection.is_begun and message.command is not Command.NEGOTIATE:
+            self._leave_out("connections that began before the capture")
+        connection.is_begun = True
+        if message.command in (None, Command.CANCEL):
+            return
+        pending = Pending(message, packet, self._earliest(connection, packet))
+        if message.flags & RELATED and connection.pending:
+            pending.previous = list(connection.pending.values())[-1]
+        connection.pending[message.identifier] = pending
+        opened = self._open_of(connection, pending)
+        if opened:
+            connection.prove(opened.delivery, before(packet))
+        handler = self._asking.get(message.command) if message.command is not None else None
+        if handler:
+            handler(connection, pending)
+
+    def _open_of(self, connection: Connection, pending: Pending) -> Optional[Open]:
+        file_id = pending.request.file_id
+        if file_id is None:
+            return None
+        if file_id == PREVIOUS:
+            return pending.previous.opened or self._open_of(connection, pending.previous) if pending.previous else None
+        return self._opens.get((connection.stream, pending.request.session, file_id))
+
+    def _negotiating(self, connection: Connection, pending: Pending) -> None:
+        guid = headers.negotiated(pending.request)[1]
+        client = next((it for it in self.clients if it.guid == guid), None)
+        if connection.client:
+            return
+        if client is None:
+            if len(self.clients) == MOST:
+                self._leave_out("clients beyond the 255 that a record can name")
+                return
+            client = Client(len(self.clients) + 1, guid)
+            self.clients.append(client)
+        connection.client = client
+        client.connections += 1
+        if client.connections == 1:
+            self._fact(at(pending.packet), 0, f"joined {client.number}", pending.packet, "NEGOTIATE")
+
+    def _setting_up(self, connection: Connection, pending: Pending) -> None:
+        previous = pending.request.number(80, 8)
+        if previous:
+            self._end_opens(lambda it: it.session == previous, pending)
+
+    def _logging_off(self, connection: Connection, pending: Pending) -> None:
+        session = pending.request.session
+        self._end_opens(lambda it: it.stream == connection.stream and it.session == session, pending)
+
+    def _leaving(self, connection: Connection, pending: Pending) -> None:
+        session, tree = pending.request.session, pending.request.tree
+        self._end_opens(lambda it: (it.stream, it.session, it.tree) == (connection.stream, session, tree), pending)
+
+    def _end_opens(self, meant: Callable[[Open], bool], pending: Pending) -> None:
+        for opened in [it for it in self._opens.values() if meant(it)]:
+            self._end_open(opened, pending.earliest, pending.packet, pending.request.name)
+
+    def _end_open(self, opened: Open, earliest: int, packet: Packet, told: str) -> None:
+        """The client gives up an open, and with the last one under a key what it believed."""
+        self._opens.pop((opened.stream, opened.session, opened.file_id), None)
+        client, key = opened.client, opened.key
+        if client is None or key is None or any(it.client is client and it.key == key for it in self._opens.values()):
+            return
+        for seen in self.breaks:
+            if seen.client is client and seen.told.key == key:
+                seen.is_answered = True
+        chain = opened.file.chains.get((client.number, key))
+        if chain and chain.turns:
+            chain.turns.append(Turn(NONE, earliest, f"{packet.told}: {told}", before(packet)))
+
+    def _creating(self, connection: Connection, pending: Pending) -> None:
+        pending.asked = self._shower.contexts("ask", pending.request.data)
+        if pending.asked.fault:
+            self._note(pending.packet, f"the contexts of a CREATE request can't be read: {pending.asked.fault}")
+
+    def _closing(self, connection: Connection, pending: Pending) -> None:
+        opened = self._open_of(connection, pending)
+        if opened:
+            pending.opened = opened
+            self._end_open(opened, pending.earliest, pending.packet, "CLOSE")
+
+    def _writing(self, connection: Connection, pending: Pending) -> None:
+        opened = self._open_of(connection, pending)
+        span = headers.written(pending.request)
+        if connection.client is None or opened is None:
+            return
+        if span.offset + len(span.data) > FILE_LIMIT:
+            self._leave_out("writes past the limit of a file")
+            return
+        connection.client.writes += 1
+        pending.number, pending.opened = connection.client.writes, opened
+        text = f"wrote {connection.client.number} {{file}} {pending.number} {span.offset} {span.data.hex() or '-'} through"
+        self._fact(at(pending.packet), 0, text, pending.packet, "WRITE", opened.file)
+
+    def _acknowledging(self, connection: Connection, pending: Pending) -> None:
+        given = self._shower.acknowledgment(pending.request.data)
+        if given is None:
+            self._leave_out("acknowledgments of oplocks")
+            return
+        seen = next((it for it in reversed(self.breaks)
+                     if it.client is connection.client and it.told.key == given.key and not it.is_answered), None)
+        if seen is None:
+            self._note(pending.packet, f"an acknowledgment of {given.key}, of which no break is to be acknowledged")
+            return
+        seen.is_answered, pending.broken = True, seen
+        if given.state != seen.told.left:
+            self._note(pending.packet, f"an acknowledgment of {word_of(given.state)}, where the break of {seen.packet.told} "
+                                       f"is to {word_of(seen.told.left)}")
+        if seen.turn.delivery:
+            connection.prove(seen.turn.delivery, before(pending.packet))
+        seen.turn.state, seen.turn.latest = given.state, before(pending.packet)
+        seen.turn.told += f"; acknowledged by {pending.packet.told}"
+
+    # Messages of the server
+
+    def _answer(self, connection: Connection, packet: Packet, message: Message) -> None:
+        delivery = self._delivered(connection, packet)
+        asked = message.identifier == UNASKED
+        if connection.client:
+            self._fact(at(packet), 2, f"sent {connection.client.number}", packet, self._name(message))
+        if asked:
+            self._broken(connection, packet, message, delivery)
+            return
+        pending = connection.pending.get(message.identifier)
+        if pending is None or message.status == PENDING or message.command is None:
+            return
+        handler = self._answered.get(message.command)
+        if handler and (message.status == SUCCESS or message.command is Command.OPLOCK_BREAK):
+            handler(connection, pending, packet, message, delivery)
+        connection.pending.pop(message.identifier, None)
+
+    @staticmethod
+    def _name(message: Message) -> str:
+        if message.identifier == UNASKED:
+            return "a break"
+        status = {SUCCESS: "", PENDING: ", pending"}.get(message.status, f", status {message.status:08x}")
+        return f"answer to {message.name}{status}"
+
+    def _delivered(self, connection: Connection, packet: Packet) -> Delivery:
+        delivery = Delivery(at(packet), at(packet) if self._at_client else None)
+        connection.deliveries.append(delivery)
+        connection.ends.append((packet.end, at(packet)))
+        return delivery
+
+    def _negotiated(self, connection: Connection, pending: Pending, packet: Packet, message: Message,
+                    delivery: Delivery) -> None:
+        connection.dialect = headers.negotiated(message)[0]
+        if connection.dialect not in (0x202, 0x210, 0x2ff):
+            self._leave_out(f"connections of dialect {connection.dialect >> 8}.{connection.dialect >> 4 & 15}"
+                            f"{f'.{connection.dialect & 15}' if connection.dialect & 15 else ''}, whose leases aren't judged")
+
+    def _joined_tree(self, connection: Connection, pending: Pending, packet: Packet, message: Message,
+                     delivery: Delivery) -> None:
+        share = headers.tree_path(pending.request).rpartition("\\")[2].lower()
+        connection.trees[message.session, message.tree] = share
+
+    def _created(self, connection: Connection, pending: Pending, packet: Packet, message: Message,
+                 delivery: Delivery) -> None:
+        if headers.is_directory(pending.request, message):
+            return
+        file_id = message.part(128, 16)
+        file = self._file(connection, pending, message, file_id)
+        granted = self._shower.contexts("reply", message.data)
+        opened = Open(connection.client, file, granted.key, connection.stream, message.session, pending.request.tree, file_id,
+                      delivery)
+        pending.opened = opened
+        self._opens[connection.stream, message.session, file_id] = opened
+        self._kept[file_id[:8]] = file
+        if connection.client and not pending.asked.is_reconnect:
+            self._fact(at(packet), 1, f"opened {{file}} {connection.client.number}", packet, "answer to CREATE", file)
+        if granted.fault:
+            self._note(packet, f"the contexts of a CREATE response can't be read: {granted.fault}")
+        if granted.is_second_version:
+            self._leave_out("grants of leases of version 2, which aren't judged")
+        if connection.judged and granted.key:
+            self._granted(connection.judged, pending, packet, opened, granted)
+
+    def _granted(self, client: Client, pending: Pending, packet: Packet, opened: Open, granted: Contexts) -> None:
+        file, key = opened.file, str(granted.key)
+        chain = file.chains.setdefault((client.number, key), Chain(client.number, key))
+        if pending.asked.key != key:
+            self._note(packet, f"a lease under {key}, where {pending.asked.key or 'none'} was asked for")
+        elif not granted.state <= pending.asked.state | chain.state and not pending.asked.is_reconnect:
+            self._note(packet, f"client {client.number} is granted {word_of(granted.state)} of {file.told}, "
+                               f"and asked for {word_of(pending.asked.state)}")
+        for seen in self.breaks:
+            if seen.file is file and not seen.is_answered and seen.client is not client and granted.state:
+                self._note(packet, f"client {client.number} is granted {word_of(granted.state)} of {file.told} while the break "
+                                   f"of {seen.packet.told} to client {seen.client.number} isn't acknowledged")
+        if granted.is_breaking:
+            return
+        told = f"{packet.told}: CREATE granted {word_of(granted.state)}"
+        chain.turns.append(Turn(granted.state, at(packet), told, delivery=opened.delivery))
+
+    def _file(self, connection: Connection, pending: Pending, message: Message, file_id: bytes) -> File:
+        if pending.asked.is_reconnect and file_id[:8] in self._kept:
+            return self._kept[file_id[:8]]
+        share = connection.trees.get((message.session or pending.request.session, pending.request.tree), "?")
+        name = headers.create_name(pending.request)
+        file = self._named.get((share, name))
+        if file is None or headers.was_made(message):
+            file = File(name, share, is_made_here=headers.was_made(message), length=message.number(112, 8))
+            self._named[share, name] = file
+            self.files.append(file)
+        return file
+
+    def _closed(self, connection: Connection, pending: Pending, packet: Packet, message: Message,
+                delivery: Delivery) -> None:
+        """A CLOSE within the compound of its CREATE, whose FileId was told only now."""
+        opened = self._open_of(connection, pending)
+        if opened and pending.opened is None:
+            connection.prove(opened.delivery, at(packet))
+            self._end_open(opened, opened.delivery.sent, packet, "CLOSE in the compound of its CREATE")
+
+    def _written(self, connection: Connection, pending: Pending, packet: Packet, message: Message,
+                 delivery: Delivery) -> None:
+        if connection.client is None or pending.opened is None:
+            if self._open_of(connection, pending) is None:
+                self._leave_out("writes by opens that the capture doesn't show")
+            return
+        file = pending.opened.file
+        span = headers.written(pending.request)
+        data = span.data[:message.number(68, 4)]
+        file.is_changed = True
+        text = f"changed {{file}} {connection.client.number} {pending.number} {span.offset} {data.hex() or '-'}"
+        self._fact(at(packet), 1, text, packet, "answer to WRITE", file)
+
+    def _read(self, connection: Connection, pending: Pending, packet: Packet, message: Message,
+              delivery: Delivery) -> None:
+        opened = self._open_of(connection, pending)
+        span = headers.read(pending.request, message)
+        if opened and not opened.file.is_changed and not span.offset and len(span.data) == opened.file.length <= FILE_LIMIT:
+            opened.file.start = opened.file.start or span.data
+
+    def _renamed(self, connection: Connection, pending: Pending, packet: Packet, message: Message,
+                 delivery: Delivery) -> None:
+        """Neither name is that of the file that it was: the next CREATE of it begins another."""
+        opened = self._open_of(connection, pending)
+        name = headers.renamed(pending.request)
+        if name is None:
+            return
+        if opened is None:
+            self._named.clear()
+            return
+        gone = (opened.file.name, name.lstrip("\\"))
+        for share, known in list(self._named):
+            if share == opened.file.share and (known in gone or known.startswith(tuple(f"{it}\\" for it in gone))):
+                del self._named[share, known]
+
+    def _acknowledged(self, connection: Connection, pending: Pending, packet: Packet, message: Message,
+                      delivery: Delivery) -> None:
+        seen = pending.broken
+        if seen is None:
+            return
+        chain = seen.file.chains[seen.client.number, seen.told.key]
+        if message.status == SUCCESS and seen.doubt in chain.turns:
+            chain.turns.remove(seen.doubt)
+        elif message.status != SUCCESS:
+            self._note(packet, f"the acknowledgment of {pending.packet.told} is refused, status {message.status:08x}")
+
+    def _broken(self, connection: Connection, packet: Packet, message: Message, delivery: Delivery) -> None:
+        told = self._shower.notification(message.data)
+        if told is None:
+            self._leave_out("breaks of oplocks")
+            return
+        client = connection.judged
+        file = next((it for it in self.files if client and (client.number, told.key) in it.chains), None)
+        if not told.left <= told.held or (told.left == told.held and told.held):
+            self._note(packet, f"a break from {word_of(told.held)} to {word_of(told.left)}, which isn't a part of it")
+        if client is None or file is None:
+            self._note(packet, f"a break of {told.key}, under which the capture shows no lease of that client")
+            return
+        chain = file.chains[client.number, told.key]
+        words = f"{packet.told}: break from {word_of(told.held)} to {word_of(told.left)}"
+        turn = Turn(told.left, at(packet), words, delivery=delivery)
+        chain.turns.append(turn)
+        if told.needs_acknowledgment:
+            doubt = Turn(NONE, at(packet), f"{words}, not known to be acknowledged, so nothing is known of the lease",
+                         is_doubt=True)
+            chain.turns.append(doubt)
+            self.breaks.append(BreakSeen(packet, told, client, file, turn, doubt))
+
+    # Ends
+
+    def _lost(self, connection: Connection, packet: Packet, told: str) -> None:
+        """What the client did may be missing from here on, so nothing more is said of its beliefs."""
+        client = connection.client
+        if client is None or not client.is_judged or connection.is_over:
+            return
+        client.is_judged = False
+        self._note(packet, f"{told}: client {client.number} isn't judged from here on")
+        for file in self.files:
+            for (number, _), chain in file.chains.items():
+                if number == client.number and chain.turns:
+                    chain.turns.append(Turn(NONE, connection.last, f"{packet.told}: {told}"))
+
+    def _ended(self, connection: Connection, packet: Packet) -> None:
+        client = connection.client
+        if client is None or connection.is_over:
+            return
+        earliest = self._earliest(connection, packet) if packet.sender == connection.near else before(packet)
+        for opened in [it for it in self._opens.values() if it.stream == connection.stream]:
+            self._end_open(opened, earliest, packet, "the connection ends")
+        connection.is_over = True
+        client.connections -= 1
+        if not client.connections:
+            self._fact(at(packet), 3, f"dropped {client.number}", packet, "the connection ends")
