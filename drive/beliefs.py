@@ -134,12 +134,18 @@ class Search:
         turn = self._next(way, index)
         if turn is None or turn.earliest > position or (turn.last is not None and turn.last < position):
             return False
-        # It rises as late as it can, but where what follows it may come before that.
-        following = self._turns[index][way.done[index] + 1:way.done[index] + 2]
-        if turn.last != position and not (following and turn.last is not None and following[0].earliest < turn.last):
+        if turn.last != position and not self._may_gain(way, index, turn):
             return False
         return not any(conflicts(turn.state, self._state(way, other)) for other in range(len(self._chains))
                        if self._chains[other].client != self._chains[index].client)
+
+    def _may_gain(self, way: Way, index: int, turn: Turn) -> bool:
+        """Whether something may be gained by a change before the last position for it: where the change takes something
+        away too, or where what follows it may come before that position."""
+        if not self._state(way, index) <= turn.state:
+            return True
+        following = self._turns[index][way.done[index] + 1:way.done[index] + 2]
+        return bool(following and turn.last is not None and following[0].earliest < turn.last)
 
     def _overdue(self, way: Way, position: int) -> bool:
         return any(self._is_due(way, index, position) for index in range(len(self._chains)))

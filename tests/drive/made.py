@@ -1,0 +1,194 @@
+"""Captures that are made by hand, packet by packet: TCP connections on loopback, and SMB2 messages on them."""
+import struct
+from typing import List, Optional
+
+SERVER = 445
+PENDING = 0x103
+REFUSED = 0xC0000001
+RELATED = 4
+PREVIOUS = b"\xff" * 16
+R, H, W = 1, 2, 4
+ACK = 0x10
+PUSH, FIN = 0x18, 0x11
+
+
+def file_id(number: int) -> bytes:
+    return struct.pack("<QQ", number, number)
+
+
+def message(command: int, body: bytes, identifier: int = 1, status: int = 0, answers: bool = False, related: bool = False,
+            tree: int = 5) -> bytes:
+    flags = (1 if answers else 0) | (RELATED if related else 0)
+    return b"\xfeSMB" + struct.pack("<HHLHHLLQLLQ", 64, 0, status, command, 1, flags, 0, identifier, 0, tree, 9) + bytes(16) + body
+
+
+def compound(messages: List[bytes]) -> bytes:
+    """Messages in one: each but the last is padded to a multiple of 8, and tells where the next begins."""
+    text = b""
+    for one in messages[:-1]:
+        padded = one + bytes(-len(one) % 8)
+        text += padded[:20] + struct.pack("<L", len(padded)) + padded[24:]
+    return text + messages[-1]
+
+
+def lease(key: int, state: int, flags: int = 0) -> bytes:
+    """The context RqLs (docs/FORMATS.md, "Canonical text")."""
+    return struct.pack("<LHHHHL", 0, 16, 4, 0, 24, 32) + b"RqLs" + bytes(4) + bytes([key] * 16) + struct.pack("<LLQ", state, flags, 0)
+
+
+def negotiate(guid: int) -> bytes:
+    return message(0, struct.pack("<HHHHL", 36, 1, 1, 0, 0) + bytes([guid] * 16) + bytes(8) + struct.pack("<H", 0x210), 0)
+
+
+def negotiated(dialect: int = 0x210) -> bytes:
+    return message(0, struct.pack("<HHH", 65, 1, dialect) + bytes(58), 0, answers=True)
+
+
+def tree_connect() -> bytes:
+    path = "\\\\127.0.0.1\\share".encode("utf-16le")
+    return message(3, struct.pack("<HHHH", 9, 0, 72, len(path)) + path, 2, tree=0)
+
+
+def tree_connected() -> bytes:
+    return message(3, struct.pack("<HBBLLL", 16, 1, 0, 0, 0, 0), 2, answers=True)
+
+
+def create(identifier: int, name: str, contexts: bytes = b"") -> bytes:
+    text = name.encode("utf-16le")
+    place = 120 + len(text) + -len(text) % 8
+    fixed = struct.pack("<HBBLQQLLLLLHHLL", 57, 0, 255 if contexts else 0, 2, 0, 0, 3, 0, 7, 1, 0x40, 120, len(text),
+                        place if contexts else 0, len(contexts))
+    return message(5, fixed + text + bytes(-len(text) % 8) + contexts, identifier)
+
+
+def created(identifier: int, number: int, contexts: bytes = b"", action: int = 1, length: int = 3) -> bytes:
+    fixed = struct.pack("<HBBL", 89, 255 if contexts else 0, 0, action) + bytes(40) + struct.pack("<QLL", length, 0x20, 0)
+    fixed += file_id(number) + struct.pack("<LL", 152 if contexts else 0, len(contexts))
+    return message(5, fixed + contexts, identifier, answers=True)
+
+
+def pending(identifier: int, command: int) -> bytes:
+    return message(command, struct.pack("<HHLB", 9, 0, 0, 0), identifier, PENDING, True)
+
+
+def close(identifier: int, open_id: bytes, related: bool = False) -> bytes:
+    return message(6, struct.pack("<HHL", 24, 0, 0) + open_id, identifier, related=related)
+
+
+def closed(identifier: int) -> bytes:
+    return message(6, struct.pack("<H", 60) + bytes(58), identifier, answers=True)
+
+
+def read(identifier: int, number: int, length: int = 65536) -> bytes:
+    return message(8, struct.pack("<HBBLQ", 49, 0x50, 0, length, 0) + file_id(number) + bytes(17), identifier)
+
+
+def read_done(identifier: int, data: bytes) -> bytes:
+    return message(8, struct.pack("<HBBLLL", 17, 80, 0, len(data), 0, 0) + data, identifier, answers=True)
+
+
+def write(identifier: int, number: int, offset: int, data: bytes) -> bytes:
+    return message(9, struct.pack("<HHLQ", 49, 112, len(data), offset) + file_id(number) + bytes(16) + data, identifier)
+
+
+def write_done(identifier: int, count: int) -> bytes:
+    return message(9, struct.pack("<HHLLL", 17, 0, count, 0, 0), identifier, answers=True)
+
+
+def rename(identifier: int, number: int, name: str) -> bytes:
+    text = name.encode("utf-16le")
+    target = struct.pack("<BxxxxxxxQL", 0, 0, len(text)) + text
+    return message(17, struct.pack("<HBBLHHL", 33, 1, 10, len(target), 96, 0, 0) + file_id(number) + target, identifier)
+
+
+def renamed(identifier: int) -> bytes:
+    return message(17, struct.pack("<H", 2), identifier, answers=True)
+
+
+def notification(key: int, held: int, left: int, flags: int = 1) -> bytes:
+    body = struct.pack("<HHL", 44, 0, flags) + bytes([key] * 16) + struct.pack("<LLLLL", held, left, 0, 0, 0)
+    return message(18, body, 0xFFFFFFFFFFFFFFFF, answers=True)
+
+
+def acknowledgment(identifier: int, key: int, state: int) -> bytes:
+    return message(18, struct.pack("<HHL", 36, 0, 0) + bytes([key] * 16) + struct.pack("<LQ", state, 0), identifier)
+
+
+def acknowledged(identifier: int, key: int, state: int, status: int = 0) -> bytes:
+    body = struct.pack("<HHL", 36, 0, 0) + bytes([key] * 16) + struct.pack("<LQ", state, 0)
+    return message(18, body if not status else struct.pack("<HHLB", 9, 0, 0, 0), identifier, status, True)
+
+
+class Made:
+    """A capture. Packets are numbered from 1, and a hundredth of a second apart."""
+
+    def __init__(self) -> None:
+        self._packets: List[bytes] = []
+        self._whole: List[int] = []
+
+    def packet(self, source: int, target: int, sequence: int, acknowledged: int, flags: int, payload: bytes = b"",
+               kept: Optional[int] = None) -> int:
+        tcp = struct.pack(">HHLLBBHHH", source, target, sequence, acknowledged, 5 << 4, flags, 65535, 0, 0) + payload
+        loopback = bytes([127, 0, 0, 1])
+        ip = struct.pack(">BBHHHBBH", 0x45, 0, 20 + len(tcp), len(self._packets), 0, 64, 6, 0) + loopback * 2 + tcp
+        self._whole.append(len(ip))
+        self._packets.append(ip[:kept] if kept else ip)
+        return len(self._packets)
+
+    def data(self) -> bytes:
+        text = struct.pack("<LHHlLLL", 0xA1B2C3D4, 2, 4, 0, 0, 262144, 101)
+        for number, (packet, whole) in enumerate(zip(self._packets, self._whole), 1):
+            text += struct.pack("<LLLL", 1000, number * 10000, len(packet), whole) + packet
+        return text
+
+
+class Line:
+    """A TCP connection of a client, by its port; both ends have sent what is in `sent`."""
+
+    def __init__(self, made: Made, port: int, begins: bool = True) -> None:
+        self._made, self._port, self.sent = made, port, {True: 1, False: 1}
+        if begins:
+            made.packet(port, SERVER, 0, 0, 2)
+            made.packet(SERVER, port, 0, 1, 0x12)
+
+    def asks(self, *messages: bytes, had: Optional[int] = None) -> int:
+        """The client sends messages; `had` is what its host had of the server's bytes, all that was sent unless told."""
+        return self._goes(True, messages, had)
+
+    def answers(self, *messages: bytes) -> int:
+        return self._goes(False, messages, None)
+
+    def ends(self, had: Optional[int] = None) -> int:
+        return self._made.packet(self._port, SERVER, self.sent[True], had or self.sent[False], FIN)
+
+    def cut(self, kept: int, one: bytes) -> int:
+        """A message of the client of which the capture has so many bytes of the packet only."""
+        payload = struct.pack(">L", len(one)) + one
+        sequence = self.sent[True]
+        self.sent[True] += len(payload)
+        return self._made.packet(self._port, SERVER, sequence, self.sent[False], PUSH, payload, kept)
+
+    def misses(self, length: int) -> None:
+        """Bytes of the client that aren't in the capture."""
+        self.sent[True] += length
+
+    def _goes(self, by_client: bool, messages: "tuple[bytes, ...]", had: Optional[int]) -> int:
+        payload = b"".join(struct.pack(">L", len(one)) + one for one in messages)
+        source, target = (self._port, SERVER) if by_client else (SERVER, self._port)
+        sequence = self.sent[by_client]
+        self.sent[by_client] += len(payload)
+        return self._made.packet(source, target, sequence, had or self.sent[not by_client], PUSH, payload)
+
+    def begins(self, guid: int, dialect: int = 0x210) -> None:
+        self.asks(negotiate(guid))
+        self.answers(negotiated(dialect))
+        self.asks(tree_connect())
+        self.answers(tree_connected())
+
+    def opens(self, identifier: int, number: int, key: int, state: int, asked: Optional[int] = None, name: str = "f") -> int:
+        """Opens a file with a lease, and reads it, so that the grant is known to be taken; the packet of the grant."""
+        self.asks(create(identifier, name, lease(key, state if asked is None else asked)))
+        packet = self.answers(created(identifier, number, lease(key, state)))
+        self.asks(read(identifier + 1, number))
+        self.answers(read_done(identifier + 1, b"abc"))
+        return packet
