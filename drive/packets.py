@@ -5,7 +5,7 @@ import json
 import subprocess
 import tempfile
 from dataclasses import dataclass
-from typing import IO, Iterator, List, Optional, Sequence, Tuple
+from typing import IO, Iterator, List, Optional, Sequence, Tuple, Union
 
 from drive.faults import DriveFault
 
@@ -46,16 +46,20 @@ class Capture:
 
 
 def read_capture(path: str, ports: Sequence[int]) -> Capture:
-    """The packets of a file, up to where it can be read."""
-    rows, fault = _rows(path, ports)
-    packets: List[Packet] = []
-    for row, messages in zip(rows, _messages(path, ports)):
-        packet = _packet(row, messages)
-        if packet:
-            packets.append(packet)
+    """The packets of a file, up to where it can be read. tshark goes through it twice at a time: its raw messages have no
+    numbers, and its fields no messages."""
+    with tempfile.TemporaryFile("w+", encoding="utf-8", errors="replace") as rows, \
+            tempfile.TemporaryFile("w+", encoding="utf-8", errors="replace") as faults:
+        with _started(_fields(path, ports), rows, faults) as process:
+            messages = list(_messages(path, ports))
+        rows.seek(0)
+        faults.seek(0)
+        fault = _fault(process.returncode, faults.read())
+        found = [_packet(line.rstrip("\n").split("\t"), one) for line, one in zip(rows, messages)]
+    packets = tuple(packet for packet in found if packet)
     if not any(packet.messages for packet in packets):
         raise DriveFault(f"{path}: {fault or 'no SMB2 is in it (--port tells ports other than 445 and 139)'}")
-    return Capture(tuple(packets), fault)
+    return Capture(packets, fault)
 
 
 def _words(path: str, ports: Sequence[int]) -> List[str]:
@@ -63,31 +67,30 @@ def _words(path: str, ports: Sequence[int]) -> List[str]:
     return ["tshark", "-n", "-r", path, "-o", "tcp.reassemble_out_of_order:TRUE", *decoded, "-Y", FILTER]
 
 
-def _started(words: List[str], faults: IO[str]) -> "subprocess.Popen[str]":
+def _fields(path: str, ports: Sequence[int]) -> List[str]:
+    fields = [word for field in FIELDS for word in ("-e", field)]
+    return [*_words(path, ports), "-T", "fields", "-E", "occurrence=f", *fields]
+
+
+def _started(words: List[str], answer: Union[IO[str], int], faults: Union[IO[str], int]) -> "subprocess.Popen[str]":
     try:
-        return subprocess.Popen(words, stdout=subprocess.PIPE, stderr=faults, text=True, errors="replace")
+        return subprocess.Popen(words, stdout=answer, stderr=faults, text=True, errors="replace")
     except OSError as fault:
         raise DriveFault(f"tshark: {fault.strerror} (drive/setup installs it)") from None
 
 
-def _rows(path: str, ports: Sequence[int]) -> Tuple[List[List[str]], Optional[str]]:
-    fields = [word for field in FIELDS for word in ("-e", field)]
-    with tempfile.TemporaryFile("w+", encoding="utf-8", errors="replace") as faults:
-        words = [*_words(path, ports), "-T", "fields", "-E", "occurrence=f", *fields]
-        with _started(words, faults) as process:
-            told, _ = process.communicate()
-        faults.seek(0)
-        said = [line for line in faults.read().splitlines() if line.startswith("tshark: ")]
-    fault = None
-    if process.returncode:
-        fault = said[0][len("tshark: "):] if said else f"tshark ended with status {process.returncode}"
-    return [line.split("\t") for line in told.splitlines()], fault
+def _fault(status: int, text: str) -> Optional[str]:
+    """What tshark says where it couldn't read a file to its end."""
+    if not status:
+        return None
+    said = [line for line in text.splitlines() if line.startswith("tshark: ")]
+    return said[0][len("tshark: "):] if said else f"tshark ended with status {status}"
 
 
 def _messages(path: str, ports: Sequence[int]) -> Iterator[Tuple[bytes, ...]]:
     """The messages of each packet that the filter lets through."""
     words = [*_words(path, ports), "-T", "jsonraw", "--no-duplicate-keys", "-j", "smb2"]
-    with _started(words, open_null()) as process:
+    with _started(words, subprocess.PIPE, subprocess.DEVNULL) as process:
         if process.stdout is None:
             raise DriveFault("tshark has no stream")
         lines: List[str] = []
@@ -99,10 +102,6 @@ def _messages(path: str, ports: Sequence[int]) -> Iterator[Tuple[bytes, ...]]:
                 lines = []
             elif line.startswith(("[", "]", "  ,")):
                 lines = []
-
-
-def open_null() -> IO[str]:
-    return open("/dev/null", "w", encoding="utf-8")
 
 
 def _messages_of(text: str) -> Tuple[bytes, ...]:
