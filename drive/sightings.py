@@ -79,7 +79,9 @@ class BreakSeen:
     file: File
     turn: Turn
     doubt: Turn
+    # acknowledged, or answered by the CLOSE of the last open; or ended with the connection
     is_answered: bool = False
+    is_over: bool = False
 
 
 @dataclass(eq=False)

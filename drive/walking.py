@@ -157,7 +157,7 @@ class Walk:
         for opened in [it for it in self._opens.values() if meant(it)]:
             self._end_open(opened, pending.earliest, pending.packet, pending.request.name)
 
-    def _end_open(self, opened: Open, earliest: int, packet: Packet, told: str) -> None:
+    def _end_open(self, opened: Open, earliest: int, packet: Packet, told: str, is_lost: bool = False) -> None:
         """The client gives up an open, and with the last one under a key what it believed."""
         self._opens.pop((opened.stream, opened.session, opened.file_id), None)
         client, key = opened.client, opened.key
@@ -165,7 +165,7 @@ class Walk:
             return
         for seen in self.breaks:
             if seen.client is client and seen.told.key == key:
-                seen.is_answered = True
+                seen.is_over, seen.is_answered = True, seen.is_answered or not is_lost
         chain = opened.file.chains.get((client.number, key))
         if chain and chain.turns:
             chain.turns.append(Turn(NONE, earliest, f"{packet.told}: {told}", before(packet)))
@@ -200,11 +200,11 @@ class Walk:
             self._leave_out("acknowledgments of oplocks")
             return
         seen = next((it for it in reversed(self.breaks)
-                     if it.client is connection.client and it.told.key == given.key and not it.is_answered), None)
+                     if it.client is connection.client and it.told.key == given.key and not it.is_over), None)
         if seen is None:
             self._note(pending.packet, f"an acknowledgment of {given.key}, of which no break is to be acknowledged")
             return
-        seen.is_answered, pending.broken = True, seen
+        seen.is_answered, seen.is_over, pending.broken = True, True, seen
         if given.state != seen.told.left:
             self._note(pending.packet, f"an acknowledgment of {word_of(given.state)}, where the break of {seen.packet.told} "
                                        f"is to {word_of(seen.told.left)}")
@@ -286,7 +286,7 @@ class Walk:
             self._note(packet, f"client {client.number} is granted {word_of(granted.state)} of {file.told}, "
                                f"and asked for {word_of(pending.asked.state)}")
         for seen in self.breaks:
-            if seen.file is file and not seen.is_answered and seen.client is not client and granted.state:
+            if seen.file is file and not seen.is_over and seen.client is not client and granted.state:
                 self._note(packet, f"client {client.number} is granted {word_of(granted.state)} of {file.told} while the break "
                                    f"of {seen.packet.told} to client {seen.client.number} isn't acknowledged")
         if granted.is_breaking:
@@ -402,7 +402,7 @@ class Walk:
             return
         earliest = self._earliest(connection, packet) if packet.sender == connection.near else before(packet)
         for opened in [it for it in self._opens.values() if it.stream == connection.stream]:
-            self._end_open(opened, earliest, packet, "the connection ends")
+            self._end_open(opened, earliest, packet, "the connection ends", True)
         connection.is_over = True
         client.connections -= 1
         if not client.connections:
