@@ -12,17 +12,19 @@ from drive.shown import NONE, State
 MOST_WAYS = 4096
 
 
-@dataclass
+@dataclass(eq=False)
 class Delivery:
     """A message that was sent to a client, and the last position at which it can have taken it, where that is known."""
 
+    # its place among those of its connection
+    index: int
     sent: int
     latest: Optional[int] = None
     # where it is told as taken
     taken: Optional[int] = None
 
 
-@dataclass
+@dataclass(eq=False)
 class Turn:
     """A change of a belief. Without `latest` it may be left out, or come at any time behind `earliest`."""
 
@@ -41,7 +43,7 @@ class Turn:
         return self.latest
 
 
-@dataclass
+@dataclass(eq=False)
 class Chain:
     """The beliefs that a client had of one of its leases on a file, in their order."""
 

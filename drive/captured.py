@@ -2,7 +2,7 @@
 from __future__ import annotations
 
 from dataclasses import dataclass
-from typing import Dict, List, Optional, Tuple
+from typing import Dict, List, Optional, Set, Tuple
 
 from drive.beliefs import Placed, Search
 from drive.packets import Capture
@@ -23,6 +23,7 @@ class CaptureRecord:
     notes: Tuple[str, ...]
 
     def lines(self) -> List[str]:
+        """The record, in which the numbers of files go on where it is a part."""
         lines = [f"# {it}" for it in (*self.head, *self.notes)]
         for file, number in self.numbers.items():
             lines += [f"start {number} {digits(file.start or b'')}", f"# {_bytes_told(file, number)}"]
@@ -32,6 +33,32 @@ class CaptureRecord:
 
     def text(self, fact: Fact) -> str:
         return fact.text.replace("{file}", str(self.numbers[fact.file])) if fact.file else fact.text
+
+    def client(self, fact: Fact) -> int:
+        words = fact.text.split(" ")
+        return int(words[2 if words[0] in ("opened", "changed") else 1])
+
+    def sets(self) -> List["CaptureRecord"]:
+        """The record in parts: of clients that share files, and of those files."""
+        groups: List[Tuple[Set[int], Set[File]]] = []
+        for fact in self.facts:
+            if fact.file is None:
+                continue
+            clients, files = {self.client(fact)}, {fact.file}
+            apart = []
+            for group in groups:
+                if group[0] & clients or group[1] & files:
+                    clients, files = clients | group[0], files | group[1]
+                else:
+                    apart.append(group)
+            groups = [*apart, (clients, files)]
+        return [self._part(clients, files) for clients, files in sorted(groups, key=lambda it: min(it[0]))]
+
+    def _part(self, clients: Set[int], files: Set[File]) -> "CaptureRecord":
+        facts = tuple(it for it in self.facts if self.client(it) in clients and (it.file is None or it.file in files))
+        names = ", ".join(dict.fromkeys(file.told for file in self.numbers if file in files))
+        head = f"client{'s' if len(clients) > 1 else ''} {', '.join(str(it) for it in sorted(clients))} with {names}"
+        return CaptureRecord(facts, {file: number for file, number in self.numbers.items() if file in files}, (head,), ())
 
     def told_at(self, place: int) -> List[str]:
         """What is believed at a place of the record, with the packets that show it."""

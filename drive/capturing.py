@@ -40,23 +40,38 @@ def told(record: CaptureRecord, verdict: Verdict) -> List[str]:
     return [verdict.text, *record.told_at(int(verdict.text.split(" ")[1]))]
 
 
+def text_of(record: CaptureRecord) -> str:
+    return "".join(f"{it}\n" for it in record.lines())
+
+
+def sets_told(record: CaptureRecord, program: str) -> List[str]:
+    """A verdict for each set of clients that share files, where there are several. Its place is that in the set's facts."""
+    parts = record.sets()
+    lines: List[str] = []
+    for part in parts if len(parts) > 1 else []:
+        first, *others = told(part, judged(program, text_of(part)))
+        lines += [f"{part.head[0]}: {first}", *others]
+    return lines
+
+
 def main(arguments: argparse.Namespace) -> int:
     if any(not 0 < port < 65536 for port in arguments.port):
         raise Usage("--port is a number from 1 to 65535")
     if not os.path.isfile(arguments.capture):
         raise DriveFault(f"{arguments.capture}: no such file")
     record = record_of(read_capture(arguments.capture, arguments.port), arguments.leasecheck, arguments.at == "client")
-    text = "".join(f"{it}\n" for it in record.lines())
+    text = text_of(record)
     verdict = judged(arguments.leasecheck, text)
+    said = [*told(record, verdict), *sets_told(record, arguments.leasecheck)]
     if arguments.record:
         try:
             with open(arguments.record, "w", encoding="utf-8") as stream:
                 stream.write(text)
         except OSError as fault:
             raise DriveFault(f"{arguments.record}: {fault.strerror}") from None
-        sys.stdout.write("".join(f"{it}\n" for it in (*told(record, verdict), *record.head, *record.notes)))
+        sys.stdout.write("".join(f"{it}\n" for it in (*said, *record.head, *record.notes)))
     else:
-        sys.stdout.write(text + "".join(f"# {it}\n" for it in told(record, verdict)))
+        sys.stdout.write(text + "".join(f"# {it}\n" for it in said))
     if verdict.rule is not None:
         return UNSAFE
     return SAFE if verdict.is_safe else NOT_DRIVEN

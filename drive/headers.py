@@ -10,6 +10,7 @@ HEADER = 64
 UNASKED = 0xFFFFFFFFFFFFFFFF
 SUCCESS = 0
 PENDING = 0x103
+NOT_ACCEPTED = 0xC00000D0
 FROM_SERVER, ASYNC, RELATED = 1, 2, 4
 # the FileId of a request that means the one before it in its compound
 PREVIOUS = b"\xff" * 16

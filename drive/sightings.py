@@ -1,6 +1,7 @@
 """What is known of clients, connections, files and opens while a capture is gone through."""
 from __future__ import annotations
 
+from bisect import bisect_right
 from dataclasses import dataclass, field
 from typing import Dict, List, Optional, Tuple
 
@@ -96,8 +97,8 @@ class Connection:
     pending: Dict[int, Pending] = field(default_factory=dict)
     deliveries: List[Delivery] = field(default_factory=list)
     proved: int = 0
-    # the ends of the server's messages in the stream of bytes, with their positions
-    ends: List[Tuple[int, int]] = field(default_factory=list)
+    # for each delivery the end of its bytes in the server's stream
+    ends: List[int] = field(default_factory=list)
     last: int = 0
     trees: Dict[Tuple[int, int], str] = field(default_factory=dict)
 
@@ -110,16 +111,18 @@ class Connection:
 
     def had(self, packet: Packet) -> int:
         """The position of the last message of the server that the sender's host had when it sent a packet."""
-        return max((position for end, position in self.ends if end <= packet.acknowledged), default=0)
+        count = bisect_right(self.ends, packet.acknowledged)
+        return self.deliveries[count - 1].sent if count else 0
+
+    def delivers(self, packet: Packet, position: int, latest: Optional[int]) -> Delivery:
+        delivery = Delivery(len(self.deliveries), position, latest)
+        self.deliveries.append(delivery)
+        self.ends.append(max(packet.end, self.ends[-1] if self.ends else 0))
+        return delivery
 
     def prove(self, delivery: Delivery, position: int) -> None:
         """The client has taken this message by now, and so each one before it on the connection."""
-        if delivery not in self.deliveries[self.proved:]:
-            return
-        while True:
-            one = self.deliveries[self.proved]
-            self.proved += 1
+        for one in self.deliveries[self.proved:delivery.index + 1]:
             if one.latest is None:
                 one.latest = position
-            if one is delivery:
-                return
+        self.proved = max(self.proved, delivery.index + 1)

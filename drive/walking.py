@@ -6,7 +6,7 @@ from typing import Callable, Dict, List, Optional, Tuple
 
 from drive import headers
 from drive.beliefs import Chain, Delivery, Turn
-from drive.headers import PENDING, PREVIOUS, RELATED, SUCCESS, UNASKED, Command, Message, Unreadable
+from drive.headers import NOT_ACCEPTED, PENDING, PREVIOUS, RELATED, SUCCESS, UNASKED, Command, Message, Unreadable
 from drive.packets import COMPRESSED, ENCRYPTED, PROTOCOL, Packet
 from drive.shown import NONE, Contexts, Shower, word_of
 from drive.sightings import FILE_LIMIT, MOST, BreakSeen, Client, Connection, File, Open, Pending
@@ -216,7 +216,7 @@ class Walk:
     # Messages of the server
 
     def _answer(self, connection: Connection, packet: Packet, message: Message) -> None:
-        delivery = self._delivered(connection, packet)
+        delivery = connection.delivers(packet, at(packet), at(packet) if self._at_client else None)
         asked = message.identifier == UNASKED
         if connection.client:
             self._fact(at(packet), 2, f"sent {connection.client.number}", packet, self._name(message))
@@ -237,12 +237,6 @@ class Walk:
             return "a break"
         status = {SUCCESS: "", PENDING: ", pending"}.get(message.status, f", status {message.status:08x}")
         return f"answer to {message.name}{status}"
-
-    def _delivered(self, connection: Connection, packet: Packet) -> Delivery:
-        delivery = Delivery(at(packet), at(packet) if self._at_client else None)
-        connection.deliveries.append(delivery)
-        connection.ends.append((packet.end, at(packet)))
-        return delivery
 
     def _negotiated(self, connection: Connection, pending: Pending, packet: Packet, message: Message,
                     delivery: Delivery) -> None:
@@ -282,7 +276,7 @@ class Walk:
         chain = file.chains.setdefault((client.number, key), Chain(client.number, key))
         if pending.asked.key != key:
             self._note(packet, f"a lease under {key}, where {pending.asked.key or 'none'} was asked for")
-        elif not granted.state <= pending.asked.state | chain.state and not pending.asked.is_reconnect:
+        elif not (granted.state <= pending.asked.state | chain.state or granted.is_breaking or pending.asked.is_reconnect):
             self._note(packet, f"client {client.number} is granted {word_of(granted.state)} of {file.told}, "
                                f"and asked for {word_of(pending.asked.state)}")
         for seen in self.breaks:
@@ -358,6 +352,8 @@ class Walk:
         if message.status == SUCCESS and seen.doubt in chain.turns:
             chain.turns.remove(seen.doubt)
         elif message.status != SUCCESS:
+            # Where it was of too much, the break is still to be acknowledged (3.3.5.22.2).
+            seen.is_over = seen.is_answered = message.status != NOT_ACCEPTED
             self._note(packet, f"the acknowledgment of {pending.packet.told} is refused, status {message.status:08x}")
 
     def _broken(self, connection: Connection, packet: Packet, message: Message, delivery: Delivery) -> None:
