@@ -16,6 +16,7 @@ mod status;
 
 pub use client_table::ClientTable;
 pub use machines::Machines;
+pub use replies::push_reply;
 pub use server_stage::Stage;
 
 #[cfg(test)]

@@ -1,5 +1,6 @@
 pub mod Calls
 pub mod First
+pub mod Messages
 pub mod Seats
 pub mod Stands
 pub mod Worlds

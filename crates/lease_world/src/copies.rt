@@ -1,7 +1,7 @@
 ghost use Rattle.std.specs.Prelude.{◌≡◌, IfOk};
 
 use lease_client::Command;
-use lease_state::{Memory, Request};
+use lease_state::{Memory, Reply, Request};
 
 /// An equal command in memory of its own.
 ///
@@ -63,5 +63,59 @@ pub fn copy_request(request: &Request) -> Result<Request, Memory>
         },
         Request::Close { fid } => Request::Close { fid: *fid },
         Request::Ack(bytes) => Request::Ack(*bytes),
+    })
+}
+
+/// An equal reply in memory of its own.
+///
+/// # Errors
+///
+/// `Memory` where there is none left.
+pub fn copy_reply(reply: &Reply) -> Result<Reply, Memory>
+    ensures { IfOk result (λ copy. copy ≡ reply.now) }
+{
+    Ok(match reply {
+        Reply::Created {
+            file,
+            fid,
+            contexts,
+        } => Reply::Created {
+            file: *file,
+            fid: *fid,
+            contexts: contexts.try_copy()?,
+        },
+        Reply::CreateFailed { file, status } => Reply::CreateFailed {
+            file: *file,
+            status: *status,
+        },
+        Reply::ReadDone { fid, bytes } => Reply::ReadDone {
+            fid: *fid,
+            bytes: bytes.try_copy()?,
+        },
+        Reply::ReadFailed { fid, status } => Reply::ReadFailed {
+            fid: *fid,
+            status: *status,
+        },
+        Reply::WriteDone { fid, number } => Reply::WriteDone {
+            fid: *fid,
+            number: *number,
+        },
+        Reply::WriteFailed {
+            fid,
+            number,
+            status,
+        } => Reply::WriteFailed {
+            fid: *fid,
+            number: *number,
+            status: *status,
+        },
+        Reply::Closed { fid } => Reply::Closed { fid: *fid },
+        Reply::CloseFailed { fid, status } => Reply::CloseFailed {
+            fid: *fid,
+            status: *status,
+        },
+        Reply::Break(message) => Reply::Break(*message),
+        Reply::AckDone(message) => Reply::AckDone(*message),
+        Reply::AckFailed { status } => Reply::AckFailed { status: *status },
     })
 }

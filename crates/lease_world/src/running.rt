@@ -1,4 +1,5 @@
 ghost use Rattle.std.specs.Prelude.{◌≡◌, ◌≢◌, ◌↔◌, ◌≤◌, Ok, Err, true, false, map, length, IfOk};
+ghost use Rattle.lease_model.specs.messages.FromBytes.{reply_of};
 ghost use Rattle.lease_model.specs.records.Safe.{Safe};
 ghost use Rattle.lease_model.specs.records.Verdict.{Verdict, verdict};
 ghost use Rattle.lease_model.specs.world.Allowed.{is_allowed_setup, are_too_many};
@@ -6,14 +7,17 @@ ghost use Rattle.lease_model.specs.world.Events.{after, recorded};
 ghost use Rattle.lease_model.specs.world.World.{first_world};
 ghost use Rattle.lease_facts.specs.Facts.{fact_of};
 ghost use Rattle.lease_facts.specs.Setups.{setup_of, event_of};
+ghost use Rattle.lease_world.specs.world.Messages.{messages_told};
 ghost use Rattle.lease_world.specs.world.Stands.{Stands};
+ghost use Rattle.lease_world.specs.world.Worlds.{KeepsBehind};
 
 use crate::setup::{RunFault, is_allowed};
 use crate::world::World;
+use crate::world::messages::Messages;
 use lease_coherence::coherent;
 use lease_facts::{Event, Fact, Setup};
 use lease_laws::verdict_decides;
-use lease_state::Memory;
+use lease_state::{Memory, Reply};
 use std::alloc::Global;
 
 // The most events of a run.
@@ -49,8 +53,44 @@ pub fn run(alloc: Global, setup: &Setup, events: &[Event]) -> Result<Vec<Fact>, 
     if are_too_many(events) {
         return Err(RunFault::TooMany);
     }
-    match play(alloc, setup, events) {
-        Ok(facts) => Ok(facts),
+    match play(alloc, setup, events, Messages::unkept()) {
+        Ok(world) => Ok(world.into_parts().0),
+        Err(Memory) => Err(RunFault::Memory),
+    }
+}
+
+/// The record of a run, as `run` gives it, and the messages that it speaks of: one for each `Sent` and each `Took`, in their
+/// order. A break is told as it was sent, and so are the contexts of a created file.
+///
+/// # Errors
+///
+/// Those of `run`, in the same cases.
+pub fn run_with_messages(
+    alloc: Global,
+    setup: &Setup,
+    events: &[Event],
+) -> Result<(Vec<Fact>, Vec<Reply>), RunFault>
+    ensures bad_setup { (result ≡ Err RunFault.BadSetup) ↔ (is_allowed_setup (setup_of setup.now) ≡ false) }
+    ensures too_many { (result ≡ Err RunFault.TooMany)
+        ↔ ((is_allowed_setup (setup_of setup.now) ≡ true) × (are_too_many (map event_of events.now) ≡ true)) }
+    ensures record { IfOk result (λ told. map fact_of told.0.items
+        ≡ recorded (setup_of setup.now) (map event_of events.now)) }
+    ensures messages { IfOk result (λ told. map reply_of told.1.items
+        ≡ messages_told (setup_of setup.now) (map event_of events.now)) }
+    ensures safe { IfOk result (λ told. Safe (map fact_of told.0.items)) }
+{
+    coherent();
+    if !is_allowed(setup) {
+        return Err(RunFault::BadSetup);
+    }
+    if are_too_many(events) {
+        return Err(RunFault::TooMany);
+    }
+    match play(alloc, setup, events, Messages::new(alloc)) {
+        Ok(world) => {
+            let (facts, messages) = world.into_parts();
+            Ok((facts, messages.into_list(alloc)))
+        }
         Err(Memory) => Err(RunFault::Memory),
     }
 }
@@ -61,14 +101,15 @@ fn are_too_many(events: &[Event]) -> bool
     events.len() > EVENTS_LIMIT
 }
 
-// The record of a run whose setup has few files.
-fn play(alloc: Global, setup: &Setup, events: &[Event]) -> Result<Vec<Fact>, Memory>
+// The world after a run whose setup has few files. It keeps messages behind these, or none.
+fn play(alloc: Global, setup: &Setup, events: &[Event], messages: Messages) -> Result<World, Memory>
     requires { length setup.now.files.items ≤ 255 }
-    ensures { IfOk result (λ facts. map fact_of facts.items ≡ recorded (setup_of setup.now) (map event_of events.now)) }
+    ensures stands { IfOk result (λ world. Stands world (after (first_world (setup_of setup.now)) (map event_of events.now))) }
+    ensures kept { IfOk result (λ world. KeepsBehind messages (messages_told (setup_of setup.now) (map event_of events.now)) world) }
 {
-    let mut world = World::new(alloc, setup)?;
+    let mut world = World::new(alloc, setup, messages)?;
     for place in 0..events.len() {
         world = world.happen(&events[place])?;
     }
-    Ok(world.into_facts())
+    Ok(world)
 }

@@ -1,4 +1,4 @@
-ghost use Rattle.std.specs.Prelude.{◌≡◌, ◌<◌, ◌≤◌, ◌^◌, ◌&&◌, IfOk, length, is_some, nat_le, true};
+ghost use Rattle.std.specs.Prelude.{◌≡◌, ◌<◌, ◌≤◌, ◌^◌, ◌&&◌, [], ◌∷◌, IfOk, length, is_some, nat_le, true};
 ghost use Rattle.lease_laws.specs.messages.Written.{CallHasFileId};
 ghost use Rattle.lease_model.specs.client.Calls.{ClientCall};
 ghost use Rattle.lease_model.specs.messages.FromBytes.{request_of, reply_of};
@@ -6,7 +6,7 @@ ghost use Rattle.lease_model.specs.world.Events as model;
 ghost use Rattle.lease_world.specs.world.Stands.{link_of, Stands};
 ghost use Rattle.lease_world.specs.world.Calls.{client_call, server_call};
 ghost use Rattle.lease_world.specs.world.Worlds.{Happens, Tells, Serves, StepsIn, Links, CutsLink, Sends, Applies};
-ghost use Rattle.lease_world.specs.world.Seats.{IsPresent, is_link, seat_in};
+ghost use Rattle.lease_world.specs.world.Seats.{IsPresent, HasKept, is_link, seat_in};
 ghost use Rattle.std.specs.Option.{option_map};
 ghost use Rattle.lease_model.specs.client.State.{lease_key as model_key};
 ghost use Rattle.lease_model.specs.server.Naming.{key_of};
@@ -22,6 +22,7 @@ use crate::setup::client_of;
 use crate::world::calls::{Doing, Serving, call_server};
 use crate::world::delivering::{deliver, tell_notes};
 use crate::world::link::Link;
+use crate::world::messages::Messages;
 use crate::world::seat::Seat;
 use lease_client::{Command, lease_key};
 use lease_facts::{Event, Fact, Setup};
@@ -34,15 +35,18 @@ mod calls;
 mod delivering;
 mod first;
 mod link;
+pub mod messages;
 mod seat;
 mod seats;
 
-/// A server, clients, and what lies between them, with the record of what happened.
+/// A server, clients, and what lies between them, with the record of what happened, and the messages that it speaks of where
+/// they are kept.
 #[derive(Debug, Drop)]
 pub struct World {
     server: Server,
     seats: Vec<Seat>,
     facts: Vec<Fact>,
+    messages: Messages,
 }
 
 impl Model for World {
@@ -54,18 +58,20 @@ impl Model for World {
       server = world.server;
       seats = world.seats.items;
       facts = world.facts.items;
+      messages = world.messages;
     } };
 }
 
 impl World {
-    /// A world in which nothing happened yet.
+    /// A world in which nothing happened yet, and these messages.
     ///
     /// # Errors
     ///
     /// `Memory` where there is none left.
-    pub fn new(alloc: Global, setup: &Setup) -> Result<World, Memory>
+    pub fn new(alloc: Global, setup: &Setup, messages: Messages) -> Result<World, Memory>
         requires { length setup.now.files.items ≤ 255 }
-        ensures { IfOk result (λ world. Stands world (first_world (setup_of setup.now))) }
+        ensures stands { IfOk result (λ world. Stands world (first_world (setup_of setup.now))) }
+        ensures messages { IfOk result (λ world. world.messages ≡ messages) }
     {
         let contents = setup.files.as_slice();
         let facts = first::starts(alloc, contents)?;
@@ -75,6 +81,7 @@ impl World {
             server,
             seats,
             facts,
+            messages,
         })
     }
 
@@ -103,12 +110,17 @@ impl World {
         }
     }
 
-    /// The record of what happened, in order.
-    pub fn into_facts(self) -> Vec<Fact>
-        ensures { result.items ≡ self.facts }
+    /// The record of what happened, in order, and the messages that were kept.
+    pub fn into_parts(self) -> (Vec<Fact>, Messages)
+        ensures facts { result.0.items ≡ self.facts }
+        ensures messages { result.1 ≡ self.messages }
     {
-        let World { facts, .. } = self;
-        facts
+        let World {
+            facts,
+            messages,
+            ..
+        } = self;
+        (facts, messages)
     }
 
     // Whether there is a client of this number.
@@ -137,12 +149,34 @@ impl World {
             server,
             seats,
             mut facts,
+            messages,
         } = self;
         facts.push(fact)?;
         Ok(World {
             server,
             seats,
             facts,
+            messages,
+        })
+    }
+
+    // A message is kept, where messages are.
+    fn keep(self, message: &Reply) -> Result<World, Memory>
+        ensures becomes { IfOk result (λ world. world ≡ record self { messages = world.messages }) }
+        ensures kept { IfOk result (λ world. HasKept self.messages world.messages (message.now ∷ [])) }
+    {
+        let World {
+            server,
+            seats,
+            facts,
+            mut messages,
+        } = self;
+        messages.push(message)?;
+        Ok(World {
+            server,
+            seats,
+            facts,
+            messages,
         })
     }
 
@@ -155,13 +189,15 @@ impl World {
             server,
             mut seats,
             mut facts,
+            mut messages,
         } = self;
         let (server, outs) = call_server(server, serving)?;
-        deliver(&mut seats, &mut facts, outs)?;
+        deliver(&mut seats, &mut facts, &mut messages, outs)?;
         Ok(World {
             server,
             seats,
             facts,
+            messages,
         })
     }
 
@@ -175,6 +211,7 @@ impl World {
             server,
             mut seats,
             mut facts,
+            messages,
         } = self;
         let notes = seats::step(&mut seats, client, doing)?;
         tell_notes(&mut facts, client, notes)?;
@@ -182,6 +219,7 @@ impl World {
             server,
             seats,
             facts,
+            messages,
         })
     }
 
@@ -226,12 +264,14 @@ impl World {
             server,
             mut seats,
             facts,
+            messages,
         } = self;
         seats::set_link(&mut seats, client, link);
         World {
             server,
             seats,
             facts,
+            messages,
         }
     }
 
@@ -244,12 +284,14 @@ impl World {
             server,
             mut seats,
             facts,
+            messages,
         } = self;
         seats::cut_link(&mut seats, client);
         World {
             server,
             seats,
             facts,
+            messages,
         }
     }
 
@@ -262,12 +304,14 @@ impl World {
             server,
             mut seats,
             facts,
+            messages,
         } = self;
         seats::send(&mut seats, client, request)?;
         Ok(World {
             server,
             seats,
             facts,
+            messages,
         })
     }
 
@@ -280,12 +324,14 @@ impl World {
             server,
             mut seats,
             facts,
+            messages,
         } = self;
         let request = seats::pop_request(&mut seats, client);
         let world = World {
             server,
             seats,
             facts,
+            messages,
         };
         match request {
             Some(request) => world.serve(Serving::Receive(client, request)),
@@ -302,17 +348,20 @@ impl World {
             server,
             mut seats,
             facts,
+            messages,
         } = self;
         let reply = seats::pop_reply(&mut seats, client);
         let world = World {
             server,
             seats,
             facts,
+            messages,
         };
         match reply {
             Some(reply) => {
                 has_its_field(&reply);
-                let world = world.tell(Fact::Took(client))?;
+                let kept = world.keep(&reply)?;
+                let world = kept.tell(Fact::Took(client))?;
                 world.step(client, Doing::Take(reply))
             }
             None => Ok(world),

@@ -6,6 +6,7 @@ pub mod WireRemarks
 pub mod Answer
 pub mod Words
 pub mod Shown
+pub mod Messages
 pub mod Replayed
 pub mod Judging
 pub mod Printed

@@ -84,7 +84,7 @@ judge_refusal (Some text) = line_refusal (record_in text)
 abbrev pub refusal_of : Task → Option (List ℕ) → Option Failure
 refusal_of (task.Ack argument) file = argument_refusal (message_fault 44) (argument_bytes (string_bytes argument))
 refusal_of (task.Show kind argument) file = argument_refusal (shown_fault kind) (argument_bytes (string_bytes argument))
-refusal_of (task.Replay path) file = known_refusal file
+refusal_of (task.Replay path telling) file = known_refusal file
 refusal_of (task.Judge path) file = judge_refusal file
 refusal_of task.Version file = None
 
@@ -111,7 +111,7 @@ MayEndJudging file failure = (failure ≡ Memory) ⊎ (failure ≡ File) ⊎ Run
 
 -- What may end a task: its argument or its file is refused, or there was no memory, or a read of its file failed.
 abbrev pub MayEnd : Task → Option (List ℕ) → Failure → Type 0
-MayEnd (task.Replay path) file failure = MayEndReplay file failure
+MayEnd (task.Replay path telling) file failure = MayEndReplay file failure
 MayEnd (task.Judge path) file failure = MayEndJudging file failure
 MayEnd asked file failure = (failure ≡ Memory) ⊎ (refusal_of asked file ≡ Some failure)
 

@@ -2,6 +2,8 @@
 use Rattle.std.specs.Prelude.{◌≡◌, ◌⊎◌, ◌++◌, ℕ, map, if◌then◌else◌, List, [], ◌∷◌, codes, Option, Some, None, Result, Ok, Err, MatchResult}
 use Rattle.std.specs.Fmt.{decimal}
 use Rattle.lease_model.specs.records.Facts as model
+use Rattle.lease_model.specs.messages.FromBytes.{reply_of}
+use Rattle.lease_model.specs.messages.Replies as model_replies
 use Rattle.lease_model.specs.world.World.{Setup}
 use Rattle.lease_model.specs.world.Allowed.{is_allowed_setup, are_too_many}
 use Rattle.lease_model.specs.world.Events.{recorded}
@@ -13,11 +15,16 @@ use Rattle.lease_world.specs.declared.setup.RunFault.{RunFault}
 use Rattle.lease_world.specs.declared.setup.RunFault.TheVariants as run
 use Rattle.lease_world.specs.declared.verdict.Verdict.{Verdict}
 use Rattle.lease_world.specs.declared.verdict.Verdict.TheVariants as verdict
+use Rattle.lease_state.specs.declared.reply.Reply.{Reply}
 use Rattle.lease_texts.specs.Records.{record_text}
 use Rattle.lease_texts.specs.Schedules.{Draft, schedule_in}
+use Rattle.lease_world.specs.world.Messages.{messages_told}
+use Rattle.leasecheck.specs.Messages.{record_with_messages}
 use Rattle.leasecheck.specs.declared.failure.Failure.{Failure}
 use Rattle.leasecheck.specs.declared.failure.Failure.TheVariants as failure
 use Rattle.leasecheck.specs.declared.refusal.Refusal.{Refusal}
+use Rattle.leasecheck.specs.declared.tasks.Telling.{Telling}
+use Rattle.leasecheck.specs.declared.tasks.Telling.TheVariants as telling
 
 abbrev pub setup_of : Draft → Setup
 setup_of draft = record { files = draft.files; clients = draft.clients }
@@ -38,12 +45,25 @@ status_of (verdict.Malformed place) = 1
 abbrev pub record_of : Draft → List model.Fact
 record_of draft = recorded (setup_of draft) (map event_of draft.events)
 
+-- the messages that this record speaks of
+abbrev pub messages_of : Draft → List model_replies.Reply
+messages_of draft = messages_told (setup_of draft) (map event_of draft.events)
+
+-- the text tells the facts of a run, alone or with their messages
+abbrev pub IsToldBy : Telling → Draft → List Fact → List ℕ → Type 0
+IsToldBy telling.Facts draft facts text = text ≡ record_text facts
+IsToldBy telling.Messages draft facts text =
+    (messages : List Reply) × (map reply_of messages ≡ messages_of draft) × (text ≡ record_with_messages facts messages)
+
+-- the text is the record of the run of this draft
+abbrev pub Tells : Telling → Draft → List ℕ → Type 0
+Tells telling draft text = (facts : List Fact) × (map fact_of facts ≡ record_of draft) × IsToldBy telling draft facts text
+
 -- the text is the record of the run that the schedule asks for, and that it is safe
-abbrev pub Replays : List ℕ → List ℕ → Type 0
-Replays schedule text =
-    (draft : Draft) × (facts : List Fact) × (schedule_in schedule ≡ Ok draft)
-    × (map fact_of facts ≡ record_of draft)
-    × (text ≡ record_text facts ++ codes "# safe" ++ 10 ∷ [])
+abbrev pub Replays : Telling → List ℕ → List ℕ → Type 0
+Replays telling schedule text =
+    (draft : Draft) × (told : List ℕ) × (schedule_in schedule ≡ Ok draft) × Tells telling draft told
+    × (text ≡ told ++ codes "# safe" ++ 10 ∷ [])
 
 -- why there is no run, as the program tells it
 abbrev pub run_failure : RunFault → Failure
@@ -56,6 +76,11 @@ run_refusal (Ok draft) =
     if is_allowed_setup (setup_of draft)
     then (if are_too_many (map event_of draft.events) then Some (failure.Run run.TooMany) else None)
     else Some (failure.Run run.BadSetup)
+
+-- A run is had only where it isn't refused; else it is refused as that, or for want of memory.
+abbrev pub RefusesRun : {X : Type 0} → Draft → Result X Refusal → Type 0
+RefusesRun draft answer = MatchResult answer (λ _. run_refusal (Ok draft) ≡ None)
+    (λ told. (told.failure ≡ failure.Memory) ⊎ (run_refusal (Ok draft) ≡ Some told.failure))
 
 -- what a schedule is refused as
 abbrev pub replay_refusal : List ℕ → Option Failure

@@ -1,9 +1,9 @@
 ghost use Rattle.std.specs.Prelude.{◌≡◌, ◌⊎◌, IfErr};
 
 use crate::help;
-use crate::tasks::{Asked, Kind, Task, Usage, VERSION};
+use crate::tasks::{Asked, Kind, Task, Telling, Usage, VERSION};
 use clap::error::ErrorKind;
-use clap::{Arg, ArgMatches, Command, Error};
+use clap::{Arg, ArgAction, ArgMatches, Command, Error};
 use std::alloc::{AllocError, Global};
 
 fn hex_argument<'a>(alloc: Global, help: &'a str) -> Arg<'a> {
@@ -53,7 +53,13 @@ fn file_argument<'a>(alloc: Global, help: &'a str) -> Arg<'a> {
 fn replay_command<'a>(alloc: Global) -> Result<Command<'a>, AllocError> {
     let about = "Prints the record of the run that a schedule asks for";
     let file = file_argument(alloc, "The schedule; - is standard input");
-    command(alloc, "replay", about, help::REPLAY, help::REPLAY_END).arg(file)
+    let messages = Arg::new(alloc, "messages")
+        .long("messages")
+        .action(ArgAction::SetTrue)
+        .help("Says before each message what is in it, in a comment line");
+    command(alloc, "replay", about, help::REPLAY, help::REPLAY_END)
+        .arg(file)?
+        .arg(messages)
 }
 
 fn judge_command<'a>(alloc: Global) -> Result<Command<'a>, AllocError> {
@@ -145,11 +151,22 @@ fn show_task(alloc: Global, given: &ArgMatches) -> Result<Option<Task>, AllocErr
     Ok(kind_named(name).map(|kind| Task::Show(kind, argument)))
 }
 
+fn telling_of(given: &ArgMatches) -> Telling {
+    if given.get_flag("messages") {
+        Telling::Messages
+    } else {
+        Telling::Facts
+    }
+}
+
 fn task_of(alloc: Global, name: &str, given: &ArgMatches) -> Result<Option<Task>, AllocError> {
     match name {
         "ack" => Ok(owned(alloc, given, "HEX")?.map(|argument| Task::Ack(argument))),
         "show" => show_task(alloc, given),
-        "replay" => Ok(owned(alloc, given, "FILE")?.map(|path| Task::Replay(path))),
+        "replay" => Ok(owned(alloc, given, "FILE")?.map(|path| Task::Replay(
+            path,
+            telling_of(given),
+        ))),
         "judge" => Ok(owned(alloc, given, "FILE")?.map(|path| Task::Judge(path))),
         _ => Ok(None),
     }

@@ -63,7 +63,8 @@ printed, and the faults.";
 pub(crate) const REPLAY: &str =
     "Reads a schedule, that is files, clients and events, one a line, runs it on the
 server and the clients, and prints the record, one fact a line, and '# safe'
-behind it. The whole output is a record that 'judge' reads.";
+behind it. The whole output is a record that 'judge' reads. With --messages a
+comment line before each 'sent' and 'took' says what is in the message.";
 
 pub(crate) const REPLAY_END: &str = "Example:
   $ printf 'file 61\\nclient 11111111-1111-1111-1111-111111111111\\nconnect 1\\n' | leasecheck replay -

@@ -18,6 +18,7 @@ mod failure;
 mod help;
 mod hexadecimal;
 mod judging;
+mod messages;
 mod printing;
 mod refusal;
 mod remarks;

@@ -19,7 +19,7 @@ use crate::hexadecimal;
 use crate::judging::{judge_text, push_verdict, status_of};
 use crate::refusal::Refusal;
 use crate::replaying::replay;
-use crate::tasks::{Kind, Task, VERSION};
+use crate::tasks::{Kind, Task, Telling, VERSION};
 use crate::wire::{ack_lines, render};
 use arrayvec::ArrayString;
 use std::alloc::Global;
@@ -62,9 +62,9 @@ fn judged<I: Read>(alloc: Global, input: &mut I) -> Result<Printed, Refusal>
     }
 }
 
-fn replayed<I: Read>(alloc: Global, input: &mut I) -> Result<Printed, Refusal>
+fn replayed<I: Read>(alloc: Global, telling: Telling, input: &mut I) -> Result<Printed, Refusal>
     ensures printed { IfOk result (λ printed. (printed.status ≡ 0)
-        × IfSome (I.remaining input.old) (λ schedule. Replays schedule (string_bytes printed.text))) }
+        × IfSome (I.remaining input.old) (λ schedule. Replays telling schedule (string_bytes printed.text))) }
     ensures refused { MatchResult result (λ _. known_refusal (I.remaining input.old) ≡ None)
         (λ refusal. MayEndReplay (I.remaining input.old) refusal.failure) }
     ensures said { IfErr result (λ refusal. Says refusal (IsFileRemark schedule_remark (I.remaining input.old))) }
@@ -73,7 +73,7 @@ fn replayed<I: Read>(alloc: Global, input: &mut I) -> Result<Printed, Refusal>
     let Ok(_) = input.read_to_end(&mut bytes) else {
         return Err(Refusal::bare(Failure::File));
     };
-    match replay(alloc, bytes.as_slice()) {
+    match replay(alloc, telling, bytes.as_slice()) {
         Ok((text, verdict)) => Ok(Printed {
             text,
             status: status_of(&verdict),
@@ -121,7 +121,7 @@ fn text_of<I: Read>(alloc: Global, task: &Task, input: &mut I) -> Result<Printed
     match task {
         Task::Ack(argument) => acknowledged(alloc, argument.as_str()),
         Task::Show(kind, argument) => shown(alloc, *kind, argument.as_str()),
-        Task::Replay(_) => replayed(alloc, input),
+        Task::Replay(_, telling) => replayed(alloc, *telling, input),
         Task::Judge(_) => judged(alloc, input),
         Task::Version => Ok(done(String::from_str(alloc, VERSION)?)),
     }

@@ -13,6 +13,15 @@ pub enum Kind {
     Response,
 }
 
+/// What a replay prints of a run.
+#[derive(Clone, Copy, Debug, PartialEq, Eq)]
+pub enum Telling {
+    /// The facts.
+    Facts,
+    /// The facts, and before each that speaks of a message a comment line with what is in it.
+    Messages,
+}
+
 /// What a command line asks for.
 #[derive(Debug, PartialEq, Eq, Drop)]
 pub enum Task {
@@ -21,7 +30,7 @@ pub enum Task {
     /// What the bytes hold that this argument writes.
     Show(Kind, String),
     /// The record of the run that the schedule in this file asks for.
-    Replay(String),
+    Replay(String, Telling),
     /// The verdict on the record in this file.
     Judge(String),
     /// The version of the program.
@@ -46,7 +55,7 @@ impl Task {
     pub fn path(&self) -> Option<&str> {
         match self {
             Task::Ack(_) | Task::Show(_, _) | Task::Version => None,
-            Task::Replay(path) | Task::Judge(path) => Some(path.as_str()),
+            Task::Replay(path, _) | Task::Judge(path) => Some(path.as_str()),
         }
     }
 }

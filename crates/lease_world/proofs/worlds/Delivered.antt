@@ -12,7 +12,8 @@ use Rattle.lease_model.specs.messages.ToBytes.{request_written, reply_written, H
 use Rattle.lease_model.specs.records.Facts.{Fact}
 use Rattle.lease_model.specs.values.Tables.{put}
 use Rattle.lease_model.specs.world.World.{World, delivered, all_delivered, noted, fact_of}
-use Rattle.lease_world.specs.world.Seats.{fact_given, replies_to}
+use Rattle.lease_world.specs.world.Messages.{sent_among}
+use Rattle.lease_world.specs.world.Seats.{fact_given, replies_to, replies_among}
 use Rattle.share_server.specs.Written.{out_written}
 
 -- ---- outs
@@ -132,6 +133,14 @@ given_replies back client (Out.Sent other reply ∷ outs) each =
     go false e rest = rest
 given_replies back client (Out.Opened file other ∷ outs) each = given_replies back client outs each.1
 given_replies back client (Out.Changed file other number patch ∷ outs) each = given_replies back client outs each.1
+
+-- the replies among them, all of them
+pub replies_given : RepliesAreReadBack → (outs : List Out) → EachOut OutHasBytes outs
+    → map reply_of (replies_among (map out_written outs)) ≡ sent_among outs
+replies_given back [] each = refl
+replies_given back (Out.Sent client reply ∷ outs) each = rw (back reply each.0, replies_given back outs each.1) refl
+replies_given back (Out.Opened file other ∷ outs) each = replies_given back outs each.1
+replies_given back (Out.Changed file other number patch ∷ outs) each = replies_given back outs each.1
 
 -- ---- notes
 

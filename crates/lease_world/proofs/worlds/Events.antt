@@ -1,5 +1,5 @@
 -- What a world of the code stands for after an event of a client that there is.
-use Rattle.std.proofs.Common.{◌≡◌, ℕ, Bool, true, false, List, length, map, Option, Some, None, refl, sym, ap, subst, ◌∙◌, arith}
+use Rattle.std.proofs.Common.{◌≡◌, ℕ, Bool, true, false, List, length, map, Option, Some, None, [], ◌∷◌, refl, sym, ap, subst, ◌∙◌, arith}
 use Rattle.std.specs.Prelude.{◌&&◌, if◌then◌else◌, nat_le, is_some}
 use Rattle.lease_laws.specs.messages.Written.{CallHasFileId}
 use Rattle.lease_model.specs.client.Calls.{ClientCall, client_called}
@@ -22,11 +22,13 @@ use Rattle.lease_state.specs.declared.request.Request as code_request
 use Rattle.lease_state.specs.declared.reply.Reply as code_reply
 use Rattle.lease_facts.specs.Facts.{fact_of}
 use Rattle.lease_world.specs.declared.world.link.Link as code
-use Rattle.lease_world.specs.world.Seats.{Seat, seat_in, is_link, IsPresent, ChangesSeat, PopsRequest, PopsReply}
+use Rattle.lease_world.specs.world.Messages.{sent_by, sent_by_oldest, oldest, sent_by_cut, sent_by_join, sent_by_scavenge, messages_of, messages_in}
+use Rattle.lease_world.specs.world.Seats.{Seat, HasKept, seat_in, is_link, IsPresent, ChangesSeat, PopsRequest, PopsReply}
 use Rattle.lease_world.specs.world.Stands.{Seen, link_of, Stands}
-use Rattle.lease_world.specs.world.Worlds.{Happens, Tells, Serves, StepsIn, Links, CutsLink, Sends, Applies}
+use Rattle.lease_world.specs.world.Worlds.{Keeps, Happens, Tells, Serves, StepsIn, Links, CutsLink, Sends, Applies}
 use Rattle.lease_world.proofs.worlds.Delivered.{delivers}
 use Rattle.lease_world.proofs.worlds.Happening.{OnlySeats, no_request, popped_request, no_reply, popped_reply}
+use Rattle.lease_world.proofs.worlds.Kept.{quiet_keeps, quiet_first, quiet_last, kept_keeps}
 use Rattle.lease_world.proofs.worlds.Keys.{request_keys}
 use Rattle.lease_world.proofs.worlds.Standing.{one_seat}
 use Rattle.share_server.specs.Table.{server_of}
@@ -51,39 +53,60 @@ same_seats old new number Changes only seats same world s = record {
 pub server_took_nothing : (old new : Seen) (number : ℕ) → OnlySeats old new
     → ChangesSeat (PopsRequest None) number old.seats new.seats → IsPresent number old.seats
     → Applies (Event.ServerTakes number) old new
-unfolding applied
+unfolding applied messages_of
 server_took_nothing old new number only seats there world s =
-    subst (λ (rs : List Request). Stands new (server_takes world number rs)) (sym (no_request old new number seats there world s))
-    (same_seats old new number (PopsRequest None) only seats seats.0.0 world s)
+    subst (λ (rs : List Request). Stands new (server_takes world number rs) × Keeps (sent_by_oldest world number rs) old new)
+    (sym (no_request old new number seats there world s))
+    (same_seats old new number (PopsRequest None) only seats seats.0.0 world s, quiet_keeps old new only.2)
 
 pub server_took : (old middle new : Seen) (number : ℕ) (request : code_request.Request) → OnlySeats old middle
     → ChangesSeat (PopsRequest (Some request)) number old.seats middle.seats → IsPresent number old.seats
     → Serves (Call.Receive number (request_of request)) middle new
     → Applies (Event.ServerTakes number) old new
-unfolding applied
+unfolding applied messages_of
 server_took old middle new number request only seats there serves world s =
     let p = popped_request old middle number request only seats there world s in
-    subst (λ (rs : List Request). Stands new (server_takes world number rs)) (sym p.0)
-    (serves (request_keys number request) _ p.1)
+    let served = serves (request_keys number request) _ p.1 in
+    subst (λ (rs : List Request). Stands new (server_takes world number rs) × Keeps (sent_by_oldest world number rs) old new) (sym p.0)
+    (served.0, quiet_first old middle new _ only.2 served.1)
 
 pub client_took_nothing : (old new : Seen) (number : ℕ) → OnlySeats old new
     → ChangesSeat (PopsReply None) number old.seats new.seats → IsPresent number old.seats
     → Applies (Event.ClientTakes number) old new
-unfolding applied
+unfolding applied messages_of
 client_took_nothing old new number only seats there world s =
-    subst (λ (rs : List Reply). Stands new (client_takes world number rs)) (sym (no_reply old new number seats there world s))
-    (same_seats old new number (PopsReply None) only seats seats.0.0 world s)
+    subst (λ (rs : List Reply). Stands new (client_takes world number rs) × Keeps (oldest rs) old new)
+    (sym (no_reply old new number seats there world s))
+    (same_seats old new number (PopsReply None) only seats seats.0.0 world s, quiet_keeps old new only.2)
 
-pub client_took : (old middle told new : Seen) (number : ℕ) (reply : code_reply.Reply) → OnlySeats old middle
+-- a message is kept, and nothing else changes
+kept_stands : (old new : Seen) → new ≡ record old { messages = new.messages } → (world : World) → Stands old world → Stands new world
+kept_stands old new same world s = rw same (record {
+  count = s.count;
+  server = s.server;
+  seats = λ n p. let q = s.seats n p in record { guid = q.guid; client = q.client; link = q.link; requests = q.requests; replies = q.replies };
+  facts = s.facts;
+  sound = s.sound;
+  waiting = s.waiting;
+  keys = s.keys;
+  writing = s.writing;
+})
+
+pub client_took : (old middle kept told new : Seen) (number : ℕ) (reply : code_reply.Reply) → OnlySeats old middle
     → ChangesSeat (PopsReply (Some reply)) number old.seats middle.seats → IsPresent number old.seats
     → CallHasFileId (ClientCall.Taken (reply_of reply))
-    → Tells (Fact.Took number) middle told → StepsIn number (ClientCall.Taken (reply_of reply)) told new
+    → kept ≡ record middle { messages = kept.messages } → HasKept middle.messages kept.messages (reply ∷ [])
+    → Tells (Fact.Took number) kept told → StepsIn number (ClientCall.Taken (reply_of reply)) told new
     → Applies (Event.ClientTakes number) old new
-unfolding applied
-client_took old middle told new number reply only seats there fits tells steps world s =
+unfolding applied messages_of
+client_took old middle kept told new number reply only seats there fits alike keeps tells steps world s =
     let p = popped_reply old middle number reply only seats there world s in
-    subst (λ (rs : List Reply). Stands new (client_takes world number rs)) (sym p.0)
-    (steps fits _ (tells _ p.1))
+    subst (λ (rs : List Reply). Stands new (client_takes world number rs) × Keeps (oldest rs) old new) (sym p.0) (
+      steps.1 fits _ (tells.1 _ (kept_stands middle kept alike _ p.1)),
+      quiet_first old middle new (reply_of reply ∷ []) only.2
+          (quiet_last middle told new (reply_of reply ∷ [])
+          (quiet_last middle kept told (reply_of reply ∷ []) (kept_keeps middle kept (reply ∷ []) keeps) tells.0) steps.0),
+    )
 
 -- ---- links
 
@@ -104,26 +127,28 @@ known_link old number link there world s e =
     sym (s.seats number there).link ∙ ap link_of (link_is (seat_in old.seats number).link link e)
 
 not_cut : (old : Seen) (world : World) (number : ℕ) (l : code.Link) → is_link l code.TheVariants.Up ≡ false → Stands old world
-    → Stands old (cut_over world number (link_of l))
-not_cut old world number code.TheVariants.Down e s = s
+    → Stands old (cut_over world number (link_of l)) × Keeps (sent_by_cut world number (link_of l)) old old
+not_cut old world number code.TheVariants.Down e s = (s, quiet_keeps old old refl)
 not_cut old world number code.TheVariants.Up e s = let c : ⊥ = cc in absurd c
-not_cut old world number code.TheVariants.Cut e s = s
+not_cut old world number code.TheVariants.Cut e s = (s, quiet_keeps old old refl)
 
 pub cut_nothing : (old : Seen) (number : ℕ) → IsPresent number old.seats
     → is_link (seat_in old.seats number).link code.TheVariants.Up ≡ false → Applies (Event.Cut number) old old
-unfolding applied
+unfolding applied messages_of
 cut_nothing old number there e world s =
-    subst (λ (l : Link). Stands old (cut_over world number l)) (s.seats number there).link
+    subst (λ (l : Link). Stands old (cut_over world number l) × Keeps (sent_by_cut world number l) old old) (s.seats number there).link
     (not_cut old world number (seat_in old.seats number).link e s)
 
 pub cut_one : (old middle told new : Seen) (number : ℕ) → IsPresent number old.seats
     → is_link (seat_in old.seats number).link code.TheVariants.Up ≡ true
     → CutsLink number old middle → Tells (Fact.Dropped number) middle told → Serves (Call.Cut number) told new
     → Applies (Event.Cut number) old new
-unfolding applied link_cut
+unfolding applied messages_of link_cut
 cut_one old middle told new number there e cuts tells serves world s =
-    subst (λ (l : Link). Stands new (cut_over world number l)) (sym (known_link old number code.TheVariants.Up there world s e))
-    (serves tt _ (tells _ (cuts world s)))
+    let served = serves tt _ (tells.1 _ (cuts.1 world s)) in
+    subst (λ (l : Link). Stands new (cut_over world number l) × Keeps (sent_by_cut world number l) old new)
+    (sym (known_link old number code.TheVariants.Up there world s e))
+    (served.0, quiet_first old middle new _ cuts.0 (quiet_first middle told new _ tells.0 served.1))
 
 not_noticed : (old : Seen) (world : World) (number : ℕ) (l : code.Link) → is_link l code.TheVariants.Cut ≡ false → Stands old world
     → Stands old (notice_over world number (link_of l))
@@ -133,31 +158,35 @@ not_noticed old world number code.TheVariants.Cut e s = let c : ⊥ = cc in absu
 
 pub notice_nothing : (old : Seen) (number : ℕ) → IsPresent number old.seats
     → is_link (seat_in old.seats number).link code.TheVariants.Cut ≡ false → Applies (Event.Notice number) old old
-unfolding applied
-notice_nothing old number there e world s =
-    subst (λ (l : Link). Stands old (notice_over world number l)) (s.seats number there).link
-    (not_noticed old world number (seat_in old.seats number).link e s)
+unfolding applied messages_of
+notice_nothing old number there e world s = (
+  subst (λ (l : Link). Stands old (notice_over world number l)) (s.seats number there).link
+      (not_noticed old world number (seat_in old.seats number).link e s),
+  quiet_keeps old old refl,
+)
 
 pub notice_one : (old middle new : Seen) (number : ℕ) → IsPresent number old.seats
     → is_link (seat_in old.seats number).link code.TheVariants.Cut ≡ true
     → Links number Link.Down old middle → StepsIn number ClientCall.Noticed middle new
     → Applies (Event.Notice number) old new
-unfolding applied link_noticed
-notice_one old middle new number there e links steps world s =
-    subst (λ (l : Link). Stands new (notice_over world number l)) (sym (known_link old number code.TheVariants.Cut there world s e))
-    (steps tt _ (links world s))
+unfolding applied messages_of link_noticed
+notice_one old middle new number there e links steps world s = (
+  subst (λ (l : Link). Stands new (notice_over world number l)) (sym (known_link old number code.TheVariants.Cut there world s e))
+      (steps.1 tt _ (links.1 world s)),
+  quiet_last old middle new [] (quiet_keeps old middle links.0) steps.0,
+)
 
 not_connected : (old : Seen) (world : World) (number : ℕ) (l : code.Link) → is_link l code.TheVariants.Down ≡ false → Stands old world
-    → Stands old (connect_over world number (link_of l))
+    → Stands old (connect_over world number (link_of l)) × Keeps (sent_by_join world number (link_of l)) old old
 not_connected old world number code.TheVariants.Down e s = let c : ⊥ = cc in absurd c
-not_connected old world number code.TheVariants.Up e s = s
-not_connected old world number code.TheVariants.Cut e s = s
+not_connected old world number code.TheVariants.Up e s = (s, quiet_keeps old old refl)
+not_connected old world number code.TheVariants.Cut e s = (s, quiet_keeps old old refl)
 
 pub connect_nothing : (old : Seen) (number : ℕ) → IsPresent number old.seats
     → is_link (seat_in old.seats number).link code.TheVariants.Down ≡ false → Applies (Event.Connect number) old old
-unfolding applied
+unfolding applied messages_of
 connect_nothing old number there e world s =
-    subst (λ (l : Link). Stands old (connect_over world number l)) (s.seats number there).link
+    subst (λ (l : Link). Stands old (connect_over world number l) × Keeps (sent_by_join world number l) old old) (s.seats number there).link
     (not_connected old world number (seat_in old.seats number).link e s)
 
 -- a call of the server leaves the clients alone
@@ -171,15 +200,20 @@ pub connect_one : (old middle told joined new : Seen) (number : ℕ) → IsPrese
     → Links number Link.Up old middle → Tells (Fact.Joined number) middle told → Serves (Call.Join number) told joined
     → StepsIn number ClientCall.Connected joined new
     → Applies (Event.Connect number) old new
-unfolding applied link_connected
+unfolding applied messages_of link_connected
 connect_one old middle told joined new number there e links tells serves steps world s =
     let up : World = happened (record world { links = put world.links number Link.Up }) (Fact.Joined number) in
     let come : World = served up (called world.server (Call.Join number)) in
     let same : come.clients number ≡ world.clients number =
     ap (λ (t : ℕ → Client). t number) (same_clients up (called world.server (Call.Join number))) in
-    subst (λ (l : Link). Stands new (connect_over world number l)) (sym (known_link old number code.TheVariants.Down there world s e))
-    (subst (λ (c : Client). Stands new (stepped_in come number (client_called c ClientCall.Connected))) same
-    (steps tt come (serves tt up (tells _ (links world s)))))
+    let served = serves tt up (tells.1 _ (links.1 world s)) in
+    subst (λ (l : Link). Stands new (connect_over world number l) × Keeps (sent_by_join world number l) old new)
+    (sym (known_link old number code.TheVariants.Down there world s e)) (
+      subst (λ (c : Client). Stands new (stepped_in come number (client_called c ClientCall.Connected))) same
+          (steps.1 tt come served.0),
+      quiet_first old middle new _ links.0
+          (quiet_first middle told new _ tells.0 (quiet_last told joined new _ served.1 steps.0)),
+    )
 
 -- ---- strays
 
@@ -192,19 +226,23 @@ not_strayed old world number request code.TheVariants.Cut e s = s
 
 pub stray_nothing : (old : Seen) (number : ℕ) (request : Request) → IsPresent number old.seats
     → is_link (seat_in old.seats number).link code.TheVariants.Up ≡ false → Applies (Event.Raw number request) old old
-unfolding applied
-stray_nothing old number request there e world s =
-    subst (λ (l : Link). Stands old (strayed_over world number request l)) (s.seats number there).link
-    (not_strayed old world number request (seat_in old.seats number).link e s)
+unfolding applied messages_of
+stray_nothing old number request there e world s = (
+  subst (λ (l : Link). Stands old (strayed_over world number request l)) (s.seats number there).link
+      (not_strayed old world number request (seat_in old.seats number).link e s),
+  quiet_keeps old old refl,
+)
 
 pub stray_one : (old told new : Seen) (number : ℕ) (request : Request) → IsPresent number old.seats
     → is_link (seat_in old.seats number).link code.TheVariants.Up ≡ true
     → Tells (Fact.Strayed number) old told → Sends number request told new
     → Applies (Event.Raw number request) old new
-unfolding applied strayed_over
-stray_one old told new number request there e tells sends world s =
-    subst (λ (l : Link). Stands new (strayed_over world number request l)) (sym (known_link old number code.TheVariants.Up there world s e))
-    (sends _ (tells world s))
+unfolding applied messages_of strayed_over
+stray_one old told new number request there e tells sends world s = (
+  subst (λ (l : Link). Stands new (strayed_over world number request l)) (sym (known_link old number code.TheVariants.Up there world s e))
+      (sends.1 _ (tells.1 world s)),
+  quiet_last old told new [] (quiet_keeps old told tells.0) sends.0,
+)
 
 -- ---- timers
 
@@ -226,15 +264,15 @@ same_key : (old : Seen) (number file : ℕ) (key : List ℕ) → IsPresent numbe
 same_key old number file key there e world s =
     ap (λ (k : List ℕ). key_of number k) (e ∙ ap (λ (g : List ℕ). lease_key g file) (s.seats number there).guid)
 
-nothing_expires : (world : World) (b c : Bool) (other : World) → (b && c) ≡ false → (if b then (if c then other else world) else world) ≡ world
-nothing_expires world true true other e = let c : ⊥ = cc in absurd c
-nothing_expires world true false other e = refl
-nothing_expires world false c other e = refl
+nothing_expires : {X : Type 0} (b c : Bool) (one other : X) → (b && c) ≡ false → (if b then (if c then other else one) else one) ≡ one
+nothing_expires true true one other e = let c : ⊥ = cc in absurd c
+nothing_expires true false one other e = refl
+nothing_expires false c one other e = refl
 
-something_expires : (world : World) (b c : Bool) (other : World) → (b && c) ≡ true → (if b then (if c then other else world) else world) ≡ other
-something_expires world true true other e = refl
-something_expires world true false other e = let c : ⊥ = cc in absurd c
-something_expires world false c other e = let c : ⊥ = cc in absurd c
+something_expires : {X : Type 0} (b c : Bool) (one other : X) → (b && c) ≡ true → (if b then (if c then other else one) else one) ≡ other
+something_expires true true one other e = refl
+something_expires true false one other e = let c : ⊥ = cc in absurd c
+something_expires false c one other e = let c : ⊥ = cc in absurd c
 
 waits : (old : Seen) (number file : ℕ) (key : List ℕ) (b : Bool) → IsPresent number old.seats
     → key ≡ lease_key (seat_in old.seats number).guid file
@@ -248,39 +286,50 @@ pub expire_nothing : (old : Seen) (number file : ℕ) (key : List ℕ) → IsPre
     → key ≡ lease_key (seat_in old.seats number).guid file
     → (is_some (content (server_of old.server) file) && breaking (server_of old.server) (key_of number key)) ≡ false
     → Applies (Event.Expire number file) old old
-unfolding applied
+unfolding applied messages_of
 expire_nothing old number file key there k e world s =
-    subst (λ (w : World). Stands old w)
-    (sym (nothing_expires world (has_file world.server file) (breaking world.server (machine_key world number file))
-    (timer_expired world number file) (waits old number file key false there k e world s))) s
+    let has : Bool = has_file world.server file in
+    let waiting : Bool = breaking world.server (machine_key world number file) in
+    let none = waits old number file key false there k e world s in (
+      subst (λ (w : World). Stands old w) (sym (nothing_expires has waiting world (timer_expired world number file) none)) s,
+      subst (λ (rs : List Reply). Keeps rs old old)
+          (sym (nothing_expires has waiting [] (sent_by world (Call.Expire (machine_key world number file))) none)) (quiet_keeps old old refl),
+    )
 
 pub expire_one : (old told new : Seen) (number file : ℕ) (key : List ℕ) → IsPresent number old.seats
     → key ≡ lease_key (seat_in old.seats number).guid file
     → (is_some (content (server_of old.server) file) && breaking (server_of old.server) (key_of number key)) ≡ true
     → Tells (Fact.Expired number file) old told → Serves (Call.Expire (key_of number key)) told new
     → Applies (Event.Expire number file) old new
-unfolding applied timer_expired
+unfolding applied messages_of timer_expired
 expire_one old told new number file key there k e tells serves world s =
     let told_world : World = happened world (Fact.Expired number file) in
-    subst (λ (w : World). Stands new w)
-    (sym (something_expires world (has_file world.server file) (breaking world.server (machine_key world number file))
-    (timer_expired world number file) (waits old number file key true there k e world s)))
-    (subst (λ (q : Key). Stands new (served told_world (called world.server (Call.Expire q))))
-    (same_key old number file key there k world s) (serves tt told_world (tells world s)))
+    let has : Bool = has_file world.server file in
+    let waiting : Bool = breaking world.server (machine_key world number file) in
+    let some = waits old number file key true there k e world s in
+    let served = subst (λ (q : Key). Stands new (served told_world (called world.server (Call.Expire q)))
+    × Keeps (sent_by world (Call.Expire q)) told new)
+    (same_key old number file key there k world s) (serves tt told_world (tells.1 world s)) in (
+      subst (λ (w : World). Stands new w) (sym (something_expires has waiting world (timer_expired world number file) some)) served.0,
+      subst (λ (rs : List Reply). Keeps rs old new)
+          (sym (something_expires has waiting [] (sent_by world (Call.Expire (machine_key world number file))) some))
+          (quiet_first old told new _ tells.0 served.1),
+    )
 
 pub scavenge_nothing : (old : Seen) (number file : ℕ) → kept (server_of old.server) number file ≡ None
     → Applies (Event.Scavenge number file) old old
-unfolding applied
+unfolding applied messages_of
 scavenge_nothing old number file e world s =
     let none : kept world.server number file ≡ None = ap (λ (t : Server). kept t number file) (sym s.server) ∙ e in
-    subst (λ (o : Option ℕ). Stands old (scavenged world o)) (sym none) s
+    subst (λ (o : Option ℕ). Stands old (scavenged world o) × Keeps (sent_by_scavenge world o) old old) (sym none)
+    (s, quiet_keeps old old refl)
 
 pub scavenge_one : (old new : Seen) (number file fid : ℕ) → kept (server_of old.server) number file ≡ Some fid
     → Serves (Call.Scavenge fid) old new → Applies (Event.Scavenge number file) old new
-unfolding applied
+unfolding applied messages_of
 scavenge_one old new number file fid e serves world s =
     let some : kept world.server number file ≡ Some fid = ap (λ (t : Server). kept t number file) (sym s.server) ∙ e in
-    subst (λ (o : Option ℕ). Stands new (scavenged world o)) (sym some) (serves tt world s)
+    subst (λ (o : Option ℕ). Stands new (scavenged world o) × Keeps (sent_by_scavenge world o) old new) (sym some) (serves tt world s)
 
 -- ---- any event
 
@@ -290,15 +339,15 @@ has_it old number b e world s = rw s.count e
 
 pub nothing_happens : (old : Seen) (number : ℕ) (event : Event) → number ≡ client_of event
     → (nat_le 1 number && nat_le number (length old.seats)) ≡ false → Happens event old old
-unfolding happens
+unfolding happens messages_in
 nothing_happens old number event n e world s =
     let has : (nat_le 1 (client_of event) && nat_le (client_of event) world.count) ≡ false =
     subst (λ (m : ℕ). (nat_le 1 m && nat_le m world.count) ≡ false) n (has_it old number false e world s) in
-    rw has s
+    rw has (s, quiet_keeps old old refl)
 
 pub event_happens : (old new : Seen) (number : ℕ) (event : Event) → number ≡ client_of event
     → (nat_le 1 number && nat_le number (length old.seats)) ≡ true → Applies event old new → Happens event old new
-unfolding happens
+unfolding happens messages_in
 event_happens old new number event n e applies world s =
     let has : (nat_le 1 (client_of event) && nat_le (client_of event) world.count) ≡ true =
     subst (λ (m : ℕ). (nat_le 1 m && nat_le m world.count) ≡ true) n (has_it old number true e world s) in
@@ -306,5 +355,5 @@ event_happens old new number event n e applies world s =
 
 pub command_applies : (old new : Seen) (number : ℕ) (command : Command) → StepsIn number (ClientCall.Commanded command) old new
     → Applies (Event.App number command) old new
-unfolding applied
-command_applies old new number command steps world s = steps tt world s
+unfolding applied messages_of
+command_applies old new number command steps world s = (steps.1 tt world s, quiet_keeps old new steps.0)

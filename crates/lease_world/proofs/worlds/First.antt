@@ -1,17 +1,19 @@
 -- Where a run begins, and its events one after another.
-use Rattle.std.proofs.Common.{◌≡◌, ℕ, zero, suc, ◌+◌, ◌-◌, ◌<◌, ◌≤◌, Bool, true, false, List, [], ◌∷◌, ◌++◌, length, map, take, drop, get_or, refl, sym, ap, subst, ◌∙◌, arith}
+use Rattle.std.proofs.Common.{◌≡◌, ℕ, Option, zero, suc, ◌+◌, ◌-◌, ◌<◌, ◌≤◌, Bool, true, false, List, [], ◌∷◌, ◌++◌, length, map, take, drop, get_or, refl, sym, ap, subst, ◌∙◌, arith}
 use Rattle.std.specs.Prelude.{◌&&◌, nat_le, nat_lt, bytes_eq, slice_get, unwrap_or}
 use Rattle.std.specs.List.{list_any, list_all}
 use Rattle.std.proofs.Math.Seq.{take-suc}
 use Rattle.std.proofs.lemmas.Bool.Decides.{nat_tests}
 use Rattle.std.proofs.lemmas.Bool.{le-leb, leb-true}
-use Rattle.std.proofs.lemmas.List.{length-drop, map-append, length-map}
+use Rattle.std.proofs.lemmas.List.{append-nil, append_assoc, length-drop, map-append, length-map}
 use Rattle.std.proofs.lemmas.List.{reverse-reverse}
 use Rattle.lease_laws.proofs.server.Calls.{new_server-sound}
 use Rattle.lease_laws.proofs.server.WaitCalls.{first-waits-well}
 use Rattle.lease_laws.specs.messages.Written.{HaveFullKeys}
 use Rattle.lease_model.specs.client.State.{new_client}
 use Rattle.lease_model.specs.messages.FromBytes.{request_of, reply_of}
+use Rattle.lease_model.specs.messages.Replies.{Reply}
+use Rattle.lease_state.specs.declared.reply.Reply as code_reply
 use Rattle.lease_model.specs.server.State.{new_server}
 use Rattle.lease_model.specs.values.Tables.{numbered}
 use Rattle.lease_state.specs.declared.content.TheConstants.{FILE_LIMIT}
@@ -24,9 +26,11 @@ use Rattle.lease_world.specs.world.First.{IsNew, AreNew}
 use Rattle.lease_facts.specs.Facts.{fact_of}
 use Rattle.lease_facts.specs.Setups.{event_of}
 use Rattle.lease_facts.specs.declared.setup.Event as code_event
+use Rattle.lease_world.specs.world.Messages.{messages_in, messages_from}
 use Rattle.lease_world.specs.world.Seats.{Seat, seat_in, no_seat, IsPresent}
 use Rattle.lease_world.specs.world.Stands.{Seen, link_of, Stands}
-use Rattle.lease_world.specs.world.Worlds.{Happens}
+use Rattle.lease_world.specs.world.Worlds.{Happens, KeepsBehind}
+use Rattle.lease_world.proofs.worlds.Kept.{behind_none, behind_more}
 use Rattle.share_server.specs.Table.{server_of}
 
 -- one more of a list
@@ -250,18 +254,36 @@ take_map f [] (suc n) = refl
 take_map f (x ∷ xs) zero = refl
 take_map f (x ∷ xs) (suc n) = ap (λ ys. f x ∷ ys) (take_map f xs n)
 
-pub no_event : (old : Seen) (first : World) (events : List Event) → Stands old first → Stands old (after first (take 0 events))
-unfolding after
-no_event old first events s = s
+messages_one_more : (first : World) (events : List Event) (event : Event)
+    → messages_from first (events ++ event ∷ []) ≡ messages_from first events ++ messages_in (after first events) event
+unfolding messages_from after
+messages_one_more first [] event = append-nil (messages_in first event)
+messages_one_more first (e ∷ events) event =
+    ap (λ rs. messages_in first e ++ rs) (messages_one_more (happens first e) events event)
+    ∙ sym (append_assoc (messages_in first e) (messages_from (happens first e) events) (messages_in (after (happens first e) events) event))
 
-pub one_more_event : (old new : Seen) (first : World) (events : List code_event.Event) (n : ℕ) (d : code_event.Event)
-    → n < length events → Stands old (after first (take n (map event_of events)))
-    → Happens (event_of (get_or events n d)) old new → Stands new (after first (take (n + 1) (map event_of events)))
-one_more_event old new first events n d lt s happens =
-    let next : take (n + 1) (map event_of events) ≡ take n (map event_of events) ++ event_of (get_or events n d) ∷ [] =
+pub no_event : (old : Seen) (first : World) (kept : Option (List code_reply.Reply)) (events : List Event) → Stands old first
+    → old.messages ≡ kept
+    → Stands old (after first (take 0 events)) × KeepsBehind kept (messages_from first (take 0 events)) old
+unfolding after messages_from
+no_event old first kept events s e = (s, behind_none old kept e)
+
+pub one_more_event : (old new : Seen) (first : World) (kept : Option (List code_reply.Reply)) (events : List code_event.Event)
+    → (n : ℕ) (d : code_event.Event) → n < length events
+    → Stands old (after first (take n (map event_of events))) × KeepsBehind kept (messages_from first (take n (map event_of events))) old
+    → Happens (event_of (get_or events n d)) old new
+    → Stands new (after first (take (n + 1) (map event_of events)))
+    × KeepsBehind kept (messages_from first (take (n + 1) (map event_of events))) new
+one_more_event old new first kept events n d lt held happens =
+    let event : Event = event_of (get_or events n d) in
+    let before : List Event = take n (map event_of events) in
+    let next : take (n + 1) (map event_of events) ≡ before ++ event ∷ [] =
     take_map event_of events (n + 1) ∙ ap (map event_of) (take_next events n d lt)
     ∙ map-append event_of (take n events) (get_or events n d ∷ [])
-    ∙ ap (λ es. es ++ event_of (get_or events n d) ∷ []) (sym (take_map event_of events n)) in
-    subst (λ (es : List Event). Stands new (after first es)) (sym next)
-    (subst (λ (w : World). Stands new w) (sym (after_one_more first (take n (map event_of events)) (event_of (get_or events n d))))
-    (happens (after first (take n (map event_of events))) s))
+    ∙ ap (λ es. es ++ event ∷ []) (sym (take_map event_of events n)) in
+    let one = happens (after first before) held.0 in
+    subst (λ (es : List Event). Stands new (after first es) × KeepsBehind kept (messages_from first es) new) (sym next) (
+      subst (λ (w : World). Stands new w) (sym (after_one_more first before event)) one.0,
+      subst (λ (rs : List Reply). KeepsBehind kept rs new) (sym (messages_one_more first before event))
+          (behind_more old new kept (messages_from first before) (messages_in (after first before) event) held.1 one.1),
+    )

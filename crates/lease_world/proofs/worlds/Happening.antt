@@ -20,7 +20,7 @@ with_link world number link = record world { links = put world.links number link
 
 -- seats that changed, and nothing else
 abbrev pub OnlySeats : Seen → Seen → Type 0
-OnlySeats old new = (new.server ≡ old.server) × (new.facts ≡ old.facts)
+OnlySeats old new = (new.server ≡ old.server) × (new.facts ≡ old.facts) × (new.messages ≡ old.messages)
 
 pub linked_stands : (old new : Seen) (number : ℕ) (link : code.Link) → OnlySeats old new
     → ChangesSeat (λ before after. after ≡ record before { link = link }) number old.seats new.seats

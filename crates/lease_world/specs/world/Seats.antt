@@ -43,11 +43,21 @@ replies_to client (out.TheVariants.Sent other reply ∷ outs) =
     if other.0 == client then reply ∷ replies_to client outs else replies_to client outs
 replies_to client (_ ∷ outs) = replies_to client outs
 
+-- the replies among it, in order
+abbrev pub replies_among : List out.Out → List Reply
+replies_among [] = []
+replies_among (out.TheVariants.Sent other reply ∷ outs) = reply ∷ replies_among outs
+replies_among (_ ∷ outs) = replies_among outs
+
 abbrev pub with_replies : List Reply → Seat → Seat
 with_replies replies seat = record seat { replies = seat.replies ++ replies }
 
 abbrev pub HasReplies : List Seat → List Seat → List out.Out → Type 0
 HasReplies old new outs = (n : ℕ) → seat_at new n ≡ option_map (with_replies (replies_to n outs)) (seat_at old n)
+
+-- these are kept behind those that were, where messages are kept
+abbrev pub HasKept : Option (List Reply) → Option (List Reply) → List Reply → Type 0
+HasKept old new more = new ≡ option_map (λ kept. kept ++ more) old
 
 -- ---- what a client sends
 

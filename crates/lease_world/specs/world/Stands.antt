@@ -1,5 +1,5 @@
 -- When a world of the code stands for one of the definitions.
-use Rattle.std.specs.Prelude.{◌≡◌, ℕ, List, length, map, reverse}
+use Rattle.std.specs.Prelude.{◌≡◌, ℕ, Option, List, length, map, reverse}
 use Rattle.lease_client.specs.Known.{client_of}
 use Rattle.lease_laws.specs.messages.Written.{HaveFullKeys, IsWriting}
 use Rattle.lease_laws.specs.server.Laws.{IsSound}
@@ -10,12 +10,14 @@ use Rattle.lease_facts.specs.Facts.{fact_of}
 use Rattle.lease_facts.specs.declared.fact.Fact.{Fact}
 use Rattle.lease_world.specs.declared.world.link.Link as code
 use Rattle.lease_world.specs.world.Seats.{Seat, seat_in, IsPresent}
+use Rattle.lease_state.specs.declared.reply.Reply.{Reply}
 use Rattle.share_server.specs.Table.{Table, server_of}
 
 pub record Seen : Type 0 where
   pub server : Table
   pub seats : List Seat
   pub facts : List Fact
+  pub messages : Option (List Reply)
 
 abbrev pub link_of : code.Link → model.Link
 link_of code.TheVariants.Down = model.Link.Down

@@ -1,44 +1,72 @@
 -- What happens to a world of the code, as it happens to each world that it stands for.
-use Rattle.std.specs.Prelude.{ℕ, [], ◌∷◌}
+use Rattle.std.specs.Prelude.{◌≡◌, ℕ, Option, List, [], ◌∷◌, ◌++◌, map}
+use Rattle.std.specs.Option.{option_map}
 use Rattle.lease_laws.specs.messages.Written.{CallHasFullKey, CallHasFileId}
 use Rattle.lease_model.specs.client.Calls.{ClientCall, client_called}
+use Rattle.lease_model.specs.messages.FromBytes.{reply_of}
+use Rattle.lease_model.specs.messages.Replies.{Reply}
 use Rattle.lease_model.specs.records.Facts.{Fact}
 use Rattle.lease_model.specs.server.Calls.{Call, called}
 use Rattle.lease_model.specs.messages.Requests.{Request}
 use Rattle.lease_model.specs.values.Tables.{put}
 use Rattle.lease_model.specs.world.Events.{Event, served, stepped_in, applied, happens}
 use Rattle.lease_model.specs.world.World.{World, Link, happened, requests_sent}
+use Rattle.lease_state.specs.declared.reply.Reply as code
+use Rattle.lease_world.specs.world.Messages.{sent_by, messages_of, messages_in}
 use Rattle.lease_world.specs.world.Stands.{Seen, Stands}
 
+-- ---- messages
+
+-- the messages that are kept, where they are
+abbrev pub messages_kept : Seen → Option (List Reply)
+messages_kept code = option_map (map reply_of) code.messages
+
+-- these are kept behind those that were, where messages are kept
+abbrev pub Keeps : List Reply → Seen → Seen → Type 0
+Keeps more old new = messages_kept new ≡ option_map (λ replies. replies ++ more) (messages_kept old)
+
+-- the same behind messages of the code
+abbrev pub KeepsBehind : Option (List code.Reply) → List Reply → Seen → Type 0
+KeepsBehind first more new =
+    messages_kept new ≡ option_map (λ kept. map reply_of kept ++ more) first
+
+-- no message is kept with it
+abbrev pub IsQuiet : Seen → Seen → Type 0
+IsQuiet old new = new.messages ≡ old.messages
+
+-- ---- what happens
+
 abbrev pub Tells : Fact → Seen → Seen → Type 0
-Tells fact old new = (world : World) → Stands old world → Stands new (happened world fact)
+Tells fact old new = IsQuiet old new × ((world : World) → Stands old world → Stands new (happened world fact))
 
 abbrev pub Serves : Call → Seen → Seen → Type 0
 Serves call old new = CallHasFullKey call → (world : World) → Stands old world
-    → Stands new (served world (called world.server call))
+    → Stands new (served world (called world.server call)) × Keeps (sent_by world call) old new
 
 abbrev pub StepsIn : ℕ → ClientCall → Seen → Seen → Type 0
-StepsIn number call old new = CallHasFileId call → (world : World) → Stands old world
-    → Stands new (stepped_in world number (client_called (world.clients number) call))
+StepsIn number call old new = IsQuiet old new × (CallHasFileId call → (world : World) → Stands old world
+    → Stands new (stepped_in world number (client_called (world.clients number) call)))
 
 abbrev pub Links : ℕ → Link → Seen → Seen → Type 0
-Links number link old new = (world : World) → Stands old world
-    → Stands new (record world { links = put world.links number link })
+Links number link old new = IsQuiet old new × ((world : World) → Stands old world
+    → Stands new (record world { links = put world.links number link }))
 
 abbrev pub CutsLink : ℕ → Seen → Seen → Type 0
-CutsLink number old new = (world : World) → Stands old world → Stands new (record world {
+CutsLink number old new = IsQuiet old new × ((world : World) → Stands old world → Stands new (record world {
   links = put world.links number Link.Cut;
   requests = put world.requests number [];
   replies = put world.replies number [];
-})
+}))
 
 abbrev pub Sends : ℕ → Request → Seen → Seen → Type 0
-Sends number request old new = (world : World) → Stands old world
-    → Stands new (requests_sent world number (request ∷ []))
+Sends number request old new = IsQuiet old new × ((world : World) → Stands old world
+    → Stands new (requests_sent world number (request ∷ [])))
 
 -- an event of a client that there is
 abbrev pub Applies : Event → Seen → Seen → Type 0
-Applies event old new = (world : World) → Stands old world → Stands new (applied world event)
+Applies event old new = (world : World) → Stands old world
+    → Stands new (applied world event) × Keeps (messages_of world event) old new
 
 abbrev pub Happens : Event → Seen → Seen → Type 0
-Happens event old new = (world : World) → Stands old world → Stands new (happens world event)
+Happens event old new = (world : World) → Stands old world
+    → Stands new (happens world event) × Keeps (messages_in world event) old new

@@ -2,37 +2,51 @@ ghost use Rattle.std.specs.Prelude.{◌≡◌, ◌++◌, [], ◌∷◌, map, len
 ghost use Rattle.lease_client.specs.Answers.{note_of};
 ghost use Rattle.lease_model.specs.world.World as model;
 ghost use Rattle.lease_facts.specs.Facts.{fact_of};
-ghost use Rattle.lease_world.specs.world.Seats.{HasSeat, HasReplies, fact_given, with_replies};
+ghost use Rattle.lease_world.specs.world.Seats.{HasSeat, HasReplies, HasKept, fact_given, replies_among, with_replies};
 
+use crate::world::messages::Messages;
 use crate::world::seat::Seat;
 use lease_client::Note;
 use lease_facts::Fact;
 use lease_state::{ClientNo, Memory, Reply};
 use share_server::Out;
 
-/// Tells what the server gave out, in order, and sends its replies.
+/// Tells what the server gave out, in order, sends its replies, and keeps them where messages are kept.
 ///
 /// # Errors
 ///
-/// `Memory` where there is none left for the record or a queue.
-pub fn deliver(seats: &mut Vec<Seat>, facts: &mut Vec<Fact>, outs: Vec<Out>) -> Result<(), Memory>
+/// `Memory` where there is none left for the record, a queue or the messages.
+pub fn deliver(
+    seats: &mut Vec<Seat>,
+    facts: &mut Vec<Fact>,
+    messages: &mut Messages,
+    outs: Vec<Out>,
+) -> Result<(), Memory>
     ensures replies { OnOk result (HasReplies seats.old.items seats.new.items outs.items) }
     ensures count { OnOk result (length seats.new.items ≡ length seats.old.items) }
     ensures facts { OnOk result (map fact_of facts.new.items ≡ map fact_of facts.old.items ++ map fact_given outs.items) }
+    ensures kept { OnOk result (HasKept messages.old messages.new (replies_among outs.items)) }
 {
     for out in outs {
-        deliver_one(seats, facts, out)?;
+        deliver_one(seats, facts, messages, out)?;
     }
     Ok(())
 }
 
-fn deliver_one(seats: &mut Vec<Seat>, facts: &mut Vec<Fact>, out: Out) -> Result<(), Memory>
+fn deliver_one(
+    seats: &mut Vec<Seat>,
+    facts: &mut Vec<Fact>,
+    messages: &mut Messages,
+    out: Out,
+) -> Result<(), Memory>
     ensures replies { OnOk result (HasReplies seats.old.items seats.new.items (out ∷ [])) }
     ensures count { OnOk result (length seats.new.items ≡ length seats.old.items) }
     ensures facts { OnOk result (map fact_of facts.new.items ≡ map fact_of facts.old.items ++ fact_given out ∷ []) }
+    ensures kept { OnOk result (HasKept messages.old messages.new (replies_among (out ∷ []))) }
 {
     let fact = match out {
         Out::Sent(client, reply) => {
+            messages.push(&reply)?;
             push_reply(seats, client, reply)?;
             Fact::Sent(client)
         }

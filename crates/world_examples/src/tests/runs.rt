@@ -4,8 +4,8 @@ use crate::tests::words::{
     believes, buffered, changed, joined, opened, patch, record, sent, settled, start, took,
 };
 use lease_client::{Command, Settlement};
-use lease_state::{Access, ClientNo, Content, FileNo, LeaseState, Share};
-use lease_world::{Event, RunFault, Setup, Verdict, judge, run};
+use lease_state::{Access, Bytes, ClientNo, Content, FileId, FileNo, LeaseState, Reply, Share};
+use lease_world::{Event, RunFault, Setup, Verdict, judge, run, run_with_messages};
 use std::alloc::Global;
 use std::test::Fail;
 
@@ -96,6 +96,52 @@ fn a_run_without_events_has_its_starts(rt: HostRuntime) -> Result<(), Fail> {
     )?;
     let wanted = record(alloc, [start(alloc, 1, &[0, 7]), start(alloc, 2, &[1, 7])])?;
     assert!(rt; facts.as_slice() == wanted.as_slice());
+    Ok(())
+}
+
+// The context of a lease that is granted reading, writing and handles: its header, name and data.
+const GRANTED: [u8; 56] = [
+    0, 0, 0, 0, 16, 0, 4, 0, 0, 0, 24, 0, 32, 0, 0, 0, 82, 113, 76, 115, 0, 0, 0, 0, 0, 0, 0, 0, 0,
+    0, 0, 0, 0, 0, 0, 0, 1, 0, 0, 0, 7, 0, 0, 0, 0, 0, 0, 0, 0, 0, 0, 0, 0, 0, 0, 0,
+];
+
+// The break of that lease to reading and handles, which has to be acknowledged.
+const BREAK: [u8; 44] = [
+    44, 0, 0, 0, 1, 0, 0, 0, 0, 0, 0, 0, 0, 0, 0, 0, 0, 0, 0, 0, 1, 0, 0, 0, 7, 0, 0, 0, 3, 0, 0,
+    0, 0, 0, 0, 0, 0, 0, 0, 0, 0, 0, 0, 0,
+];
+
+// A client opens a file and is granted all; then another one opens it, and the first takes the break. The contexts and the break
+// are those of MS-SMB2 2.2.14.2.10 and 2.2.23.2, written by hand: the key is the client's GUID with the file's number behind its
+// first twelve bytes.
+#[test]
+fn a_run_gives_what_is_in_its_messages(rt: HostRuntime) -> Result<(), Fail> {
+    let alloc = rt.alloc();
+    let (one, two) = (ClientNo(1), ClientNo(2));
+    let events = [
+        Event::Connect(one),
+        Event::Connect(two),
+        open(1, 7),
+        Event::ServerTakes(one),
+        Event::ClientTakes(one),
+        open(2, 1),
+        Event::ServerTakes(two),
+        Event::ClientTakes(one),
+    ];
+    let (facts, messages) = run_with_messages(alloc, &setup(alloc, 1, 2)?, &events)?;
+    let alone = run(alloc, &setup(alloc, 1, 2)?, &events)?;
+    assert!(rt; facts.as_slice() == alone.as_slice());
+    assert_eq!(rt; messages.len(), 4);
+    let contexts = Vec::from_slice(alloc, &GRANTED)?;
+    let created = Reply::Created {
+        file: FileNo(1),
+        fid: FileId(1),
+        contexts: Bytes::new(contexts),
+    };
+    assert!(rt; messages[0] == created);
+    assert!(rt; messages[1] == created);
+    assert!(rt; messages[2] == Reply::Break(BREAK));
+    assert!(rt; messages[3] == Reply::Break(BREAK));
     Ok(())
 }
 

@@ -8,11 +8,12 @@ use Rattle.lease_world.proofs.running.play.Goals as goal
 
 pub loop-place-init : goal.loop-place-init
 loop-place-init c =
-    no_event c.in_ok-world.world (first_world (setup_of c.args.setup.now)) (map event_of c.args.events.now) c.in_ok-world.ensures
+    no_event c.in_ok-world.world (first_world (setup_of c.args.setup.now)) c.args.messages (map event_of c.args.events.now)
+    c.in_ok-world.ensures.stands c.in_ok-world.ensures.messages
 
 pub loop-place-preserved : goal.loop-place-preserved
 loop-place-preserved c =
-    one_more_event c.loop-place.world c.in_ok-world-2.world (first_world (setup_of c.args.setup.now)) c.args.events.now
+    one_more_event c.loop-place.world c.in_ok-world-2.world (first_world (setup_of c.args.setup.now)) c.args.messages c.args.events.now
     c.loop-place.place c.index-events-place.result c.loop-place-test.true c.loop-place.invariant
     (subst (λ (event : Event). Happens (event_of event) c.loop-place.world c.in_ok-world-2.world) c.index-events-place.is
     c.in_ok-world-2.ensures)

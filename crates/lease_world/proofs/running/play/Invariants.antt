@@ -2,8 +2,11 @@ use Rattle.std.proofs.Common.{map, take}
 use Rattle.lease_model.specs.world.Events.{after}
 use Rattle.lease_model.specs.world.World.{first_world}
 use Rattle.lease_facts.specs.Setups.{setup_of, event_of}
+use Rattle.lease_world.specs.world.Messages.{messages_from}
 use Rattle.lease_world.specs.world.Stands.{Stands}
+use Rattle.lease_world.specs.world.Worlds.{KeepsBehind}
 use Rattle.lease_world.proofs.running.play.Given as goal
 
 abbrev pub invariant-loop-place : goal.invariant-loop-place
 invariant-loop-place l = Stands l.world (after (first_world (setup_of l.setup)) (take l.place (map event_of l.events)))
+    × KeepsBehind l.fn.messages (messages_from (first_world (setup_of l.setup)) (take l.place (map event_of l.events))) l.world

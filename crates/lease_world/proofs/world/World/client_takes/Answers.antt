@@ -12,8 +12,8 @@ returns-in_ok-world-in-Some c =
     let there : IsPresent c.args.client.0 old.seats =
     subst (λ (w : Seen). IsPresent c.args.client.0 w.seats) (sym c.self.view_is) c.requires in
     rw (← c.self.view_is) (IfOk-weaker c.step.result _ _ (λ new steps.
-    client_took old (record old { seats = c.pop_reply-reply.new.seats.items }) c.in_ok-world-in-Some.world new c.args.client.0 c.in-Some.reply
-    (refl, refl) c.in-Some.ensures there c.has_its_field.ensures c.in_ok-world-in-Some.ensures.becomes steps) c.step.ensures.becomes)
+    client_took old (record old { seats = c.pop_reply-reply.new.seats.items }) c.in_ok-kept-in-Some.kept c.in_ok-world-in-Some.world new c.args.client.0 c.in-Some.reply
+    (refl, refl, refl) c.in-Some.ensures there c.has_its_field.ensures c.in_ok-kept-in-Some.ensures.becomes c.in_ok-kept-in-Some.ensures.kept c.in_ok-world-in-Some.ensures.becomes steps) c.step.ensures.becomes)
 
 pub returns-in-None : goal.returns-in-None
 returns-in-None c =
@@ -21,4 +21,4 @@ returns-in-None c =
     let there : IsPresent c.args.client.0 old.seats =
     subst (λ (w : Seen). IsPresent c.args.client.0 w.seats) (sym c.self.view_is) c.requires in
     rw (← c.self.view_is) (client_took_nothing old (record old { seats = c.pop_reply-reply.new.seats.items }) c.args.client.0
-    (refl, refl) c.in-None.ensures there)
+    (refl, refl, refl) c.in-None.ensures there)

@@ -4,7 +4,10 @@ use Rattle.lease_world.proofs.worlds.Happening.{cut_stands}
 use Rattle.lease_world.proofs.world.World.cut_link.Goals as goal
 
 pub returns : goal.returns
-returns c = rw (← c.self.view_is) (λ world s.
-    cut_stands (the_view c.self.inside)
-    (record { server = c.self.inside.server; seats = c.cut_link.new.seats.items; facts = c.self.inside.facts.items })
-    c.args.client.0 (refl, refl) c.cut_link.ensures world s)
+returns c = rw (← c.self.view_is) (
+  refl,
+  λ world s.
+      cut_stands (the_view c.self.inside)
+      (record { server = c.self.inside.server; seats = c.cut_link.new.seats.items; facts = c.self.inside.facts.items; messages = c.self.inside.messages })
+      c.args.client.0 (refl, refl, refl) c.cut_link.ensures world s,
+)

@@ -1,11 +1,21 @@
 use Rattle.lease_world.specs.contracts.world.World.{the_view}
 use Rattle.lease_world.specs.world.Calls.{server_call}
+use Rattle.lease_world.specs.world.Stands.{Seen}
+use Rattle.lease_world.proofs.worlds.Kept.{served_keeps}
 use Rattle.lease_world.proofs.worlds.Standing.{served_stands}
 use Rattle.lease_world.proofs.world.World.serve.Goals as goal
 
 pub returns-clause-becomes : goal.returns-clause-becomes
 returns-clause-becomes c = rw (← c.self.view_is) (λ keyed world s.
-    served_stands (the_view c.self.inside)
-    (record { server = c.in_ok-server.server; seats = c.deliver.new.seats.items; facts = c.deliver.new.facts.items })
-    (server_call c.args.serving) c.in_ok-server.outs.items c.in_ok-server.ensures
-    c.in_ok-deliver.ensures.replies c.in_ok-deliver.ensures.count c.in_ok-deliver.ensures.facts keyed world s)
+    let old : Seen = the_view c.self.inside in
+    let new : Seen = record {
+      server = c.in_ok-server.server;
+      seats = c.deliver.new.seats.items;
+      facts = c.deliver.new.facts.items;
+      messages = c.deliver.new.messages;
+    } in (
+      served_stands old new (server_call c.args.serving) c.in_ok-server.outs.items c.in_ok-server.ensures
+          c.in_ok-deliver.ensures.replies c.in_ok-deliver.ensures.count c.in_ok-deliver.ensures.facts keyed world s,
+      served_keeps old new (server_call c.args.serving) c.in_ok-server.outs.items c.in_ok-server.ensures
+          c.in_ok-deliver.ensures.kept keyed world s,
+    ))

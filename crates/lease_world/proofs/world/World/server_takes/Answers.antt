@@ -12,7 +12,7 @@ returns-in-Some c =
     let there : IsPresent c.args.client.0 old.seats =
     subst (λ (w : Seen). IsPresent c.args.client.0 w.seats) (sym c.self.view_is) c.requires in
     rw (← c.self.view_is) (IfOk-weaker c.serve.result _ _ (λ new serves.
-    server_took old (record old { seats = c.pop_request-request.new.seats.items }) new c.args.client.0 c.in-Some.request (refl, refl)
+    server_took old (record old { seats = c.pop_request-request.new.seats.items }) new c.args.client.0 c.in-Some.request (refl, refl, refl)
     c.in-Some.ensures there serves) c.serve.ensures.becomes)
 
 pub returns-in-None : goal.returns-in-None
@@ -21,4 +21,4 @@ returns-in-None c =
     let there : IsPresent c.args.client.0 old.seats =
     subst (λ (w : Seen). IsPresent c.args.client.0 w.seats) (sym c.self.view_is) c.requires in
     rw (← c.self.view_is) (server_took_nothing old (record old { seats = c.pop_request-request.new.seats.items }) c.args.client.0
-    (refl, refl) c.in-None.ensures there)
+    (refl, refl, refl) c.in-None.ensures there)

@@ -4,7 +4,10 @@ use Rattle.lease_world.proofs.worlds.Happening.{linked_stands}
 use Rattle.lease_world.proofs.world.World.set_link.Goals as goal
 
 pub returns-clause-becomes : goal.returns-clause-becomes
-returns-clause-becomes c = rw (← c.self.view_is) (λ world s.
-    linked_stands (the_view c.self.inside)
-    (record { server = c.self.inside.server; seats = c.set_link.new.seats.items; facts = c.self.inside.facts.items })
-    c.args.client.0 c.args.link (refl, refl) c.set_link.ensures world s)
+returns-clause-becomes c = rw (← c.self.view_is) (
+  refl,
+  λ world s.
+      linked_stands (the_view c.self.inside)
+      (record { server = c.self.inside.server; seats = c.set_link.new.seats.items; facts = c.self.inside.facts.items; messages = c.self.inside.messages })
+      c.args.client.0 c.args.link (refl, refl, refl) c.set_link.ensures world s,
+)

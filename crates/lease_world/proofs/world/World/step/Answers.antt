@@ -10,8 +10,11 @@ pub returns-clause-becomes : goal.returns-clause-becomes
 returns-clause-becomes c =
     let there : IsPresent c.args.client.0 (the_view c.self.inside).seats =
     subst (λ (w : Seen). IsPresent c.args.client.0 w.seats) (sym c.self.view_is) c.requires in
-    rw (← c.self.view_is) (λ fits world s.
-    stepped_stands (the_view c.self.inside)
-    (record { server = c.self.inside.server; seats = c.step.new.seats.items; facts = c.tell_notes.new.facts.items })
-    c.args.client.0 (client_call c.args.doing) c.in_ok-notes.notes.items refl c.in_ok-notes.ensures c.in_ok-tell_notes.ensures
-    there fits world s)
+    rw (← c.self.view_is) (
+      refl,
+      λ fits world s.
+          stepped_stands (the_view c.self.inside)
+          (record { server = c.self.inside.server; seats = c.step.new.seats.items; facts = c.tell_notes.new.facts.items; messages = c.self.inside.messages })
+          c.args.client.0 (client_call c.args.doing) c.in_ok-notes.notes.items refl c.in_ok-notes.ensures c.in_ok-tell_notes.ensures
+          there fits world s,
+    )

@@ -2,7 +2,7 @@ use Rattle.std.proofs.Common.{◌∙◌, [], ◌∷◌, map}
 use Rattle.std.proofs.lemmas.List.{map-append, append_assoc}
 use Rattle.lease_facts.specs.Facts.{fact_of}
 use Rattle.lease_world.specs.world.Seats.{fact_given}
-use Rattle.lease_world.proofs.worlds.Replies.{more_replies}
+use Rattle.lease_world.proofs.worlds.Replies.{more_replies, more_kept}
 use Rattle.lease_world.proofs.world.delivering.deliver.Goals as goal
 
 pub loop-out-preserved : goal.loop-out-preserved
@@ -13,4 +13,5 @@ loop-out-preserved c =
       replies = more_replies _ _ _ c.loop-out.yielded (c.in-Some.out ∷ []) held.replies one.replies;
       count = one.count ∙ held.count;
       facts = rw (one.facts, held.facts, map-append fact_given c.loop-out.yielded (c.in-Some.out ∷ [])) (append_assoc (map fact_of c.args.facts.now.items) (map fact_given c.loop-out.yielded) (fact_given c.in-Some.out ∷ []));
+      kept = more_kept c.args.messages.now _ _ c.loop-out.yielded (c.in-Some.out ∷ []) held.kept one.kept;
     }

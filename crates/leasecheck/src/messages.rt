@@ -1,0 +1,66 @@
+ghost use Rattle.std.specs.Prelude.{◌≡◌, ◌++◌, IfOk, OnOk, drop};
+ghost use Rattle.std.specs.String.{string_bytes};
+ghost use Rattle.lease_texts.specs.Records.{fact_line};
+ghost use Rattle.leasecheck.specs.Messages.{message_line, message_before, messages_behind, record_with_messages};
+
+use lease_facts::Fact;
+use lease_lines::push_reply;
+use lease_state::{ClientNo, Reply};
+use lease_texts::push_fact;
+use std::alloc::{AllocError, Global};
+
+// The line of the first of these messages; those behind it are given.
+fn push_message<'a>(
+    alloc: Global,
+    text: &mut String,
+    begin: &str,
+    client: ClientNo,
+    messages: &'a [Reply],
+) -> Result<&'a [Reply], AllocError>
+    ensures line { OnOk result (string_bytes text.new ≡ string_bytes text.old ++ message_line begin.now client.0 messages.now) }
+    ensures behind { IfOk result (λ behind. behind.now ≡ drop 1 messages.now) }
+{
+    if messages.is_empty() {
+        return Ok(messages);
+    }
+    let number = client.0;
+    write!(text, "{begin}{number} ")?;
+    push_reply(alloc, text, &messages[0])?;
+    text.push('\n')?;
+    Ok(&messages[1..])
+}
+
+// The line of the message that a fact speaks of, the first of these; those behind it are given.
+#[tactic(auto, unfolding(crate::specs::Messages::message_before, crate::specs::Messages::messages_behind))]
+fn push_message_of<'a>(
+    alloc: Global,
+    text: &mut String,
+    fact: &Fact,
+    messages: &'a [Reply],
+) -> Result<&'a [Reply], AllocError>
+    ensures line { OnOk result (string_bytes text.new ≡ string_bytes text.old ++ message_before fact.now messages.now) }
+    ensures behind { IfOk result (λ behind. behind.now ≡ messages_behind fact.now messages.now) }
+{
+    match fact {
+        Fact::Sent(client) => push_message(alloc, text, "# sent ", *client, messages),
+        Fact::Took(client) => push_message(alloc, text, "# took ", *client, messages),
+        _ => Ok(messages),
+    }
+}
+
+/// The lines of a record, and before each fact that speaks of a message a comment line with what is in it.
+pub fn push_with_messages(
+    alloc: Global,
+    text: &mut String,
+    facts: &[Fact],
+    messages: &[Reply],
+) -> Result<(), AllocError>
+    ensures { OnOk result (string_bytes text.new ≡ string_bytes text.old ++ record_with_messages facts.now messages.now) }
+{
+    let mut left = messages;
+    for fact in facts {
+        left = push_message_of(alloc, text, fact, left)?;
+        push_fact(alloc, text, fact)?;
+    }
+    Ok(())
+}
