@@ -13,3 +13,5 @@ pub mod Printed
 pub mod Remarks
 pub mod Refusals
 pub mod Conversing
+pub mod CommandLine
+pub mod Running

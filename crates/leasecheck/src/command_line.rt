@@ -1,4 +1,9 @@
-ghost use Rattle.std.specs.Prelude.{◌≡◌, ◌⊎◌, IfErr};
+ghost use Rattle.std.specs.Prelude.{◌≡◌, List, codes, false, map, IfErr, IfOk, option_and_then, option_map};
+ghost use Rattle.std.specs.String.{string_bytes};
+ghost use Rattle.clap.specs.Words.{Text, first_of, found_of, kind_of, new_app, rows_of, rule_of, shape_of, subcommand_rows_of, app_of};
+ghost use Rattle.clap.specs.declared.builder.command.Command.TheViews.{out-Command as fields_of};
+ghost use Rattle.clap.specs.declared.builder.value_parser.ValueParser.{ValueParser};
+ghost use Rattle.leasecheck.specs.CommandLine.{Request, Errs, TakesKinds, Parses, AsksFor, IsUsageOf, needed, flag, kind_rule, ack_app, show_app, replay_app, judge_app, leasecheck_app, kind_named, telling_of, replayed, requested, requested_by, request_of, all_words, shown};
 
 use crate::help;
 use crate::tasks::{Asked, Kind, Task, Telling, Usage, VERSION};
@@ -6,7 +11,10 @@ use clap::error::ErrorKind;
 use clap::{Arg, ArgAction, ArgMatches, Command, Error};
 use std::alloc::{AllocError, Global};
 
-fn hex_argument<'a>(alloc: Global, help: &'a str) -> Arg<'a> {
+fn hex_argument<'a>(alloc: Global, help: &'a str) -> Arg<'a>
+    ensures rule { rule_of result ≡ needed (codes "HEX") }
+    ensures own { result.global ≡ false }
+{
     Arg::new(alloc, "HEX").required(true).help(help)
 }
 
@@ -17,14 +25,19 @@ fn command<'a>(
     about: &'a str,
     long_about: &'a str,
     end: &'a str,
-) -> Command<'a> {
+) -> Command<'a>
+    ensures app { app_of result ≡ new_app name.now }
+    ensures own { (fields_of result).has_globals ≡ false }
+{
     Command::new(alloc, name)
         .about(about)
         .long_about(long_about)
         .after_long_help(end)
 }
 
-fn ack_command<'a>(alloc: Global) -> Result<Command<'a>, AllocError> {
+fn ack_command<'a>(alloc: Global) -> Result<Command<'a>, AllocError>
+    ensures { IfOk result (λ command. (app_of command ≡ ack_app) × ((fields_of command).has_globals ≡ false)) }
+{
     let about = "Prints the acknowledgment that a lease break notification asks for";
     let bytes = hex_argument(alloc, "The notification's bytes as hexadecimal digits");
     command(alloc, "ack", about, help::ACK, help::ACK_END).arg(bytes)
@@ -32,64 +45,99 @@ fn ack_command<'a>(alloc: Global) -> Result<Command<'a>, AllocError> {
 
 const KINDS: &[&str] = &["ask", "reply", "break", "ack", "response"];
 
-fn kind_argument<'a>(alloc: Global) -> Arg<'a> {
+fn kind_argument<'a>(alloc: Global) -> Arg<'a>
+    ensures rule { (kinds : ValueParser) × TakesKinds kinds × (rule_of result ≡ kind_rule kinds) }
+    ensures own { result.global ≡ false }
+{
     Arg::new(alloc, "KIND")
         .required(true)
         .value_parser(KINDS)
         .help("ask and reply: create contexts; break, ack and response: break messages")
 }
 
-fn show_command<'a>(alloc: Global) -> Result<Command<'a>, AllocError> {
+fn show_command<'a>(alloc: Global) -> Result<Command<'a>, AllocError>
+    ensures { IfOk result (λ command. (kinds : ValueParser) × TakesKinds kinds × (app_of command ≡ show_app kinds)
+        × ((fields_of command).has_globals ≡ false)) }
+{
     let about = "Prints what create contexts or a break message hold";
     command(alloc, "show", about, help::SHOW, help::SHOW_END)
         .arg(kind_argument(alloc))?
         .arg(hex_argument(alloc, "The bytes as hexadecimal digits"))
 }
 
-fn file_argument<'a>(alloc: Global, help: &'a str) -> Arg<'a> {
+fn file_argument<'a>(alloc: Global, help: &'a str) -> Arg<'a>
+    ensures rule { rule_of result ≡ needed (codes "FILE") }
+    ensures own { result.global ≡ false }
+{
     Arg::new(alloc, "FILE").required(true).help(help)
 }
 
-fn replay_command<'a>(alloc: Global) -> Result<Command<'a>, AllocError> {
-    let about = "Prints the record of the run that a schedule asks for";
-    let file = file_argument(alloc, "The schedule; - is standard input");
-    let messages = Arg::new(alloc, "messages")
+fn messages_argument<'a>(alloc: Global) -> Arg<'a>
+    ensures rule { rule_of result ≡ flag (codes "messages") }
+    ensures own { result.global ≡ false }
+{
+    Arg::new(alloc, "messages")
         .long("messages")
         .action(ArgAction::SetTrue)
-        .help("Says before each message what is in it, in a comment line");
+        .help("Says before each message what is in it, in a comment line")
+}
+
+fn replay_command<'a>(alloc: Global) -> Result<Command<'a>, AllocError>
+    ensures { IfOk result (λ command. (app_of command ≡ replay_app) × ((fields_of command).has_globals ≡ false)) }
+{
+    let about = "Prints the record of the run that a schedule asks for";
+    let file = file_argument(alloc, "The schedule; - is standard input");
+    let messages = messages_argument(alloc);
     command(alloc, "replay", about, help::REPLAY, help::REPLAY_END)
         .arg(file)?
         .arg(messages)
 }
 
-fn judge_command<'a>(alloc: Global) -> Result<Command<'a>, AllocError> {
+fn judge_command<'a>(alloc: Global) -> Result<Command<'a>, AllocError>
+    ensures { IfOk result (λ command. (app_of command ≡ judge_app) × ((fields_of command).has_globals ≡ false)) }
+{
     let about = "Prints whether a record is safe, or where it first is not";
     let file = file_argument(alloc, "The record; - is standard input");
     command(alloc, "judge", about, help::JUDGE, help::JUDGE_END).arg(file)
 }
 
-fn client_command<'a>(alloc: Global) -> Command<'a> {
+fn client_command<'a>(alloc: Global) -> Command<'a>
+    ensures app { app_of result ≡ new_app (codes "client") }
+    ensures own { (fields_of result).has_globals ≡ false }
+{
     let about = "Runs client machines that speak lines on standard input and output";
     command(alloc, "client", about, help::CLIENT, help::CLIENT_END)
 }
 
-fn server_command<'a>(alloc: Global) -> Command<'a> {
+fn server_command<'a>(alloc: Global) -> Command<'a>
+    ensures app { app_of result ≡ new_app (codes "server") }
+    ensures own { (fields_of result).has_globals ≡ false }
+{
     let about = "Runs a server that speaks lines on standard input and output";
     command(alloc, "server", about, help::SERVER, help::SERVER_END)
 }
 
-fn kind_named(name: &str) -> Option<Kind> {
-    match name {
-        "ask" => Some(Kind::Ask),
-        "reply" => Some(Kind::Reply),
-        "break" => Some(Kind::Break),
-        "ack" => Some(Kind::Ack),
-        "response" => Some(Kind::Response),
-        _ => None,
+fn kind_named(name: &str) -> Option<Kind>
+    ensures { result ≡ kind_named name.now }
+{
+    if name == "ask" {
+        Some(Kind::Ask)
+    } else if name == "reply" {
+        Some(Kind::Reply)
+    } else if name == "break" {
+        Some(Kind::Break)
+    } else if name == "ack" {
+        Some(Kind::Ack)
+    } else if name == "response" {
+        Some(Kind::Response)
+    } else {
+        None
     }
 }
 
-fn program<'a>(alloc: Global) -> Result<Command<'a>, AllocError> {
+fn program<'a>(alloc: Global) -> Result<Command<'a>, AllocError>
+    ensures { IfOk result (λ command. (kinds : ValueParser) × TakesKinds kinds × (app_of command ≡ leasecheck_app kinds)) }
+{
     let about =
         "Reads and answers messages of SMB 2.1 leases, replays schedules and judges records";
     command(alloc, "leasecheck", about, help::PROGRAM, help::PROGRAM_END)
@@ -104,12 +152,16 @@ fn program<'a>(alloc: Global) -> Result<Command<'a>, AllocError> {
         .subcommand(server_command(alloc))
 }
 
-fn parse<'a>(alloc: Global, words: &'a [&'a str]) -> Result<ArgMatches<'a>, Error> {
+fn parse<'a>(alloc: Global, words: &'a [&'a str]) -> Result<ArgMatches<'a>, Error>
+    ensures { Parses (map (λ word. word.now) words.now) result }
+{
     program(alloc)?.try_get_matches_from(words)
 }
 
 // The words behind the program's name, by which usage lines begin.
-fn with_name<'a>(alloc: Global, words: &[&'a str]) -> Result<Vec<&'a str>, AllocError> {
+fn with_name<'a>(alloc: Global, words: &[&'a str]) -> Result<Vec<&'a str>, AllocError>
+    ensures { IfOk result (λ all. map (λ word. word.now) all.items ≡ all_words (map (λ word. word.now) words.now)) }
+{
     let mut all = Vec::new(alloc);
     all.push("leasecheck")?;
     all.extend_from_slice(words)?;
@@ -117,66 +169,133 @@ fn with_name<'a>(alloc: Global, words: &[&'a str]) -> Result<Vec<&'a str>, Alloc
 }
 
 // There is no memory to say why.
-fn refused_untold(alloc: Global) -> Usage
-    ensures { result.status ≡ 2 }
+fn untold(alloc: Global) -> Usage
+    ensures { (words : List Text) → IsUsageOf words result }
 {
-    Usage {
-        status: 2,
-        text: String::new(alloc),
-    }
+    Usage::Memory(String::new(alloc))
 }
 
 fn usage_of(alloc: Global, error: &Error) -> Usage
-    ensures { (result.status ≡ 0) ⊎ (result.status ≡ 2) }
+    ensures { (words : List Text) → Errs words (kind_of error.now) → IsUsageOf words result }
 {
-    let status = if error.use_stderr() { 2 } else { 0 };
-    match format!(in alloc; "{error}") {
-        Ok(text) => Usage { status, text },
-        Err(_) => refused_untold(alloc),
+    let Ok(text) = format!(in alloc; "{error}") else {
+        return untold(alloc);
+    };
+    match error.kind() {
+        ErrorKind::OutOfMemory => Usage::Memory(text),
+        ErrorKind::DisplayHelp => Usage::Help(text),
+        _ => Usage::Refused(text),
     }
 }
 
-fn owned(alloc: Global, given: &ArgMatches, name: &str) -> Result<Option<String>, AllocError> {
-    match given.get_str(name) {
+// The first word that was found for an argument.
+fn word_of<'a>(given: &ArgMatches<'a>, name: &str) -> Option<&'a str>
+    ensures { option_map (λ word. word.now) result ≡ first_of name.now (rows_of (found_of given.now)) }
+{
+    given.get_str(name)
+}
+
+fn owned(alloc: Global, given: &ArgMatches, name: &str) -> Result<Option<String>, AllocError>
+    ensures { IfOk result (λ text. option_map string_bytes text ≡ first_of name.now (rows_of (found_of given.now))) }
+{
+    match word_of(given, name) {
         Some(text) => Ok(Some(String::from_str(alloc, text)?)),
         None => Ok(None),
     }
 }
 
-fn show_task(alloc: Global, given: &ArgMatches) -> Result<Option<Task>, AllocError> {
-    let (Some(name), Some(text)) = (given.get_str("KIND"), given.get_str("HEX")) else {
+fn shown_kind(given: &ArgMatches) -> Option<Kind>
+    ensures { result ≡ option_and_then kind_named (first_of (codes "KIND") (rows_of (found_of given.now))) }
+{
+    match word_of(given, "KIND") {
+        Some(name) => kind_named(name),
+        None => None,
+    }
+}
+
+fn telling_of(given: &ArgMatches) -> Telling
+    ensures { result ≡ telling_of (first_of (codes "messages") (rows_of (found_of given.now))) }
+{
+    match word_of(given, "messages") {
+        Some(word) => {
+            if word == "true" {
+                Telling::Messages
+            } else {
+                Telling::Facts
+            }
+        }
+        None => Telling::Facts,
+    }
+}
+
+fn ack_asked(alloc: Global, given: &ArgMatches) -> Result<Option<Asked>, AllocError>
+    ensures { IfOk result (λ found. option_map request_of found ≡ option_map Request.Ack (first_of (codes "HEX") (rows_of (found_of given.now)))) }
+{
+    match owned(alloc, given, "HEX")? {
+        Some(argument) => Ok(Some(Asked::Task(Task::Ack(argument)))),
+        None => Ok(None),
+    }
+}
+
+fn show_asked(alloc: Global, given: &ArgMatches) -> Result<Option<Asked>, AllocError>
+    ensures { IfOk result (λ found. option_map request_of found
+        ≡ shown (option_and_then kind_named (first_of (codes "KIND") (rows_of (found_of given.now)))) (first_of (codes "HEX") (rows_of (found_of given.now)))) }
+{
+    let Some(kind) = shown_kind(given) else {
         return Ok(None);
     };
-    let argument = String::from_str(alloc, text)?;
-    Ok(kind_named(name).map(|kind| Task::Show(kind, argument)))
+    match owned(alloc, given, "HEX")? {
+        Some(argument) => Ok(Some(Asked::Task(Task::Show(kind, argument)))),
+        None => Ok(None),
+    }
 }
 
-fn telling_of(given: &ArgMatches) -> Telling {
-    if given.get_flag("messages") {
-        Telling::Messages
+fn replay_asked(alloc: Global, given: &ArgMatches) -> Result<Option<Asked>, AllocError>
+    ensures { IfOk result (λ found. option_map request_of found
+        ≡ replayed (telling_of (first_of (codes "messages") (rows_of (found_of given.now)))) (first_of (codes "FILE") (rows_of (found_of given.now)))) }
+{
+    let telling = telling_of(given);
+    match owned(alloc, given, "FILE")? {
+        Some(path) => Ok(Some(Asked::Task(Task::Replay(path, telling)))),
+        None => Ok(None),
+    }
+}
+
+fn judge_asked(alloc: Global, given: &ArgMatches) -> Result<Option<Asked>, AllocError>
+    ensures { IfOk result (λ found. option_map request_of found ≡ option_map Request.Judge (first_of (codes "FILE") (rows_of (found_of given.now)))) }
+{
+    match owned(alloc, given, "FILE")? {
+        Some(path) => Ok(Some(Asked::Task(Task::Judge(path)))),
+        None => Ok(None),
+    }
+}
+
+#[tactic(auto, unfolding(crate::specs::CommandLine::requested))]
+fn asked_of(alloc: Global, name: &str, given: &ArgMatches) -> Result<Option<Asked>, AllocError>
+    ensures { IfOk result (λ found. option_map request_of found ≡ requested name.now (rows_of (found_of given.now))) }
+{
+    if name == "ack" {
+        ack_asked(alloc, given)
+    } else if name == "show" {
+        show_asked(alloc, given)
+    } else if name == "replay" {
+        replay_asked(alloc, given)
+    } else if name == "judge" {
+        judge_asked(alloc, given)
+    } else if name == "client" {
+        Ok(Some(Asked::Clients))
+    } else if name == "server" {
+        Ok(Some(Asked::Server))
     } else {
-        Telling::Facts
+        Ok(None)
     }
 }
 
-fn task_of(alloc: Global, name: &str, given: &ArgMatches) -> Result<Option<Task>, AllocError> {
-    match name {
-        "ack" => Ok(owned(alloc, given, "HEX")?.map(|argument| Task::Ack(argument))),
-        "show" => show_task(alloc, given),
-        "replay" => Ok(owned(alloc, given, "FILE")?.map(|path| Task::Replay(
-            path,
-            telling_of(given),
-        ))),
-        "judge" => Ok(owned(alloc, given, "FILE")?.map(|path| Task::Judge(path))),
-        _ => Ok(None),
-    }
-}
-
-fn asked_of(alloc: Global, matches: &ArgMatches) -> Result<Option<Asked>, AllocError> {
+fn found_in(alloc: Global, matches: &ArgMatches) -> Result<Option<Asked>, AllocError>
+    ensures { IfOk result (λ found. option_map request_of found ≡ requested_by (subcommand_rows_of matches.now)) }
+{
     match matches.subcommand() {
-        Some(("client", _)) => Ok(Some(Asked::Clients)),
-        Some(("server", _)) => Ok(Some(Asked::Server)),
-        Some((name, given)) => Ok(task_of(alloc, name, given)?.map(|task| Asked::Task(task))),
+        Some((name, given)) => asked_of(alloc, name, given),
         None => Ok(None),
     }
 }
@@ -185,13 +304,13 @@ fn asked_of(alloc: Global, matches: &ArgMatches) -> Result<Option<Asked>, AllocE
 ///
 /// # Errors
 ///
-/// Help, with status 0, where the words ask for it, and else why they are refused, with status 2.
-/// Where there is no memory for the answer the words are refused with no text.
+/// Help, where the words ask for it; else why they are refused, or that there is no memory to read them.
 pub fn asked(alloc: Global, words: &[&str]) -> Result<Asked, Usage>
-    ensures { IfErr result (λ usage. (usage.status ≡ 0) ⊎ (usage.status ≡ 2)) }
+    ensures asked { IfOk result (λ asked. AsksFor (all_words (map (λ word. word.now) words.now)) (request_of asked)) }
+    ensures usage { IfErr result (λ usage. IsUsageOf (all_words (map (λ word. word.now) words.now)) usage) }
 {
     let Ok(all) = with_name(alloc, words) else {
-        return Err(refused_untold(alloc));
+        return Err(untold(alloc));
     };
     let matches = match parse(alloc, all.as_slice()) {
         Ok(matches) => matches,
@@ -200,8 +319,8 @@ pub fn asked(alloc: Global, words: &[&str]) -> Result<Asked, Usage>
         )),
         Err(error) => return Err(usage_of(alloc, &error)),
     };
-    match asked_of(alloc, &matches) {
+    match found_in(alloc, &matches) {
         Ok(Some(asked)) => Ok(asked),
-        _ => Err(refused_untold(alloc)),
+        _ => Err(untold(alloc)),
     }
 }

@@ -1,6 +1,11 @@
-ghost use Rattle.std.specs.Prelude.{◌≡◌, ◌≢◌, ◌≤◌, ◌⊎◌, IsErr};
+ghost use Rattle.std.specs.Prelude.{◌≡◌, ◌≢◌, ◌≤◌, ◌⊎◌, ℕ, List, Option, IfOk, IsErr, map};
 ghost use Rattle.std.specs.String.{string_bytes};
 ghost use Rattle.std.specs.Io.KnownBytes.{Appends, Keeps};
+ghost use Rattle.lease_lines.specs.Machines.{transcript};
+ghost use Rattle.lease_lines.specs.Tables.{machines_of};
+ghost use Rattle.leasecheck.specs.CommandLine.{TellsUsage, all_words};
+ghost use Rattle.leasecheck.specs.Printed.{Prints};
+ghost use Rattle.leasecheck.specs.Running.{Does};
 
 use crate::command_line::asked;
 use crate::conversing::converse;
@@ -13,27 +18,31 @@ use std::io::Write;
 use std::rt::Files;
 use std::{fs, io};
 
-fn views<'a>(alloc: Global, words: &'a [String]) -> Result<Vec<&'a str>, AllocError> {
+// The exit status where a command line is refused.
+const REFUSED: u8 = 2;
+
+fn views<'a>(alloc: Global, words: &'a [String]) -> Result<Vec<&'a str>, AllocError>
+    ensures { IfOk result (λ views. map (λ word. word.now) views.items ≡ map string_bytes words.now) }
+{
     words.iter().map(|word| word.as_str()).collect(alloc)
 }
 
-// Help goes to `out`, and why a command line is refused to `faults`. The status is that of the
-// usage, and 1 where help can't be written.
+// Help goes to `out`, with status 1 where it can't be written; why there is no task goes to `faults`.
 fn tell_usage<O: Write, F: Write>(usage: &Usage, out: &mut O, faults: &mut F) -> u8
-    ensures refused { usage.now.status ≢ 0 → result ≡ usage.now.status }
-    ensures kept { usage.now.status ≢ 0 → Keeps (O.contents out.old) (O.contents out.new) }
-    ensures status { usage.now.status ≡ 0 → result ≤ 1 }
-    ensures silent { usage.now.status ≡ 0 → Keeps (F.contents faults.old) (F.contents faults.new) }
-    ensures help { usage.now.status ≡ 0 → result ≡ 0
-        → Appends (O.contents out.old) (O.contents out.new) (string_bytes usage.now.text) }
+    ensures told { TellsUsage usage.now (O.contents out.old) (O.contents out.new) result }
+    ensures status { result ≤ 2 }
+    ensures kept { result ≡ 2 → Keeps (O.contents out.old) (O.contents out.new) }
+    ensures silent { result ≢ 2 → Keeps (F.contents faults.old) (F.contents faults.new) }
 {
-    if usage.status != 0 {
-        let _ = faults.write_all(usage.text.as_bytes());
-        return usage.status;
-    }
-    match out.write_all(usage.text.as_bytes()) {
-        Ok(()) => 0,
-        Err(_) => 1,
+    match usage {
+        Usage::Help(text) => match out.write_all(text.as_bytes()) {
+            Ok(()) => 0,
+            Err(_) => 1,
+        },
+        Usage::Refused(text) | Usage::Memory(text) => {
+            let _ = faults.write_all(text.as_bytes());
+            REFUSED
+        }
     }
 }
 
@@ -46,6 +55,7 @@ fn perform_on_file<R: Files + Input + AllocGlobal, O: Write, F: Write>(
 ) -> u8
     ensures silent { result ≢ 1 → Keeps (F.contents faults.old) (F.contents faults.new) }
     ensures status { (result ≤ 1) ⊎ (result ≡ 3) }
+    ensures printed { result ≢ 1 → (file : Option (List ℕ)) × Prints asked.now file (O.contents out.old) (O.contents out.new) result }
 {
     let alloc = rt.alloc();
     match asked.path() {
@@ -73,6 +83,8 @@ fn speak<R: Input + AllocGlobal, O: Write, F: Write>(
 ) -> u8
     ensures status { result ≤ 1 }
     ensures silent { result ≡ 0 → Keeps (F.contents faults.old) (F.contents faults.new) }
+    ensures answered { result ≡ 0 → (lines : List (List ℕ))
+        × Appends (O.contents out.old) (O.contents out.new) (transcript (machines_of machines) 1 lines) }
 {
     match converse(rt.alloc(), machines, &mut rt.reader(), out) {
         Ok(()) => 0,
@@ -87,6 +99,8 @@ fn speak<R: Input + AllocGlobal, O: Write, F: Write>(
 /// status: 0 where it was done or help was told, 1 where the input is refused, memory ran out or a
 /// write failed, 2 where the words are refused, 3 where a judged record is unsafe.
 ///
+/// What is printed with status 0 or 3 is what the words ask for.
+///
 /// Where the words can't be had, since one is no text or there is no memory for them, they are
 /// refused too.
 pub fn run_words<R: Files + Input + AllocGlobal, O: Write, F: Write>(
@@ -99,13 +113,15 @@ pub fn run_words<R: Files + Input + AllocGlobal, O: Write, F: Write>(
     ensures silent { result ≡ 0 → Keeps (F.contents faults.old) (F.contents faults.new) }
     ensures refused { result ≡ 2 → Keeps (O.contents out.old) (O.contents out.new) }
     ensures unread { IsErr given → result ≡ 2 }
+    ensures done { IfOk given (λ words. result ≢ 1 → result ≢ 2
+        → Does (all_words (map string_bytes words.items)) (O.contents out.old) (O.contents out.new) result) }
 {
     let Ok(owned) = given else {
         let _ = writeln!(
             faults,
             "error: an argument is no text, or there is no memory for it"
         );
-        return 2;
+        return REFUSED;
     };
     let Ok(words) = views(rt.alloc(), owned.as_slice()) else {
         let _ = writeln!(faults, "fault memory");

@@ -60,11 +60,13 @@ impl Task {
     }
 }
 
-/// Why there is no task: help was asked for, or the command line is refused.
+/// Why there is no task, with what is told.
 #[derive(Debug, Drop)]
-pub struct Usage {
-    /// The exit status: 0 for help, 2 where the command line is refused.
-    pub status: u8,
-    /// What is told: help on standard output, a refusal on standard error.
-    pub text: String,
+pub enum Usage {
+    /// Help was asked for; it goes to standard output.
+    Help(String),
+    /// The command line is refused; this goes to standard error.
+    Refused(String),
+    /// There was no memory to read the command line; this goes to standard error.
+    Memory(String),
 }

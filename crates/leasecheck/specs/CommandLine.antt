@@ -1,0 +1,166 @@
+-- Which words ask for what. By which words an argument is meant, and which words are refused, is said by clap's own definitions; the
+-- command that they speak of stands here, and what is asked for by what they find.
+use Rattle.std.specs.Prelude.{◌≡◌, ◌≤◌, ◌⊎◌, ⊤, ℕ, true, List, [], ◌∷◌, map, codes, bytes_eq, if◌then◌else◌, Option, Some, None, option_and_then, option_map, Result, MatchResult}
+use Rattle.std.specs.Borrow.{Bor}
+use Rattle.std.specs.Io.KnownBytes.{Appends}
+use Rattle.std.specs.String.{string_bytes}
+use Rattle.clap.specs.Words.{App, Row, Rule, Shape, Text, fault_of, first_of, kind_of, new_app, new_rule, subcommand_of, subcommand_rows_of, with_rule, with_subcommand, IsAmong}
+use Rattle.clap.specs.declared.builder.action.ArgAction.TheVariants.{SetTrue}
+use Rattle.clap.specs.declared.builder.value_parser.ValueParser.{ValueParser}
+use Rattle.clap.specs.declared.builder.value_parser.ValueParser.TheVariants as parser
+use Rattle.clap.specs.declared.error.Error.{Error}
+use Rattle.clap.specs.declared.error.kind.ErrorKind.{ErrorKind}
+use Rattle.clap.specs.declared.error.kind.ErrorKind.TheVariants as error
+use Rattle.clap.specs.declared.parser.matches.ArgMatches.{ArgMatches}
+use Rattle.leasecheck.specs.declared.tasks.Asked.{Asked}
+use Rattle.leasecheck.specs.declared.tasks.Asked.TheVariants as asked
+use Rattle.leasecheck.specs.declared.tasks.Kind.{Kind}
+use Rattle.leasecheck.specs.declared.tasks.Kind.TheVariants as kind
+use Rattle.leasecheck.specs.declared.tasks.Task.TheVariants as task
+use Rattle.leasecheck.specs.declared.tasks.Telling.{Telling}
+use Rattle.leasecheck.specs.declared.tasks.Telling.TheVariants as telling
+use Rattle.leasecheck.specs.declared.tasks.Usage.{Usage}
+use Rattle.leasecheck.specs.declared.tasks.Usage.TheVariants as usage
+
+-- ---- the command
+
+-- an argument that has to be given
+abbrev pub needed : Text → Rule
+needed id = record (new_rule id) { required = true }
+
+-- a flag, which has no value
+abbrev pub flag : Text → Rule
+flag name = record (new_rule name) { long = Some name; action = Some SetTrue }
+
+abbrev pub kind_words : List Text
+kind_words = codes "ask" ∷ codes "reply" ∷ codes "break" ∷ codes "ack" ∷ codes "response" ∷ []
+
+-- it takes the kinds of `show`, and no other word
+abbrev pub TakesKinds : ValueParser → Type 0
+TakesKinds kinds = (names : Bor (List (Bor Text))) × (kinds ≡ parser.Names names) × (map (λ name. name.now) names.now ≡ kind_words)
+
+abbrev pub kind_rule : ValueParser → Rule
+kind_rule kinds = record (needed (codes "KIND")) { parser = Some kinds }
+
+abbrev pub ack_app : App
+ack_app = with_rule (new_app (codes "ack")) (needed (codes "HEX"))
+
+abbrev pub show_app : ValueParser → App
+show_app kinds = with_rule (with_rule (new_app (codes "show")) (kind_rule kinds)) (needed (codes "HEX"))
+
+abbrev pub replay_app : App
+replay_app = with_rule (with_rule (new_app (codes "replay")) (needed (codes "FILE"))) (flag (codes "messages"))
+
+abbrev pub judge_app : App
+judge_app = with_rule (new_app (codes "judge")) (needed (codes "FILE"))
+
+-- a version, no command `help`, and a command has to be named
+abbrev pub with_settings : Shape → Shape
+with_settings shape = record shape { has_version = true; disable_help_subcommand = true; subcommand_required = true }
+
+abbrev pub bare_app : App
+bare_app = record (new_app (codes "leasecheck")) { top = with_settings (new_app (codes "leasecheck")).top }
+
+abbrev pub with_commands : App → List App → App
+with_commands app [] = app
+with_commands app (command ∷ commands) = with_commands (with_subcommand app command.top) commands
+
+abbrev pub leasecheck_app : ValueParser → App
+leasecheck_app kinds = with_commands bare_app
+    (ack_app ∷ show_app kinds ∷ replay_app ∷ judge_app ∷ new_app (codes "client") ∷ new_app (codes "server") ∷ [])
+
+-- ---- what is asked for
+
+pub data Request : Type 0 where
+  Ack : (argument : Text) → Request
+  Show : (kind : Kind) (argument : Text) → Request
+  Replay : (path : Text) (telling : Telling) → Request
+  Judge : (path : Text) → Request
+  Version : Request
+  Clients : Request
+  Server : Request
+
+abbrev pub request_of : Asked → Request
+request_of (asked.Task (task.Ack argument)) = Ack (string_bytes argument)
+request_of (asked.Task (task.Show kind argument)) = Show kind (string_bytes argument)
+request_of (asked.Task (task.Replay path telling)) = Replay (string_bytes path) telling
+request_of (asked.Task (task.Judge path)) = Judge (string_bytes path)
+request_of (asked.Task task.Version) = Version
+request_of asked.Clients = Clients
+request_of asked.Server = Server
+
+abbrev pub kind_named : Text → Option Kind
+kind_named name =
+    if bytes_eq name (codes "ask") then Some kind.Ask
+    else if bytes_eq name (codes "reply") then Some kind.Reply
+    else if bytes_eq name (codes "break") then Some kind.Break
+    else if bytes_eq name (codes "ack") then Some kind.Ack
+    else if bytes_eq name (codes "response") then Some kind.Response
+    else None
+
+abbrev pub shown : Option Kind → Option Text → Option Request
+shown (Some kind) argument = option_map (λ argument. Show kind argument) argument
+shown None argument = None
+
+abbrev pub replayed : Telling → Option Text → Option Request
+replayed telling path = option_map (λ path. Replay path telling) path
+
+-- whether a flag was given
+abbrev pub telling_of : Option Text → Telling
+telling_of (Some value) = if bytes_eq value (codes "true") then telling.Messages else telling.Facts
+telling_of None = telling.Facts
+
+-- by the name of a command and what was found of its arguments
+unfoldable pub requested : Text → List Row → Option Request
+requested name rows =
+    if bytes_eq name (codes "ack") then option_map Ack (first_of (codes "HEX") rows)
+    else if bytes_eq name (codes "show")
+    then shown (option_and_then kind_named (first_of (codes "KIND") rows)) (first_of (codes "HEX") rows)
+    else if bytes_eq name (codes "replay")
+    then replayed (telling_of (first_of (codes "messages") rows)) (first_of (codes "FILE") rows)
+    else if bytes_eq name (codes "judge") then option_map Judge (first_of (codes "FILE") rows)
+    else if bytes_eq name (codes "client") then Some Clients
+    else if bytes_eq name (codes "server") then Some Server
+    else None
+
+abbrev pub requested_by : Option (Text × List Row) → Option Request
+requested_by found = option_and_then (λ command. requested command.0 command.1) found
+
+-- ---- the words
+
+-- the program's name and the words behind it
+abbrev pub all_words : List Text → List Text
+all_words words = codes "leasecheck" ∷ words
+
+-- an error of a kind that the command's definitions tell for the words, or want of memory
+abbrev pub Errs : List Text → ErrorKind → Type 0
+Errs words fault = (fault ≡ error.OutOfMemory)
+    ⊎ ((kinds : ValueParser) × TakesKinds kinds × IsAmong fault (fault_of (leasecheck_app kinds) words))
+
+-- Words that the command takes, and what is found in them; or an error of a kind that its definitions tell for them.
+abbrev pub Parses : List Text → Result ArgMatches Error → Type 0
+Parses words answer = MatchResult answer
+    (λ matches. (kinds : ValueParser) × TakesKinds kinds × (fault_of (leasecheck_app kinds) words ≡ [])
+    × (subcommand_rows_of matches ≡ subcommand_of (leasecheck_app kinds) words))
+    (λ fault. Errs words (kind_of fault))
+
+-- The words ask for this: for the version, or they have no fault and are read as it.
+abbrev pub AsksFor : List Text → Request → Type 0
+AsksFor words request = ((request ≡ Version)
+    × (kinds : ValueParser) × TakesKinds kinds × IsAmong error.DisplayVersion (fault_of (leasecheck_app kinds) words))
+    ⊎ ((kinds : ValueParser) × TakesKinds kinds × (fault_of (leasecheck_app kinds) words ≡ [])
+    × (requested_by (subcommand_of (leasecheck_app kinds) words) ≡ Some request))
+
+-- Help is told where the words ask for it; they are refused where they have another fault.
+abbrev pub IsUsageOf : List Text → Usage → Type 0
+IsUsageOf words (usage.Help text) =
+    (kinds : ValueParser) × TakesKinds kinds × IsAmong error.DisplayHelp (fault_of (leasecheck_app kinds) words)
+IsUsageOf words (usage.Refused text) = (fault : ErrorKind) × (kinds : ValueParser) × TakesKinds kinds
+    × IsAmong fault (fault_of (leasecheck_app kinds) words)
+IsUsageOf words (usage.Memory text) = ⊤
+
+-- what is told, and the exit status: help is told whole, or the status is 1
+abbrev pub TellsUsage : Usage → Option (List ℕ) → Option (List ℕ) → ℕ → Type 0
+TellsUsage (usage.Help text) old new status = (status ≤ 1) × (status ≡ 0 → Appends old new (string_bytes text))
+TellsUsage (usage.Refused text) old new status = status ≡ 2
+TellsUsage (usage.Memory text) old new status = status ≡ 2

@@ -1,0 +1,37 @@
+-- What the program does for the words of a command line, end to end.
+use Rattle.std.specs.Prelude.{◌≡◌, ◌≢◌, ◌⊎◌, ℕ, List, [], Option}
+use Rattle.std.specs.Io.KnownBytes.{Appends}
+use Rattle.std.specs.String.{string_bytes, String, Global}
+use Rattle.clap.specs.Words.{Text}
+use Rattle.lease_lines.specs.ClientTables.{no_clients}
+use Rattle.lease_lines.specs.Machines.{Machines, transcript}
+use Rattle.lease_lines.specs.ServerTables.{Stage}
+use Rattle.leasecheck.specs.CommandLine.{AsksFor, IsUsageOf, Request, request_of}
+use Rattle.leasecheck.specs.Printed.{Prints}
+use Rattle.leasecheck.specs.declared.tasks.Asked.TheVariants as asked
+use Rattle.leasecheck.specs.declared.tasks.Task.{Task}
+use Rattle.leasecheck.specs.declared.tasks.Usage.TheVariants as usage
+
+-- The words ask for a task, which printed what it prints for some bytes of its file. What file that is no contract says.
+abbrev pub DoesTask : List Text → Option (List ℕ) → Option (List ℕ) → ℕ → Type 0
+DoesTask words old new status = (task : Task) × (file : Option (List ℕ))
+    × AsksFor words (request_of (asked.Task task)) × Prints task file old new status
+
+-- the machines that words ask for, of which nothing is told yet
+abbrev pub AsksForMachines : List Text → Machines → Type 0
+AsksForMachines words machines = (AsksFor words Request.Clients × (machines ≡ Machines.AreClients no_clients))
+    ⊎ (AsksFor words Request.Server × (machines ≡ Machines.IsServer (Stage.Filling [])))
+
+-- The words ask for machines, which answered some lines. Which ones the input has no contract says.
+abbrev pub LetsSpeak : List Text → Option (List ℕ) → Option (List ℕ) → Type 0
+LetsSpeak words old new = (machines : Machines) × (lines : List (List ℕ)) × AsksForMachines words machines
+    × Appends old new (transcript machines 1 lines)
+
+-- the words ask for help, which was told
+abbrev pub TellsHelp : List Text → Option (List ℕ) → Option (List ℕ) → Type 0
+TellsHelp words old new = (text : String Global) × IsUsageOf words (usage.Help text) × Appends old new (string_bytes text)
+
+-- What is done where nothing is refused and nothing fails.
+abbrev pub Does : List Text → Option (List ℕ) → Option (List ℕ) → ℕ → Type 0
+Does words old new status = DoesTask words old new status
+    ⊎ ((status ≡ 0) × (LetsSpeak words old new ⊎ TellsHelp words old new))
