@@ -5,4 +5,5 @@ pub mod Happening
 pub mod Kept
 pub mod Keys
 pub mod Replies
+pub mod Speaking
 pub mod Standing

@@ -7,7 +7,7 @@ ghost use Rattle.lease_model.specs.world.Events.{after, recorded};
 ghost use Rattle.lease_model.specs.world.World.{first_world};
 ghost use Rattle.lease_facts.specs.Facts.{fact_of};
 ghost use Rattle.lease_facts.specs.Setups.{setup_of, event_of};
-ghost use Rattle.lease_world.specs.world.Messages.{messages_told};
+ghost use Rattle.lease_world.specs.world.Messages.{messages_told, speaking};
 ghost use Rattle.lease_world.specs.world.Stands.{Stands};
 ghost use Rattle.lease_world.specs.world.Worlds.{KeepsBehind};
 
@@ -65,6 +65,7 @@ pub fn run(alloc: Global, setup: &Setup, events: &[Event]) -> Result<Vec<Fact>, 
 /// # Errors
 ///
 /// Those of `run`, in the same cases.
+#[tactic(auto, using(crate::proofs::worlds::Speaking::each_told))]
 pub fn run_with_messages(
     alloc: Global,
     setup: &Setup,
@@ -77,6 +78,7 @@ pub fn run_with_messages(
         ≡ recorded (setup_of setup.now) (map event_of events.now)) }
     ensures messages { IfOk result (λ told. map reply_of told.1.items
         ≡ messages_told (setup_of setup.now) (map event_of events.now)) }
+    ensures each { IfOk result (λ told. speaking (map fact_of told.0.items) ≡ length told.1.items) }
     ensures safe { IfOk result (λ told. Safe (map fact_of told.0.items)) }
 {
     coherent();

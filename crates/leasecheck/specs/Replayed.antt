@@ -1,5 +1,5 @@
 -- What `leasecheck replay` prints, and why it refuses a schedule.
-use Rattle.std.specs.Prelude.{◌≡◌, ◌⊎◌, ◌++◌, ℕ, map, if◌then◌else◌, List, [], ◌∷◌, codes, Option, Some, None, Result, Ok, Err, MatchResult}
+use Rattle.std.specs.Prelude.{◌≡◌, ◌⊎◌, ◌++◌, ℕ, map, if◌then◌else◌, List, [], ◌∷◌, codes, length, Option, Some, None, Result, Ok, Err, MatchResult}
 use Rattle.std.specs.Fmt.{decimal}
 use Rattle.lease_model.specs.records.Facts as model
 use Rattle.lease_model.specs.messages.FromBytes.{reply_of}
@@ -18,7 +18,7 @@ use Rattle.lease_world.specs.declared.verdict.Verdict.TheVariants as verdict
 use Rattle.lease_state.specs.declared.reply.Reply.{Reply}
 use Rattle.lease_texts.specs.Records.{record_text}
 use Rattle.lease_texts.specs.Schedules.{Draft, schedule_in}
-use Rattle.lease_world.specs.world.Messages.{messages_told}
+use Rattle.lease_world.specs.world.Messages.{messages_told, speaking}
 use Rattle.leasecheck.specs.Messages.{record_with_messages}
 use Rattle.leasecheck.specs.declared.failure.Failure.{Failure}
 use Rattle.leasecheck.specs.declared.failure.Failure.TheVariants as failure
@@ -49,11 +49,12 @@ record_of draft = recorded (setup_of draft) (map event_of draft.events)
 abbrev pub messages_of : Draft → List model_replies.Reply
 messages_of draft = messages_told (setup_of draft) (map event_of draft.events)
 
--- the text tells the facts of a run, alone or with their messages
+-- the text tells the facts of a run, alone or with their messages, of which there is one for each fact that speaks of one
 abbrev pub IsToldBy : Telling → Draft → List Fact → List ℕ → Type 0
 IsToldBy telling.Facts draft facts text = text ≡ record_text facts
 IsToldBy telling.Messages draft facts text =
-    (messages : List Reply) × (map reply_of messages ≡ messages_of draft) × (text ≡ record_with_messages facts messages)
+    (messages : List Reply) × (map reply_of messages ≡ messages_of draft)
+    × (speaking (map fact_of facts) ≡ length messages) × (text ≡ record_with_messages facts messages)
 
 -- the text is the record of the run of this draft
 abbrev pub Tells : Telling → Draft → List ℕ → Type 0

@@ -1,16 +1,15 @@
 -- What the program does for the words of a command line, end to end.
-use Rattle.std.specs.Prelude.{◌≡◌, ◌≢◌, ◌⊎◌, ℕ, List, [], Option}
+use Rattle.std.specs.Prelude.{◌≡◌, ◌⊎◌, ℕ, List, [], Option}
 use Rattle.std.specs.Io.KnownBytes.{Appends}
-use Rattle.std.specs.String.{string_bytes, String, Global}
 use Rattle.clap.specs.Words.{Text}
 use Rattle.lease_lines.specs.ClientTables.{no_clients}
 use Rattle.lease_lines.specs.Machines.{Machines, transcript}
 use Rattle.lease_lines.specs.ServerTables.{Stage}
-use Rattle.leasecheck.specs.CommandLine.{AsksFor, IsUsageOf, Request, request_of}
+use Rattle.leasecheck.specs.CommandLine.{AsksFor, IsUsageOf, Request, TellsUsage, request_of}
 use Rattle.leasecheck.specs.Printed.{Prints}
 use Rattle.leasecheck.specs.declared.tasks.Asked.TheVariants as asked
 use Rattle.leasecheck.specs.declared.tasks.Task.{Task}
-use Rattle.leasecheck.specs.declared.tasks.Usage.TheVariants as usage
+use Rattle.leasecheck.specs.declared.tasks.Usage.{Usage}
 
 -- The words ask for a task, which printed what it prints for some bytes of its file. What file that is no contract says.
 abbrev pub DoesTask : List Text → Option (List ℕ) → Option (List ℕ) → ℕ → Type 0
@@ -28,10 +27,11 @@ LetsSpeak words old new = (machines : Machines) × (lines : List (List ℕ)) × 
     × Appends old new (transcript machines 1 lines)
 
 -- the words ask for help, which was told
-abbrev pub TellsHelp : List Text → Option (List ℕ) → Option (List ℕ) → Type 0
-TellsHelp words old new = (text : String Global) × IsUsageOf words (usage.Help text) × Appends old new (string_bytes text)
+abbrev pub TellsHelp : List Text → Option (List ℕ) → Option (List ℕ) → ℕ → Type 0
+TellsHelp words old new status = (told : Usage) × IsUsageOf words told × TellsUsage told old new status
 
 -- What is done where nothing is refused and nothing fails.
 abbrev pub Does : List Text → Option (List ℕ) → Option (List ℕ) → ℕ → Type 0
 Does words old new status = DoesTask words old new status
-    ⊎ ((status ≡ 0) × (LetsSpeak words old new ⊎ TellsHelp words old new))
+    ⊎ ((status ≡ 0) × LetsSpeak words old new)
+    ⊎ TellsHelp words old new status

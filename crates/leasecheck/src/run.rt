@@ -24,7 +24,11 @@ const REFUSED: u8 = 2;
 fn views<'a>(alloc: Global, words: &'a [String]) -> Result<Vec<&'a str>, AllocError>
     ensures { IfOk result (λ views. map (λ word. word.now) views.items ≡ map string_bytes words.now) }
 {
-    words.iter().map(|word| word.as_str()).collect(alloc)
+    let mut views = Vec::new(alloc);
+    for word in words {
+        views.push(word.as_str())?;
+    }
+    Ok(views)
 }
 
 // Help goes to `out`, with status 1 where it can't be written; why there is no task goes to `faults`.

@@ -1,7 +1,8 @@
 -- The messages that the facts of a run speak of: the reply of each `sent` and of each `took`, in the order of the facts.
-use Rattle.std.specs.Prelude.{ℕ, Option, Some, None, List, [], ◌∷◌, ◌++◌, if◌then◌else◌}
+use Rattle.std.specs.Prelude.{ℕ, suc, Option, Some, None, List, [], ◌∷◌, ◌++◌, if◌then◌else◌}
 use Rattle.lease_model.specs.messages.Replies.{Reply, Out}
 use Rattle.lease_model.specs.messages.Requests.{Request}
+use Rattle.lease_model.specs.records.Facts.{Fact}
 use Rattle.lease_model.specs.server.Calls.{Call, called}
 use Rattle.lease_model.specs.server.Queries.{breaking, kept}
 use Rattle.lease_model.specs.server.State.{has_file}
@@ -64,3 +65,10 @@ messages_from world (event ∷ events) = messages_in world event ++ messages_fro
 -- of a run, in the order of its record
 abbrev pub messages_told : Setup → List Event → List Reply
 messages_told setup events = messages_from (first_world setup) events
+
+-- how many facts speak of a message
+unfoldable pub speaking : List Fact → ℕ
+speaking [] = 0
+speaking (Fact.Sent client ∷ facts) = suc (speaking facts)
+speaking (Fact.Took client ∷ facts) = suc (speaking facts)
+speaking (_ ∷ facts) = speaking facts

@@ -1,0 +1,203 @@
+-- Each fact that speaks of a message has one: there are as many messages as such facts.
+use Rattle.std.proofs.Common.{◌≡◌, ℕ, suc, ◌+◌, Bool, true, false, List, [], ◌∷◌, ◌++◌, length, map, Option, Some, None, refl, sym, ap, ◌∙◌, arith}
+use Rattle.std.specs.Prelude.{◌&&◌, if◌then◌else◌, nat_le, reverse}
+use Rattle.std.proofs.lemmas.List.{reverse-append, reverse-reverse, length-append, length-map}
+use Rattle.lease_model.specs.client.Calls.{ClientCall, client_called}
+use Rattle.lease_model.specs.client.Commands.{Note}
+use Rattle.lease_model.specs.client.Step.{Step}
+use Rattle.lease_model.specs.messages.Replies.{Reply, Out}
+use Rattle.lease_model.specs.messages.Requests.{Request}
+use Rattle.lease_model.specs.records.Facts.{Fact}
+use Rattle.lease_model.specs.server.Calls.{Call, called}
+use Rattle.lease_model.specs.server.Progress.{Progress}
+use Rattle.lease_model.specs.server.Queries.{breaking, kept}
+use Rattle.lease_model.specs.server.State.{has_file}
+use Rattle.lease_model.specs.values.Tables.{put}
+use Rattle.lease_model.specs.world.Events.{Event, served, stepped_in, server_takes, client_takes, link_cut, cut_over, link_noticed, notice_over, link_connected, connect_over, machine_key, timer_expired, scavenged, strayed_over, applied, client_of, happens, after, recorded}
+use Rattle.lease_model.specs.world.World.{World, Setup, Link, happened, first_world, starts_from, has_client, noted, requests_sent, all_delivered, fact_of}
+use Rattle.lease_facts.specs.Facts.{fact_of as fact_told}
+use Rattle.lease_facts.specs.declared.fact.Fact as code_fact
+use Rattle.lease_model.specs.messages.FromBytes.{reply_of}
+use Rattle.lease_state.specs.declared.reply.Reply as code_reply
+use Rattle.lease_world.specs.world.Messages.{sent_among, sent_by_oldest, oldest, sent_by_cut, sent_by_join, sent_by_scavenge, messages_of, messages_in, messages_from, messages_told, speaking}
+use Rattle.lease_world.proofs.worlds.Delivered.{told, delivers, notes_told}
+
+speaking_both : (xs ys : List Fact) → speaking (xs ++ ys) ≡ speaking xs + speaking ys
+unfolding speaking
+speaking_both [] ys = omega arith
+speaking_both (fact ∷ xs) ys = let rest = speaking_both xs ys in go fact rest
+  where
+    go : (f : Fact) → speaking (xs ++ ys) ≡ speaking xs + speaking ys → speaking ((f ∷ xs) ++ ys) ≡ speaking (f ∷ xs) + speaking ys
+    go (Fact.Start a b) e = e
+    go (Fact.Joined a) e = e
+    go (Fact.Dropped a) e = e
+    go (Fact.Expired a b) e = e
+    go (Fact.Sent a) e = omega (arith, e)
+    go (Fact.Took a) e = omega (arith, e)
+    go (Fact.Opened a b) e = e
+    go (Fact.Changed a b c d) e = e
+    go (Fact.Wrote a b c d f) e = e
+    go (Fact.Settled a b c) e = e
+    go (Fact.Believes a b c) e = e
+    go (Fact.CachedRead a b c) e = e
+    go (Fact.Strayed a) e = e
+
+-- as many facts of a world speak of a message
+abbrev said : World → ℕ
+said world = speaking (reverse world.past)
+
+sent_speak : (outs : List Out) → speaking (map told outs) ≡ length (sent_among outs)
+unfolding speaking
+sent_speak [] = refl
+sent_speak (Out.Sent client reply ∷ outs) = ap suc (sent_speak outs)
+sent_speak (Out.Opened file client ∷ outs) = sent_speak outs
+sent_speak (Out.Changed file client number patch ∷ outs) = sent_speak outs
+
+notes_are_silent : (client : ℕ) (notes : List Note) → speaking (map (fact_of client) notes) ≡ 0
+unfolding speaking
+notes_are_silent client [] = refl
+notes_are_silent client (Note.Settled a b ∷ notes) = notes_are_silent client notes
+notes_are_silent client (Note.Wrote a b c d ∷ notes) = notes_are_silent client notes
+notes_are_silent client (Note.Believes a b ∷ notes) = notes_are_silent client notes
+notes_are_silent client (Note.CachedRead a b ∷ notes) = notes_are_silent client notes
+
+happened_says : (world : World) (fact : Fact) → said (happened world fact) ≡ said world + speaking (fact ∷ [])
+happened_says world fact =
+    ap speaking (reverse-append (fact ∷ []) world.past) ∙ speaking_both (reverse world.past) (fact ∷ [])
+
+served_says : (world : World) (progress : Progress) → said (served world progress) ≡ said world + length (sent_among progress.outs)
+unfolding served
+served_says world progress =
+    let d = delivers (record world { server = progress.server }) progress.outs in
+    ap speaking d.past ∙ (speaking_both (reverse world.past) (map told progress.outs)
+    ∙ ap (λ (n : ℕ). said world + n) (sent_speak progress.outs))
+
+stepped_says : (world : World) (client : ℕ) (step : Step) → said (stepped_in world client step) ≡ said world
+unfolding stepped_in requests_sent
+stepped_says world client step =
+    let n = notes_told (requests_sent (record world { clients = put world.clients client step.client }) client step.requests)
+    client step.notes in
+    ap speaking n.past ∙ (speaking_both (reverse world.past) (map (fact_of client) step.notes)
+    ∙ omega (arith, notes_are_silent client step.notes))
+
+server_says : (world : World) (client : ℕ) (queue : List Request)
+    → said (server_takes world client queue) ≡ said world + length (sent_by_oldest world client queue)
+server_says world client [] = omega arith
+server_says world client (request ∷ queue) =
+    served_says (record world { requests = put world.requests client queue }) (called world.server (Call.Receive client request))
+
+client_says : (world : World) (client : ℕ) (queue : List Reply)
+    → said (client_takes world client queue) ≡ said world + length (oldest queue)
+unfolding speaking
+client_says world client [] = omega arith
+client_says world client (reply ∷ queue) =
+    let next : World = record world { replies = put world.replies client queue } in
+    stepped_says (happened next (Fact.Took client)) client (client_called (world.clients client) (ClientCall.Taken reply))
+    ∙ happened_says next (Fact.Took client)
+
+cut_says : (world : World) (client : ℕ) (link : Link) → said (cut_over world client link) ≡ said world + length (sent_by_cut world client link)
+unfolding link_cut speaking
+cut_says world client Link.Down = omega arith
+cut_says world client Link.Cut = omega arith
+cut_says world client Link.Up =
+    let next : World = record world {
+      links = put world.links client Link.Cut;
+      requests = put world.requests client [];
+      replies = put world.replies client [];
+    } in
+    served_says (happened next (Fact.Dropped client)) (called world.server (Call.Cut client))
+    ∙ ap (λ (n : ℕ). n + length (sent_by_cut world client Link.Up)) (happened_says next (Fact.Dropped client) ∙ omega arith)
+
+notice_says : (world : World) (client : ℕ) (link : Link) → said (notice_over world client link) ≡ said world
+unfolding link_noticed
+notice_says world client Link.Down = refl
+notice_says world client Link.Up = refl
+notice_says world client Link.Cut =
+    stepped_says (record world { links = put world.links client Link.Down }) client
+    (client_called (world.clients client) ClientCall.Noticed)
+
+connect_says : (world : World) (client : ℕ) (link : Link)
+    → said (connect_over world client link) ≡ said world + length (sent_by_join world client link)
+unfolding link_connected speaking
+connect_says world client Link.Up = omega arith
+connect_says world client Link.Cut = omega arith
+connect_says world client Link.Down =
+    let next : World = record world { links = put world.links client Link.Up } in
+    let up : World = happened next (Fact.Joined client) in
+    stepped_says (served up (called world.server (Call.Join client))) client (client_called (world.clients client) ClientCall.Connected)
+    ∙ (served_says up (called world.server (Call.Join client))
+    ∙ ap (λ (n : ℕ). n + length (sent_by_join world client Link.Down)) (happened_says next (Fact.Joined client) ∙ omega arith))
+
+scavenge_says : (world : World) (found : Option ℕ) → said (scavenged world found) ≡ said world + length (sent_by_scavenge world found)
+scavenge_says world None = omega arith
+scavenge_says world (Some file_id) = served_says world (called world.server (Call.Scavenge file_id))
+
+expire_says : (world : World) (client file : ℕ) → said (timer_expired world client file)
+    ≡ said world + length (sent_among (called world.server (Call.Expire (machine_key world client file))).outs)
+unfolding timer_expired speaking
+expire_says world client file =
+    let next : World = happened world (Fact.Expired client file) in
+    let outs = (called world.server (Call.Expire (machine_key world client file))).outs in
+    served_says next (called world.server (Call.Expire (machine_key world client file)))
+    ∙ ap (λ (n : ℕ). n + length (sent_among outs)) (happened_says world (Fact.Expired client file) ∙ omega arith)
+
+stray_says : (world : World) (client : ℕ) (request : Request) (link : Link) → said (strayed_over world client request link) ≡ said world
+unfolding strayed_over requests_sent speaking
+stray_says world client request Link.Down = refl
+stray_says world client request Link.Cut = refl
+stray_says world client request Link.Up = happened_says world (Fact.Strayed client) ∙ omega arith
+
+if_says : (b c : Bool) (world other : World) (messages : List Reply) → said other ≡ said world + length messages
+    → said (if b then (if c then other else world) else world) ≡ said world + length (if b then (if c then messages else []) else [])
+if_says true true world other messages e = e
+if_says true false world other messages e = omega arith
+if_says false c world other messages e = omega arith
+
+applied_says : (world : World) (event : Event) → said (applied world event) ≡ said world + length (messages_of world event)
+unfolding applied messages_of
+applied_says world (Event.App client command) = stepped_says world client _ ∙ omega arith
+applied_says world (Event.ServerTakes client) = server_says world client (world.requests client)
+applied_says world (Event.ClientTakes client) = client_says world client (world.replies client)
+applied_says world (Event.Cut client) = cut_says world client (world.links client)
+applied_says world (Event.Notice client) = notice_says world client (world.links client) ∙ omega arith
+applied_says world (Event.Connect client) = connect_says world client (world.links client)
+applied_says world (Event.Expire client file) =
+    if_says (has_file world.server file) (breaking world.server (machine_key world client file)) world (timer_expired world client file)
+    _ (expire_says world client file)
+applied_says world (Event.Scavenge client file) = scavenge_says world (kept world.server client file)
+applied_says world (Event.Raw client request) = stray_says world client request (world.links client) ∙ omega arith
+
+happens_says : (world : World) (event : Event) → said (happens world event) ≡ said world + length (messages_in world event)
+unfolding happens messages_in
+happens_says world event = go (has_client world (client_of event))
+  where
+    go : (b : Bool) → said (if b then applied world event else world) ≡ said world + length (if b then messages_of world event else [])
+    go true = applied_says world event
+    go false = omega arith
+
+after_says : (world : World) (events : List Event) → said (after world events) ≡ said world + length (messages_from world events)
+unfolding after messages_from
+after_says world [] = omega arith
+after_says world (event ∷ events) =
+    let rest = after_says (happens world event) events in
+    let one = happens_says world event in
+    omega (arith, rest, one, length-append (messages_in world event) (messages_from (happens world event) events))
+
+starts_are_silent : (file : ℕ) (files : List (List ℕ)) → speaking (starts_from file files) ≡ 0
+unfolding starts_from speaking
+starts_are_silent file [] = refl
+starts_are_silent file (bytes ∷ files) = starts_are_silent (file + 1) files
+
+-- as many messages as facts that speak of one
+pub each_has_one : (setup : Setup) (events : List Event) → speaking (recorded setup events) ≡ length (messages_told setup events)
+unfolding first_world
+each_has_one setup events =
+    after_says (first_world setup) events
+    ∙ (ap (λ (facts : List Fact). speaking facts + length (messages_told setup events)) (reverse-reverse (starts_from 1 setup.files))
+    ∙ (ap (λ (n : ℕ). n + length (messages_told setup events)) (starts_are_silent 1 setup.files) ∙ omega arith))
+
+pub each_told : (facts : List code_fact.Fact) (replies : List code_reply.Reply) (setup : Setup) (events : List Event)
+    → map fact_told facts ≡ recorded setup events → map reply_of replies ≡ messages_told setup events
+    → speaking (map fact_told facts) ≡ length replies
+each_told facts replies setup events same messages =
+    ap speaking same ∙ (each_has_one setup events ∙ (ap length (sym messages) ∙ length-map replies reply_of))
