@@ -28,18 +28,18 @@ class Step:
     answer: str
 
 
-class ClientProcess:
-    """`leasecheck client`, which holds the machines of all clients of a run."""
+class LineProcess:
+    """`leasecheck client` or `leasecheck server`, which holds the machines of a run."""
 
-    def __init__(self, program: str, files: int, clients: Sequence[str]) -> None:
+    def __init__(self, program: str, task: str, setup: Sequence[str]) -> None:
+        self._task = task
         try:
-            self._process = subprocess.Popen([program, "client"], stdin=subprocess.PIPE, stdout=subprocess.PIPE,
-                                             stderr=subprocess.DEVNULL, text=True, bufsize=1)
+            self._process = subprocess.Popen([program, task], stdin=subprocess.PIPE, stdout=subprocess.PIPE,
+                                             stderr=subprocess.PIPE, text=True, bufsize=1)
         except OSError as fault:
             raise DriveFault(f"{program}: {fault.strerror}") from None
-        self._tell(f"files {files}")
-        for client in clients:
-            self._tell(f"client {client}")
+        for line in setup:
+            self._tell(line)
 
     def say(self, line: str) -> List[str]:
         self._tell(line)
@@ -47,7 +47,7 @@ class ClientProcess:
         while not lines or not lines[-1].startswith(("answer ", "fault ")):
             told = self._stream(self._process.stdout).readline()
             if not told:
-                raise DriveFault(f"the client machine ended at: {line}")
+                raise self._ended(line)
             lines.append(told.rstrip("\n"))
         return lines
 
@@ -55,26 +55,39 @@ class ClientProcess:
         try:
             self._stream(self._process.stdin).close()
         except OSError:
-            LOG.debug("the client machine had ended already")
+            LOG.debug("the %s machine had ended already", self._task)
         try:
             self._process.wait(timeout=5)
         except subprocess.TimeoutExpired:
             self._process.kill()
             self._process.wait()
         self._stream(self._process.stdout).close()
+        self._stream(self._process.stderr).close()
+
+    def _ended(self, line: str) -> DriveFault:
+        """What is said of a machine that isn't there any more: want of memory ends it."""
+        told = self._stream(self._process.stderr).readline().strip() or "without a word"
+        return DriveFault(f"the {self._task} machine has ended, {told}, at: {line[:200]}")
 
     def _tell(self, line: str) -> None:
         try:
             self._stream(self._process.stdin).write(f"{line}\n")
             self._stream(self._process.stdin).flush()
         except OSError:
-            raise DriveFault(f"the client machine ended before: {line}") from None
+            raise self._ended(line) from None
 
     @staticmethod
     def _stream(stream: IO[str] | None) -> IO[str]:
         if stream is None:
-            raise DriveFault("the client machine has no stream")
+            raise DriveFault("a machine has no stream")
         return stream
+
+
+class ClientProcess(LineProcess):
+    """The client machines of a run."""
+
+    def __init__(self, program: str, files: int, clients: Sequence[str]) -> None:
+        super().__init__(program, "client", [f"files {files}", *(f"client {client}" for client in clients)])
 
 
 class Machines:

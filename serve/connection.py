@@ -1,0 +1,253 @@
+"""A connection: its bytes, its requests in their compounds, and what is answered."""
+from __future__ import annotations
+
+import socket
+from typing import TYPE_CHECKING, Callable, Dict, List, Optional
+
+from drive.headers import ASYNC, FROM_SERVER, Command
+from drive.headers import UNASKED as NOTIFICATION
+from serve.asked import WITHOUT_SESSION, WITHOUT_TREE, Asked
+from serve.core import Doing, Task
+from serve.loop import WRITE
+from serve.opens import Holder
+from serve.packets import Answer, Credits, Frames, Request, Response, Unreadable, framed, parted, signed
+from serve.sessions import ANY_DIALECT, Session, negotiated
+from serve.statuses import Refused, Status
+
+if TYPE_CHECKING:
+    from serve.server import Server
+
+AT_ONCE = 1 << 18
+MOST_UNSENT = 1 << 26
+MOST_PENDING = 512
+OLD_PROTOCOL, PROTOCOL = b"\xffSMB", b"\xfeSMB"
+OLD_NEGOTIATE = 0x72
+
+
+class Pending:
+    """A request that isn't answered for good."""
+
+    def __init__(self, asked: Asked, chain: "Chain") -> None:
+        self.asked = asked
+        self.chain = chain
+        self.async_id: Optional[int] = None
+        self.is_answered = False
+        self.task: Optional[Task] = None
+
+
+class Chain:
+    """A request and those that are related to it, which are done one after the other."""
+
+    def __init__(self, connection: "Connection", requests: List[Request]) -> None:
+        self._connection = connection
+        self._requests = requests
+        self._responses: List[Response] = []
+        self._session, self._tree = requests[0].session, requests[0].tree
+        self._previous: Optional[int] = None
+        self._failed: Optional[Status] = None
+
+    def go_on(self) -> None:
+        """Begins the next request, or sends what is answered where there is none."""
+        if not self._requests:
+            self.send()
+            return
+        request = self._requests.pop(0)
+        asked = Asked(request, self._connection, self._connection.server, self._session, self._tree, self._previous)
+        if not request.is_related:
+            asked.session_id, asked.tree_id = request.session, request.tree
+        self._connection.begin(Pending(asked, self), self._failed)
+
+    def send(self) -> None:
+        if self._responses:
+            self._connection.send(framed(self._responses))
+        self._responses = []
+
+    def answered(self, pending: Pending, answer: Answer) -> None:
+        request = pending.asked.request
+        self._session = answer.session or pending.asked.session_id
+        self._tree = answer.tree or pending.asked.tree_id
+        if answer.opened is not None:
+            self._previous = answer.opened
+        if request.command is Command.CREATE and answer.status >> 30 == 3:
+            self._failed = answer.status
+        self._responses.append(self._connection.response(pending, answer, self._session, self._tree))
+        self.go_on()
+
+
+class Connection:
+    def __init__(self, server: "Server", stream: socket.socket) -> None:
+        self.server = server
+        self.guid: Optional[bytes] = None
+        self.is_negotiated = False
+        self.is_open = True
+        self.holder: Optional[Holder] = None
+        self.sessions: Dict[int, Session] = {}
+        self._stream = stream
+        self._frames = Frames()
+        self._credits = Credits()
+        self._unsent = bytearray()
+        self._pending: Dict[int, Pending] = {}
+        stream.setblocking(False)
+        server.loop.watch(stream, self._ready)
+
+    def _ready(self, events: int) -> None:
+        if events & WRITE:
+            self._write()
+        if events & ~WRITE and self.is_open:
+            self._read()
+
+    def _read(self) -> None:
+        try:
+            data = self._stream.recv(AT_ONCE)
+        except (BlockingIOError, InterruptedError):
+            return
+        except OSError:
+            data = b""
+        if not data:
+            self.close()
+            return
+        self._frames.add(data)
+        try:
+            while self.is_open:
+                frame = self._frames.next()
+                if frame is None:
+                    break
+                self._framed(frame)
+        except Unreadable:
+            self.close()
+
+    def _framed(self, frame: bytes) -> None:
+        if frame[:4] == OLD_PROTOCOL:
+            self._old_negotiate(frame)
+        elif frame:
+            chains: List[List[Request]] = []
+            for request in parted(frame):
+                self._credit(request)
+                if request.command is Command.CANCEL:
+                    self._cancel(request)
+                elif request.is_related and chains:
+                    chains[-1].append(request)
+                else:
+                    chains.append([request])
+            for chain in chains:
+                Chain(self, chain).go_on()
+
+    def _credit(self, request: Request) -> None:
+        """A request without its credits ends the connection (3.3.5.2.3)."""
+        is_free = request.command is Command.CANCEL
+        if request.is_from_server or not is_free and not self._credits.take(request.identifier, request.charge):
+            raise Unreadable
+        if not is_free and self.guid is None and request.command is not Command.NEGOTIATE:
+            raise Unreadable
+
+    def _old_negotiate(self, frame: bytes) -> None:
+        """The NEGOTIATE of SMB 1 that names SMB 2 among its dialects (3.3.5.3.1)."""
+        if self.is_negotiated or frame[4:5] != bytes([OLD_NEGOTIATE]) or b"\x02SMB 2.???\0" not in frame:
+            raise Unreadable
+        if not self._credits.take(0, 1):
+            raise Unreadable
+        answer = negotiated(self.server, ANY_DIALECT)
+        self.send(framed([Response(Command.NEGOTIATE, answer.status, 0, self._credits.grant(1), 0, 0, answer.body)]))
+
+    def begin(self, pending: Pending, failed: Optional[Status]) -> None:
+        request = pending.asked.request
+        self._pending[request.identifier] = pending
+        doing = self._refusing(failed) if failed and request.is_related else self._checked(pending.asked)
+        pending.task = Task(doing, lambda answer: self._answered(pending, answer))
+        self.server.begun.append(pending)
+        self.server.core.start(pending.task)
+        self.server.tell_of_waits()
+
+    @staticmethod
+    def _refusing(status: Status) -> Doing:
+        yield from ()
+        raise Refused(status)
+
+    def _checked(self, asked: Asked) -> Doing:
+        request = asked.request
+        handler: Optional[Callable[[Asked], Doing]] = self.server.handlers.get(request.command) if request.command is not None \
+            else None
+        if handler is None:
+            raise Refused(Status.NOT_SUPPORTED)
+        if len(self._pending) > MOST_PENDING:
+            raise Refused(Status.INSUFFICIENT_RESOURCES)
+        if request.command not in WITHOUT_SESSION:
+            key = asked.session.key
+            if key and request.is_signed and signed(request.data, key) != request.data:
+                raise Refused(Status.ACCESS_DENIED)
+        if request.command not in WITHOUT_TREE:
+            asked.tree  # refused where there is none
+        return (yield from handler(asked))
+
+    def _answered(self, pending: Pending, answer: Answer) -> None:
+        self._pending.pop(pending.asked.request.identifier, None)
+        if pending.asked.is_cancelled:
+            self.server.undo(answer)
+        elif not pending.is_answered:
+            pending.is_answered = True
+            if self.is_open:
+                pending.chain.answered(pending, answer)
+
+    def response(self, pending: Pending, answer: Answer, session: int, tree: int) -> Response:
+        request = pending.asked.request
+        found = self.sessions.get(session)
+        key = answer.key or (found.key if found and request.is_signed else None)
+        granted = self._credits.grant(request.credits_asked) if pending.async_id is None else 0
+        flags = FROM_SERVER | (request.flags & 4)
+        return Response(request.number(12, 2), answer.status, request.identifier, granted, session, tree, answer.body,
+                        request.number(6, 2), flags, pending.async_id, key)
+
+    def tell_of_wait(self, pending: Pending) -> None:
+        """STATUS_PENDING, for a request that waits (3.3.4.2)."""
+        if pending.is_answered or not self.is_open:
+            return
+        pending.chain.send()
+        self.server.last_async += 1
+        request = pending.asked.request
+        interim = self.response(pending, Answer(Status.PENDING), pending.asked.session_id, pending.asked.tree_id)
+        pending.async_id = interim.async_id = self.server.last_async
+        interim.flags = FROM_SERVER | ASYNC | (request.flags & 4)
+        self.send(framed([interim]))
+
+    def _cancel(self, request: Request) -> None:
+        """A CREATE that is held is answered; what the machine makes of it is closed."""
+        wanted = request.async_id
+        found = next((it for it in self._pending.values() if it.async_id == wanted), None) if wanted is not None \
+            else self._pending.get(request.identifier)
+        if found and found.asked.request.command is Command.CREATE and not found.is_answered:
+            found.is_answered = found.asked.is_cancelled = True
+            found.chain.answered(found, Answer(Status.CANCELLED))
+
+    def notify(self, body: bytes) -> None:
+        """A break (2.2.23)."""
+        self.send(framed([Response(Command.OPLOCK_BREAK, Status.SUCCESS, NOTIFICATION, 0, 0, 0, body)]))
+
+    def send(self, data: bytes) -> None:
+        if not self.is_open:
+            return
+        is_waiting = bool(self._unsent)
+        self._unsent += data
+        if not is_waiting:
+            self._write()
+        elif len(self._unsent) > MOST_UNSENT:
+            self.server.close_soon(self)
+
+    def _write(self) -> None:
+        try:
+            sent = self._stream.send(self._unsent) if self._unsent else 0
+        except (BlockingIOError, InterruptedError):
+            sent = 0
+        except OSError:
+            self.server.close_soon(self)
+            return
+        del self._unsent[:sent]
+        self.server.loop.watch_writing(self._stream, self._ready, bool(self._unsent))
+
+    def close(self) -> None:
+        if not self.is_open:
+            return
+        self.is_open = False
+        self.server.loop.forget(self._stream)
+        self._stream.close()
+        self.server.lost(self)
+

@@ -1,0 +1,308 @@
+"""CREATE (3.3.5.9): names and what else the shell decides, and the machine's create."""
+from __future__ import annotations
+
+import struct
+from dataclasses import dataclass, field
+from typing import TYPE_CHECKING, Dict, List, Optional, Tuple
+
+from drive import contexts
+from drive.headers import HEADER, create_name
+from drive.schedules import digits
+from serve.core import Ask, Doing, Sent, Steps, Waits
+from serve.leases import wanted_state
+from serve.names import ARCHIVE, READ_ONLY, Node, now, path_of
+from serve.opens import (ALL_ACCESS, BATCH, DELETE, LEASE, LEVEL_II, NO_LEVEL, READING, SHARE_DELETE, WRITING, Holder, Open,
+                         counts, is_stat, reads, specific, writes)
+from serve.packets import Answer, Request
+from serve.statuses import Refused, Status
+
+if TYPE_CHECKING:
+    from serve.asked import Asked
+    from serve.server import Server
+
+SUPERSEDE, OPEN, CREATE, OPEN_IF, OVERWRITE, OVERWRITE_IF = range(6)
+MAKING = {SUPERSEDE, CREATE, OPEN_IF, OVERWRITE_IF}
+EMPTYING = {SUPERSEDE, OVERWRITE, OVERWRITE_IF}
+DIRECTORY_FILE, NON_DIRECTORY_FILE, DELETE_ON_CLOSE = 0x1, 0x40, 0x1000
+SUPERSEDED, OPENED, CREATED, OVERWRITTEN = range(4)
+KEPT_ATTRIBUTES = 0x1 | 0x2 | 0x4 | 0x20 | 0x100 | 0x2000
+LEASE_NAME, DURABLE, RECONNECT, MOST_ACCESS, ON_DISK, ALLOCATION = b"RqLs", b"DHnQ", b"DHnC", b"MxAc", b"QFid", b"AlSi"
+
+
+@dataclass
+class Wish:
+    """What a CREATE asks for."""
+
+    path: str
+    access: int
+    share: int
+    disposition: int
+    options: int
+    attributes: int
+    level: int
+    contexts: bytes
+    parts: Dict[bytes, bytes] = field(default_factory=dict)
+
+    @property
+    def key(self) -> Optional[bytes]:
+        lease = self.parts.get(LEASE_NAME, b"") if self.level == LEASE else b""
+        return lease[:16] if len(lease) == 32 else None
+
+    @property
+    def empties(self) -> bool:
+        return self.disposition in EMPTYING
+
+
+def wish_of(request: Request) -> Wish:
+    request.expect(57)
+    length = request.number(HEADER + 52, 4)
+    text = request.part(request.number(HEADER + 48, 4), length) if length else b""
+    wish = Wish(path_of(create_name(request)), specific(request.number(HEADER + 24, 4)), request.number(HEADER + 32, 4),
+                request.number(HEADER + 36, 4), request.number(HEADER + 40, 4), request.number(HEADER + 28, 4),
+                request.number(HEADER + 3, 1), text)
+    if request.number(HEADER + 4, 4) > 3 or wish.disposition > OVERWRITE_IF or wish.share > 7:
+        raise Refused(Status.INVALID_PARAMETER)
+    if not wish.access:
+        raise Refused(Status.ACCESS_DENIED)
+    if wish.options & DELETE_ON_CLOSE and not wish.access & DELETE:
+        raise Refused(Status.ACCESS_DENIED)
+    try:
+        wish.parts = contexts.parts(text)
+    except ValueError:
+        raise Refused(Status.INVALID_PARAMETER) from None
+    return wish
+
+
+class Creating:
+    def __init__(self, server: "Server") -> None:
+        self._server = server
+
+    def create(self, asked: "Asked") -> Doing:
+        wish = wish_of(asked.request)
+        if asked.tree.is_pipe:
+            raise Refused(Status.OBJECT_NAME_NOT_FOUND)
+        if RECONNECT in wish.parts:
+            return (yield from self._reconnect(asked, wish))
+        node = self._server.names.find(wish.path)
+        if node:
+            self._server.refresh(node.opens)
+            node = None if node.is_gone else node
+        action = self._action(wish, node)
+        if (node and node.is_folder) or wish.options & DIRECTORY_FILE:
+            return self._answer(wish, self._folder(asked, wish, node), action, b"")
+        if wish.options & NON_DIRECTORY_FILE and wish.path == "":
+            raise Refused(Status.FILE_IS_A_DIRECTORY)
+        node = node or self._made(wish)
+        try:
+            opened, told = yield from self._file(asked, wish, node)
+        except Refused:
+            if action == CREATED and not node.opens and not node.is_gone:
+                self._server.names.remove(node)
+            raise
+        return self._answer(wish, opened, action, told)
+
+    def _action(self, wish: Wish, node: Optional[Node]) -> int:
+        if node is None:
+            if wish.disposition not in MAKING:
+                known = self._server.names.parent(wish.path)
+                raise Refused(Status.OBJECT_NAME_NOT_FOUND if known else Status.OBJECT_PATH_NOT_FOUND)
+            return CREATED
+        if node.is_deleting:
+            raise Refused(Status.DELETE_PENDING)
+        if wish.disposition == CREATE:
+            raise Refused(Status.OBJECT_NAME_COLLISION)
+        if node.attributes & READ_ONLY and not node.is_folder and (writes(wish.access) or wish.empties):
+            raise Refused(Status.ACCESS_DENIED)
+        if node.attributes & READ_ONLY and wish.options & DELETE_ON_CLOSE:
+            raise Refused(Status.CANNOT_DELETE)
+        return {SUPERSEDE: SUPERSEDED, OVERWRITE: OVERWRITTEN, OVERWRITE_IF: OVERWRITTEN}.get(wish.disposition, OPENED)
+
+    def _folder(self, asked: "Asked", wish: Wish, node: Optional[Node]) -> Open:
+        """Folders are the shell's alone: they have no leases."""
+        if node and not node.is_folder:
+            raise Refused(Status.NOT_A_DIRECTORY)
+        if node and wish.options & NON_DIRECTORY_FILE:
+            raise Refused(Status.FILE_IS_A_DIRECTORY)
+        if wish.empties:
+            raise Refused(Status.INVALID_PARAMETER)
+        node = node or self._server.names.make(wish.path, True)
+        if any(_conflicts(wish, it) for it in node.opens):
+            raise Refused(Status.SHARING_VIOLATION)
+        return self._kept(asked, wish, node, self._server.own_file_id())
+
+    def _made(self, wish: Wish) -> Node:
+        node = self._server.names.make(wish.path, False)
+        node.attributes = wish.attributes & KEPT_ATTRIBUTES | ARCHIVE
+        self._server.record.start(node.number, b"", wish.path)
+        return node
+
+    def _file(self, asked: "Asked", wish: Wish, node: Node) -> Waits[Tuple[Open, bytes]]:
+        """An open of a file, and the contexts of its reply."""
+        if any(_conflicts(wish, it) for it in node.opens):
+            yield from self._shared(asked, wish, node)
+        if wish.empties and node.length:
+            self._emptied(node)
+        has_data = reads(wish.access) or writes(wish.access) or wish.empties
+        if not has_data and wish.level == NO_LEVEL:
+            if not is_stat(wish.access):
+                yield from self._others_write_no_more(asked, wish, node)
+            return self._kept(asked, wish, node, self._server.own_file_id()), b""
+        holder, text = self._holder(asked, wish, node)
+        try:
+            sent = (yield Ask(holder.number, f"create {node.number} {_data_access(wish)} {digits(text)}")).expect()
+        except Refused:
+            if holder is not asked.connection.holder:
+                self._server.free(holder)
+            raise
+        opened = self._granted(asked, wish, node, holder, sent)
+        if node.is_gone or node.is_deleting:
+            yield from self._server.closes(opened)
+            raise Refused(Status.DELETE_PENDING)
+        if wish.empties and len(node.opens) > 1:
+            yield from self._server.probes.others_cache_nothing(asked, opened)
+        return opened, bytes.fromhex(sent.words[2]) if sent.words[2] != "-" and not holder.open else self._oplock_reply(opened)
+
+    def _shared(self, asked: "Asked", wish: Wish, node: Node) -> Steps:
+        """Deletion is shared or not: where it isn't, those that only may open again are asked to close."""
+        yield from self._server.probes.handles_go(asked, node, asked.holder, wish.key)
+        self._server.refresh(node.opens)
+        if any(_conflicts(wish, it) for it in node.opens):
+            raise Refused(Status.SHARING_VIOLATION)
+
+    def _emptied(self, node: Node) -> None:
+        """An empty file in the place of one that nobody has open. There is no truncation of others."""
+        if node.opens:
+            raise Refused(Status.NOT_SUPPORTED)
+        self._server.names.renumber(node)
+        self._server.record.start(node.number, b"", node.path)
+
+    def _others_write_no_more(self, asked: "Asked", wish: Wish, node: Node) -> Steps:
+        """An open without data breaks as one that reads: that is made, and closed at once."""
+        if all(it.share & READING or not counts(it.access) for it in node.opens) and any(it.holder for it in node.opens):
+            yield from self._server.probes.looks_in(asked, node, "r rw")
+
+    def _holder(self, asked: "Asked", wish: Wish, node: Node) -> Tuple[Holder, bytes]:
+        """Who asks the machine, and with which contexts: an oplock is a lease under a key of its own."""
+        if wish.level in (LEASE, NO_LEVEL):
+            return asked.holder, _lease_contexts(wish)
+        others = any(it.holder and (it.is_connected or not self._may_write(it)) for it in node.opens)
+        state = READING if others else wanted_state(wish.level)
+        holder = self._server.borrow(asked.connection, f"an oplock of client {asked.holder.number}")
+        items = [(LEASE_NAME, struct.pack("<16sLLQ", holder.own_key, state, 0, 0))]
+        if DURABLE in wish.parts and wish.level == BATCH and not others:
+            items.append((DURABLE, bytes(16)))
+        return holder, contexts.written(items)
+
+    @staticmethod
+    def _may_write(opened: Open) -> bool:
+        lease = opened.holder.leases.get(opened.key) if opened.holder and opened.key else None
+        return bool(lease and lease.state & WRITING)
+
+    def _granted(self, asked: "Asked", wish: Wish, node: Node, holder: Holder, sent: Sent) -> Open:
+        granted = contexts.parts(bytes.fromhex(sent.words[2]) if sent.words[2] != "-" else b"")
+        opened = self._kept(asked, wish, node, int(sent.words[1]))
+        opened.holder, opened.is_durable = holder, DURABLE in granted
+        if LEASE_NAME in granted:
+            opened.key = granted[LEASE_NAME][:16]
+            opened.level = LEASE
+            self._server.leases.granted(holder, node, granted[LEASE_NAME])
+            if holder is not asked.connection.holder:
+                holder.open = opened
+                opened.level = _level(wish.level, holder.leases[opened.key].state)
+        return opened
+
+    def _kept(self, asked: "Asked", wish: Wish, node: Node, file_id: int) -> Open:
+        opened = Open(file_id, node, wish.access, wish.share, asked.connection, asked.session, asked.tree,
+                      deletes=bool(wish.options & DELETE_ON_CLOSE))
+        node.opens.append(opened)
+        self._server.opens[file_id] = opened
+        return opened
+
+    @staticmethod
+    def _oplock_reply(opened: Open) -> bytes:
+        return contexts.written([(DURABLE, bytes(8))]) if opened.is_durable and opened.level == BATCH else b""
+
+    def _reconnect(self, asked: "Asked", wish: Wish) -> Doing:
+        """A durable open is connected again (3.3.5.9.7). An oplock's has a client and a key of its own."""
+        data = wish.parts[RECONNECT]
+        opened = self._server.opens.get(int.from_bytes(data[:8], "little")) if len(data) == 16 else None
+        if opened and opened.holder and opened.holder.open is opened:
+            return (yield from self._reconnect_oplock(asked, wish, opened))
+        node = self._server.names.find(wish.path)
+        if node is None or node.is_folder:
+            is_named = opened and not opened.is_connected and opened.holder is asked.holder and opened.key == wish.key
+            raise Refused(Status.INVALID_PARAMETER if is_named else Status.OBJECT_NAME_NOT_FOUND)
+        text = f"create {node.number} {_data_access(wish)} {digits(wish.contexts)}"
+        sent = (yield Ask(asked.holder.number, text)).expect()
+        return self._reconnected(asked, wish, self._server.opens[int(sent.words[1])], sent)
+
+    def _reconnect_oplock(self, asked: "Asked", wish: Wish, opened: Open) -> Doing:
+        holder = opened.holder
+        if holder is None or opened.is_connected or LEASE_NAME in wish.parts and wish.level == LEASE:
+            raise Refused(Status.OBJECT_NAME_NOT_FOUND)
+        self._server.joins_again(holder, asked.connection, f"an oplock of client {asked.holder.number}")
+        items = [(LEASE_NAME, struct.pack("<16sLLQ", holder.own_key, 7, 0, 0)),
+                 (RECONNECT, struct.pack("<QQ", opened.file_id, opened.file_id))]
+        sent = yield Ask(holder.number, f"create {opened.node.number} rw rw {digits(contexts.written(items))}")
+        if sent.status:
+            self._server.is_closed(opened)
+        return self._reconnected(asked, wish, opened, sent.expect())
+
+    def _reconnected(self, asked: "Asked", wish: Wish, opened: Open, sent: Sent) -> Doing:
+        yield from ()
+        opened.connection, opened.session, opened.tree = asked.connection, asked.session, asked.tree
+        told = bytes.fromhex(sent.words[2])
+        if opened.holder:
+            self._server.leases.granted(opened.holder, opened.node, contexts.parts(told)[LEASE_NAME])
+        return self._answer(wish, opened, OPENED, b"" if opened.level != LEASE else told)
+
+    def _answer(self, wish: Wish, opened: Open, action: int, told: bytes) -> Answer:
+        """The reply: the machine's contexts as they are, with those that the shell adds behind them."""
+        node = opened.node
+        if action in (SUPERSEDED, OVERWRITTEN):
+            node.attributes = wish.attributes & KEPT_ATTRIBUTES | ARCHIVE
+            node.times.written = node.times.changed = now()
+        added: List[Tuple[bytes, bytes]] = []
+        if MOST_ACCESS in wish.parts:
+            added.append((MOST_ACCESS, struct.pack("<LL", 0, ALL_ACCESS)))
+        if ON_DISK in wish.parts:
+            added.append((ON_DISK, struct.pack("<QQ16s", node.identifier, 1, b"")))
+        if ALLOCATION in wish.parts and len(wish.parts[ALLOCATION]) == 8 and not node.is_folder and action != OPENED:
+            node.allocated = -(-int.from_bytes(wish.parts[ALLOCATION], "little") // 4096) * 4096
+        if added:
+            told = contexts.written([*contexts.parts(told).items(), *added])
+        times = node.times
+        body = struct.pack("<HBBLQQQQQQLLQQLL", 89, opened.level, 0, action, times.created, times.accessed, times.written,
+                           times.changed, node.allocation, node.length, node.attributes or 0x80, 0, opened.file_id,
+                           opened.file_id, HEADER + 88 if told else 0, len(told))
+        return Answer(Status.SUCCESS, body + told, opened=opened.file_id)
+
+
+def _conflicts(wish: Wish, other: Open) -> bool:
+    """Whether one deletes and the other doesn't share that; what is read and written is shared by the machine's rules."""
+    if not counts(wish.access) or not counts(other.access):
+        return False
+    return bool(wish.access & DELETE and not other.share & SHARE_DELETE or other.access & DELETE and not wish.share & SHARE_DELETE)
+
+
+def _data_access(wish: Wish) -> str:
+    """Access and share as the machine has them. Who empties a file writes it; who holds a lease alone reads."""
+    access = ("r" if reads(wish.access) else "") + ("w" if writes(wish.access) or wish.empties else "")
+    if not access:
+        return "r rw"
+    return f"{access} {['-', 'r', 'w', 'rw'][wish.share & 3]}"
+
+
+def _lease_contexts(wish: Wish) -> bytes:
+    """The contexts as they came, but for a lease that the level doesn't ask for."""
+    if wish.level == LEASE or LEASE_NAME not in wish.parts:
+        return wish.contexts
+    return contexts.written([(name, data) for name, data in wish.parts.items() if name in (DURABLE, RECONNECT)])
+
+
+def _level(asked: int, state: int) -> int:
+    """The level of an oplock whose lease has this state."""
+    if wanted_state(asked) == state:
+        return asked
+    return LEVEL_II if state & READING else NO_LEVEL
+

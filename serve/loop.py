@@ -1,0 +1,76 @@
+"""The event loop: sockets that are ready, and timers."""
+from __future__ import annotations
+
+import heapq
+import itertools
+import selectors
+import time
+from dataclasses import dataclass, field
+from typing import Callable, List, Protocol
+
+READ, WRITE = selectors.EVENT_READ, selectors.EVENT_WRITE
+
+
+class Watched(Protocol):
+    def fileno(self) -> int:
+        ...
+
+
+@dataclass(order=True)
+class Timer:
+    due: float
+    place: int
+    ring: Callable[[], None] = field(compare=False)
+    is_over: bool = field(default=False, compare=False)
+
+    def cancel(self) -> None:
+        self.is_over = True
+
+
+class Loop:
+    def __init__(self) -> None:
+        self._selector = selectors.DefaultSelector()
+        self._timers: List[Timer] = []
+        self._places = itertools.count()
+        self._is_stopped = False
+
+    def watch(self, stream: Watched, ready: Callable[[int], None]) -> None:
+        self._selector.register(stream, READ, ready)
+
+    def watch_writing(self, stream: Watched, ready: Callable[[int], None], writes: bool) -> None:
+        self._selector.modify(stream, READ | WRITE if writes else READ, ready)
+
+    def forget(self, stream: Watched) -> None:
+        self._selector.unregister(stream)
+
+    def after(self, seconds: float, ring: Callable[[], None]) -> Timer:
+        timer = Timer(time.monotonic() + seconds, next(self._places), ring)
+        heapq.heappush(self._timers, timer)
+        return timer
+
+    def stop(self) -> None:
+        self._is_stopped = True
+
+    def run(self) -> None:
+        while not self._is_stopped:
+            for key, events in self._selector.select(self._until_next()):
+                # What was ready may have been forgotten since.
+                if key.fd in self._selector.get_map() and self._selector.get_key(key.fd).data is key.data:
+                    key.data(events)
+            self._ring()
+
+    def close(self) -> None:
+        self._selector.close()
+
+    def _until_next(self) -> float:
+        while self._timers and self._timers[0].is_over:
+            heapq.heappop(self._timers)
+        # A signal ends the wait too.
+        return min(1.0, max(0.0, self._timers[0].due - time.monotonic())) if self._timers else 1.0
+
+    def _ring(self) -> None:
+        while self._timers and (self._timers[0].is_over or self._timers[0].due <= time.monotonic()):
+            timer = heapq.heappop(self._timers)
+            if not timer.is_over:
+                timer.is_over = True
+                timer.ring()

@@ -1,0 +1,118 @@
+"""Opens, as the shell has them, and the machine clients that they belong to."""
+from __future__ import annotations
+
+from dataclasses import dataclass, field
+from typing import TYPE_CHECKING, Dict, List, Optional, Tuple
+
+from serve.loop import Timer
+from serve.names import Node
+
+if TYPE_CHECKING:
+    from serve.connection import Connection
+    from serve.sessions import Session, Tree
+
+READ_DATA, WRITE_DATA, APPEND_DATA, EXECUTE, READ_ATTRIBUTES, WRITE_ATTRIBUTES, DELETE, READ_CONTROL, SYNCHRONIZE = (
+    0x1, 0x2, 0x4, 0x20, 0x80, 0x100, 0x10000, 0x20000, 0x100000)
+SHARE_DELETE = 4
+ALL_ACCESS = 0x1F01FF
+GENERIC = {0x10000000: ALL_ACCESS, 0x02000000: ALL_ACCESS, 0x80000000: 0x120089, 0x40000000: 0x120116, 0x20000000: 0x1200A0}
+NO_LEVEL, LEVEL_II, EXCLUSIVE, BATCH, LEASE = 0, 1, 8, 9, 0xFF
+READING, HANDLES, WRITING = 1, 2, 4
+# The shell's own FileIds are far from the machine's, which begin at 1.
+OWN_FILE_IDS = 1 << 62
+
+
+def specific(access: int) -> int:
+    """Generic rights as what they stand for."""
+    found = access & 0x01FFFFFF
+    for bit, rights in GENERIC.items():
+        if access & bit:
+            found |= rights
+    return found
+
+
+def reads(access: int) -> bool:
+    return bool(access & (READ_DATA | EXECUTE))
+
+
+def writes(access: int) -> bool:
+    return bool(access & (WRITE_DATA | APPEND_DATA))
+
+
+def is_stat(access: int) -> bool:
+    """Whether an open looks at attributes alone: it breaks nothing and shares with all."""
+    return not access & ~(READ_ATTRIBUTES | WRITE_ATTRIBUTES | SYNCHRONIZE | READ_CONTROL)
+
+
+def counts(access: int) -> bool:
+    """Whether share access matters for an open."""
+    return bool(reads(access) or writes(access) or access & DELETE)
+
+
+@dataclass(frozen=True)
+class Lock:
+    offset: int
+    length: int
+    is_exclusive: bool
+
+    def meets(self, offset: int, length: int) -> bool:
+        return self.offset < offset + length and offset < self.offset + self.length
+
+
+@dataclass(eq=False)
+class Open:
+    file_id: int
+    node: Node
+    access: int
+    share: int
+    connection: Optional["Connection"]
+    session: Optional["Session"]
+    tree: Optional["Tree"]
+    # the machine's client; none for what the shell keeps by itself
+    holder: Optional["Holder"] = None
+    key: Optional[bytes] = None
+    level: int = NO_LEVEL
+    is_durable: bool = False
+    deletes: bool = False
+    position: int = 0
+    locks: List[Lock] = field(default_factory=list)
+    # a break of its oplock waits for the client's word
+    is_breaking: bool = False
+    # of a folder: what is listed, and how far
+    listing: Optional[List[Tuple[str, Node]]] = None
+
+    @property
+    def is_connected(self) -> bool:
+        return self.connection is not None
+
+
+@dataclass(eq=False)
+class LeaseSeen:
+    """A lease, as it was granted, broken and acknowledged."""
+
+    key: bytes
+    node: Node
+    state: int
+    believed: int = 0
+    # the number of the message by which it is being broken
+    broken_by: Optional[int] = None
+    timer: Optional[Timer] = None
+
+
+@dataclass(eq=False)
+class Holder:
+    """A client of the machine: a ClientGuid, or one oplock, or the shell for a moment."""
+
+    number: int
+    guid: Optional[bytes] = None
+    connection: Optional["Connection"] = None
+    open: Optional[Open] = None
+    leases: Dict[bytes, LeaseSeen] = field(default_factory=dict)
+    writes: int = 0
+    sent: int = 0
+    took: int = 0
+
+    @property
+    def own_key(self) -> bytes:
+        """The key of an oplock's lease."""
+        return b"oplock" + self.number.to_bytes(10, "little")

@@ -1,0 +1,175 @@
+"""SMB2 messages as they come and go: frames, headers, compounds and signatures (2.1, 2.2.1)."""
+from __future__ import annotations
+
+import hashlib
+import hmac
+import struct
+from dataclasses import dataclass, field
+from typing import List, Optional
+
+from drive.headers import ASYNC, FROM_SERVER, HEADER, RELATED, Message, Unreadable
+from drive.packets import PROTOCOL
+from serve.statuses import Status
+
+HEAD = struct.Struct("<4sHHLHHLLQQQ16s")
+ERROR_BODY = struct.pack("<HBBL", 9, 0, 0, 0) + b"\0"
+SIGNED = 8
+# What a frame may hold: the most that is read or written at once, with room for headers and what stands beside it.
+LONGEST_FRAME = 1048576 + 131072
+
+
+@dataclass(frozen=True)
+class Request(Message):
+    """A request; its fields are read at their places from the header's first byte."""
+
+    @property
+    def charge(self) -> int:
+        return max(1, self.number(6, 2))
+
+    @property
+    def credits_asked(self) -> int:
+        return self.number(14, 2)
+
+    @property
+    def is_related(self) -> bool:
+        return bool(self.flags & RELATED)
+
+    @property
+    def is_signed(self) -> bool:
+        return bool(self.flags & SIGNED)
+
+    @property
+    def async_id(self) -> Optional[int]:
+        return self.number(32, 8) if self.flags & ASYNC else None
+
+    def buffer(self, offset_place: int, length: int) -> bytes:
+        """Bytes that lie where a field of two bytes says."""
+        return self.part(self.number(offset_place, 2), length) if length else b""
+
+    def expect(self, size: int) -> None:
+        """The StructureSize has to be this."""
+        if self.number(HEADER, 2) != size:
+            raise Unreadable
+
+
+@dataclass
+class Answer:
+    """What a request is answered: a status, and the body where that isn't an error's."""
+
+    status: Status
+    body: bytes = ERROR_BODY
+    # what the answer says of session, tree and open where the request didn't
+    session: Optional[int] = None
+    tree: Optional[int] = None
+    opened: Optional[int] = None
+    key: Optional[bytes] = None
+
+
+@dataclass
+class Response:
+    """A message on its way to a client."""
+
+    command: int
+    status: int
+    message: int
+    credits: int
+    session: int
+    tree: int
+    body: bytes
+    charge: int = 0
+    flags: int = FROM_SERVER
+    async_id: Optional[int] = None
+    key: Optional[bytes] = field(default=None, repr=False)
+
+    def packed(self, following: int) -> bytes:
+        flags = self.flags | (ASYNC if self.async_id is not None else 0) | (SIGNED if self.key else 0)
+        place = self.async_id if self.async_id is not None else self.tree << 32
+        return HEAD.pack(PROTOCOL, HEADER, self.charge, self.status, self.command, self.credits, flags, following,
+                         self.message, place, self.session, bytes(16)) + self.body
+
+
+def signed(data: bytes, key: bytes) -> bytes:
+    """A message with its signature (3.1.4.1): of a session of dialect 2.1 the first half of an HMAC of SHA-256."""
+    clear = data[:48] + bytes(16) + data[64:]
+    return data[:48] + hmac.new(key, clear, hashlib.sha256).digest()[:16] + data[64:]
+
+
+def framed(responses: List[Response]) -> bytes:
+    """A frame of one message, or of a compound whose messages begin at multiples of eight."""
+    text = b""
+    for place, response in enumerate(responses, 1):
+        data = response.packed(0)
+        if place < len(responses):
+            length = len(data) + -len(data) % 8
+            data = response.packed(length).ljust(length, b"\0")
+        text += signed(data, response.key) if response.key else data
+    return struct.pack(">L", len(text)) + text
+
+
+def parted(frame: bytes) -> List[Request]:
+    """The requests of a frame."""
+    found: List[Request] = []
+    while True:
+        request = Request(frame)
+        following = request.number(20, 4)
+        if frame[:4] != PROTOCOL or request.number(4, 2) != HEADER or following and (
+                following < HEADER or following % 8 or following + HEADER > len(frame)):
+            raise Unreadable
+        found.append(Request(frame[:following]) if following else request)
+        if not following:
+            return found
+        frame = frame[following:]
+
+
+class Frames:
+    """The bytes of a stream, cut into frames."""
+
+    def __init__(self) -> None:
+        self._bytes = bytearray()
+
+    def add(self, data: bytes) -> None:
+        self._bytes += data
+
+    def next(self) -> Optional[bytes]:
+        """The next whole frame. What can't begin one is Unreadable."""
+        if len(self._bytes) < 4:
+            return None
+        length = int.from_bytes(self._bytes[1:4], "big")
+        if self._bytes[0] or length > LONGEST_FRAME:
+            raise Unreadable
+        if len(self._bytes) < 4 + length:
+            return None
+        frame = bytes(self._bytes[4:4 + length])
+        del self._bytes[:4 + length]
+        return frame
+
+
+class Credits:
+    """The numbers that requests of a connection may have (3.3.1.1)."""
+
+    MOST = 8192
+
+    def __init__(self) -> None:
+        self._low = 0
+        self._high = 1
+        self._used: set[int] = set()
+
+    def take(self, number: int, charge: int) -> bool:
+        """Takes the numbers of a request; they have to be there."""
+        wanted = range(number, number + charge)
+        if number < self._low or number + charge > self._high or any(it in self._used for it in wanted):
+            return False
+        self._used.update(wanted)
+        while self._low in self._used:
+            self._used.discard(self._low)
+            self._low += 1
+        return True
+
+    def grant(self, asked: int) -> int:
+        """How many more there are; at least one where none is left."""
+        left = self._high - self._low - len(self._used)
+        given = min(max(asked, 1), max(0, self.MOST - (self._high - self._low)))
+        given = max(given, 0 if left else 1)
+        self._high += given
+        return given
+

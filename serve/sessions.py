@@ -1,0 +1,146 @@
+"""NEGOTIATE, SESSION_SETUP, LOGOFF, TREE_CONNECT, TREE_DISCONNECT and ECHO (3.3.5.3 to 3.3.5.9, 3.3.5.17)."""
+from __future__ import annotations
+
+import struct
+from dataclasses import dataclass, field
+from typing import TYPE_CHECKING, Dict, Optional
+
+from drive.headers import HEADER, tree_path
+from serve.core import Doing
+from serve.names import now
+from serve.ntlm import Exchange, negotiate_token
+from serve.packets import Answer
+from serve.statuses import Refused, Status
+
+if TYPE_CHECKING:
+    from serve.asked import Asked
+    from serve.connection import Connection
+    from serve.server import Server
+
+DIALECT, ANY_DIALECT = 0x0210, 0x02FF
+SIGNING_ENABLED = 1
+LEASING, LARGE_MTU = 2, 4
+LARGEST = 1048576
+IS_GUEST = 1
+BINDING = 1
+DISK, PIPE = 1, 2
+FULL_ACCESS = 0x1F01FF
+
+
+@dataclass(eq=False)
+class Tree:
+    identifier: int
+    is_pipe: bool
+
+
+@dataclass(eq=False)
+class Session:
+    identifier: int
+    connection: "Connection"
+    exchange: Optional[Exchange] = None
+    is_ready: bool = False
+    key: Optional[bytes] = None
+    trees: Dict[int, Tree] = field(default_factory=dict)
+
+
+def negotiated(server: "Server", dialect: int) -> Answer:
+    token = negotiate_token()
+    fixed = struct.pack("<HHHH16sLLLLQQHHL", 65, SIGNING_ENABLED, dialect, 0, server.guid, LEASING | LARGE_MTU, LARGEST, LARGEST,
+                        LARGEST, now(), 0, HEADER + 64, len(token), 0)
+    return Answer(Status.SUCCESS, fixed + token)
+
+
+class Sessions:
+    def __init__(self, server: "Server") -> None:
+        self._server = server
+        self._next_tree = 1
+
+    def negotiate(self, asked: "Asked") -> Doing:
+        yield from ()
+        request, connection = asked.request, asked.connection
+        request.expect(36)
+        if connection.is_negotiated:
+            raise Refused(Status.INVALID_PARAMETER)
+        count = request.number(HEADER + 2, 2)
+        dialects = struct.unpack(f"<{count}H", request.part(HEADER + 36, 2 * count))
+        if DIALECT not in dialects:
+            raise Refused(Status.NOT_SUPPORTED)
+        connection.guid = request.part(HEADER + 12, 16)
+        connection.is_negotiated = True
+        return negotiated(self._server, DIALECT)
+
+    def set_up(self, asked: "Asked") -> Doing:
+        """One exchange of messages of NTLM; with the last one the client joins."""
+        yield from ()
+        request, connection = asked.request, asked.connection
+        request.expect(25)
+        token = request.buffer(HEADER + 12, request.number(HEADER + 14, 2))
+        if request.number(HEADER + 2, 1) & BINDING or connection.guid is None:
+            raise Refused(Status.REQUEST_NOT_ACCEPTED)
+        session = connection.sessions.get(request.session) if request.session else self._new(connection)
+        if session is None:
+            raise Refused(Status.USER_SESSION_DELETED)
+        exchange = session.exchange = session.exchange or Exchange(self._server.settings.user)
+        try:
+            reply = exchange.goes(token)
+            if exchange.is_over:
+                self._established(session, exchange, request.number(HEADER + 16, 8))
+        except Refused:
+            session.exchange = None
+            if not session.is_ready:
+                self._server.end_session(session)
+            raise
+        status = Status.SUCCESS if exchange.is_over else Status.MORE_PROCESSING_REQUIRED
+        flags = IS_GUEST if exchange.is_over and not session.key else 0
+        if exchange.is_over:
+            session.exchange = None
+        body = struct.pack("<HHHH", 9, flags, HEADER + 8, len(reply)) + reply
+        return Answer(status, body, session=session.identifier, key=session.key if exchange.is_over else None)
+
+    def _new(self, connection: "Connection") -> Session:
+        self._server.last_session += 1
+        session = Session(self._server.last_session, connection)
+        connection.sessions[session.identifier] = session
+        self._server.sessions[session.identifier] = session
+        return session
+
+    def _established(self, session: Session, exchange: Exchange, previous: int) -> None:
+        """An earlier session that is named is over (3.3.5.5.3); a client is connected once."""
+        old = self._server.sessions.get(previous)
+        if old and old is not session:
+            self._server.end_session(old)
+        if not session.is_ready:
+            self._server.joins(session.connection)
+        session.is_ready, session.key = True, exchange.key
+
+    def log_off(self, asked: "Asked") -> Doing:
+        asked.request.expect(4)
+        key = asked.session.key
+        yield from self._server.closes_all(lambda it: it.session is asked.session, not asked.is_last_session)
+        self._server.end_session(asked.session)
+        return Answer(Status.SUCCESS, struct.pack("<HH", 4, 0), key=key)
+
+    def connect_tree(self, asked: "Asked") -> Doing:
+        yield from ()
+        asked.request.expect(9)
+        share = tree_path(asked.request).rpartition("\\")[2].lower()
+        if share not in (self._server.settings.share.lower(), "ipc$"):
+            raise Refused(Status.BAD_NETWORK_NAME)
+        tree = Tree(self._next_tree, share == "ipc$")
+        self._next_tree += 1
+        asked.session.trees[tree.identifier] = tree
+        body = struct.pack("<HBBLLL", 16, PIPE if tree.is_pipe else DISK, 0, 0, 0, FULL_ACCESS)
+        return Answer(Status.SUCCESS, body, tree=tree.identifier)
+
+    def disconnect_tree(self, asked: "Asked") -> Doing:
+        asked.request.expect(4)
+        tree = asked.tree
+        del asked.session.trees[tree.identifier]
+        yield from self._server.closes_all(lambda it: it.tree is tree, True)
+        return Answer(Status.SUCCESS, struct.pack("<HH", 4, 0))
+
+    def echo(self, asked: "Asked") -> Doing:
+        yield from ()
+        asked.request.expect(4)
+        return Answer(Status.SUCCESS, struct.pack("<HH", 4, 0))
+
