@@ -40,12 +40,13 @@ class Wish:
     options: int
     attributes: int
     level: int
+    impersonation: int
     contexts: bytes
     parts: Dict[bytes, bytes] = field(default_factory=dict)
 
     @property
     def key(self) -> Optional[bytes]:
-        lease = self.parts.get(LEASE_NAME, b"") if self.level == LEASE else b""
+        lease = self.parts.get(LEASE_NAME, b"") if self.level == LEASE or RECONNECT in self.parts else b""
         return lease[:16] if len(lease) == 32 else None
 
     @property
@@ -59,18 +60,24 @@ def wish_of(request: Request) -> Wish:
     text = request.part(request.number(HEADER + 48, 4), length) if length else b""
     wish = Wish(path_of(create_name(request)), specific(request.number(HEADER + 24, 4)), request.number(HEADER + 32, 4),
                 request.number(HEADER + 36, 4), request.number(HEADER + 40, 4), request.number(HEADER + 28, 4),
-                request.number(HEADER + 3, 1), text)
-    if request.number(HEADER + 4, 4) > 3 or wish.disposition > OVERWRITE_IF or wish.share > 7:
-        raise Refused(Status.INVALID_PARAMETER)
-    if not wish.access:
-        raise Refused(Status.ACCESS_DENIED)
-    if wish.options & DELETE_ON_CLOSE and not wish.access & DELETE:
-        raise Refused(Status.ACCESS_DENIED)
+                request.number(HEADER + 3, 1), request.number(HEADER + 4, 4), text)
     try:
         wish.parts = contexts.parts(text)
     except ValueError:
         raise Refused(Status.INVALID_PARAMETER) from None
     return wish
+
+
+def check(wish: Wish) -> None:
+    """What a create that reconnects isn't asked for."""
+    if wish.impersonation > 3 or wish.disposition > OVERWRITE_IF or wish.share > 7:
+        raise Refused(Status.INVALID_PARAMETER)
+    if not wish.access or wish.options & DELETE_ON_CLOSE and not wish.access & DELETE:
+        raise Refused(Status.ACCESS_DENIED)
+
+
+class Vanished(Exception):
+    """The file was deleted while its create waited; another may have its name."""
 
 
 class Creating:
@@ -83,23 +90,27 @@ class Creating:
             raise Refused(Status.OBJECT_NAME_NOT_FOUND)
         if RECONNECT in wish.parts:
             return (yield from self._reconnect(asked, wish))
-        node = self._server.names.find(wish.path)
-        if node:
-            self._server.refresh(node.opens)
-            node = None if node.is_gone else node
-        action = self._action(wish, node)
-        if (node and node.is_folder) or wish.options & DIRECTORY_FILE:
-            return self._answer(wish, self._folder(asked, wish, node), action, b"")
-        if wish.options & NON_DIRECTORY_FILE and wish.path == "":
-            raise Refused(Status.FILE_IS_A_DIRECTORY)
-        node = node or self._made(wish)
-        try:
-            opened, told = yield from self._file(asked, wish, node)
-        except Refused:
-            if action == CREATED and not node.opens and not node.is_gone:
-                self._server.names.remove(node)
-            raise
-        return self._answer(wish, opened, action, told)
+        check(wish)
+        while True:
+            node = self._server.names.find(wish.path)
+            if node:
+                self._server.refresh(node.opens)
+                node = None if node.is_gone else node
+            action = self._action(wish, node)
+            if (node and node.is_folder) or wish.options & DIRECTORY_FILE:
+                return self._answer(wish, self._folder(asked, wish, node), action, b"")
+            if wish.path == "":
+                raise Refused(Status.FILE_IS_A_DIRECTORY)
+            node = node or self._made(wish)
+            try:
+                opened, told = yield from self._file(asked, wish, node)
+                return self._answer(wish, opened, action, told)
+            except Vanished:
+                continue
+            except Refused:
+                if action == CREATED and not node.opens and not node.is_gone:
+                    self._server.names.remove(node)
+                raise
 
     def _action(self, wish: Wish, node: Optional[Node]) -> int:
         if node is None:
@@ -123,7 +134,8 @@ class Creating:
             raise Refused(Status.NOT_A_DIRECTORY)
         if node and wish.options & NON_DIRECTORY_FILE:
             raise Refused(Status.FILE_IS_A_DIRECTORY)
-        if wish.empties:
+        lease = asked.holder.leases.get(wish.key) if wish.key else None
+        if wish.empties or lease or not wish.path and not node:
             raise Refused(Status.INVALID_PARAMETER)
         node = node or self._server.names.make(wish.path, True)
         if any(_conflicts(wish, it) for it in node.opens):
@@ -131,6 +143,9 @@ class Creating:
         return self._kept(asked, wish, node, self._server.own_file_id())
 
     def _made(self, wish: Wish) -> Node:
+        base = wish.path.partition(":")[0]
+        if base != wish.path and self._server.names.find(base) is None:
+            self._server.record.start(self._server.names.make(base, False).number, b"", base)
         node = self._server.names.make(wish.path, False)
         node.attributes = wish.attributes & KEPT_ATTRIBUTES | ARCHIVE
         self._server.record.start(node.number, b"", wish.path)
@@ -166,6 +181,8 @@ class Creating:
         """Deletion is shared or not: where it isn't, those that only may open again are asked to close."""
         yield from self._server.probes.handles_go(asked, node, asked.holder, wish.key)
         self._server.refresh(node.opens)
+        if node.is_gone:
+            raise Vanished
         if any(_conflicts(wish, it) for it in node.opens):
             raise Refused(Status.SHARING_VIOLATION)
 
@@ -248,8 +265,7 @@ class Creating:
             self._server.is_closed(opened)
         return self._reconnected(asked, wish, opened, sent.expect())
 
-    def _reconnected(self, asked: "Asked", wish: Wish, opened: Open, sent: Sent) -> Doing:
-        yield from ()
+    def _reconnected(self, asked: "Asked", wish: Wish, opened: Open, sent: Sent) -> Answer:
         opened.connection, opened.session, opened.tree = asked.connection, asked.session, asked.tree
         told = bytes.fromhex(sent.words[2])
         if opened.holder:

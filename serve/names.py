@@ -12,7 +12,7 @@ if TYPE_CHECKING:
 
 MOST = 255
 READ_ONLY, FOLDER, ARCHIVE, NORMAL = 0x1, 0x10, 0x20, 0x80
-FORBIDDEN = set('"*/:<>?|') | {chr(code) for code in range(32)}
+FORBIDDEN = set('"*/<>?|') | {chr(code) for code in range(32)}
 # Seconds from 1601 to 1970.
 EPOCH = 11644473600
 
@@ -59,15 +59,21 @@ class Node:
         return self.path.rpartition("\\")[0]
 
     @property
+    def is_stream(self) -> bool:
+        return ":" in self.path
+
+    @property
     def allocation(self) -> int:
         return max(self.allocated, -(-self.length // 4096) * 4096)
 
 
 def path_of(name: str) -> str:
-    """A name as it comes, without the strokes around it."""
-    path = name.strip("\\")
+    """A name as it comes, without the strokes around it. A stream has the name of its file and a colon before its own."""
+    path = name.strip("\\").replace("::$DATA", "")
     parts = path.split("\\")
     if path and any(not part or part in (".", "..") or len(part) > 255 or FORBIDDEN & set(part) for part in parts):
+        raise Refused(Status.OBJECT_NAME_INVALID)
+    if ":" in path and (":" in "".join(parts[:-1]) or not all(parts[-1].split(":")) or parts[-1].count(":") > 1):
         raise Refused(Status.OBJECT_NAME_INVALID)
     return path
 
@@ -113,6 +119,10 @@ class Names:
         return found if found and found.is_folder else None
 
     def remove(self, node: Node) -> None:
+        """A file goes with its streams, as far as nobody has them open."""
+        for stream in [it for it in self._nodes.values() if it.path.lower().startswith(f"{node.path.lower()}:")]:
+            if not stream.opens:
+                self.remove(stream)
         del self._nodes[node.path.lower()]
         node.is_gone = True
         if not node.is_folder and not node.is_changed:
@@ -120,11 +130,11 @@ class Names:
 
     def rename(self, node: Node, path: str) -> None:
         old = node.path
-        for one in [it for it in self._nodes.values() if it is node or it.path.lower().startswith(f"{old.lower()}\\")]:
+        for one in [it for it in self._nodes.values() if it is node or it.path.lower().startswith((f"{old.lower()}\\", f"{old.lower()}:"))]:
             del self._nodes[one.path.lower()]
             one.path = path + one.path[len(old):]
             self._nodes[one.path.lower()] = one
 
     def children(self, folder: Node) -> List[Node]:
-        return sorted((it for it in self._nodes.values() if it.path and it.folder.lower() == folder.path.lower()),
+        return sorted((it for it in self._nodes.values() if it.path and it.folder.lower() == folder.path.lower() and not it.is_stream),
                       key=lambda it: it.path.lower())

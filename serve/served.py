@@ -1,0 +1,89 @@
+"""A server of serve/run in a process of its own, for those that drive or test it."""
+from __future__ import annotations
+
+import os
+import select
+import signal
+import socket
+import subprocess
+import sys
+from typing import IO, List, Optional
+
+from drive.connections import Place
+from drive.faults import DriveFault
+from drive.program import TOP
+
+SHARE = "share"
+PATIENCE = 30.0
+
+
+class ServedServer:
+    """Started on a free port of loopback, and ended with its verdict where it has a record."""
+
+    def __init__(self, program: str, record: Optional[str] = None, words: Optional[List[str]] = None,
+                 user: str = "guest", password: str = "guest") -> None:
+        self._control, theirs = socket.socketpair()
+        self._control.settimeout(PATIENCE)
+        recording = ["--record", record] if record else []
+        command = [os.path.join(TOP, "serve", "run"), "--port", "0", "--share", SHARE, "--control", str(theirs.fileno()),
+                   "--leasecheck", program, *recording, *(words or [])]
+        try:
+            self._process = subprocess.Popen(command, stdin=subprocess.DEVNULL, stdout=subprocess.PIPE, stderr=subprocess.PIPE,
+                                             text=True, pass_fds=[theirs.fileno()])
+        except OSError as fault:
+            raise DriveFault(f"{command[0]}: {fault.strerror}") from None
+        finally:
+            theirs.close()
+        self.verdict: Optional[str] = None
+        self.complaints = ""
+        self._place = Place("127.0.0.1", self._port(), SHARE, user, password)
+
+    @property
+    def place(self) -> Place:
+        return self._place
+
+    @property
+    def process(self) -> int:
+        return self._process.pid
+
+    def tell(self, line: str) -> bool:
+        """A line of control; answers whether it did anything."""
+        try:
+            self._control.sendall(f"{line}\n".encode())
+            told = b""
+            while not told.endswith(b"\n"):
+                data = self._control.recv(64)
+                if not data:
+                    raise DriveFault("the server has ended")
+                told += data
+        except OSError as fault:
+            raise DriveFault(f"the server's control: {fault}") from None
+        if told == b"refused\n":
+            raise DriveFault(f"the server's control refused: {line}")
+        return told == b"done\n"
+
+    def close(self) -> None:
+        """Ends it; its verdict is what it printed last."""
+        if self._process.poll() is None:
+            self._process.send_signal(signal.SIGTERM)
+        try:
+            told, complaints = self._process.communicate(timeout=600)
+        except subprocess.TimeoutExpired:
+            self._process.kill()
+            told, complaints = self._process.communicate()
+        self._control.close()
+        self.verdict = told.strip().rpartition("\n")[2] or None
+        self.complaints = complaints
+        if complaints:
+            print(complaints, file=sys.stderr, end="")
+
+    def _port(self) -> int:
+        stream: Optional[IO[str]] = self._process.stdout
+        if stream is None:
+            raise DriveFault("the server has no stream")
+        ready = select.select([stream], [], [], PATIENCE)[0]
+        line = stream.readline() if ready else ""
+        if not line.startswith("port "):
+            self.close()
+            raise DriveFault(f"the server doesn't begin: {self.complaints.strip()}")
+        return int(line.split(" ")[1])

@@ -1,0 +1,127 @@
+"""serve/torture: tests of smbtorture, each against a server of its own."""
+from __future__ import annotations
+
+import argparse
+import re
+import subprocess
+
+import time
+from concurrent.futures import ThreadPoolExecutor
+from contextlib import closing
+from dataclasses import dataclass
+from enum import Enum
+from typing import Callable, List, Protocol, Sequence
+
+from drive.connections import Place
+from drive.ending import NOT_DRIVEN, SAFE, ended
+from drive.faults import DriveFault, Usage
+from drive.program import OWN
+from drive.servers import PrivateServer
+from serve.served import ServedServer
+
+SUITES = ("smb2.lease", "smb2.durable-open", "smb2.durable-open-disconnect")
+EPILOG = """Each test is a line: its name, `passed`, `failed` or `skipped`, its seconds, and behind a failure smbtorture's own words.
+
+Exit status: 0 none failed; 1 some did, or couldn't be run; 2 the command line is refused."""
+
+
+class Kind(Enum):
+    PASSED = "passed"
+    FAILED = "failed"
+    SKIPPED = "skipped"
+
+
+@dataclass(frozen=True)
+class Row:
+    name: str
+    kind: Kind
+    seconds: float
+    words: str
+
+    @property
+    def text(self) -> str:
+        return f"{self.name:45} {self.kind.value:8} {self.seconds:6.1f} {self.words}".rstrip()
+
+
+class Target(Protocol):
+    @property
+    def place(self) -> Place:
+        ...
+
+    def close(self) -> None:
+        ...
+
+
+def parser() -> argparse.ArgumentParser:
+    made = argparse.ArgumentParser(prog="serve/torture", description="Runs tests of smbtorture against the proved server.",
+                                   epilog=EPILOG, formatter_class=argparse.RawDescriptionHelpFormatter)
+    made.add_argument("name", metavar="NAME", nargs="*", help="a test, as smb2.lease.request; all of the suites' where none is named")
+    made.add_argument("--smbd", action="store_true", help="against a private smbd, for comparison; needs root")
+    made.add_argument("--limit", type=float, default=150.0, metavar="S", help="seconds that a test may take (150)")
+    made.add_argument("--jobs", type=int, default=2, metavar="N", help="how many at a time (2)")
+    made.add_argument("--record", metavar="PREFIX", help="keep the records as PREFIX with the test's name behind it")
+    made.add_argument("--leasecheck", metavar="PATH", default=OWN, help="the program leasecheck")
+    return made
+
+
+def tests() -> List[str]:
+    """The tests of the suites, as smbtorture lists them: with the last name twice."""
+    told = _ran(["smbtorture", "--list"], 60.0).stdout
+    names = [line.strip().rpartition(".")[0] for line in told.splitlines()]
+    return [name for name in names if name.rpartition(".")[0] in SUITES]
+
+
+def _ran(words: List[str], limit: float) -> "subprocess.CompletedProcess[str]":
+    try:
+        return subprocess.run(words, stdin=subprocess.DEVNULL, capture_output=True, text=True, errors="replace", timeout=limit,
+                              check=False)
+    except OSError as fault:
+        raise DriveFault(f"smbtorture: {fault.strerror} (drive/setup installs it)") from None
+
+
+def tortured(name: str, server: Callable[[str], Target], limit: float) -> Row:
+    begun = time.monotonic()
+    with closing(server(name)) as target:
+        place = target.place
+        words = ["smbtorture", f"//{place.host}/{place.share}", "-p", str(place.port), "-U", f"{place.user}%{place.password}",
+                 "-m", "SMB2_10", name]
+        try:
+            told = _ran(words, limit)
+            kind, why = _outcome(told.stdout + told.stderr, told.returncode)
+        except subprocess.TimeoutExpired:
+            kind, why = Kind.FAILED, f"not over within {limit:.0f} s"
+    return Row(name, kind, time.monotonic() - begun, why)
+
+
+def _outcome(told: str, status: int) -> "tuple[Kind, str]":
+    found = re.search(r"^(success|skip|failure|error): \S+(?: \[\n(.*?)\n\])?$", told, re.MULTILINE | re.DOTALL)
+    words = " ".join((found.group(2) or "").split()) if found else " ".join(told.split())[-200:]
+    if found and found.group(1) == "success" and status == 0:
+        return Kind.PASSED, ""
+    return (Kind.SKIPPED if found and found.group(1) == "skip" else Kind.FAILED), words
+
+
+def main(arguments: argparse.Namespace) -> int:
+    known = tests()
+    unknown = [name for name in arguments.name if name not in known]
+    if unknown or arguments.jobs < 1:
+        raise Usage(f"no test of {', '.join(SUITES)}: {unknown[0]}" if unknown else "--jobs is at least 1")
+
+    def server(name: str) -> Target:
+        if arguments.smbd:
+            return PrivateServer()
+        return ServedServer(arguments.leasecheck, f"{arguments.record}{name}" if arguments.record else None)
+    rows: List[Row] = []
+    with ThreadPoolExecutor(arguments.jobs) as pool:
+        for row in pool.map(lambda name: tortured(name, server, arguments.limit), arguments.name or known):
+            rows.append(row)
+            print(row.text, flush=True)
+    counts = [sum(row.kind is kind for row in rows) for kind in Kind]
+    print(", ".join(f"{count} {kind.value}" for count, kind in zip(counts, Kind)))
+    return NOT_DRIVEN if counts[1] else SAFE
+
+
+def run(words: Sequence[str]) -> int:
+    return ended(parser(), main, words)
+
+
