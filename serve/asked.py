@@ -4,7 +4,7 @@ from __future__ import annotations
 from dataclasses import dataclass
 from typing import TYPE_CHECKING, Optional
 
-from drive.headers import PREVIOUS, Command
+from drive.headers import HEADER, PREVIOUS, Command
 from serve.opens import Holder, Open
 from serve.packets import Request
 from serve.statuses import Refused, Status
@@ -56,7 +56,8 @@ class Asked:
 
     def file_id(self) -> int:
         """The persistent half of the request's FileId; the volatile one is the same in all that the server gives."""
-        wire = self.request.file_id or bytes(16)
+        is_oplock = self.request.command is Command.OPLOCK_BREAK
+        wire = (self.request.part(HEADER + 8, 16) if is_oplock else self.request.file_id) or bytes(16)
         if wire == PREVIOUS and self.request.is_related:
             if self.previous is None:
                 raise Refused(Status.FILE_CLOSED)

@@ -1,6 +1,7 @@
 """A connection: its bytes, its requests in their compounds, and what is answered."""
 from __future__ import annotations
 
+import logging
 import socket
 from typing import TYPE_CHECKING, Callable, Dict, List, Optional
 
@@ -17,6 +18,7 @@ from serve.statuses import Refused, Status
 if TYPE_CHECKING:
     from serve.server import Server
 
+LOG = logging.getLogger("serve")
 AT_ONCE = 1 << 18
 MOST_UNSENT = 1 << 26
 MOST_PENDING = 512
@@ -180,7 +182,10 @@ class Connection:
         return (yield from handler(asked))
 
     def _answered(self, pending: Pending, answer: Answer) -> None:
-        self._pending.pop(pending.asked.request.identifier, None)
+        request = pending.asked.request
+        self._pending.pop(request.identifier, None)
+        LOG.debug("client %s: %s %d: %s", self.holder.number if self.holder else "-", request.name, request.identifier,
+                  answer.status.name)
         if pending.asked.is_cancelled:
             self.server.undo(answer)
         elif not pending.is_answered:

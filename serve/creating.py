@@ -161,7 +161,9 @@ class Creating:
         if not has_data and wish.level == NO_LEVEL:
             if not is_stat(wish.access):
                 yield from self._others_write_no_more(asked, wish, node)
-            return self._kept(asked, wish, node, self._server.own_file_id()), b""
+            opened = self._kept(asked, wish, node, self._server.own_file_id())
+            yield from self._deletes(asked, opened)
+            return opened, b""
         holder, text = self._holder(asked, wish, node)
         try:
             sent = (yield Ask(holder.number, f"create {node.number} {_data_access(wish)} {digits(text)}")).expect()
@@ -175,7 +177,13 @@ class Creating:
             raise Refused(Status.DELETE_PENDING)
         if wish.empties and len(node.opens) > 1:
             yield from self._server.probes.others_cache_nothing(asked, opened)
+        yield from self._deletes(asked, opened)
         return opened, bytes.fromhex(sent.words[2]) if sent.words[2] != "-" and not holder.open else self._oplock_reply(opened)
+
+    def _deletes(self, asked: "Asked", opened: Open) -> Steps:
+        """Who deletes at its close has all others give up handles first."""
+        if opened.deletes and len(opened.node.opens) > 1:
+            yield from self._server.probes.handles_go(asked, opened.node, opened.holder, opened.key)
 
     def _shared(self, asked: "Asked", wish: Wish, node: Node) -> Steps:
         """Deletion is shared or not: where it isn't, those that only may open again are asked to close."""
