@@ -9,10 +9,12 @@ from drive.faults import Usage
 from drive.program import OWN
 from drive.runs import Runner
 from drive.servers import NamedServer, PrivateServer, Server
+from serve.served import DrivenServer
 
 
 def server_arguments(parser: argparse.ArgumentParser) -> None:
     parser.add_argument("--smbd", action="store_true", help="a private smbd, started afresh for each schedule and ended")
+    parser.add_argument("--served", action="store_true", help="the proved server on a port (serve/run), started and ended likewise")
     parser.add_argument("--server", metavar="HOST:PORT", help="a server that is there, in place of a private one")
     parser.add_argument("--share", metavar="NAME", help="its share")
     parser.add_argument("--user", metavar="USER%PASSWORD", help="who asks it")
@@ -29,12 +31,14 @@ def runner_of(arguments: argparse.Namespace) -> Runner:
 
 
 def _server_maker(arguments: argparse.Namespace) -> Callable[[], Server]:
-    if arguments.smbd == bool(arguments.server):
-        raise Usage("one of --smbd and --server is needed")
+    if [arguments.smbd, arguments.served, bool(arguments.server)].count(True) != 1:
+        raise Usage("one of --smbd, --served and --server is needed")
     if arguments.smbd:
         return lambda: PrivateServer(arguments.smbd_log)
     if arguments.smbd_log:
         raise Usage("--smbd-log is of a private smbd")
+    if arguments.served:
+        return lambda: DrivenServer(arguments.leasecheck)
     place = _place(arguments.server, arguments.share, arguments.user)
     return lambda: NamedServer(place, arguments.break_time)
 

@@ -41,10 +41,16 @@ class Likeness:
         return ",".join(sorted(it.name.lower() for it in self.departures)) or "same"
 
 
-def likeness_of(program: str, schedule: Schedule, facts: List[str]) -> Likeness:
-    if facts == replayed(program, schedule.text()):
+def likeness_of(program: str, schedule: Schedule, facts: List[str], counts: Sequence[int] = ()) -> Likeness:
+    if is_replayed(facts, replayed(program, schedule.text()), counts):
         return Likeness(NONE)
     return Likeness(explained(program, schedule, facts))
+
+
+def is_replayed(facts: List[str], replay: List[str], counts: Sequence[int]) -> bool:
+    """Whether these are the facts of `replay`, in any order within a step. `counts` tell how many there were behind each."""
+    steps = zip([0, *counts], [*counts, len(facts)])
+    return len(facts) == len(replay) and all(sorted(facts[start:end]) == sorted(replay[start:end]) for start, end in steps)
 
 
 def parser() -> argparse.ArgumentParser:
@@ -56,22 +62,23 @@ def parser() -> argparse.ArgumentParser:
     return made
 
 
-def _facts(arguments: argparse.Namespace, schedule: Schedule) -> List[str]:
+def _facts(arguments: argparse.Namespace, schedule: Schedule) -> "tuple[List[str], Sequence[int]]":
     if not arguments.record:
-        return runner_of(arguments).run(schedule).record.facts()
-    if arguments.smbd or arguments.server:
+        outcome = runner_of(arguments).run(schedule)
+        return outcome.record.facts(), outcome.counts
+    if arguments.smbd or arguments.served or arguments.server:
         raise Usage("--record is of a run that was driven already")
     try:
         with open(arguments.record, encoding="utf-8", errors="replace") as stream:
-            return [it for it in stream.read().splitlines() if it and not it.startswith("#")]
+            return [it for it in stream.read().splitlines() if it and not it.startswith("#")], ()
     except OSError as fault:
         raise DriveFault(f"{arguments.record}: {fault.strerror}") from None
 
 
 def main(arguments: argparse.Namespace) -> int:
     schedule = schedule_in(arguments.schedule, arguments.leasecheck)
-    facts = _facts(arguments, schedule)
-    likeness = likeness_of(arguments.leasecheck, schedule, facts)
+    facts, counts = _facts(arguments, schedule)
+    likeness = likeness_of(arguments.leasecheck, schedule, facts, counts)
     if likeness.departures == NONE:
         print("same")
         return SAFE

@@ -56,22 +56,25 @@ class Driver(World):
         return True
 
     def _expire(self, event: Event, peer: Peer) -> bool:
-        if int(event.words[0]) not in peer.breaking:
+        named = int(event.words[0])
+        if named not in peer.breaking:
             return False
-        # The timers run by the clock of the client's connection, so all of its breaks run out.
-        for file in sorted(peer.breaking):
+        # Where the timers run by the clock of the client's connection, all of its breaks run out.
+        for file in [named] if self._server.is_profiled else sorted(peer.breaking):
             self.record.fact(f"expired {event.client} {file}")
-        peer.breaking.clear()
-        self._server.begin_break_timer(peer.process)
+            peer.breaking.discard(file)
+        self._server.begin_break_timer(peer.process, peer.guid, peer.key_of(named))
         self._settle()
         self._server.end_break_timer(peer.process)
         return True
 
     def _scavenge(self, event: Event, peer: Peer) -> bool:
-        if int(event.words[0]) not in peer.kept:
+        file = int(event.words[0])
+        if file not in peer.kept:
             return False
-        self._server.pass_durable_timer()
-        peer.kept.discard(int(event.words[0]))
+        self._server.pass_durable_timer(sorted(it for it, kept in peer.kept_opens.items() if kept == file))
+        if not self._server.is_profiled:
+            peer.kept.discard(file)
         self._settle()
         return True
 
@@ -82,7 +85,7 @@ class Driver(World):
         if isinstance(request, Create):
             return self._meant_create(request)
         if isinstance(request, Write):
-            if request.offset + len(request.data) > FILE_LIMIT:
+            if request.offset + len(request.data) > FILE_LIMIT and not self._server.is_profiled:
                 raise Undrivable("a record doesn't tell writes past the limit of a file")
             return Write(self._real(request.file_id), request.number, request.offset, request.data)
         return type(request)(self._real(request.file_id))

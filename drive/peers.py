@@ -40,6 +40,8 @@ class Peer:
     # the files of which a break is to be acknowledged, and those of which an open may be kept without a connection
     breaking: Set[int] = field(default_factory=set)
     kept: Set[int] = field(default_factory=set)
+    # the files of the opens that may be kept, by the persistent halves of their FileIds
+    kept_opens: Dict[int, int] = field(default_factory=dict)
 
     def key_of(self, file: int) -> bytes:
         return self.guid[:12] + struct.pack("<L", file)
@@ -53,7 +55,9 @@ class Peer:
     def is_opened(self, file: int, file_id: FileId) -> None:
         self.file_ids[file_id.persistent] = file_id
         self.files[file_id.persistent] = file
-        self.kept.discard(file)
+        self.kept_opens.pop(file_id.persistent, None)
+        if file not in self.kept_opens.values():
+            self.kept.discard(file)
 
     def is_closed(self, file_id: int) -> None:
         file = self.files.pop(file_id, None)
@@ -66,6 +70,7 @@ class Peer:
 
     def is_cut(self) -> None:
         self.kept |= set(self.files.values())
+        self.kept_opens.update(self.files)
         self.link, self.connection, self.process = Link.CUT, None, None
         self.requests.clear()
         self.replies.clear()

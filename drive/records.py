@@ -101,8 +101,12 @@ class Record:
     def __init__(self) -> None:
         self._items: List[Union[str, Tuple[Arrival, ...]]] = []
 
+        # how many facts there are
+        self.count = 0
+
     def fact(self, text: str) -> None:
         self._items.append(text)
+        self.count += 1
 
     def remark(self, text: str) -> None:
         self._items.append(f"# {text}")
@@ -110,6 +114,7 @@ class Record:
     def step(self, arrivals: Sequence[Arrival]) -> None:
         if arrivals:
             self._items.append(tuple(arrivals))
+            self.count += sum(2 if arrival.effect else 1 for arrival in arrivals)
 
     def lines(self, order: Order = Order.BREAKS_FIRST) -> List[str]:
         lines: List[str] = []

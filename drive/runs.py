@@ -27,6 +27,8 @@ class Outcome:
     # the events that did something, and what was left out
     applied: List[Event] = field(default_factory=list)
     skipped: List[str] = field(default_factory=list)
+    # how many facts there were behind each event
+    counts: List[int] = field(default_factory=list)
 
     @property
     def verdict(self) -> Verdict:
@@ -65,6 +67,7 @@ class Runner:
                 raise Undrivable(f"{event.text}: {fault}") from None
             outcome.skipped.append(f"{event.text}: {fault}")
             return False
+        outcome.counts.append(driver.record.count)
         if applied:
             outcome.applied.append(event)
         LOG.debug("%s: %s", event.text, "done" if applied else "nothing")

@@ -65,6 +65,8 @@ SETTLED = 0.05
 class Server(Protocol):
     # whether it is there behind the run, with the files that were made
     stays: bool
+    # whether it is the one of docs/PROFILE.md, whose timers can be ended one by one
+    is_profiled: bool
 
     @property
     def place(self) -> Place:
@@ -82,14 +84,14 @@ class Server(Protocol):
     def wait_for_end(self, process: Optional[int]) -> None:
         """Waits until what a closed connection leaves to do is done."""
 
-    def begin_break_timer(self, process: Optional[int]) -> None:
-        """Has the break timers of a connection run out."""
+    def begin_break_timer(self, process: Optional[int], guid: bytes, key: bytes) -> None:
+        """Has the break timers of a connection run out, or that of one lease of a client."""
 
     def end_break_timer(self, process: Optional[int]) -> None:
         """Puts back what that took."""
 
-    def pass_durable_timer(self) -> None:
-        """Has the timers of disconnected opens run out."""
+    def pass_durable_timer(self, file_ids: List[int]) -> None:
+        """Has the timers of disconnected opens run out, or that of the first of these that is still there."""
 
     def content(self, file: int) -> Optional[bytes]:
         """The file as it is on disk, where that can be looked at."""
@@ -102,6 +104,7 @@ class NamedServer:
     """A server that somebody named. Its timers are waited for, and its files have names of their own."""
 
     stays = True
+    is_profiled = False
 
     def __init__(self, place: Place, break_time: float) -> None:
         self._place = place
@@ -124,13 +127,13 @@ class NamedServer:
     def wait_for_end(self, process: Optional[int]) -> None:
         time.sleep(0.5)
 
-    def begin_break_timer(self, process: Optional[int]) -> None:
+    def begin_break_timer(self, process: Optional[int], guid: bytes, key: bytes) -> None:
         time.sleep(self._break_time)
 
     def end_break_timer(self, process: Optional[int]) -> None:
         pass
 
-    def pass_durable_timer(self) -> None:
+    def pass_durable_timer(self, file_ids: List[int]) -> None:
         raise Undrivable("the timer of a disconnected open is too long to be waited for")
 
     def content(self, file: int) -> Optional[bytes]:
@@ -144,6 +147,7 @@ class PrivateServer:
     """An smbd of one's own on loopback, in a folder of its own, with clocks that can be put forward."""
 
     stays = False
+    is_profiled = False
 
     def __init__(self, log: Optional[str] = None) -> None:
         """`log` is a file that gets smbd's log, at level 10, when it is ended."""
@@ -185,13 +189,13 @@ class PrivateServer:
                 raise DriveFault("smbd's process of a closed connection doesn't end")
             time.sleep(0.002)
 
-    def begin_break_timer(self, process: Optional[int]) -> None:
+    def begin_break_timer(self, process: Optional[int], guid: bytes, key: bytes) -> None:
         self._clocks.put_forward(process or 0, BREAK_TIME)
 
     def end_break_timer(self, process: Optional[int]) -> None:
         self._clocks.put_forward(process or 0, 0)
 
-    def pass_durable_timer(self) -> None:
+    def pass_durable_timer(self, file_ids: List[int]) -> None:
         keepers = [it for it, name in self._children().items() if "scavenger" in name]
         for keeper in keepers:
             self._clocks.put_forward(keeper, DURABLE_TIME)

@@ -7,6 +7,7 @@ import signal
 import socket
 import subprocess
 import sys
+import uuid
 from typing import IO, List, Optional
 
 from drive.connections import Place
@@ -87,3 +88,36 @@ class ServedServer:
             self.close()
             raise DriveFault(f"the server doesn't begin: {self.complaints.strip()}")
         return int(line.split(" ")[1])
+
+
+class DrivenServer(ServedServer):
+    """As drive/ has its servers: a fresh one for each schedule, whose timers are ended by lines of control."""
+
+    stays = False
+    is_profiled = True
+
+    def name_of(self, file: int) -> str:
+        return f"file-{file}"
+
+    def is_prepared(self) -> None:
+        """A connection that is closed is forgotten before a later request is done."""
+
+    def new_process(self) -> Optional[int]:
+        return None
+
+    def wait_for_end(self, process: Optional[int]) -> None:
+        """What a closed connection leaves to do is done before a later request is."""
+
+    def begin_break_timer(self, process: Optional[int], guid: bytes, key: bytes) -> None:
+        self.tell(f"expire {uuid.UUID(bytes=guid)} {key.hex()}")
+
+    def end_break_timer(self, process: Optional[int]) -> None:
+        """A timer that was ended isn't put back."""
+
+    def pass_durable_timer(self, file_ids: List[int]) -> None:
+        for file_id in file_ids:
+            if self.tell(f"scavenge {file_id}"):
+                return
+
+    def content(self, file: int) -> Optional[bytes]:
+        return None
