@@ -82,6 +82,9 @@ class Listener(Protocol):
     def broken(self, client: int, notice: bytes) -> None:
         """A break goes to a client."""
 
+    def is_late(self, sent: Sent) -> bool:
+        """Whether nobody waits for this, since its client is gone."""
+
     def failed(self, fault: Exception) -> Status:
         """A task broke down."""
 
@@ -138,6 +141,8 @@ class Core:
             return
         sent = Sent(int(client), ReplyKind(kind), tuple(words))
         tasks = self._waiting.get(sent.tag)
+        if not tasks and self._listener.is_late(sent):
+            return
         if not tasks:
             raise DriveFault(f"the server machine answered no request: {out[:200]}")
         task = tasks.popleft()

@@ -168,7 +168,7 @@ class Creating:
         try:
             sent = (yield Ask(holder.number, f"create {node.number} {_data_access(wish)} {digits(text)}")).expect()
         except Refused:
-            if holder is not asked.connection.holder:
+            if holder.guid is None:
                 self._server.free(holder)
             raise
         opened = self._granted(asked, wish, node, holder, sent)
@@ -231,7 +231,7 @@ class Creating:
             opened.key = granted[LEASE_NAME][:16]
             opened.level = LEASE
             self._server.leases.granted(holder, node, granted[LEASE_NAME])
-            if holder is not asked.connection.holder:
+            if holder.guid is None:
                 holder.open = opened
                 opened.level = _level(wish.level, holder.leases[opened.key].state)
         return opened

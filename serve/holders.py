@@ -2,10 +2,13 @@
 from __future__ import annotations
 
 from collections import deque
-from typing import Deque, Dict, Optional
+from typing import TYPE_CHECKING, Deque, Dict, List, Optional
 
 from serve.opens import Holder
 from serve.statuses import Refused, Status
+
+if TYPE_CHECKING:
+    from serve.connection import Connection
 
 MOST = 255
 
@@ -20,6 +23,9 @@ class Holders:
 
     def of_guid(self, guid: bytes) -> Optional[Holder]:
         return next((it for it in self._by_number.values() if it.guid == guid), None)
+
+    def of(self, connection: "Connection") -> List[Holder]:
+        return [it for it in self._by_number.values() if it.connection is connection]
 
     def take(self, guid: Optional[bytes]) -> Holder:
         """A client that isn't there yet. Where all numbers are taken, one of a ClientGuid that has left nothing is free."""

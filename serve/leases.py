@@ -47,7 +47,10 @@ class Leases:
 
     def broken(self, holder: Holder, notice: bytes) -> None:
         _, _, flags, key, _, state = NOTICE.unpack_from(notice)
-        lease = holder.leases[key]
+        lease = holder.leases.get(key)
+        if lease is None or holder.connection is None:
+            # It is on its way to a client that is cut already.
+            return
         is_acknowledged = bool(flags & ACK_REQUIRED)
         if is_acknowledged:
             lease.broken_by = holder.sent

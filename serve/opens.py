@@ -1,6 +1,7 @@
 """Opens, as the shell has them, and the machine clients that they belong to."""
 from __future__ import annotations
 
+import os
 from dataclasses import dataclass, field
 from typing import TYPE_CHECKING, Dict, List, Optional, Tuple
 
@@ -111,8 +112,5 @@ class Holder:
     writes: int = 0
     sent: int = 0
     took: int = 0
-
-    @property
-    def own_key(self) -> bytes:
-        """The key of an oplock's lease."""
-        return b"oplock" + self.number.to_bytes(10, "little")
+    # the key of an oplock's lease
+    own_key: bytes = field(default_factory=lambda: b"oplock" + os.urandom(10))

@@ -134,7 +134,13 @@ def main(arguments: argparse.Namespace) -> int:
                 signal.signal(number, lambda *_: loop.stop())
             machine.say("content 1")
             print(f"port {stream.getsockname()[1]}", flush=True)
-            loop.run()
+            try:
+                loop.run()
+            except DriveFault:
+                raise
+            except Exception as fault:
+                LOG.debug("where:", exc_info=fault)
+                raise DriveFault(f"the shell broke down: {type(fault).__name__}: {fault}") from None
     return verdict(arguments)
 
 

@@ -7,6 +7,7 @@ import signal
 import socket
 import subprocess
 import sys
+import tempfile
 import uuid
 from typing import IO, List, Optional
 
@@ -28,8 +29,9 @@ class ServedServer:
         recording = ["--record", record] if record else []
         command = [os.path.join(TOP, "serve", "run"), "--port", "0", "--share", SHARE, "--control", str(theirs.fileno()),
                    "--leasecheck", program, *recording, *(words or [])]
+        self._errors = tempfile.TemporaryFile("w+", encoding="utf-8", errors="replace")
         try:
-            self._process = subprocess.Popen(command, stdin=subprocess.DEVNULL, stdout=subprocess.PIPE, stderr=subprocess.PIPE,
+            self._process = subprocess.Popen(command, stdin=subprocess.DEVNULL, stdout=subprocess.PIPE, stderr=self._errors,
                                              text=True, pass_fds=[theirs.fileno()])
         except OSError as fault:
             raise DriveFault(f"{command[0]}: {fault.strerror}") from None
@@ -37,6 +39,7 @@ class ServedServer:
             theirs.close()
         self.verdict: Optional[str] = None
         self.complaints = ""
+        self.status: Optional[int] = None
         self._place = Place("127.0.0.1", self._port(), SHARE, user, password)
 
     @property
@@ -68,15 +71,17 @@ class ServedServer:
         if self._process.poll() is None:
             self._process.send_signal(signal.SIGTERM)
         try:
-            told, complaints = self._process.communicate(timeout=600)
+            told = self._process.communicate(timeout=600)[0]
         except subprocess.TimeoutExpired:
             self._process.kill()
-            told, complaints = self._process.communicate()
+            told = self._process.communicate()[0]
         self._control.close()
         self.verdict = told.strip().rpartition("\n")[2] or None
-        self.complaints = complaints
-        if complaints:
-            print(complaints, file=sys.stderr, end="")
+        self._errors.seek(0)
+        self.complaints, self.status = self._errors.read(), self._process.returncode
+        self._errors.close()
+        if self.complaints:
+            print(self.complaints, file=sys.stderr, end="")
 
     def _port(self) -> int:
         stream: Optional[IO[str]] = self._process.stdout

@@ -10,10 +10,11 @@ from typing import Callable, Dict, List, Optional, Tuple
 
 from drive.headers import Command
 from drive.machine import Speaker
+from drive.messages import ReplyKind
 from serve.asked import Asked
 from serve.changing import Changing
 from serve.connection import Connection, Pending
-from serve.core import Ask, Core, Doing, Steps, Task
+from serve.core import Ask, Core, Doing, Sent, Steps, Task
 from serve.creating import Creating
 from serve.holders import Holders
 from serve.informing import Informing
@@ -90,6 +91,21 @@ class Server:
         holder = self.holders.numbered(client)
         if holder:
             self.leases.broken(holder, notice)
+
+    def is_late(self, sent: Sent) -> bool:
+        """A client that is cut may have been answered by what another one's cut set free. An open that is kept is in nobody's
+        hands then, until its timer runs out."""
+        holder = self.holders.numbered(sent.client)
+        if holder and holder.connection:
+            return False
+        if sent.kind is ReplyKind.CREATED:
+            line = f"scavenge {sent.words[1]}"
+            self.loop.after(self.settings.durable_timer, lambda: self._scavenges(line))
+        return True
+
+    def _scavenges(self, line: str) -> None:
+        self.core.ask(line)
+        self.settle()
 
     def failed(self, fault: Exception) -> Status:
         LOG.warning("a request broke down: %s: %s", type(fault).__name__, str(fault)[:200])
@@ -172,7 +188,7 @@ class Server:
 
     def _leaves(self, connection: Connection, holder: Holder) -> None:
         opens = [it for it in self.opens.values() if it.connection is connection]
-        cut = [holder, *(it.holder for it in opens if it.holder and it.holder is not holder)]
+        cut = [holder, *(it for it in self.holders.of(connection) if it is not holder)]
         connection.holder = None
         for one in cut:
             one.connection = None

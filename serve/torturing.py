@@ -12,6 +12,7 @@ from dataclasses import dataclass
 from enum import Enum
 from typing import Callable, List, Protocol, Sequence
 
+from drive.clock import library
 from drive.connections import Place
 from drive.ending import NOT_DRIVEN, SAFE, ended
 from drive.faults import DriveFault, Usage
@@ -111,6 +112,9 @@ def main(arguments: argparse.Namespace) -> int:
         if arguments.smbd:
             return PrivateServer()
         return ServedServer(arguments.leasecheck, f"{arguments.record}{name}" if arguments.record else None)
+    if arguments.smbd:
+        # Compiled once, before servers are made side by side.
+        library()
     rows: List[Row] = []
     with ThreadPoolExecutor(arguments.jobs) as pool:
         for row in pool.map(lambda name: tortured(name, server, arguments.limit), arguments.name or known):
