@@ -14,7 +14,7 @@ from serve.served import DrivenServer
 
 def server_arguments(parser: argparse.ArgumentParser) -> None:
     parser.add_argument("--smbd", action="store_true", help="a private smbd, started afresh for each schedule and ended")
-    parser.add_argument("--served", action="store_true", help="the proved server on a port (serve/run), started and ended likewise")
+    parser.add_argument("--served", action="store_true", help="the proved server (serve/run), started and ended likewise")
     parser.add_argument("--server", metavar="HOST:PORT", help="a server that is there, in place of a private one")
     parser.add_argument("--share", metavar="NAME", help="its share")
     parser.add_argument("--user", metavar="USER%PASSWORD", help="who asks it")

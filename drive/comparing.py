@@ -4,7 +4,7 @@ from __future__ import annotations
 import argparse
 import difflib
 from dataclasses import dataclass
-from typing import FrozenSet, List, Optional, Sequence
+from typing import Dict, FrozenSet, List, Optional, Sequence
 
 from drive.arguments import runner_of, server_arguments
 from drive.ending import NOT_DRIVEN, SAFE, ended
@@ -48,9 +48,19 @@ def likeness_of(program: str, schedule: Schedule, facts: List[str], counts: Sequ
 
 
 def is_replayed(facts: List[str], replay: List[str], counts: Sequence[int]) -> bool:
-    """Whether these are the facts of `replay`, in any order within a step. `counts` tell how many there were behind each."""
+    """Whether these are the facts of `replay`, where within a step those of each client are in order. `counts` tell how many
+    there were behind each step."""
     steps = zip([0, *counts], [*counts, len(facts)])
-    return len(facts) == len(replay) and all(sorted(facts[start:end]) == sorted(replay[start:end]) for start, end in steps)
+    return len(facts) == len(replay) and all(_by_client(facts[start:end]) == _by_client(replay[start:end])
+                                             for start, end in steps)
+
+
+def _by_client(facts: List[str]) -> Dict[str, List[str]]:
+    found: Dict[str, List[str]] = {}
+    for fact in facts:
+        words = fact.split(" ", 3)
+        found.setdefault(words[2 if words[0] in ("opened", "changed") else 1], []).append(fact)
+    return found
 
 
 def parser() -> argparse.ArgumentParser:

@@ -2,78 +2,25 @@
 from __future__ import annotations
 
 import struct
-from dataclasses import dataclass, field
-from typing import TYPE_CHECKING, Dict, List, Optional, Tuple
+from typing import TYPE_CHECKING, List, Optional, Tuple
 
 from drive import contexts
-from drive.headers import HEADER, create_name
+from drive.headers import HEADER
 from drive.schedules import digits
 from serve.core import Ask, Doing, Sent, Steps, Waits
 from serve.leases import wanted_state
-from serve.names import ARCHIVE, READ_ONLY, Node, now, path_of
-from serve.opens import (ALL_ACCESS, BATCH, DELETE, LEASE, LEVEL_II, NO_LEVEL, READING, SHARE_DELETE, WRITING, Holder, Open,
-                         counts, is_stat, reads, specific, writes)
-from serve.packets import Answer, Request
+from serve.names import ARCHIVE, READ_ONLY, Node, now
+from serve.opens import ALL_ACCESS, BATCH, LEASE, NO_LEVEL, READING, WRITING, Holder, Open, counts, is_stat, reads, writes
+from serve.packets import Answer
 from serve.statuses import Refused, Status
+from serve.wishes import (ALLOCATION, CREATE, CREATED, DELETE_ON_CLOSE, DIRECTORY_FILE, DURABLE, KEPT_ATTRIBUTES, LEASE_NAME,
+                          MAKING, MOST_ACCESS, NON_DIRECTORY_FILE, ON_DISK, OPENED, OVERWRITE, OVERWRITE_IF, OVERWRITTEN,
+                          RECONNECT, SUPERSEDE, SUPERSEDED, Wish, check, conflicts, data_access, lease_contexts, level_of,
+                          wish_of)
 
 if TYPE_CHECKING:
     from serve.asked import Asked
     from serve.server import Server
-
-SUPERSEDE, OPEN, CREATE, OPEN_IF, OVERWRITE, OVERWRITE_IF = range(6)
-MAKING = {SUPERSEDE, CREATE, OPEN_IF, OVERWRITE_IF}
-EMPTYING = {SUPERSEDE, OVERWRITE, OVERWRITE_IF}
-DIRECTORY_FILE, NON_DIRECTORY_FILE, DELETE_ON_CLOSE = 0x1, 0x40, 0x1000
-SUPERSEDED, OPENED, CREATED, OVERWRITTEN = range(4)
-KEPT_ATTRIBUTES = 0x1 | 0x2 | 0x4 | 0x20 | 0x100 | 0x2000
-LEASE_NAME, DURABLE, RECONNECT, MOST_ACCESS, ON_DISK, ALLOCATION = b"RqLs", b"DHnQ", b"DHnC", b"MxAc", b"QFid", b"AlSi"
-
-
-@dataclass
-class Wish:
-    """What a CREATE asks for."""
-
-    path: str
-    access: int
-    share: int
-    disposition: int
-    options: int
-    attributes: int
-    level: int
-    impersonation: int
-    contexts: bytes
-    parts: Dict[bytes, bytes] = field(default_factory=dict)
-
-    @property
-    def key(self) -> Optional[bytes]:
-        lease = self.parts.get(LEASE_NAME, b"") if self.level == LEASE or RECONNECT in self.parts else b""
-        return lease[:16] if len(lease) == 32 else None
-
-    @property
-    def empties(self) -> bool:
-        return self.disposition in EMPTYING
-
-
-def wish_of(request: Request) -> Wish:
-    request.expect(57)
-    length = request.number(HEADER + 52, 4)
-    text = request.part(request.number(HEADER + 48, 4), length) if length else b""
-    wish = Wish(path_of(create_name(request)), specific(request.number(HEADER + 24, 4)), request.number(HEADER + 32, 4),
-                request.number(HEADER + 36, 4), request.number(HEADER + 40, 4), request.number(HEADER + 28, 4),
-                request.number(HEADER + 3, 1), request.number(HEADER + 4, 4), text)
-    try:
-        wish.parts = contexts.parts(text)
-    except ValueError:
-        raise Refused(Status.INVALID_PARAMETER) from None
-    return wish
-
-
-def check(wish: Wish) -> None:
-    """What a create that reconnects isn't asked for."""
-    if wish.impersonation > 3 or wish.disposition > OVERWRITE_IF or wish.share > 7:
-        raise Refused(Status.INVALID_PARAMETER)
-    if not wish.access or wish.options & DELETE_ON_CLOSE and not wish.access & DELETE:
-        raise Refused(Status.ACCESS_DENIED)
 
 
 class Vanished(Exception):
@@ -138,7 +85,7 @@ class Creating:
         if wish.empties or lease or not wish.path and not node:
             raise Refused(Status.INVALID_PARAMETER)
         node = node or self._server.names.make(wish.path, True)
-        if any(_conflicts(wish, it) for it in node.opens):
+        if any(conflicts(wish, it) for it in node.opens):
             raise Refused(Status.SHARING_VIOLATION)
         return self._kept(asked, wish, node, self._server.own_file_id())
 
@@ -153,7 +100,7 @@ class Creating:
 
     def _file(self, asked: "Asked", wish: Wish, node: Node) -> Waits[Tuple[Open, bytes]]:
         """An open of a file, and the contexts of its reply."""
-        if any(_conflicts(wish, it) for it in node.opens):
+        if any(conflicts(wish, it) for it in node.opens):
             yield from self._shared(asked, wish, node)
         if wish.empties and node.length:
             self._emptied(node)
@@ -166,7 +113,7 @@ class Creating:
             return opened, b""
         holder, text = self._holder(asked, wish, node)
         try:
-            sent = (yield Ask(holder.number, f"create {node.number} {_data_access(wish)} {digits(text)}")).expect()
+            sent = (yield Ask(holder.number, f"create {node.number} {data_access(wish)} {digits(text)}")).expect()
         except Refused:
             if holder.guid is None:
                 self._server.free(holder)
@@ -191,7 +138,7 @@ class Creating:
         self._server.refresh(node.opens)
         if node.is_gone:
             raise Vanished
-        if any(_conflicts(wish, it) for it in node.opens):
+        if any(conflicts(wish, it) for it in node.opens):
             raise Refused(Status.SHARING_VIOLATION)
 
     def _emptied(self, node: Node) -> None:
@@ -209,7 +156,7 @@ class Creating:
     def _holder(self, asked: "Asked", wish: Wish, node: Node) -> Tuple[Holder, bytes]:
         """Who asks the machine, and with which contexts: an oplock is a lease under a key of its own."""
         if wish.level in (LEASE, NO_LEVEL):
-            return asked.holder, _lease_contexts(wish)
+            return asked.holder, lease_contexts(wish)
         others = any(it.holder and (it.is_connected or not self._may_write(it)) for it in node.opens)
         state = READING if others else wanted_state(wish.level)
         holder = self._server.borrow(asked.connection, f"an oplock of client {asked.holder.number}")
@@ -233,7 +180,7 @@ class Creating:
             self._server.leases.granted(holder, node, granted[LEASE_NAME])
             if holder.guid is None:
                 holder.open = opened
-                opened.level = _level(wish.level, holder.leases[opened.key].state)
+                opened.level = level_of(wish.level, holder.leases[opened.key].state)
         return opened
 
     def _kept(self, asked: "Asked", wish: Wish, node: Node, file_id: int) -> Open:
@@ -257,7 +204,7 @@ class Creating:
         if node is None or node.is_folder:
             is_named = opened and not opened.is_connected and opened.holder is asked.holder and opened.key == wish.key
             raise Refused(Status.INVALID_PARAMETER if is_named else Status.OBJECT_NAME_NOT_FOUND)
-        text = f"create {node.number} {_data_access(wish)} {digits(wish.contexts)}"
+        text = f"create {node.number} {data_access(wish)} {digits(wish.contexts)}"
         sent = (yield Ask(asked.holder.number, text)).expect()
         return self._reconnected(asked, wish, self._server.opens[int(sent.words[1])], sent)
 
@@ -274,6 +221,7 @@ class Creating:
         return self._reconnected(asked, wish, opened, sent.expect())
 
     def _reconnected(self, asked: "Asked", wish: Wish, opened: Open, sent: Sent) -> Answer:
+        self._server.stop_timer(opened)
         opened.connection, opened.session, opened.tree = asked.connection, asked.session, asked.tree
         told = bytes.fromhex(sent.words[2])
         if opened.holder:
@@ -300,33 +248,3 @@ class Creating:
                            times.changed, node.allocation, node.length, node.attributes or 0x80, 0, opened.file_id,
                            opened.file_id, HEADER + 88 if told else 0, len(told))
         return Answer(Status.SUCCESS, body + told, opened=opened.file_id)
-
-
-def _conflicts(wish: Wish, other: Open) -> bool:
-    """Whether one deletes and the other doesn't share that; what is read and written is shared by the machine's rules."""
-    if not counts(wish.access) or not counts(other.access):
-        return False
-    return bool(wish.access & DELETE and not other.share & SHARE_DELETE or other.access & DELETE and not wish.share & SHARE_DELETE)
-
-
-def _data_access(wish: Wish) -> str:
-    """Access and share as the machine has them. Who empties a file writes it; who holds a lease alone reads."""
-    access = ("r" if reads(wish.access) else "") + ("w" if writes(wish.access) or wish.empties else "")
-    if not access:
-        return "r rw"
-    return f"{access} {['-', 'r', 'w', 'rw'][wish.share & 3]}"
-
-
-def _lease_contexts(wish: Wish) -> bytes:
-    """The contexts as they came, but for a lease that the level doesn't ask for."""
-    if wish.level == LEASE or LEASE_NAME not in wish.parts:
-        return wish.contexts
-    return contexts.written([(name, data) for name, data in wish.parts.items() if name in (DURABLE, RECONNECT)])
-
-
-def _level(asked: int, state: int) -> int:
-    """The level of an oplock whose lease has this state."""
-    if wanted_state(asked) == state:
-        return asked
-    return LEVEL_II if state & READING else NO_LEVEL
-

@@ -54,7 +54,7 @@ class Leases:
         is_acknowledged = bool(flags & ACK_REQUIRED)
         if is_acknowledged:
             lease.broken_by = holder.sent
-            lease.timer = self._server.loop.after(self._server.settings.break_timer, lambda: self.expire(holder, key))
+            lease.timer = self._server.loop.after(self._server.settings.break_timer, lambda: self._rings(holder, key))
         else:
             lease.state = state
             self._server.record.believes(holder, lease, state)
@@ -104,6 +104,9 @@ class Leases:
             lease.state, lease.broken_by = ACKNOWLEDGMENT.unpack(response)[4], None
             self._server.stop_timer(lease)
         return response
+
+    def _rings(self, holder: Holder, key: bytes) -> None:
+        self.expire(holder, key)
 
     def expire(self, holder: Holder, key: bytes) -> bool:
         """The timer of a break runs out: the machine closes what is open under the key."""

@@ -130,11 +130,12 @@ class Names:
 
     def rename(self, node: Node, path: str) -> None:
         old = node.path
-        for one in [it for it in self._nodes.values() if it is node or it.path.lower().startswith((f"{old.lower()}\\", f"{old.lower()}:"))]:
+        below = (f"{old.lower()}\\", f"{old.lower()}:")
+        for one in [it for it in self._nodes.values() if it is node or it.path.lower().startswith(below)]:
             del self._nodes[one.path.lower()]
             one.path = path + one.path[len(old):]
             self._nodes[one.path.lower()] = one
 
     def children(self, folder: Node) -> List[Node]:
-        return sorted((it for it in self._nodes.values() if it.path and it.folder.lower() == folder.path.lower() and not it.is_stream),
-                      key=lambda it: it.path.lower())
+        found = [it for it in self._nodes.values() if it.path and it.folder.lower() == folder.path.lower() and not it.is_stream]
+        return sorted(found, key=lambda it: it.path.lower())

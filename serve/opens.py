@@ -79,6 +79,8 @@ class Open:
     locks: List[Lock] = field(default_factory=list)
     # a break of its oplock waits for the client's word
     is_breaking: bool = False
+    # until when it is kept without a connection
+    timer: Optional[Timer] = None
     # of a folder: what is listed, and how far
     listing: Optional[List[Tuple[str, Node]]] = None
 

@@ -205,7 +205,10 @@ class Server:
         if not self.is_kept(opened):
             self.is_closed(opened)
             return
-        self.loop.after(self.settings.durable_timer, lambda: self.scavenge(opened.file_id))
+        opened.timer = self.loop.after(self.settings.durable_timer, lambda: self._rings(opened.file_id))
+
+    def _rings(self, file_id: int) -> None:
+        self.scavenge(file_id)
 
     # What becomes of opens
 
@@ -251,6 +254,7 @@ class Server:
         if self.opens.pop(opened.file_id, None) is None:
             return
         node = opened.node
+        self.stop_timer(opened)
         node.opens.remove(opened)
         node.is_deleting = node.is_deleting or opened.deletes
         self._lease_gone(opened)
@@ -291,7 +295,7 @@ class Server:
         self.core.ask(f"join {holder.number}")
 
     @staticmethod
-    def stop_timer(lease: LeaseSeen) -> None:
-        if lease.timer:
-            lease.timer.cancel()
-            lease.timer = None
+    def stop_timer(concerned: "LeaseSeen | Open") -> None:
+        if concerned.timer:
+            concerned.timer.cancel()
+            concerned.timer = None

@@ -21,7 +21,7 @@ from drive.servers import PrivateServer
 from serve.served import ServedServer
 
 SUITES = ("smb2.lease", "smb2.durable-open", "smb2.durable-open-disconnect")
-EPILOG = """Each test is a line: its name, `passed`, `failed` or `skipped`, its seconds, and behind a failure smbtorture's own words.
+EPILOG = """Each test is a line: its name, `passed`, `failed` or `skipped`, its seconds, and smbtorture's own words, if any.
 
 Exit status: 0 none failed; 1 some did, or couldn't be run; 2 the command line is refused."""
 
@@ -56,7 +56,7 @@ class Target(Protocol):
 def parser() -> argparse.ArgumentParser:
     made = argparse.ArgumentParser(prog="serve/torture", description="Runs tests of smbtorture against the proved server.",
                                    epilog=EPILOG, formatter_class=argparse.RawDescriptionHelpFormatter)
-    made.add_argument("name", metavar="NAME", nargs="*", help="a test, as smb2.lease.request; all of the suites' where none is named")
+    made.add_argument("name", metavar="NAME", nargs="*", help="a test, as smb2.lease.request; all of the suites where none is")
     made.add_argument("--smbd", action="store_true", help="against a private smbd, for comparison; needs root")
     made.add_argument("--limit", type=float, default=150.0, metavar="S", help="seconds that a test may take (150)")
     made.add_argument("--jobs", type=int, default=2, metavar="N", help="how many at a time (2)")
