@@ -6,7 +6,6 @@ import select
 import signal
 import socket
 import subprocess
-import sys
 import tempfile
 import uuid
 from typing import IO, List, Optional
@@ -80,8 +79,6 @@ class ServedServer:
         self._errors.seek(0)
         self.complaints, self.status = self._errors.read(), self._process.returncode
         self._errors.close()
-        if self.complaints:
-            print(self.complaints, file=sys.stderr, end="")
 
     def _port(self) -> int:
         stream: Optional[IO[str]] = self._process.stdout
@@ -126,3 +123,8 @@ class DrivenServer(ServedServer):
 
     def content(self, file: int) -> Optional[bytes]:
         return None
+
+    def close(self) -> None:
+        super().close()
+        if self.complaints:
+            raise DriveFault(f"the server complained: {self.complaints.strip()}")

@@ -91,7 +91,8 @@ def tortured(name: str, server: Callable[[str], Target], limit: float) -> Row:
             kind, why = _outcome(told.stdout + told.stderr, told.returncode)
         except subprocess.TimeoutExpired:
             kind, why = Kind.FAILED, f"not over within {limit:.0f} s"
-    return Row(name, kind, time.monotonic() - begun, why)
+    complaints = target.complaints.strip() if isinstance(target, ServedServer) else ""
+    return Row(name, kind, time.monotonic() - begun, f"{why} {complaints}".strip())
 
 
 def _outcome(told: str, status: int) -> "tuple[Kind, str]":
