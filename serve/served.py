@@ -65,6 +65,13 @@ class ServedServer:
             raise DriveFault(f"the server's control refused: {line}")
         return told == b"done\n"
 
+    def wait(self) -> None:
+        """Until it has ended by itself."""
+        try:
+            self._process.wait(PATIENCE)
+        except subprocess.TimeoutExpired:
+            raise DriveFault("the server doesn't end") from None
+
     def close(self) -> None:
         """Ends it; its verdict is what it printed last."""
         if self._process.poll() is None:

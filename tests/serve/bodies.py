@@ -46,7 +46,8 @@ def on_open(file_id: int) -> List[Body]:
         (Command.SET_INFO, struct.pack("<HBBLHHL16s", 33, 1, 20, 8, 96, 0, 0, wire) + struct.pack("<Q", 100)),
         (Command.SET_INFO, struct.pack("<HBBLHHL16s", 33, 1, 10, 20 + len(name), 96, 0, 0, wire)
          + struct.pack("<QQL", 1, 0, len(name)) + name),
-        (Command.SET_INFO, struct.pack("<HBBLHHL16s", 33, 1, 4, 40, 96, 0, 0, wire) + struct.pack("<QQQQLL", 1, 2, 3, 4, 0x20, 0)),
+        (Command.SET_INFO, struct.pack("<HBBLHHL16s", 33, 1, 4, 40, 96, 0, 0, wire)
+         + struct.pack("<QQQQLL", 1, 2, 3, 4, 0x20, 0)),
         (Command.QUERY_DIRECTORY, struct.pack("<HBBL16sHHL", 33, 37, 0, 0, wire, 96, 2, 4096) + "*".encode("utf-16le")),
         (Command.IOCTL, struct.pack("<HHL16sLLLLLLLL", 57, 0, 0x00140204, wire, 120, 4, 0, 0, 0, 100, 1, 0) + b"abcd"),
         (Command.CHANGE_NOTIFY, struct.pack("<HHL16sLL", 32, 0, 4096, wire, 1, 0)),

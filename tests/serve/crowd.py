@@ -86,7 +86,9 @@ def crowded(place: Place, clients: int, count: int) -> List[Member]:
         thread.start()
     for thread in threads:
         thread.join()
-    for one in (*members, *silent):
+    for member in members:
+        member.close()
+    for one in silent:
         one.close()
     if faults:
         raise DriveFault(faults[0])
