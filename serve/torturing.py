@@ -97,10 +97,16 @@ def tortured(name: str, server: Callable[[str], Target], limit: float) -> Row:
 
 def _outcome(told: str, status: int) -> "tuple[Kind, str]":
     found = re.search(r"^(success|skip|failure|error): \S+(?: \[\n(.*?)\n\])?$", told, re.MULTILINE | re.DOTALL)
-    words = " ".join((found.group(2) or "").split()) if found else " ".join(told.split())[-200:]
+    words = " ".join((found.group(2) or "").split()) if found else _last_word(told)
     if found and found.group(1) == "success" and status == 0:
         return Kind.PASSED, ""
     return (Kind.SKIPPED if found and found.group(1) == "skip" else Kind.FAILED), words
+
+
+def _last_word(told: str) -> str:
+    """What was told last of a status, where smbtorture breaks down without a word of its own."""
+    lines = [line for line in told.splitlines() if "NT_STATUS_" in line]
+    return " ".join((lines or told.splitlines() or ["nothing"])[-1].split())
 
 
 def main(arguments: argparse.Namespace) -> int:
