@@ -47,17 +47,25 @@ class Chain:
         self._session, self._tree = requests[0].session, requests[0].tree
         self._previous: Optional[int] = None
         self._failed: Optional[Status] = None
+        self._is_waiting = self._is_going = False
 
     def go_on(self) -> None:
-        """Begins the next request, or sends what is answered where there is none."""
-        if not self._requests:
-            self.send()
+        """Begins each request once the one before it is answered, and sends the answers behind the last."""
+        if self._is_going:
             return
-        request = self._requests.pop(0)
+        self._is_going = True
+        while self._requests and not self._is_waiting and self._connection.is_open:
+            self._is_waiting = True
+            self._connection.begin(Pending(self._asked(self._requests.pop(0)), self), self._failed)
+        self._is_going = False
+        if not self._is_waiting:
+            self.send()
+
+    def _asked(self, request: Request) -> Asked:
         asked = Asked(request, self._connection, self._connection.server, self._session, self._tree, self._previous)
         if not request.is_related:
             asked.session_id, asked.tree_id = request.session, request.tree
-        self._connection.begin(Pending(asked, self), self._failed)
+        return asked
 
     def send(self) -> None:
         if self._responses:
@@ -73,7 +81,12 @@ class Chain:
         if request.command is Command.CREATE and answer.status >> 30 == 3:
             self._failed = answer.status
         self._responses.append(self._connection.response(pending, answer, self._session, self._tree))
-        self.go_on()
+        self._is_waiting = False
+        # The last answer goes at once: what the machine tells next may be for the same client.
+        if self._requests:
+            self.go_on()
+        else:
+            self.send()
 
 
 class Connection:

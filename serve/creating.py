@@ -23,6 +23,9 @@ if TYPE_CHECKING:
     from serve.server import Server
 
 
+MOST_OPENS = 16384
+
+
 class Vanished(Exception):
     """The file was deleted while its create waited; another may have its name."""
 
@@ -38,6 +41,8 @@ class Creating:
         if RECONNECT in wish.parts:
             return (yield from self._reconnect(asked, wish))
         check(wish)
+        if len(self._server.opens) >= MOST_OPENS:
+            raise Refused(Status.INSUFFICIENT_RESOURCES)
         while True:
             node = self._server.names.find(wish.path)
             if node:
@@ -103,7 +108,7 @@ class Creating:
         if any(conflicts(wish, it) for it in node.opens):
             yield from self._shared(asked, wish, node)
         if wish.empties and node.length:
-            self._emptied(node)
+            yield from self._emptied(asked, wish, node)
         has_data = reads(wish.access) or writes(wish.access) or wish.empties
         if not has_data and wish.level == NO_LEVEL:
             if not is_stat(wish.access):
@@ -134,15 +139,20 @@ class Creating:
 
     def _shared(self, asked: "Asked", wish: Wish, node: Node) -> Steps:
         """Deletion is shared or not: where it isn't, those that only may open again are asked to close."""
+        yield from self._handles_go(asked, wish, node)
+        if any(conflicts(wish, it) for it in node.opens):
+            raise Refused(Status.SHARING_VIOLATION)
+
+    def _handles_go(self, asked: "Asked", wish: Wish, node: Node) -> Steps:
         yield from self._server.probes.handles_go(asked, node, asked.holder, wish.key)
         self._server.refresh(node.opens)
         if node.is_gone:
             raise Vanished
-        if any(conflicts(wish, it) for it in node.opens):
-            raise Refused(Status.SHARING_VIOLATION)
 
-    def _emptied(self, node: Node) -> None:
+    def _emptied(self, asked: "Asked", wish: Wish, node: Node) -> Steps:
         """An empty file in the place of one that nobody has open. There is no truncation of others."""
+        if node.opens:
+            yield from self._handles_go(asked, wish, node)
         if node.opens:
             raise Refused(Status.NOT_SUPPORTED)
         self._server.names.renumber(node)

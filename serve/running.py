@@ -3,12 +3,10 @@ from __future__ import annotations
 
 import argparse
 import contextlib
-import ipaddress
 import logging
 import os
 import signal
-import socket
-from typing import Dict, Iterator, List, Optional, Sequence, Tuple
+from typing import Dict, List, Optional, Sequence, Tuple
 
 from drive.ending import NOT_DRIVEN, SAFE, UNSAFE, ended
 from drive.faults import DriveFault, Usage
@@ -16,6 +14,7 @@ from drive.machine import LineProcess
 from drive.program import OWN, judged
 from drive.schedules import digits
 from serve.control import Control
+from serve.listening import Listening, listening
 from serve.loop import Loop
 from serve.names import FORBIDDEN, MOST, Names
 from serve.recording import Record
@@ -101,23 +100,6 @@ def named(folders: List[str], files: Dict[str, bytes], record: Record) -> Names:
     return names
 
 
-@contextlib.contextmanager
-def listening(address: str, port: int) -> Iterator[socket.socket]:
-    try:
-        family = socket.AF_INET6 if ipaddress.ip_address(address).version == 6 else socket.AF_INET
-    except ValueError:
-        raise Usage("--address is an address of IP") from None
-    with socket.socket(family) as stream:
-        try:
-            stream.setsockopt(socket.SOL_SOCKET, socket.SO_REUSEADDR, 1)
-            stream.bind((address, port))
-            stream.listen(128)
-        except OSError as fault:
-            raise DriveFault(f"{address}, port {port}: {fault.strerror}") from None
-        stream.setblocking(False)
-        yield stream
-
-
 def main(arguments: argparse.Namespace) -> int:
     settings = settings_of(arguments)
     folders, files = files_in(arguments.folder)
@@ -127,7 +109,7 @@ def main(arguments: argparse.Namespace) -> int:
         machine = LineProcess(arguments.leasecheck, "server", [f"file {digits(it)}" for it in contents])
         with contextlib.closing(machine), contextlib.closing(Loop()) as loop:
             server = Server(settings, loop, machine, record, names)
-            loop.watch(stream, lambda events: server.accept(stream))
+            Listening(server, stream)
             if arguments.control is not None:
                 Control(server, arguments.control)
             for number in (signal.SIGTERM, signal.SIGINT):

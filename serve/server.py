@@ -3,7 +3,6 @@ from __future__ import annotations
 
 import logging
 import os
-import socket
 import uuid
 from dataclasses import dataclass
 from typing import Callable, Dict, List, Optional, Tuple
@@ -151,15 +150,6 @@ class Server:
 
     # Who is connected
 
-    def accept(self, listening: socket.socket) -> None:
-        try:
-            stream, _ = listening.accept()
-            stream.setsockopt(socket.IPPROTO_TCP, socket.TCP_NODELAY, 1)
-        except OSError as fault:
-            LOG.warning("a connection wasn't accepted: %s", fault.strerror)
-            return
-        Connection(self, stream)
-
     def joins(self, connection: Connection) -> None:
         """A client is connected, once at a time (own)."""
         if connection.holder or connection.guid is None:
@@ -258,7 +248,6 @@ class Server:
         node.opens.remove(opened)
         node.is_deleting = node.is_deleting or opened.deletes
         self._lease_gone(opened)
-        self.refresh(node.opens)
         if node.is_deleting and not node.opens and not node.is_gone:
             self.names.remove(node)
 

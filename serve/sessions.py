@@ -25,6 +25,7 @@ IS_GUEST = 1
 BINDING = 1
 DISK, PIPE = 1, 2
 FULL_ACCESS = 0x1F01FF
+MOST_SESSIONS, MOST_TREES = 64, 256
 
 
 @dataclass(eq=False)
@@ -98,6 +99,8 @@ class Sessions:
         return Answer(status, body, session=session.identifier, key=session.key if exchange.is_over else None)
 
     def _new(self, connection: "Connection") -> Session:
+        if len(connection.sessions) == MOST_SESSIONS:
+            raise Refused(Status.INSUFFICIENT_RESOURCES)
         self._server.last_session += 1
         session = Session(self._server.last_session, connection)
         connection.sessions[session.identifier] = session
@@ -126,6 +129,8 @@ class Sessions:
         share = tree_path(asked.request).rpartition("\\")[2].lower()
         if share not in (self._server.settings.share.lower(), "ipc$"):
             raise Refused(Status.BAD_NETWORK_NAME)
+        if len(asked.session.trees) == MOST_TREES:
+            raise Refused(Status.INSUFFICIENT_RESOURCES)
         tree = Tree(self._next_tree, share == "ipc$")
         self._next_tree += 1
         asked.session.trees[tree.identifier] = tree

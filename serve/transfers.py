@@ -19,6 +19,7 @@ if TYPE_CHECKING:
 LARGEST = 1048576
 MOST_OFFSET = 0xFFFFFFFF
 WITH_ATTRIBUTES = 1
+MOST_LOCKS = 1024
 SHARED, EXCLUSIVE, UNLOCK, AT_ONCE = 1, 2, 4, 16
 
 
@@ -42,6 +43,7 @@ class Transfers:
             self._server.leases.believes_nothing(opened)
             (yield Ask(opened.holder.number, f"close {opened.file_id}")).expect()
         self._server.is_closed(opened)
+        self._server.refresh(opened.node.opens)
         flags = asked.request.number(HEADER + 2, 2) & WITH_ATTRIBUTES
         told = attributes_of(opened.node) if flags else bytes(52)
         return Answer(Status.SUCCESS, struct.pack("<HHL", 60, flags, 0) + told)
@@ -125,6 +127,8 @@ class Transfers:
         if wanted[0][1] & UNLOCK:
             _unlock(opened, [it[0] for it in wanted])
         else:
+            if len(opened.locks) + count > MOST_LOCKS:
+                raise Refused(Status.INSUFFICIENT_RESOURCES)
             yield from self._server.probes.others_cache_nothing(asked, opened)
             for lock, flags in wanted:
                 if flags & ~AT_ONCE not in (SHARED, EXCLUSIVE):

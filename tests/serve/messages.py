@@ -14,6 +14,7 @@ from serve.packets import Credits, Frames, Unreadable, parted
 from serve.served import ServedServer
 
 FILE_CLOSED = 0xC0000128
+ECHO = struct.pack("<HH", 4, 0)
 
 
 def window() -> str:
@@ -69,6 +70,26 @@ def compound(program: str) -> str:
         return differs((got, read), (expected, b"\0\0\0bytes"))
 
 
+def long_compound(program: str) -> str:
+    """A thousand related requests in one frame, each answered."""
+    with closing(ServedServer(program)) as server, closing(Asker(server.place)) as one:
+        victim = one.victim
+        first = bytearray(bodies.header(Command.ECHO, victim.number, victim.session, victim.tree))
+        first[14:16] = (4096).to_bytes(2, "little")
+        victim.stream.sendall(bodies.frame(bytes(first) + ECHO))
+        one.receive()
+        headers = [bodies.header(Command.ECHO, victim.number + 1 + place, victim.session, victim.tree, 72 if place < 999 else 0,
+                                 RELATED if place else 0) for place in range(1000)]
+        data = b"".join(header + ECHO + bytes(4) for header in headers)
+        victim.stream.sendall(bodies.frame(data))
+        told, count = one.receive(), 0
+        while told:
+            following, = struct.unpack_from("<L", told, 20)
+            count += status(told) == 0
+            told = told[following:] if following else b""
+        return differs(count, 1000)
+
+
 def contexts(program: str) -> str:
     """The machine's contexts, and those that the shell adds."""
     with closing(ServedServer(program)) as server, closing(Asker(server.place)) as one:
@@ -92,7 +113,7 @@ def negotiated(dialects: bytes, expected: int) -> Callable[[str], str]:
 
 
 def cases(program: str) -> List[Case]:
-    served = [("a compound", compound), ("contexts of a reply", contexts),
+    served = [("a compound", compound), ("a long compound", long_compound), ("contexts of a reply", contexts),
               ("SMB 1 with SMB 2.???", negotiated(b"\x02NT LM 0.12\0\x02SMB 2.002\0\x02SMB 2.???\0", 0x02FF)),
               ("SMB 1 alone", negotiated(b"\x02NT LM 0.12\0", 0))]
     return [("numbers of requests", window), ("frames in pieces", frames),

@@ -82,7 +82,25 @@ def cancelled(program: str) -> str:
         return differs((status(waits), status(done), status(alone)), (PENDING, CANCELLED, 0))
 
 
+def control(program: str) -> str:
+    """Lines of control: what can't be read is refused, what isn't there is nothing, and a break's timer ends by its client's
+    number as by its ClientGuid."""
+    with closing(ServedServer(program)) as server, closing(Asker(server.place)) as one, closing(Asker(server.place)) as other:
+        refused = 0
+        for line in ("", "expire", "expire 1 6", "expire one 61", "scavenge x", "scavenge 1 2", "expire 300 61 61"):
+            try:
+                server.tell(line)
+            except DriveFault as fault:
+                refused += "refused" in str(fault)
+        nothing = [server.tell(line) for line in (f"expire 1 {KEY.hex()}", "expire 9 61", "scavenge 1")]
+        one.ask(bodies.leased("file", KEY, 7))
+        other.send(bodies.create("file"))
+        waits = other.receive()
+        ended = server.tell(f"expire 1 {KEY.hex()}")
+        return differs((refused, nothing, status(waits), ended, status(other.receive())), (7, [False] * 3, PENDING, True, 0))
+
+
 def cases(program: str) -> List[Case]:
     chosen = [("timer: of a break", of_a_break), ("timer: of a durable open", of_a_durable_open),
-              ("a create is cancelled", cancelled)]
+              ("a create is cancelled", cancelled), ("lines of control", control)]
     return [(name, partial(case, program)) for name, case in chosen]
