@@ -83,8 +83,7 @@ def cancelled(program: str) -> str:
 
 
 def control(program: str) -> str:
-    """Lines of control: what can't be read is refused, what isn't there is nothing, and a break's timer ends by its client's
-    number as by its ClientGuid."""
+    """Lines of control: what can't be read is refused, what isn't there is nothing, and the timer of a break ends."""
     with closing(ServedServer(program)) as server, closing(Asker(server.place)) as one, closing(Asker(server.place)) as other:
         refused = 0
         for line in ("", "expire", "expire 1 6", "expire one 61", "scavenge x", "scavenge 1 2", "expire 300 61 61"):
