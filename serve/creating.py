@@ -107,12 +107,15 @@ class Creating:
         """An open of a file, and the contexts of its reply."""
         if any(conflicts(wish, it) for it in node.opens):
             yield from self._shared(asked, wish, node)
+        before = (node.number, node.length, node.is_changed)
         if wish.empties and node.length:
             yield from self._emptied(asked, wish, node)
         has_data = reads(wish.access) or writes(wish.access) or wish.empties
         if not has_data and wish.level == NO_LEVEL:
             if not is_stat(wish.access):
                 yield from self._others_write_no_more(asked, wish, node)
+            if node.is_gone:
+                raise Vanished
             opened = self._kept(asked, wish, node, self._server.own_file_id())
             yield from self._deletes(asked, opened)
             return opened, b""
@@ -120,6 +123,7 @@ class Creating:
         try:
             sent = (yield Ask(holder.number, f"create {node.number} {data_access(wish)} {digits(text)}")).expect()
         except Refused:
+            self._server.names.take_back(node, before)
             if holder.guid is None:
                 self._server.free(holder)
             raise

@@ -3,7 +3,7 @@ from __future__ import annotations
 
 import time
 from dataclasses import dataclass, field
-from typing import TYPE_CHECKING, Dict, List, Optional
+from typing import TYPE_CHECKING, Dict, List, Optional, Tuple
 
 from serve.statuses import Refused, Status
 
@@ -113,6 +113,12 @@ class Names:
     def renumber(self, node: Node) -> None:
         """The file is empty from here on. Nobody has it open."""
         node.number, node.length, node.is_changed = self.new_number(), 0, False
+
+    def take_back(self, node: Node, before: Tuple[int, int, bool]) -> None:
+        """The file is the one that it was before it was emptied."""
+        if node.number != before[0]:
+            self._free.append(node.number)
+            node.number, node.length, node.is_changed = before
 
     def parent(self, path: str) -> Optional[Node]:
         found = self.find(path.rpartition("\\")[0])

@@ -28,9 +28,10 @@ def create(name: str, access: int = 0x12019F, share: int = 7, disposition: int =
     return Command.CREATE, fixed + (padded + contexts or b"\0")
 
 
-def leased(name: str, key: bytes, state: int, durable: bool = False) -> Body:
+def leased(name: str, key: bytes, state: int, durable: bool = False, disposition: int = 3) -> Body:
     items = [(b"RqLs", key + struct.pack("<LLQ", state, 0, 0))] + ([(b"DHnQ", bytes(16))] if durable else [])
-    return create(name, level=0xFF, contexts=written([*items, (b"MxAc", bytes(8)), (b"QFid", b"")]))
+    added = [(b"MxAc", bytes(8)), (b"QFid", b"")]
+    return create(name, level=0xFF, contexts=written([*items, *added]), disposition=disposition)
 
 
 def on_open(file_id: int) -> List[Body]:
