@@ -47,7 +47,8 @@ def deletion(program: str) -> str:
         got = [status(one.ask((Command.SET_INFO, dispose))), status(other.ask(bodies.create("file"))),
                status(one.ask(kind(first, Command.CLOSE))), status(other.ask(kind(second, Command.READ))),
                status(other.ask(bodies.create("file"))), status(other.ask(kind(second, Command.CLOSE))),
-               *(status(it.ask(bodies.create("file", disposition=how))) for it, how in ((other, OPEN), (other, CREATE), (one, CREATE)))]
+               *(status(it.ask(bodies.create("file", disposition=how)))
+                 for it, how in ((other, OPEN), (other, CREATE), (one, CREATE)))]
         end = 0xC0000011
         return differs(got, [0, DELETE_PENDING, 0, end, DELETE_PENDING, 0, NOT_FOUND, 0, COLLISION])
 
