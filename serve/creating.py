@@ -169,6 +169,10 @@ class Creating:
 
     def _holder(self, asked: "Asked", wish: Wish, node: Node) -> Tuple[Holder, bytes]:
         """Who asks the machine, and with which contexts: an oplock is a lease under a key of its own."""
+        is_beside = any(it.holder is asked.holder and it.key for it in node.opens)
+        if wish.level == NO_LEVEL and self._server.settings.is_apart and is_beside:
+            told = f"an open of client {asked.holder.number} without a lease"
+            return self._server.borrow(asked.connection, told), lease_contexts(wish)
         if wish.level in (LEASE, NO_LEVEL):
             return asked.holder, lease_contexts(wish)
         others = any(it.holder and (it.is_connected or not self._may_write(it)) for it in node.opens)
@@ -188,12 +192,13 @@ class Creating:
         granted = contexts.parts(bytes.fromhex(sent.words[2]) if sent.words[2] != "-" else b"")
         opened = self._kept(asked, wish, node, int(sent.words[1]))
         opened.holder, opened.is_durable = holder, DURABLE in granted
+        if holder.guid is None:
+            holder.open = opened
         if LEASE_NAME in granted:
             opened.key = granted[LEASE_NAME][:16]
             opened.level = LEASE
             self._server.leases.granted(holder, node, granted[LEASE_NAME])
             if holder.guid is None:
-                holder.open = opened
                 opened.level = level_of(wish.level, holder.leases[opened.key].state)
         return opened
 

@@ -41,6 +41,8 @@ def parser() -> argparse.ArgumentParser:
     made.add_argument("--break-timer", type=float, default=35.0, metavar="S", help="seconds that a break is waited for (35)")
     made.add_argument("--durable-timer", type=float, default=960.0, metavar="S",
                       help="seconds that a durable open is kept without a connection (960)")
+    made.add_argument("--apart", action="store_true",
+                      help="opens without a lease don't wait with what their client asks under its lease of the file")
     made.add_argument("--control", type=int, metavar="FD", help="read lines there that end a timer now")
     made.add_argument("--leasecheck", metavar="PATH", default=OWN, help="the program leasecheck")
     made.add_argument("--verbose", action="store_true", help="tell more on standard error")
@@ -60,7 +62,7 @@ def settings_of(arguments: argparse.Namespace) -> Settings:
         raise Usage("--share is a name")
     if not 0 < arguments.break_timer < 1e9 or not 0 < arguments.durable_timer < 1e9:
         raise Usage("timers are more than 0 seconds")
-    return Settings(arguments.share, user, arguments.break_timer, arguments.durable_timer)
+    return Settings(arguments.share, user, arguments.break_timer, arguments.durable_timer, arguments.apart)
 
 
 def files_in(folder: Optional[str]) -> Tuple[List[str], Dict[str, bytes]]:

@@ -38,6 +38,8 @@ class Settings:
     user: Optional[Tuple[str, str]] = None
     break_timer: float = 35.0
     durable_timer: float = 960.0
+    # whether an open without a lease, beside a lease of its client, is a client of the machine by itself
+    is_apart: bool = False
 
 
 class Server:

@@ -58,6 +58,7 @@ def parser() -> argparse.ArgumentParser:
                                    epilog=EPILOG, formatter_class=argparse.RawDescriptionHelpFormatter)
     made.add_argument("name", metavar="NAME", nargs="*", help="a test, as smb2.lease.request; all of the suites where none is")
     made.add_argument("--smbd", action="store_true", help="against a private smbd, for comparison; needs root")
+    made.add_argument("--apart", action="store_true", help="with serve/run --apart")
     made.add_argument("--limit", type=float, default=150.0, metavar="S", help="seconds that a test may take (150)")
     made.add_argument("--jobs", type=int, default=2, metavar="N", help="how many at a time (2)")
     made.add_argument("--record", metavar="PREFIX", help="keep the records as PREFIX with the test's name behind it")
@@ -118,7 +119,8 @@ def main(arguments: argparse.Namespace) -> int:
     def server(name: str) -> Target:
         if arguments.smbd:
             return PrivateServer()
-        return ServedServer(arguments.leasecheck, f"{arguments.record}{name}" if arguments.record else None)
+        record = f"{arguments.record}{name}" if arguments.record else None
+        return ServedServer(arguments.leasecheck, record, ["--apart"] if arguments.apart else [])
     if arguments.smbd:
         # Compiled once, before servers are made side by side.
         library()
