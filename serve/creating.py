@@ -192,6 +192,7 @@ class Creating:
         granted = contexts.parts(bytes.fromhex(sent.words[2]) if sent.words[2] != "-" else b"")
         opened = self._kept(asked, wish, node, int(sent.words[1]))
         opened.holder, opened.is_durable = holder, DURABLE in granted
+        opened.is_lent = wish.empties or not (reads(wish.access) or writes(wish.access))
         if holder.guid is None:
             holder.open = opened
         if LEASE_NAME in granted:

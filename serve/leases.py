@@ -20,7 +20,6 @@ NOTICE = struct.Struct("<HHL16sLL")
 ACKNOWLEDGMENT = struct.Struct("<HHL16sLQ")
 OPLOCK = struct.Struct("<HBBLQQ")
 ACK_REQUIRED = 1
-STATES = 7
 WANTED = {LEVEL_II: READING, EXCLUSIVE: READING | WRITING}
 
 
@@ -76,8 +75,8 @@ class Leases:
             opened.is_breaking = is_acknowledged
 
     def acknowledge(self, asked: "Asked") -> Doing:
-        """An acknowledgment of a lease, or of an oplock (2.2.24)."""
-        if asked.request.number(HEADER, 2) == 24:
+        """An acknowledgment of a lease, or of an oplock (2.2.24). What is as long as the first is the machine's to refuse."""
+        if asked.request.number(HEADER, 2) == 24 and len(asked.request.data) < HEADER + ACKNOWLEDGMENT.size:
             return (yield from self._acknowledge_oplock(asked))
         body = asked.request.part(HEADER, ACKNOWLEDGMENT.size)
         return Answer(Status.SUCCESS, (yield from self.acknowledged(asked.holder, body)))
@@ -97,7 +96,8 @@ class Leases:
         lease = holder.leases.get(key)
         if lease and lease.broken_by is not None:
             self._server.record.took(holder, lease.broken_by)
-            self._server.record.believes(holder, lease, state & STATES)
+            # Nobody comes to believe more by an acknowledgment.
+            self._server.record.believes(holder, lease, state & lease.believed)
         sent = (yield Ask(holder.number, f"ack {body.hex()}")).expect()
         response = bytes.fromhex(sent.words[0])
         if lease:

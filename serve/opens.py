@@ -77,6 +77,8 @@ class Open:
     deletes: bool = False
     position: int = 0
     locks: List[Lock] = field(default_factory=list)
+    # the machine's open may do more than this one
+    is_lent: bool = False
     # a break of its oplock waits for the client's word
     is_breaking: bool = False
     # until when it is kept without a connection

@@ -78,7 +78,7 @@ class Transfers:
     def _readable(opened: Open, offset: int, length: int) -> None:
         if opened.node.is_folder:
             raise Refused(Status.INVALID_DEVICE_REQUEST)
-        if opened.holder is None or not reads(opened.access):
+        if opened.holder is None or opened.is_lent and not reads(opened.access):
             raise Refused(Status.ACCESS_DENIED)
         if any(lock.is_exclusive and lock.meets(offset, length) for lock in _locks_of_others(opened)):
             raise Refused(Status.FILE_LOCK_CONFLICT)
@@ -110,7 +110,7 @@ class Transfers:
     def _writable(opened: Open, offset: int, length: int) -> None:
         if opened.node.is_folder:
             raise Refused(Status.INVALID_DEVICE_REQUEST)
-        if opened.holder is None or not writes(opened.access):
+        if opened.holder is None or opened.is_lent and not writes(opened.access):
             raise Refused(Status.ACCESS_DENIED)
         if any(lock.meets(offset, length) for lock in _locks_of_others(opened)):
             raise Refused(Status.FILE_LOCK_CONFLICT)
