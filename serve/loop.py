@@ -4,9 +4,11 @@ from __future__ import annotations
 import heapq
 import itertools
 import selectors
+import signal
+import socket
 import time
 from dataclasses import dataclass, field
-from typing import Callable, List, Protocol
+from typing import Callable, List, Optional, Protocol
 
 READ, WRITE = selectors.EVENT_READ, selectors.EVENT_WRITE
 
@@ -33,6 +35,19 @@ class Loop:
         self._timers: List[Timer] = []
         self._places = itertools.count()
         self._is_stopped = False
+        # A signal wakes the loop by a byte.
+        self._woken, self._waker = socket.socketpair()
+        for end in (self._woken, self._waker):
+            end.setblocking(False)
+        self.watch(self._woken, lambda events: self._wake())
+
+    def stop_at(self, *signals: int) -> None:
+        signal.set_wakeup_fd(self._waker.fileno(), warn_on_full_buffer=False)
+        for number in signals:
+            signal.signal(number, lambda *_: self.stop())
+
+    def _wake(self) -> None:
+        self._woken.recv(64)
 
     def watch(self, stream: Watched, ready: Callable[[int], None]) -> None:
         self._selector.register(stream, READ, ready)
@@ -60,13 +75,15 @@ class Loop:
             self._ring()
 
     def close(self) -> None:
+        signal.set_wakeup_fd(-1)
         self._selector.close()
+        self._woken.close()
+        self._waker.close()
 
-    def _until_next(self) -> float:
+    def _until_next(self) -> Optional[float]:
         while self._timers and self._timers[0].is_over:
             heapq.heappop(self._timers)
-        # A signal ends the wait too.
-        return min(1.0, max(0.0, self._timers[0].due - time.monotonic())) if self._timers else 1.0
+        return max(0.0, self._timers[0].due - time.monotonic()) if self._timers else None
 
     def _ring(self) -> None:
         while self._timers and (self._timers[0].is_over or self._timers[0].due <= time.monotonic()):

@@ -114,8 +114,7 @@ def main(arguments: argparse.Namespace) -> int:
             Listening(server, stream)
             if arguments.control is not None:
                 Control(server, arguments.control)
-            for number in (signal.SIGTERM, signal.SIGINT):
-                signal.signal(number, lambda *_: loop.stop())
+            loop.stop_at(signal.SIGTERM, signal.SIGINT)
             machine.say("content 1")
             print(f"port {stream.getsockname()[1]}", flush=True)
             try:
