@@ -22,6 +22,8 @@ mod files;
 mod known;
 mod snapshot;
 
+pub use snapshot::apply;
+
 /// Judges a record (own), of any origin, in one pass: it is given fact after fact, and can tell at any time what the record of
 /// the facts so far is. For each file it keeps the bytes with which it was started and its changes, for each client its
 /// beliefs, its writes, the numbers that were settled and the messages on their way, and for each client and file that the

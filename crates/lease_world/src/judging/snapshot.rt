@@ -120,7 +120,7 @@ ghost use Rattle.std.specs.Prelude.{bytes_eq};
 /// # Errors
 ///
 /// `Memory` where the file grows and there is none left.
-fn apply(bytes: &mut Vec<u8>, change: &Patch) -> Result<(), Memory>
+pub fn apply(bytes: &mut Vec<u8>, change: &Patch) -> Result<(), Memory>
     ensures { OnOk result (bytes.new.items ≡ patch bytes.old.items change.now) }
 {
     let held = bytes.len();

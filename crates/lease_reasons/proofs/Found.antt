@@ -1,0 +1,195 @@
+-- Places that are found, against what the definitions say of a past.
+use Rattle.std.proofs.Common.{◌≡◌, ℕ, ◌+◌, ◌≤◌, Bool, true, false, List, [], ◌∷◌, Option, Some, None, length, refl, sym, ap, ◌∙◌, arith}
+use Rattle.std.specs.Prelude.{if◌then◌else◌, ◌&&◌, ◌||◌, ◌==◌, not, nat_le, is_some}
+use Rattle.std.proofs.lemmas.Bool.{both_ways, le-leb}
+use Rattle.lease_model.specs.records.Facts.{Fact}
+use Rattle.lease_model.specs.records.Past.{is_started, has_joined, has_strayed, has_number, has_buffered, is_touched, is_served, is_good}
+use Rattle.lease_state.specs.declared.number.ClientNo.{ClientNo}
+use Rattle.lease_state.specs.declared.number.FileNo.{FileNo}
+use Rattle.lease_reasons.specs.Marks.{fits}
+use Rattle.lease_reasons.specs.Places.{last_place, first_place, earlier}
+use Rattle.lease_reasons.specs.declared.marks.Mark.TheVariants as mark
+
+here_or_before : (b r : Bool) (n : ℕ) (before : Option ℕ) → is_some before ≡ r → is_some (if b then Some n else before) ≡ (b || r)
+here_or_before true r n before e = refl
+here_or_before false r n before e = e
+
+pub started_place : (file : FileNo) (past : List Fact) → is_some (last_place (fits (mark.Start file)) past) ≡ is_started file.0
+    past
+unfolding last_place fits is_started
+started_place file [] = refl
+started_place file (Fact.Start other bytes ∷ past) =
+    here_or_before (other == file.0) (is_started file.0 past) (length past + 1) _ (started_place file past)
+started_place file (_ ∷ past) = started_place file past
+
+pub joined-place : (client : ClientNo) (past : List Fact)
+    → is_some (last_place (fits (mark.Joining client)) past) ≡ has_joined client.0 past
+unfolding last_place fits has_joined
+joined-place client [] = refl
+joined-place client (Fact.Joined other ∷ past) =
+    here_or_before (other == client.0) (has_joined client.0 past) (length past + 1) _ (joined-place client past)
+joined-place client (_ ∷ past) = joined-place client past
+
+pub strayed-place : (client : ClientNo) (past : List Fact)
+    → is_some (last_place (fits (mark.Straying client)) past) ≡ has_strayed client.0 past
+unfolding last_place fits has_strayed
+strayed-place client [] = refl
+strayed-place client (Fact.Strayed other ∷ past) =
+    here_or_before (other == client.0) (has_strayed client.0 past) (length past + 1) _ (strayed-place client past)
+strayed-place client (_ ∷ past) = strayed-place client past
+
+pub good-is : (client : ClientNo) (past : List Fact) (strayed : Option ℕ) → strayed ≡ last_place (fits (mark.Straying client))
+    past
+    → is_good client.0 past ≡ (not (is_some strayed) && is_served client.0 past)
+unfolding is_good
+good-is client past strayed e =
+    ap (λ (b : Bool). not b && is_served client.0 past) (sym (strayed-place client past) ∙ ap (λ (o : Option ℕ). is_some o) (sym
+        e))
+
+pub number-place : (client : ClientNo) (number : ℕ) (past : List Fact)
+    → is_some (last_place (fits (mark.Write client number)) past) ≡ has_number client.0 number past
+unfolding last_place fits has_number
+number-place client number [] = refl
+number-place client number (Fact.Wrote writer file used patch buffered ∷ past) =
+    here_or_before (writer == client.0 && used == number) (has_number client.0 number past) (length past + 1) _
+    (number-place client number past)
+number-place client number (_ ∷ past) = number-place client number past
+
+-- ---- the first place
+
+-- it stands before the one behind the past
+pub first-inside : (test : Fact → Bool) (behind : ℕ) (past : List Fact) (place : ℕ)
+    → first_place test behind past ≡ Some place → place ≤ length past
+unfolding first_place
+first-inside test behind [] place e = let no : ⊥ = cc in absurd no
+first-inside test behind (fact ∷ past) place e =
+    let inside : place ≤ length past + 1 =
+    go (first_place test behind past) (nat_le behind (length past) && test fact) (first-inside test behind past place) e in
+    omega arith
+  where
+    go : (before : Option ℕ) (b : Bool) → (before ≡ Some place → place ≤ length past)
+        → earlier before (if b then Some (length past + 1) else None) ≡ Some place → place ≤ length past + 1
+    go None true inside e = let same : length past + 1 ≡ place = cc in omega arith
+    go None false inside e = let no : ⊥ = cc in absurd no
+    go (Some one) b inside e = let le : place ≤ length past = inside e in omega arith
+
+-- there is one: here, or before
+first-or : (before : Option ℕ) (b r : Bool) (n : ℕ) → is_some before ≡ r
+    → is_some (earlier before (if b then Some n else None)) ≡ (b || r)
+first-or None true r n e = refl
+first-or None false r n e = e
+first-or (Some one) true r n e = refl
+first-or (Some one) false r n e = e
+
+any_place : (n : ℕ) → nat_le 0 n ≡ true
+any_place n = le-leb 0 n (omega arith)
+
+buffered-here : (client : ClientNo) (file : FileNo) (number : ℕ) (fact : Fact) (past : List Fact) (r : Bool)
+    → is_some (first_place (fits (mark.Buffering client file number)) 0 past) ≡ r
+    → is_some (first_place (fits (mark.Buffering client file number)) 0 (fact ∷ past)) ≡ (fits (mark.Buffering client file number)
+        fact || r)
+unfolding first_place
+buffered-here client file number fact past r e =
+    rw (any_place (length past))
+    (first-or (first_place (fits (mark.Buffering client file number)) 0 past) (fits (mark.Buffering client file number) fact) r
+        (length past + 1) e)
+
+pub buffered-place : (client : ClientNo) (file : FileNo) (number : ℕ) (past : List Fact)
+    → is_some (first_place (fits (mark.Buffering client file number)) 0 past) ≡ has_buffered client.0 file.0 number past
+unfolding first_place fits has_buffered
+buffered-place client file number [] = refl
+buffered-place client file number (Fact.Wrote writer other used patch buffered ∷ past) =
+    buffered-here client file number (Fact.Wrote writer other used patch buffered) past _ (buffered-place client file number past)
+buffered-place client file number (fact ∷ past) =
+    buffered-here client file number fact past _ (buffered-place client file number past)
+
+-- nothing is touched by others before it is buffered
+untouched : (client file number : ℕ) (past : List Fact) → has_buffered client file number past ≡ false
+    → is_touched client file number past ≡ false
+unfolding has_buffered is_touched
+untouched client file number [] e = refl
+untouched client file number (Fact.Opened other opener ∷ past) e =
+    rw (e, untouched client file number past e) (none_of (other == file) (not (opener == client)))
+  where
+    none_of : (a b : Bool) → (a && b && false || false) ≡ false
+    none_of a b = grind arith
+untouched client file number (Fact.Changed other writer used patch ∷ past) e =
+    rw (e, untouched client file number past e) (none_of (other == file) (not (writer == client)))
+  where
+    none_of : (a b : Bool) → (a && b && false || false) ≡ false
+    none_of a b = grind arith
+untouched client file number (Fact.Wrote writer other used patch buffered ∷ past) e =
+    untouched client file number past (later _ (has_buffered client file number past) e)
+  where
+    later : (a b : Bool) → (a || b) ≡ false → b ≡ false
+    later a b e = grind arith
+untouched client file number (_ ∷ past) e = untouched client file number past e
+
+touched-is : (client : ClientNo) (file : FileNo) (number : ℕ) (fact : Fact) (past : List Fact)
+    → is_touched client.0 file.0 number (fact ∷ past)
+    ≡ (fits (mark.Touch client file) fact && has_buffered client.0 file.0 number past || is_touched client.0 file.0 number past)
+unfolding fits is_touched
+touched-is client file number (Fact.Opened other opener) past =
+    both (other == file.0) (not (opener == client.0)) (has_buffered client.0 file.0 number past) _
+  where
+    both : (a b h t : Bool) → (a && b && h || t) ≡ ((a && b) && h || t)
+    both a b h t = grind arith
+touched-is client file number (Fact.Changed other writer used patch) past =
+    both (other == file.0) (not (writer == client.0)) (has_buffered client.0 file.0 number past) _
+  where
+    both : (a b h t : Bool) → (a && b && h || t) ≡ ((a && b) && h || t)
+    both a b h t = grind arith
+touched-is client file number _ past = refl
+
+touch-or : (t h i r : Bool) → (t && h || i) ≡ true → (i ≡ true → r ≡ true) → (t || r) ≡ true
+touch-or true h i r e f = refl
+touch-or false h i r e f = f e
+
+-- the first that another client does to the file behind the buffered write
+pub touched-place : (client : ClientNo) (file : FileNo) (number : ℕ) (past : List Fact) (wrote : ℕ)
+    → first_place (fits (mark.Buffering client file number)) 0 past ≡ Some wrote → is_touched client.0 file.0 number past ≡ true
+    → is_some (first_place (fits (mark.Touch client file)) wrote past) ≡ true
+unfolding first_place is_touched
+touched-place client file number [] wrote found touched = absurd (both_ways _ refl touched)
+touched-place client file number (fact ∷ past) wrote found touched =
+    go (first_place (fits (mark.Buffering client file number)) 0 past) refl found
+    (λ at t. touched-place client file number past wrote at t)
+  where
+    later : (fits (mark.Touch client file) fact && has_buffered client.0 file.0 number past || is_touched client.0 file.0 number
+        past) ≡ true
+    later = sym (touched-is client file number fact past) ∙ touched
+
+    go : (before : Option ℕ) → first_place (fits (mark.Buffering client file number)) 0 past ≡ before
+        → earlier before (if nat_le 0 (length past) && fits (mark.Buffering client file number) fact then Some (length past + 1)
+            else None) ≡ Some wrote
+        → (first_place (fits (mark.Buffering client file number)) 0 past ≡ Some wrote → is_touched client.0 file.0 number past ≡
+            true
+        → is_some (first_place (fits (mark.Touch client file)) wrote past) ≡ true)
+        → is_some (first_place (fits (mark.Touch client file)) wrote (fact ∷ past)) ≡ true
+    go None e f before =
+        let none : has_buffered client.0 file.0 number past ≡ false =
+        sym (buffered-place client file number past) ∙ ap (λ (o : Option ℕ). is_some o) e in
+        absurd (both_ways _ (no_touch (fits (mark.Touch client file) fact) _ _ none (untouched client.0 file.0 number past none))
+            later)
+      where
+        no_touch : (t h i : Bool) → h ≡ false → i ≡ false → (t && h || i) ≡ false
+        no_touch t h i a b = grind arith
+    go (Some one) e f before =
+        let same : one ≡ wrote = cc in
+        let at : first_place (fits (mark.Buffering client file number)) 0 past ≡ Some wrote = e ∙ ap (λ (n : ℕ). Some n) same in
+        let inside : nat_le wrote (length past) ≡ true =
+        le-leb wrote (length past) (first-inside (fits (mark.Buffering client file number)) 0 past wrote at) in
+        rw inside (first-or (first_place (fits (mark.Touch client file)) wrote past) (fits (mark.Touch client file) fact) _
+            (length past + 1) refl
+        ∙ touch-or (fits (mark.Touch client file) fact) _ _ _ later (λ t. before at t))
+
+-- what is touched by others was buffered
+pub buffered-if_touched : (client : ClientNo) (file : FileNo) (number : ℕ) (past : List Fact)
+    → is_touched client.0 file.0 number past ≡ true
+    → is_some (first_place (fits (mark.Buffering client file number)) 0 past) ≡ true
+buffered-if_touched client file number past touched =
+    buffered-place client file number past ∙ go (has_buffered client.0 file.0 number past) refl
+  where
+    go : (b : Bool) → has_buffered client.0 file.0 number past ≡ b → b ≡ true
+    go true e = refl
+    go false e = absurd (both_ways _ (untouched client.0 file.0 number past e) touched)

@@ -1,0 +1,10 @@
+use Rattle.std.proofs.Common.{◌≡◌, take}
+use Rattle.std.specs.List.{filter}
+use Rattle.std.specs.Prelude.{not}
+use Rattle.lease_model.specs.records.Past.{has_joined}
+use Rattle.lease_reasons.specs.Places.{past_of}
+use Rattle.lease_reasons.proofs.extent.unjoined.Given as goal
+
+abbrev pub invariant-loop-client : goal.invariant-loop-client
+invariant-loop-client l = l.some.items ≡ filter (λ client. not (has_joined client.0 (past_of l.facts))) (take l.client-index
+    l.clients)

@@ -1,0 +1,11 @@
+use Rattle.std.proofs.Common.{◌≡◌, List, take}
+use Rattle.lease_model.specs.records.Facts.{Fact}
+use Rattle.lease_model.specs.records.Past.{unsettled}
+use Rattle.lease_state.specs.Content.{patches}
+use Rattle.lease_reasons.specs.Places.{past_of}
+use Rattle.lease_reasons.specs.Reads.{AreSettled}
+use Rattle.lease_reasons.proofs.reads.put_writes.Given as goal
+
+abbrev pub invariant-loop-fact : goal.invariant-loop-fact
+invariant-loop-fact l = (past : List Fact) → AreSettled l.client.0 past l.settled.keys
+    → l.bytes.items ≡ patches l.fn.bytes.items (unsettled l.client.0 l.file.0 past (past_of (take l.fact-index l.facts)))

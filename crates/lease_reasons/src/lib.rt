@@ -1,0 +1,16 @@
+//! Why a record of SMB 2.1 leases is safe, unsafe or malformed: the facts that make it so, by their places.
+#![tactic(auto)]
+
+mod beliefs;
+mod explaining;
+mod extent;
+mod malformed;
+mod marks;
+mod messages;
+mod reads;
+mod reason;
+mod writes;
+
+pub use explaining::explain;
+pub use extent::{Extent, extent_of};
+pub use reason::{Belief, Expected, Reason};

@@ -1,0 +1,96 @@
+ghost use Rattle.std.specs.Prelude.{◌≡◌, IfOk};
+ghost use Rattle.lease_state.specs.Content.{end_of};
+ghost use Rattle.lease_reasons.specs.Places.{past_of};
+ghost use Rattle.lease_reasons.specs.Searches.{not_started, started_again, past_limit, number_used, taken_none, malformed};
+
+use crate::marks::Mark;
+use crate::messages::Messages;
+use crate::reason::Reason;
+use lease_facts::Fact;
+use lease_state::{ClientNo, FILE_LIMIT, FileNo, Memory, Patch};
+use std::alloc::Global;
+
+fn not_started(facts: &[Fact], file: FileNo) -> Option<Reason>
+    ensures { result ≡ not_started file (past_of facts.now) }
+{
+    match Mark::Start(file).last(facts) {
+        Some(_) => None,
+        None => Some(Reason::NotStarted { file }),
+    }
+}
+
+fn started_again(facts: &[Fact], file: FileNo) -> Option<Reason>
+    ensures { result ≡ started_again file (past_of facts.now) }
+{
+    let before = Mark::Start(file).last(facts)?;
+    Some(Reason::StartedAgain { file, before })
+}
+
+fn past_limit(patch: &Patch) -> Option<Reason>
+    ensures { result ≡ past_limit patch.now }
+{
+    let end = u128::from(patch.offset) + patch.bytes.len() as u128;
+    if end <= FILE_LIMIT as u128 {
+        None
+    } else {
+        Some(Reason::PastLimit { end })
+    }
+}
+
+fn number_used(facts: &[Fact], client: ClientNo, number: u64) -> Option<Reason>
+    ensures { result ≡ number_used client number (past_of facts.now) }
+{
+    let before = Mark::Write(client, number).last(facts)?;
+    Some(Reason::NumberUsed {
+        client,
+        number,
+        before,
+    })
+}
+
+// Why the client can't take a message, if it can't.
+fn nothing_taken(alloc: Global, facts: &[Fact], client: ClientNo) -> Result<Option<Reason>, Memory>
+    ensures { IfOk result (λ told. told ≡ taken_none client (past_of facts.now)
+        (last_place (fits (mark.Joining client)) (past_of facts.now))) }
+{
+    let Some(joined) = Mark::Joining(client).last(facts) else {
+        return Ok(Some(Reason::NotJoined { client }));
+    };
+    let messages = Messages::of(alloc, facts, client)?;
+    let sent = messages.sent();
+    if messages.taken() < sent {
+        return Ok(None);
+    }
+    Ok(Some(Reason::NothingToTake {
+        client,
+        joined,
+        sent,
+    }))
+}
+
+ghost use Rattle.lease_reasons.specs.Marks.{fits};
+ghost use Rattle.lease_reasons.specs.Places.{last_place};
+ghost use Rattle.lease_reasons.specs.declared.marks.Mark.TheVariants as mark;
+
+/// Why a fact behind these is malformed, if it is.
+///
+/// # Errors
+///
+/// `Memory` where there is none left for the messages of a client.
+pub fn malformed(alloc: Global, facts: &[Fact], fact: &Fact) -> Result<Option<Reason>, Memory>
+    ensures { IfOk result (λ told. told ≡ malformed fact.now (past_of facts.now)) }
+{
+    Ok(match fact {
+        Fact::Start(file, _) => started_again(facts, *file),
+        Fact::Took(client) => nothing_taken(alloc, facts, *client)?,
+        Fact::Expired(_, file)
+        | Fact::Opened(file, _)
+        | Fact::Believes(_, file, _)
+        | Fact::CachedRead(_, file, _) => not_started(facts, *file),
+        Fact::Changed(file, _, _, patch) => not_started(facts, *file).or(past_limit(patch)),
+        Fact::Wrote(client, file, number, patch, _) => not_started(facts, *file)
+            .or(past_limit(patch))
+            .or(number_used(facts, *client, *number)),
+        _ => None,
+    })
+}
