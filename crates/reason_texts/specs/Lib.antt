@@ -1,0 +1,4 @@
+pub mod Placed
+pub mod FactWords
+pub mod ReasonWords
+pub mod Explained
