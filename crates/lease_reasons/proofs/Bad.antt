@@ -199,7 +199,7 @@ place-inside xs p r e =
     (unsafe-of (1 + length bad.before) p r (is_well_formed bad.fact (reverse_aux bad.before [])) _ _ _ _ bad.flaw).0 in
     let all : length xs ≡ length bad.before + length (bad.fact ∷ bad.later) =
     sym (length-map xs fact_of) ∙ (ap (λ (fs : List Fact). length fs) bad.parts ∙ length-append bad.before (bad.fact ∷ bad.later))
-        in
+    in
     (omega arith, omega arith)
 
 pub place-inside-malformed : (xs : List code.Fact) (p : ℕ) → verdict (map fact_of xs) ≡ Verdict.Malformed p → (1 ≤ p) × (p ≤
@@ -212,5 +212,5 @@ place-inside-malformed xs p e =
     (malformed-of (1 + length bad.before) p (is_well_formed bad.fact (reverse_aux bad.before [])) _ _ _ _ bad.flaw).0 in
     let all : length xs ≡ length bad.before + length (bad.fact ∷ bad.later) =
     sym (length-map xs fact_of) ∙ (ap (λ (fs : List Fact). length fs) bad.parts ∙ length-append bad.before (bad.fact ∷ bad.later))
-        in
+    in
     (omega arith, omega arith)

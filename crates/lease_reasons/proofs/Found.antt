@@ -44,7 +44,7 @@ pub good-is : (client : ClientNo) (past : List Fact) (strayed : Option ℕ) → 
 unfolding is_good
 good-is client past strayed e =
     ap (λ (b : Bool). not b && is_served client.0 past) (sym (strayed-place client past) ∙ ap (λ (o : Option ℕ). is_some o) (sym
-        e))
+    e))
 
 pub number-place : (client : ClientNo) (number : ℕ) (past : List Fact)
     → is_some (last_place (fits (mark.Write client number)) past) ≡ has_number client.0 number past
@@ -87,12 +87,12 @@ any_place n = le-leb 0 n (omega arith)
 buffered-here : (client : ClientNo) (file : FileNo) (number : ℕ) (fact : Fact) (past : List Fact) (r : Bool)
     → is_some (first_place (fits (mark.Buffering client file number)) 0 past) ≡ r
     → is_some (first_place (fits (mark.Buffering client file number)) 0 (fact ∷ past)) ≡ (fits (mark.Buffering client file number)
-        fact || r)
+    fact || r)
 unfolding first_place
 buffered-here client file number fact past r e =
     rw (any_place (length past))
     (first-or (first_place (fits (mark.Buffering client file number)) 0 past) (fits (mark.Buffering client file number) fact) r
-        (length past + 1) e)
+    (length past + 1) e)
 
 pub buffered-place : (client : ClientNo) (file : FileNo) (number : ℕ) (past : List Fact)
     → is_some (first_place (fits (mark.Buffering client file number)) 0 past) ≡ has_buffered client.0 file.0 number past
@@ -161,16 +161,16 @@ touched-place client file number (fact ∷ past) wrote found touched =
 
     go : (before : Option ℕ) → first_place (fits (mark.Buffering client file number)) 0 past ≡ before
         → earlier before (if nat_le 0 (length past) && fits (mark.Buffering client file number) fact then Some (length past + 1)
-            else None) ≡ Some wrote
+        else None) ≡ Some wrote
         → (first_place (fits (mark.Buffering client file number)) 0 past ≡ Some wrote → is_touched client.0 file.0 number past ≡
-            true
+        true
         → is_some (first_place (fits (mark.Touch client file)) wrote past) ≡ true)
         → is_some (first_place (fits (mark.Touch client file)) wrote (fact ∷ past)) ≡ true
     go None e f before =
         let none : has_buffered client.0 file.0 number past ≡ false =
         sym (buffered-place client file number past) ∙ ap (λ (o : Option ℕ). is_some o) e in
         absurd (both_ways _ (no_touch (fits (mark.Touch client file) fact) _ _ none (untouched client.0 file.0 number past none))
-            later)
+        later)
       where
         no_touch : (t h i : Bool) → h ≡ false → i ≡ false → (t && h || i) ≡ false
         no_touch t h i a b = grind arith
@@ -180,7 +180,7 @@ touched-place client file number (fact ∷ past) wrote found touched =
         let inside : nat_le wrote (length past) ≡ true =
         le-leb wrote (length past) (first-inside (fits (mark.Buffering client file number)) 0 past wrote at) in
         rw inside (first-or (first_place (fits (mark.Touch client file)) wrote past) (fits (mark.Touch client file) fact) _
-            (length past + 1) refl
+        (length past + 1) refl
         ∙ touch-or (fits (mark.Touch client file) fact) _ _ _ later (λ t. before at t))
 
 -- what is touched by others was buffered

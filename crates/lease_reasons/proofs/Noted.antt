@@ -101,7 +101,7 @@ noted-more file (fact.Believes client other state) past place beliefs at n = go 
   where
     still : (c : ℕ) → last_noted c file (Fact.Believes client.0 other.0 (state_of state) ∷ past) ≡ last_noted c file past
         → is_some (last_noted c file (Fact.Believes client.0 other.0 (state_of state) ∷ past)) ≡ true → is_some (last_noted c file
-            past) ≡ true
+        past) ≡ true
     still c same some = sym (ap (λ (o : Option Noted). is_some o) same) ∙ some
 
     go : (b : Bool) → (other.0 == file) ≡ b
@@ -223,7 +223,7 @@ any-noted past file c t (b ∷ beliefs) each there holds good passes =
         let same : b.client.0 ≡ c = eqb-true b.client.0 c here in
         let believes : believed c file past ≡ state_of b.state =
         ap (λ (n : ℕ). believed n file past) (sym same) ∙ (believed-is b.client.0 file past ∙ ap (λ (o : Option Noted). state_in
-            o) each.0) in
+        o) each.0) in
         let clashes : may_clash past b ≡ true =
         and_from _ _ (sym (ap (λ (s : State). holds_any s) believes) ∙ holds) (ap (λ (n : ℕ). is_good n past) same ∙ good) in
         rw (clashes, passes b same (sym believes)) refl
@@ -289,7 +289,7 @@ rivals-found past file beliefs n = by_writer (find (λ b. (state_of b.state).wri
     by_other w at (Some o) found =
         let one : Clashes past file w × ((state_of w.state).write ≡ true) = find-each (Clashes past file) _ _ w each at in
         let two : Clashes past file o × (not (o.client.0 == w.client.0) ≡ true) = find-each (Clashes past file) _ _ o each found
-            in
+        in
         record {
           apart = differ o.client.0 w.client.0 two.1;
           one = record { good = (and_parts _ _ one.0.1).1; noted = one.0.0 };
@@ -326,7 +326,7 @@ pub none-on_files : (past : List Fact) (files : List FileNo) → AreFiles past f
 none-on_files past files all none file client other apart good write good_too =
     let there : (f : FileNo) × (f.0 ≡ file) × HasNoRivals past f.0 =
     each-any (λ f. HasNoRivals past f.0) file files none (all client file (noted-if_holds client file past (holds-write _ write)))
-        in
+    in
     subst (λ (n : ℕ). HasNoRivals past n) there.1 there.2 client other apart good write good_too
 
 -- one file more has none

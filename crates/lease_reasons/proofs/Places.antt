@@ -13,7 +13,7 @@ last-none test = refl
 
 pub last-next : (test : Fact → Bool) (xs : List code.Fact) (i : ℕ) (x : code.Fact) → i < length xs → x ≡ get_or xs i x
     → last_place test (past_of (take (i + 1) xs)) ≡ (if test (fact_of x) then Some (i + 1) else last_place test (past_of (take i
-        xs)))
+    xs)))
 unfolding last_place
 last-next test xs i x inside is =
     let e : length (past_of (take i xs)) ≡ i = taken-length xs i (omega arith) in

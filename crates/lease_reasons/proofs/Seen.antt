@@ -75,7 +75,7 @@ pub writes-more : (client file : ℕ) (whole : List Fact) (numbers : List ℕ) (
 unfolding unsettled
 writes-more client file whole numbers bytes (Fact.Wrote writer other number write buffered) past all =
     rw (all number) (patches-if (writer == client && other == file && not (is_settled client number whole)) bytes (unsettled
-        client file whole past) write)
+    client file whole past) write)
 writes-more client file whole numbers bytes _ past all = refl
 
 pub places-none : (client file : ℕ) (whole : List Fact) → unsettled_places client file whole [] ≡ []

@@ -24,4 +24,4 @@ pub served-next : (client : ℕ) (xs : List code.Fact) (i : ℕ) (x : code.Fact)
     → is_served client (past_of (take (i + 1) xs)) ≡ served_after client (fact_of x) (is_served client (past_of (take i xs)))
 served-next client xs i x inside is =
     ap (λ (ys : List Fact). is_served client ys) (past-next xs i x inside is) ∙ served-more client (fact_of x) (past_of (take i
-        xs))
+    xs))

@@ -123,11 +123,11 @@ malformed-told (fact.Wrote client file number patch buffered) past e =
       | inr (inl some) ↦ or-later (Fact.Wrote client.0 file.0 number patch buffered) past None (not_started file past) (or_reason
           (past_limit patch) (number_used client number past)) (started-none file past some.0)
           (or-told (Fact.Wrote client.0 file.0 number patch buffered) past None (past_limit patch) (number_used client number
-              past) (past_limit-told (Fact.Wrote client.0 file.0 number patch buffered) past patch refl some.1))
+          past) (past_limit-told (Fact.Wrote client.0 file.0 number patch buffered) past patch refl some.1))
       | inr (inr some) ↦ or-later (Fact.Wrote client.0 file.0 number patch buffered) past None (not_started file past) (or_reason
           (past_limit patch) (number_used client number past)) (started-none file past some.0)
           (or-later (Fact.Wrote client.0 file.0 number patch buffered) past None (past_limit patch) (number_used client number
-              past) (within-none patch some.1) (used some.2))
+          past) (within-none patch some.1) (used some.2))
     ]
   where
     three : (a b c : Bool) → (a && b && not c) ≡ false
@@ -171,7 +171,7 @@ malformed-told (fact.Took client) past e =
           reason.NothingToTake client there.0 (length (mail_of client.0 past).sent),
           ap (λ (o : Option ℕ). taken_none client past o) there.1
               ∙ ap (λ (b : Bool). if b then None else Some (reason.NothingToTake client there.0 (length (mail_of client.0
-                  past).sent))) less,
+              past).sent))) less,
           refl,
           (
             refl,

@@ -1,6 +1,6 @@
 -- Which words ask for what. By which words an argument is meant, and which words are refused, is said by clap's own definitions; the
 -- command that they speak of stands here, and what is asked for by what they find.
-use Rattle.std.specs.Prelude.{◌≡◌, ◌≤◌, ◌⊎◌, ⊤, ℕ, true, List, [], ◌∷◌, map, codes, bytes_eq, if◌then◌else◌, Option, Some, None, option_and_then, option_map, Result, MatchResult}
+use Rattle.std.specs.Prelude.{◌≡◌, ◌≤◌, ◌⊎◌, ⊤, ℕ, Bool, true, false, List, [], ◌∷◌, map, codes, bytes_eq, if◌then◌else◌, Option, Some, None, option_and_then, option_map, Result, MatchResult}
 use Rattle.std.specs.Borrow.{Bor}
 use Rattle.std.specs.Io.KnownBytes.{Appends}
 use Rattle.std.specs.String.{string_bytes}
@@ -52,7 +52,7 @@ abbrev pub replay_app : App
 replay_app = with_rule (with_rule (new_app (codes "replay")) (needed (codes "FILE"))) (flag (codes "messages"))
 
 abbrev pub judge_app : App
-judge_app = with_rule (new_app (codes "judge")) (needed (codes "FILE"))
+judge_app = with_rule (with_rule (new_app (codes "judge")) (needed (codes "FILE"))) (flag (codes "explain"))
 
 -- a version, no command `help`, and a command has to be named
 abbrev pub with_settings : Shape → Shape
@@ -76,6 +76,7 @@ pub data Request : Type 0 where
   Show : (kind : Kind) (argument : Text) → Request
   Replay : (path : Text) (telling : Telling) → Request
   Judge : (path : Text) → Request
+  Explain : (path : Text) → Request
   Version : Request
   Clients : Request
   Server : Request
@@ -85,6 +86,7 @@ request_of (asked.Task (task.Ack argument)) = Ack (string_bytes argument)
 request_of (asked.Task (task.Show kind argument)) = Show kind (string_bytes argument)
 request_of (asked.Task (task.Replay path telling)) = Replay (string_bytes path) telling
 request_of (asked.Task (task.Judge path)) = Judge (string_bytes path)
+request_of (asked.Task (task.Explain path)) = Explain (string_bytes path)
 request_of (asked.Task task.Version) = Version
 request_of asked.Clients = Clients
 request_of asked.Server = Server
@@ -106,9 +108,15 @@ abbrev pub replayed : Telling → Option Text → Option Request
 replayed telling path = option_map (λ path. Replay path telling) path
 
 -- whether a flag was given
-abbrev pub telling_of : Option Text → Telling
-telling_of (Some value) = if bytes_eq value (codes "true") then telling.Messages else telling.Facts
-telling_of None = telling.Facts
+abbrev pub is_given : Option Text → Bool
+is_given (Some value) = bytes_eq value (codes "true")
+is_given None = false
+
+abbrev pub telling_of : Bool → Telling
+telling_of messages = if messages then telling.Messages else telling.Facts
+
+abbrev pub judged : Bool → Option Text → Option Request
+judged explains path = option_map (λ path. if explains then Explain path else Judge path) path
 
 -- by the name of a command and what was found of its arguments
 unfoldable pub requested : Text → List Row → Option Request
@@ -117,8 +125,9 @@ requested name rows =
     else if bytes_eq name (codes "show")
     then shown (option_and_then kind_named (first_of (codes "KIND") rows)) (first_of (codes "HEX") rows)
     else if bytes_eq name (codes "replay")
-    then replayed (telling_of (first_of (codes "messages") rows)) (first_of (codes "FILE") rows)
-    else if bytes_eq name (codes "judge") then option_map Judge (first_of (codes "FILE") rows)
+    then replayed (telling_of (is_given (first_of (codes "messages") rows))) (first_of (codes "FILE") rows)
+    else if bytes_eq name (codes "judge")
+    then judged (is_given (first_of (codes "explain") rows)) (first_of (codes "FILE") rows)
     else if bytes_eq name (codes "client") then Some Clients
     else if bytes_eq name (codes "server") then Some Server
     else None

@@ -9,6 +9,7 @@ pub mod Shown
 pub mod Messages
 pub mod Replayed
 pub mod Judging
+pub mod Explaining
 pub mod Printed
 pub mod Remarks
 pub mod Refusals

@@ -86,6 +86,7 @@ refusal_of (task.Ack argument) file = argument_refusal (message_fault 44) (argum
 refusal_of (task.Show kind argument) file = argument_refusal (shown_fault kind) (argument_bytes (string_bytes argument))
 refusal_of (task.Replay path telling) file = known_refusal file
 refusal_of (task.Judge path) file = judge_refusal file
+refusal_of (task.Explain path) file = judge_refusal file
 refusal_of task.Version file = None
 
 -- A file is refused as this: where its bytes aren't known, as some file would be.
@@ -113,6 +114,7 @@ MayEndJudging file failure = (failure ≡ Memory) ⊎ (failure ≡ File) ⊎ Run
 abbrev pub MayEnd : Task → Option (List ℕ) → Failure → Type 0
 MayEnd (task.Replay path telling) file failure = MayEndReplay file failure
 MayEnd (task.Judge path) file failure = MayEndJudging file failure
+MayEnd (task.Explain path) file failure = MayEndJudging file failure
 MayEnd asked file failure = (failure ≡ Memory) ⊎ (refusal_of asked file ≡ Some failure)
 
 -- An answer to a task is given only where nothing of it is refused.

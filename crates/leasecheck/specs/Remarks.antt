@@ -80,6 +80,7 @@ IsRemark (task.Ack argument) file failure line = IsArgumentRemark (bare_remark k
 IsRemark (task.Show kind argument) file failure line = IsArgumentRemark (shown_remark kind) (string_bytes argument) failure line
 IsRemark (task.Replay path telling) file failure line = IsFileRemark schedule_remark file failure line
 IsRemark (task.Judge path) file failure line = IsFileRemark record_remark file failure line
+IsRemark (task.Explain path) file failure line = IsFileRemark record_remark file failure line
 IsRemark task.Version file failure line = ⊥
 
 -- A refusal has no second line, or this one.

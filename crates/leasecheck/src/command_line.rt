@@ -3,7 +3,7 @@ ghost use Rattle.std.specs.String.{string_bytes};
 ghost use Rattle.clap.specs.Words.{Text, first_of, found_of, kind_of, new_app, rows_of, rule_of, shape_of, subcommand_rows_of, app_of};
 ghost use Rattle.clap.specs.declared.builder.command.Command.TheViews.{out-Command as fields_of};
 ghost use Rattle.clap.specs.declared.builder.value_parser.ValueParser.{ValueParser};
-ghost use Rattle.leasecheck.specs.CommandLine.{Request, Errs, TakesKinds, Parses, AsksFor, IsUsageOf, needed, flag, kind_rule, ack_app, show_app, replay_app, judge_app, leasecheck_app, kind_named, telling_of, replayed, requested, requested_by, request_of, all_words, shown};
+ghost use Rattle.leasecheck.specs.CommandLine.{Request, Errs, TakesKinds, Parses, AsksFor, IsUsageOf, needed, flag, kind_rule, ack_app, show_app, replay_app, judge_app, leasecheck_app, kind_named, telling_of, is_given, judged, replayed, requested, requested_by, request_of, all_words, shown};
 
 use crate::help;
 use crate::tasks::{Asked, Kind, Task, Telling, Usage, VERSION};
@@ -93,12 +93,25 @@ fn replay_command<'a>(alloc: Global) -> Result<Command<'a>, AllocError>
         .arg(messages)
 }
 
+fn explain_argument<'a>(alloc: Global) -> Arg<'a>
+    ensures rule { rule_of result ≡ flag (codes "explain") }
+    ensures own { result.global ≡ false }
+{
+    Arg::new(alloc, "explain")
+        .long("explain")
+        .action(ArgAction::SetTrue)
+        .help("Says why, by the lines of the facts that make it so")
+}
+
 fn judge_command<'a>(alloc: Global) -> Result<Command<'a>, AllocError>
     ensures { IfOk result (λ command. (app_of command ≡ judge_app) × ((fields_of command).has_globals ≡ false)) }
 {
     let about = "Prints whether a record is safe, or where it first is not";
     let file = file_argument(alloc, "The record; - is standard input");
-    command(alloc, "judge", about, help::JUDGE, help::JUDGE_END).arg(file)
+    let explain = explain_argument(alloc);
+    command(alloc, "judge", about, help::JUDGE, help::JUDGE_END)
+        .arg(file)?
+        .arg(explain)
 }
 
 fn client_command<'a>(alloc: Global) -> Command<'a>
@@ -213,18 +226,23 @@ fn shown_kind(given: &ArgMatches) -> Option<Kind>
     }
 }
 
-fn telling_of(given: &ArgMatches) -> Telling
-    ensures { result ≡ telling_of (first_of (codes "messages") (rows_of (found_of given.now))) }
+// Whether a flag was given.
+fn is_given(given: &ArgMatches, name: &str) -> bool
+    ensures { result ≡ is_given (first_of name.now (rows_of (found_of given.now))) }
 {
-    match word_of(given, "messages") {
-        Some(word) => {
-            if word == "true" {
-                Telling::Messages
-            } else {
-                Telling::Facts
-            }
-        }
-        None => Telling::Facts,
+    match word_of(given, name) {
+        Some(word) => word == "true",
+        None => false,
+    }
+}
+
+fn telling_of(given: &ArgMatches) -> Telling
+    ensures { result ≡ telling_of (is_given (first_of (codes "messages") (rows_of (found_of given.now)))) }
+{
+    if is_given(given, "messages") {
+        Telling::Messages
+    } else {
+        Telling::Facts
     }
 }
 
@@ -252,7 +270,7 @@ fn show_asked(alloc: Global, given: &ArgMatches) -> Result<Option<Asked>, AllocE
 
 fn replay_asked(alloc: Global, given: &ArgMatches) -> Result<Option<Asked>, AllocError>
     ensures { IfOk result (λ found. option_map request_of found
-        ≡ replayed (telling_of (first_of (codes "messages") (rows_of (found_of given.now)))) (first_of (codes "FILE") (rows_of (found_of given.now)))) }
+        ≡ replayed (telling_of (is_given (first_of (codes "messages") (rows_of (found_of given.now))))) (first_of (codes "FILE") (rows_of (found_of given.now)))) }
 {
     let telling = telling_of(given);
     match owned(alloc, given, "FILE")? {
@@ -262,10 +280,19 @@ fn replay_asked(alloc: Global, given: &ArgMatches) -> Result<Option<Asked>, Allo
 }
 
 fn judge_asked(alloc: Global, given: &ArgMatches) -> Result<Option<Asked>, AllocError>
-    ensures { IfOk result (λ found. option_map request_of found ≡ option_map Request.Judge (first_of (codes "FILE") (rows_of (found_of given.now)))) }
+    ensures { IfOk result (λ found. option_map request_of found
+        ≡ judged (is_given (first_of (codes "explain") (rows_of (found_of given.now))))
+        (first_of (codes "FILE") (rows_of (found_of given.now)))) }
 {
+    let explains = is_given(given, "explain");
     match owned(alloc, given, "FILE")? {
-        Some(path) => Ok(Some(Asked::Task(Task::Judge(path)))),
+        Some(path) => {
+            if explains {
+                Ok(Some(Asked::Task(Task::Explain(path))))
+            } else {
+                Ok(Some(Asked::Task(Task::Judge(path))))
+            }
+        }
         None => Ok(None),
     }
 }

@@ -87,7 +87,8 @@ pub(crate) const JUDGE: &str =
 RULE' (status 3) or 'malformed PLACE' (status 1). PLACE is the number of the
 first bad fact, from 1; RULE is 1 for a write cache beside another cache, 2 for
 a cached read of other bytes, 3 for a buffered write that was accepted late, and
-4 for a write told as done that was not accepted.";
+4 for a write told as done that was not accepted. With --explain the facts that
+make it so stand behind that, with their lines, and how much was judged.";
 
 pub(crate) const JUDGE_END: &str = "Example:
   $ printf 'start 1 61\\njoined 1\\nsettled 1 1 done\\n' | leasecheck judge -

@@ -4,6 +4,7 @@ ghost use Rattle.std.specs.Io.KnownBytes.{Appends, Keeps};
 ghost use Rattle.leasecheck.specs.Printed.{IsTextOf, Prints};
 ghost use Rattle.lease_world.specs.declared.verdict.Verdict.{Verdict};
 ghost use Rattle.leasecheck.specs.Replayed.{Replays, verdict_line, status_of};
+ghost use Rattle.leasecheck.specs.Explaining.{ExplainsVerdict};
 ghost use Rattle.leasecheck.specs.Judging.{IsVerdictOn};
 ghost use Rattle.lease_wire.specs.WireFaults.{message_fault};
 ghost use Rattle.leasecheck.specs.Answer.{AnswersWith};
@@ -14,6 +15,7 @@ ghost use Rattle.leasecheck.specs.Remarks.{Says, IsArgumentRemark, IsFileRemark,
 ghost use Rattle.leasecheck.specs.declared.tasks.Kind.TheVariants as kind;
 ghost use Rattle.leasecheck.specs.Refusals.{AnswersOrRefuses, SaysOf, RefusesArgument, shown_fault, EndsWith, Ends, Begins, Puts, MayEndReplay, MayEndJudging, known_refusal, judge_refusal, refusal_of, failure_line};
 
+use crate::explaining::explain_text;
 use crate::failure::Failure;
 use crate::hexadecimal;
 use crate::judging::{judge_text, push_verdict, status_of};
@@ -82,6 +84,28 @@ fn replayed<I: Read>(alloc: Global, telling: Telling, input: &mut I) -> Result<P
     }
 }
 
+// The verdict on a record that is read as a whole, and why it is that.
+fn explained<I: Read>(alloc: Global, input: &mut I) -> Result<Printed, Refusal>
+    ensures printed { IfOk result (λ printed. (verdict : Verdict) × (explanation : List ℕ)
+        × (string_bytes printed.text ≡ verdict_line verdict ++ explanation) × (printed.status ≡ status_of verdict)
+        × IfSome (I.remaining input.old) (λ bytes. ExplainsVerdict bytes verdict explanation)) }
+    ensures accepted { OnOk result (judge_refusal (I.remaining input.old) ≡ None) }
+    ensures refused { IfErr result (λ refusal. MayEndJudging (I.remaining input.old) refusal.failure) }
+    ensures said { IfErr result (λ refusal. Says refusal (IsFileRemark record_remark (I.remaining input.old))) }
+{
+    let mut bytes = Vec::new(alloc);
+    let Ok(_) = input.read_to_end(&mut bytes) else {
+        return Err(Refusal::bare(Failure::File));
+    };
+    match explain_text(alloc, bytes.as_slice()) {
+        Ok((text, verdict)) => Ok(Printed {
+            text,
+            status: status_of(&verdict),
+        }),
+        Err(refusal) => Err(refusal),
+    }
+}
+
 fn acknowledged(alloc: Global, argument: &str) -> Result<Printed, Refusal>
     ensures printed { IfOk result (λ printed. (printed.status ≡ 0)
         × (bytes : List ℕ) × (argument_bytes argument.now ≡ Ok bytes) × AnswersWith bytes (string_bytes printed.text)) }
@@ -123,6 +147,7 @@ fn text_of<I: Read>(alloc: Global, task: &Task, input: &mut I) -> Result<Printed
         Task::Show(kind, argument) => shown(alloc, *kind, argument.as_str()),
         Task::Replay(_, telling) => replayed(alloc, *telling, input),
         Task::Judge(_) => judged(alloc, input),
+        Task::Explain(_) => explained(alloc, input),
         Task::Version => Ok(done(String::from_str(alloc, VERSION)?)),
     }
 }

@@ -33,6 +33,8 @@ pub enum Task {
     Replay(String, Telling),
     /// The verdict on the record in this file.
     Judge(String),
+    /// The same, and why it is that.
+    Explain(String),
     /// The version of the program.
     Version,
 }
@@ -55,7 +57,7 @@ impl Task {
     pub fn path(&self) -> Option<&str> {
         match self {
             Task::Ack(_) | Task::Show(_, _) | Task::Version => None,
-            Task::Replay(path, _) | Task::Judge(path) => Some(path.as_str()),
+            Task::Replay(path, _) | Task::Judge(path) | Task::Explain(path) => Some(path.as_str()),
         }
     }
 }

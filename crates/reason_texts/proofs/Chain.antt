@@ -20,7 +20,7 @@ four_parts t0 t1 t2 t3 t4 w1 w2 w3 w4 e1 e2 e3 e4 =
 
 pub eight_parts : (t0 t1 t2 t3 t4 t5 t6 t7 t8 : List ℕ) (w1 w2 w3 w4 w5 w6 w7 w8 : List ℕ)
     → t1 ≡ t0 ++ w1 → t2 ≡ t1 ++ w2 → t3 ≡ t2 ++ w3 → t4 ≡ t3 ++ w4 → t5 ≡ t4 ++ w5 → t6 ≡ t5 ++ w6 → t7 ≡ t6 ++ w7 → t8 ≡ t7 ++
-        w8
+    w8
     → t8 ≡ t0 ++ (w1 ++ (w2 ++ (w3 ++ (w4 ++ (w5 ++ (w6 ++ (w7 ++ w8)))))))
 eight_parts t0 t1 t2 t3 t4 t5 t6 t7 t8 w1 w2 w3 w4 w5 w6 w7 w8 e1 e2 e3 e4 e5 e6 e7 e8 =
     behind t0 t1 t8 w1 (w2 ++ (w3 ++ (w4 ++ (w5 ++ (w6 ++ (w7 ++ w8))))))

@@ -62,7 +62,7 @@ reason_lines placed told (reason.NumberUsed client number before) = place_line p
 reason_lines placed told (reason.NotJoined client) =
     codes "client " ++ (decimal client.0 ++ (codes " hasn't joined before that" ++ (10 ∷ [])))
 reason_lines placed told (reason.NothingToTake client joined sent) =
-    place_line placed joined (codes ", for the last time before that") 
+    place_line placed joined (codes ", for the last time before that")
     ++ (codes "messages sent to it since, all of them taken: " ++ (decimal sent ++ (10 ∷ [])))
 reason_lines placed told (reason.TwoCaches file writer other) =
     other_line placed told writer.place (codes ", since here") ++ (other_line placed told other.place (codes ", since here")

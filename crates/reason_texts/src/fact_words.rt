@@ -95,7 +95,10 @@ fn push_started(text: &mut String, file: u8) -> Result<(), AllocError>
 fn push_read(text: &mut String, client: u8, file: u8) -> Result<(), AllocError>
     ensures { OnOk result (string_bytes text.new ≡ string_bytes text.old ++ read_words client file) }
 {
-    write!(text, "client {client} reads from its cache of file {file}: ")
+    write!(
+        text,
+        "client {client} reads from its cache of file {file}: "
+    )
 }
 
 /// Adds a fact in words.

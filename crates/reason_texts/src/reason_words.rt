@@ -111,8 +111,20 @@ fn push_expected(
     push_words(text, "it should read ")?;
     push_bytes(alloc, text, &expected.bytes)?;
     push_words(text, "\n")?;
-    push_place(alloc, text, placed, expected.taken, ", its last before the read")?;
-    push_place(alloc, text, placed, expected.sent, ", the one that it takes last")?;
+    push_place(
+        alloc,
+        text,
+        placed,
+        expected.taken,
+        ", its last before the read",
+    )?;
+    push_place(
+        alloc,
+        text,
+        placed,
+        expected.sent,
+        ", the one that it takes last",
+    )?;
     push_place_if(alloc, text, placed, expected.started, ", as it begins")?;
     push_place_if(
         alloc,
@@ -156,7 +168,13 @@ pub fn push_reason(
             writeln!(text, "client {client} hasn't joined before that")
         }
         Reason::NothingToTake { joined, sent, .. } => {
-            push_place(alloc, text, placed, *joined, ", for the last time before that")?;
+            push_place(
+                alloc,
+                text,
+                placed,
+                *joined,
+                ", for the last time before that",
+            )?;
             writeln!(text, "messages sent to it since, all of them taken: {sent}")
         }
         Reason::TwoCaches { writer, other, .. } => {
@@ -199,7 +217,10 @@ pub fn push_reason(
                 *changed,
                 ", which isn't that write behind its line",
             )?;
-            push_words(text, "rule 4: a write is told as done only where its file was changed by it\n")
+            push_words(
+                text,
+                "rule 4: a write is told as done only where its file was changed by it\n",
+            )
         }
     }
 }

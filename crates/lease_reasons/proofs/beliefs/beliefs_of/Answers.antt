@@ -17,9 +17,9 @@ loop-index-preserved c =
     subst (λ (past : List Fact). AreNoted past c.args.file.0 c.note_belief.new.beliefs.items)
     (sym (past-next c.args.facts.now c.loop-index.index c.index-facts-index.result c.loop-index-test.true c.index-facts-index.is))
     (subst (λ (bs : List Belief). AreNoted (fact_of c.index-facts-index.result ∷ past_of (take c.loop-index.index
-        c.args.facts.now)) c.args.file.0 bs)
+    c.args.facts.now)) c.args.file.0 bs)
     (sym (c.in_ok-note_belief.ensures ∙ ap (λ (told : Option Belief). with_belief told c.loop-index.beliefs.items)
-        c.belief_told.ensures))
+    c.belief_told.ensures))
     (noted-more c.args.file.0 c.index-facts-index.result (past_of (take c.loop-index.index c.args.facts.now)) (c.loop-index.index
-        + 1) c.loop-index.beliefs.items
+    + 1) c.loop-index.beliefs.items
     (ap (λ n. n + 1) (taken-length c.args.facts.now c.loop-index.index (omega arith))) c.loop-index.invariant))

@@ -16,7 +16,7 @@ loop-fact-preserved c =
     subst (λ (past : List Fact). AreFiles past c.note_file.new.files.items)
     (sym (past-next c.args.facts.now c.loop-fact.fact-index c.fact-item.result c.loop-fact-test.true c.fact-item.is))
     (subst (λ (fs : List FileNo). AreFiles (fact_of c.fact-item.result ∷ past_of (take c.loop-fact.fact-index c.args.facts.now))
-        fs)
+    fs)
     (sym (c.in_ok-note_file.ensures ∙ ap (λ (told : Option FileNo). with_file told c.loop-fact.files.items) c.file_told.ensures))
     (files-more c.fact-item.result (past_of (take c.loop-fact.fact-index c.args.facts.now)) c.loop-fact.files.items
-        c.loop-fact.invariant))
+    c.loop-fact.invariant))

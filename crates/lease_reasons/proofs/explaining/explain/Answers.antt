@@ -24,7 +24,7 @@ returns-in-None c =
 pub returns-in-None-index_of : goal.returns-in-None-index_of
 returns-in-None-index_of c =
     let e : verdict (map fact_of c.args.facts.now) ≡ Verdict.Malformed c.in-Malformed.place = sym (rw c.in-Malformed.is at
-        c.requires) in
+    c.requires) in
     let inside = place-inside-malformed c.args.facts.now c.in-Malformed.place e in
     absurd (outside c.in-Malformed.place _ inside.0 inside.1 c.in-None-index_of.ensures)
 
@@ -36,10 +36,10 @@ returns-in-Some-index_of c =
     rw c.in-Malformed.is (IfOk-weaker c.malformed.result _ _ (λ told h.
     subst (λ (place : ℕ). IsReasonAt (map fact_of c.args.facts.now) place None told) (sym at)
     (reason-at c.args.facts.now c.in-Some-index_of.index c.index-facts-index.result None told c.in-Some-index_of.ensures.1
-        c.index-facts-index.is
+    c.index-facts-index.is
     (subst (λ (t : Option Reason). Told (fact_of c.index-facts-index.result) (past_of (take c.in-Some-index_of.index
-        c.args.facts.now)) None t) (sym h)
+    c.args.facts.now)) None t) (sym h)
     (malformed-told c.index-facts-index.result (past_of (take c.in-Some-index_of.index c.args.facts.now))
     (malformed-at c.args.facts.now c.in-Some-index_of.index c.index-facts-index.result c.in-Some-index_of.ensures.1
-        c.index-facts-index.is e)))))
+    c.index-facts-index.is e)))))
     c.malformed.ensures)

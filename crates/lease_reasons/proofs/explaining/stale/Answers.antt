@@ -2,5 +2,8 @@ use Rattle.std.proofs.Common.{refl}
 use Rattle.lease_reasons.proofs.explaining.stale.Goals as goal
 
 pub returns-in_ok-told-in-CachedRead : goal.returns-in_ok-told-in-CachedRead
-returns-in_ok-told-in-CachedRead c = rw c.in-CachedRead.is (c.in_ok-told-in-CachedRead.told, refl,
-    c.in_ok-told-in-CachedRead.ensures)
+returns-in_ok-told-in-CachedRead c = rw c.in-CachedRead.is (
+  c.in_ok-told-in-CachedRead.told,
+  refl,
+  c.in_ok-told-in-CachedRead.ensures,
+)

@@ -19,7 +19,7 @@ loop-fact-preserved c = λ past all.
     ∙ (ap (λ (b : Bool). with_write b (fact_of c.fact-item.result) (patches c.args.bytes.now.items
     (unsettled c.args.client.0 c.args.file.0 past (past_of (take c.loop-fact.fact-index c.args.facts.now))))) c.is_waiting.ensures
     ∙ (sym (writes-more c.args.client.0 c.args.file.0 past c.args.settled.now.keys c.args.bytes.now.items (fact_of
-        c.fact-item.result)
+    c.fact-item.result)
     (past_of (take c.loop-fact.fact-index c.args.facts.now)) all)
     ∙ ap (λ (facts : List Fact). patches c.args.bytes.now.items (unsettled c.args.client.0 c.args.file.0 past facts))
     (sym (past-next c.args.facts.now c.loop-fact.fact-index c.fact-item.result c.loop-fact-test.true c.fact-item.is)))))

@@ -17,7 +17,7 @@ loop-fact-preserved c = λ n.
     c.in_ok-note_settled.ensures n
     ∙ (ap (λ (told : Option ℕ). is_settled_by n told || is_number n c.loop-fact.numbers.keys) c.settled_told.ensures
     ∙ (ap (λ (b : Bool). is_settled_by n (settled_told c.args.client.0 (fact_of c.fact-item.result)) || b) (c.loop-fact.invariant
-        n)
+    n)
     ∙ (sym (settled-more c.args.client.0 n (fact_of c.fact-item.result) (past_of (take c.loop-fact.fact-index c.args.facts.now)))
     ∙ ap (λ (past : List Fact). is_settled c.args.client.0 n past)
     (sym (past-next c.args.facts.now c.loop-fact.fact-index c.fact-item.result c.loop-fact-test.true c.fact-item.is)))))

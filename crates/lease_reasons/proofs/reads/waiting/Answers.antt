@@ -15,11 +15,11 @@ pub loop-index-preserved : goal.loop-index-preserved
 loop-index-preserved c = λ past all.
     c.in_ok-note_place.ensures
     ∙ (ap (λ (places : List ℕ). if c.is_waiting.result then places ++ (c.loop-index.index + 1) ∷ [] else places)
-        (c.loop-index.invariant past all)
+    (c.loop-index.invariant past all)
     ∙ (ap (λ (b : Bool). if b then unsettled_places c.args.client.0 c.args.file.0 past (past_of (take c.loop-index.index
-        c.args.facts.now)) ++ (c.loop-index.index + 1) ∷ []
+    c.args.facts.now)) ++ (c.loop-index.index + 1) ∷ []
     else unsettled_places c.args.client.0 c.args.file.0 past (past_of (take c.loop-index.index c.args.facts.now)))
-        c.is_waiting.ensures
+    c.is_waiting.ensures
     ∙ (ap (λ (n : ℕ). if is_waiting c.args.client.0 c.args.file.0 c.args.settled.now.keys (fact_of c.index-facts-index.result)
     then unsettled_places c.args.client.0 c.args.file.0 past (past_of (take c.loop-index.index c.args.facts.now)) ++ (n + 1) ∷ []
     else unsettled_places c.args.client.0 c.args.file.0 past (past_of (take c.loop-index.index c.args.facts.now)))
@@ -28,4 +28,4 @@ loop-index-preserved c = λ past all.
     (past_of (take c.loop-index.index c.args.facts.now)) all)
     ∙ ap (λ (facts : List Fact). unsettled_places c.args.client.0 c.args.file.0 past facts)
     (sym (past-next c.args.facts.now c.loop-index.index c.index-facts-index.result c.loop-index-test.true
-        c.index-facts-index.is))))))
+    c.index-facts-index.is))))))

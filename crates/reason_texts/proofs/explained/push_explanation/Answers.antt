@@ -15,15 +15,15 @@ returns c = (
     reason = c.in_ok-reason.reason;
     extent = c.in_ok-extent.extent;
     explains = subst (λ (facts : List Fact). Explains (map fact_of facts) c.args.verdict.now c.in_ok-reason.reason)
-      c.as_slice-facts.ensures.value c.in_ok-reason.ensures;
+        c.as_slice-facts.ensures.value c.in_ok-reason.ensures;
     judged = subst (λ (facts : List Fact). IsExtent facts c.args.verdict.now c.in_ok-extent.extent)
-      c.as_slice-facts.ensures.value c.in_ok-extent.ensures;
+        c.as_slice-facts.ensures.value c.in_ok-extent.ensures;
     text_is = refl;
   },
   behind (string_bytes c.args.text.now) (string_bytes c.push_bad.new.text) (string_bytes c.push_extent.new.text)
-  (bad_lines c.args.placed.now (bad_place c.args.verdict.now) c.in_ok-reason.reason) (extent_lines c.in_ok-extent.extent)
-  (c.in_ok-push_bad.ensures
-  ∙ ap (λ (place : Option ℕ). string_bytes c.args.text.now ++ bad_lines c.args.placed.now place c.in_ok-reason.reason)
+      (bad_lines c.args.placed.now (bad_place c.args.verdict.now) c.in_ok-reason.reason) (extent_lines c.in_ok-extent.extent)
+      (c.in_ok-push_bad.ensures
+      ∙ ap (λ (place : Option ℕ). string_bytes c.args.text.now ++ bad_lines c.args.placed.now place c.in_ok-reason.reason)
       c.bad_place.ensures)
-  c.in_ok-push_extent.ensures,
+      c.in_ok-push_extent.ensures,
 )

@@ -16,4 +16,4 @@ pub returns-in_ok-push_patch-in-Wrote : goal.returns-in_ok-push_patch-in-Wrote
 returns-in_ok-push_patch-in-Wrote c = rw c.in-Wrote.is (on_ok c.push_words.result (λ h.
     behind (string_bytes c.args.text.now) _ _ _ _ c.in_ok-push_wrote-in-Wrote.ensures
     (behind _ _ _ _ _ c.in_ok-push_patch-in-Wrote.ensures (h ∙ ap (λ (w : List ℕ). string_bytes c.push_patch-in-Wrote.new.text ++
-        w) c.way_words.ensures))) c.push_words.ensures)
+    w) c.way_words.ensures))) c.push_words.ensures)

@@ -19,9 +19,9 @@ returns c =
     let empty : (length c.loop-rest.rest.now == 0) ≡ true = sym c.is_empty.ensures ∙ c.loop-rest-test.false in
     record {
       facts = nothing_left with_line (c.loop-rest.number + 1) c.loop-rest.placed.facts.items c.loop-rest.rest.now _ empty
-        c.loop-rest.invariant.whole;
+          c.loop-rest.invariant.whole;
       lines = sym (append-nil c.loop-rest.placed.lines.items)
-        ∙ (ap (λ (lines : List ℕ). c.loop-rest.placed.lines.items ++ lines)
-        (sym (none_left c.loop-rest.rest.now (c.loop-rest.number + 1) (eqb-true _ 0 empty)))
-        ∙ c.loop-rest.invariant.placed);
+          ∙ (ap (λ (lines : List ℕ). c.loop-rest.placed.lines.items ++ lines)
+          (sym (none_left c.loop-rest.rest.now (c.loop-rest.number + 1) (eqb-true _ 0 empty)))
+          ∙ c.loop-rest.invariant.placed);
     }

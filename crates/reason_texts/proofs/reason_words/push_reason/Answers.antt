@@ -6,7 +6,7 @@ use Rattle.reason_texts.proofs.reason_words.push_reason.Goals as goal
 pub returns-in_ok-push_place-in-NothingToTake : goal.returns-in_ok-push_place-in-NothingToTake
 returns-in_ok-push_place-in-NothingToTake c = rw c.in-NothingToTake.is (on_ok c.writeln-in-NothingToTake.result
     (λ h. behind (string_bytes c.args.text.now) _ _ _ _ c.in_ok-push_place-in-NothingToTake.ensures h)
-        c.writeln-in-NothingToTake.ensures.bytes)
+    c.writeln-in-NothingToTake.ensures.bytes)
 
 pub returns-in_ok-push_other-in-TwoCaches-2 : goal.returns-in_ok-push_other-in-TwoCaches-2
 returns-in_ok-push_other-in-TwoCaches-2 c = rw c.in-TwoCaches.is (on_ok c.push_words.result (λ h. behind (string_bytes

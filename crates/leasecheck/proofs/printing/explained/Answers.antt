@@ -1,0 +1,43 @@
+use Rattle.std.proofs.Common.{◌≡◌, ◌⊎◌, List, ℕ, [], ◌++◌, Option, Some, None, Result, Ok, Err, inl, inr, ◌∙◌, subst, sym, ap}
+use Rattle.std.specs.Prelude.{IfSome}
+use Rattle.lease_texts.specs.Records.{record_in}
+use Rattle.leasecheck.proofs.Puts.{says_more}
+use Rattle.leasecheck.specs.Refusals.{MayEndJudging, judge_refusal, line_refusal}
+use Rattle.leasecheck.specs.Remarks.{IsFileRemark, record_remark}
+use Rattle.leasecheck.specs.declared.failure.Failure.{Failure}
+use Rattle.leasecheck.specs.declared.failure.Failure.TheVariants.{Memory, Line}
+use Rattle.lease_facts.specs.declared.fact.Fact.{Fact}
+use Rattle.leasecheck.proofs.printing.explained.Goals as goal
+
+line_of : (read : Result (List Fact) ℕ) (failure : Failure) → line_refusal read ≡ Some failure → (number : ℕ) × (failure ≡ Line number)
+line_of (Ok facts) failure e = let no : ⊥ = cc in absurd no
+line_of (Err number) failure e = let same : Line number ≡ failure = cc in (number, sym same)
+
+-- What a text is refused as is what the known bytes are that were read as it.
+of_known : (known : Option (List ℕ)) (text items start : List ℕ) (failure : Failure) → text ≡ items → start ≡ []
+    → IfSome known (λ bytes. items ≡ start ++ bytes)
+    → (failure ≡ Memory) ⊎ (line_refusal (record_in text) ≡ Some failure) → MayEndJudging known failure
+of_known known text items start failure is none same (inl memory) = inl memory
+of_known None text items start failure is none same (inr refused) = inr (inr (inr (line_of (record_in text) failure refused)))
+of_known (Some bytes) text items start failure is none same (inr refused) =
+    inr (inr (inr (subst (λ t. line_refusal (record_in t) ≡ Some failure) (is ∙ (same ∙ ap (λ s. s ++ bytes) none)) refused)))
+
+said_of_known : (known : Option (List ℕ)) (text items start : List ℕ) (failure : Failure) (line : List ℕ) → text ≡ items → start ≡ []
+    → IfSome known (λ bytes. items ≡ start ++ bytes)
+    → record_remark text failure ≡ Some line → IsFileRemark record_remark known failure line
+said_of_known None text items start failure line is none same said = (text, said)
+said_of_known (Some bytes) text items start failure line is none same said =
+    subst (λ t. record_remark t failure ≡ Some line) (is ∙ (same ∙ ap (λ s. s ++ bytes) none)) said
+
+pub returns-clause-said : goal.returns-clause-said
+returns-clause-said g c =
+    says_more c.in-Err.refusal (λ failure line. record_remark c.as_slice.result.now failure ≡ Some line)
+    (IsFileRemark record_remark (g.I.Read.remaining c.args.input.now))
+    (λ line. said_of_known _ c.as_slice.result.now _ _ c.in-Err.refusal.failure line c.as_slice.ensures.value c.new-bytes.ensures.items
+    c.in-Ok.ensures.bytes)
+    c.in-Err.ensures.said
+
+pub returns-clause-refused : goal.returns-clause-refused
+returns-clause-refused g c =
+    of_known _ c.as_slice.result.now _ _ c.in-Err.refusal.failure c.as_slice.ensures.value c.new-bytes.ensures.items
+    c.in-Ok.ensures.bytes c.in-Err.ensures.refused

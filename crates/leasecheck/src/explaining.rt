@@ -1,0 +1,53 @@
+ghost use Rattle.std.specs.Prelude.{◌≡◌, ◌⊎◌, ◌++◌, ℕ, List, Some, None, IfOk, IfErr, OnOk};
+ghost use Rattle.std.specs.String.{string_bytes};
+ghost use Rattle.lease_texts.specs.Records.{record_in};
+ghost use Rattle.reason_texts.specs.Placed.{IsPlaced};
+ghost use Rattle.leasecheck.specs.Explaining.{ExplainsVerdict};
+ghost use Rattle.leasecheck.specs.Refusals.{line_refusal};
+ghost use Rattle.leasecheck.specs.Remarks.{Says, record_remark};
+ghost use Rattle.leasecheck.specs.Replayed.{verdict_line};
+
+use crate::failure::Failure;
+use crate::judging::push_verdict;
+use crate::refusal::Refusal;
+use crate::remarks::line_at;
+use lease_texts::TextFault;
+use lease_world::{Verdict, judge};
+use reason_texts::{Placed, push_explanation, read_placed};
+use std::alloc::Global;
+
+// The facts of a text, with their lines.
+#[tactic(auto, unfolding(crate::specs::LineRemarks::line_at))]
+fn placed_of(alloc: Global, text: &[u8]) -> Result<Placed, Refusal>
+    ensures read { IfOk result (λ placed. IsPlaced text.now placed) }
+    ensures refused { IfErr result (λ told. (told.failure ≡ Failure.Memory)
+        ⊎ (line_refusal (record_in text.now) ≡ Some told.failure)) }
+    ensures said { IfErr result (λ told. Says told (λ failure line. record_remark text.now failure ≡ Some line)) }
+{
+    match read_placed(alloc, text) {
+        Ok(placed) => Ok(placed),
+        Err(TextFault::Line(number)) => Err(Refusal::of_fact(alloc, number, line_at(text, number))),
+        Err(TextFault::Memory) => Err(Refusal::bare(Failure::Memory)),
+    }
+}
+
+/// What `leasecheck judge --explain` prints for the text of a record: the verdict, and the facts that make it so.
+///
+/// # Errors
+///
+/// `Line` with the number of the first line that is refused, and what is said of that, and `Memory` where there is none left.
+pub fn explain_text(alloc: Global, text: &[u8]) -> Result<(String, Verdict), Refusal>
+    ensures told { IfOk result (λ answer. (explanation : List ℕ)
+        × (string_bytes answer.0 ≡ verdict_line answer.1 ++ explanation) × ExplainsVerdict text.now answer.1 explanation) }
+    ensures accepted { OnOk result (line_refusal (record_in text.now) ≡ None) }
+    ensures refused { IfErr result (λ told. (told.failure ≡ Failure.Memory)
+        ⊎ (line_refusal (record_in text.now) ≡ Some told.failure)) }
+    ensures said { IfErr result (λ told. Says told (λ failure line. record_remark text.now failure ≡ Some line)) }
+{
+    let placed = placed_of(alloc, text)?;
+    let verdict = judge(alloc, placed.facts.as_slice())?;
+    let mut told = String::new(alloc);
+    push_verdict(&mut told, &verdict)?;
+    push_explanation(alloc, &mut told, &placed, &verdict)?;
+    Ok((told, verdict))
+}
