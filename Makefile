@@ -1,45 +1,61 @@
-# The program leasecheck, and the messages of leases as a library for C: liblease.a and liblease.so.
+# The program leasecheck, and the library for C: libsmblease.a and libsmblease.so.
 #
 #   make                        has both at hand: from dist/ where that fits these sources and this machine, else proved and built here
-#   make install PREFIX=DIR     installs them, with lease.h and lease.pc (DESTDIR is put before DIR); make uninstall takes them away
+#   make install PREFIX=DIR     installs them, with the headers and smblease.pc (DESTDIR is put before DIR); make uninstall removes them
 #   make check                  builds the examples and tests in C, runs them, and compares them with leasecheck
 #   make prove                  proves and builds both, whatever is in dist/; needs the Rattle kit
 #   make dist                   does that, and puts them into dist/
 #   make clean                  removes what was built here; what is proved stays
+#
+# CC, CFLAGS and LDFLAGS are heeded where the shared library is linked. Nothing else is compiled or linked here.
 
 PREFIX ?= /usr/local
 BINDIR ?= $(PREFIX)/bin
 LIBDIR ?= $(PREFIX)/lib
 INCLUDEDIR ?= $(PREFIX)/include
-VERSION := 0.1
+
+# The version stands in the header alone. The soname changes where a program that was linked before could no longer run.
+number = $(shell sed -n 's/^\#define SMBLEASE_VERSION_$(1) //p' include/smblease.h)
+VERSION := $(call number,MAJOR).$(call number,MINOR).$(call number,PATCH)
+SONAME := libsmblease.so.$(call number,MAJOR)
+SHARED := libsmblease.so.$(VERSION)
 
 OUT := out/c
 DIST := dist/x86_64-linux
+HEADERS := $(notdir $(wildcard include/*.h))
 
-all: $(OUT)/liblease.so
+all: $(OUT)/libsmblease.so
 
 # What was made from these sources stands in one folder, which tools/current prints, and is copied only where it changed.
-$(OUT)/liblease.a: FORCE
+$(OUT)/libsmblease.a: FORCE
 	@mkdir -p $(OUT)
-	@found=$$(tools/current) && for file in liblease.a leasecheck; do \
+	@found=$$(tools/current) && for file in libsmblease.a leasecheck; do \
 	    cmp -s $$found/$$file $(OUT)/$$file || cp $$found/$$file $(OUT)/$$file || exit 1; done
 
-$(OUT)/liblease.so: $(OUT)/liblease.a
-	$(CC) -shared -Wl,-soname,liblease.so -Wl,-z,defs -Wl,-z,noexecstack $(LDFLAGS) -o $@ \
-	    -Wl,--whole-archive $(OUT)/liblease.a -Wl,--no-whole-archive
+$(OUT)/$(SHARED): $(OUT)/libsmblease.a include/smblease.map
+	$(CC) $(CFLAGS) -shared -Wl,-soname,$(SONAME) -Wl,--version-script=include/smblease.map -Wl,-z,defs -Wl,-z,noexecstack \
+	    -o $@ -Wl,--whole-archive $(OUT)/libsmblease.a -Wl,--no-whole-archive $(LDFLAGS)
+
+$(OUT)/libsmblease.so: $(OUT)/$(SHARED)
+	ln -sf $(SHARED) $(OUT)/$(SONAME)
+	ln -sf $(SONAME) $@
 
 install: all
 	mkdir -p $(DESTDIR)$(BINDIR) $(DESTDIR)$(LIBDIR)/pkgconfig $(DESTDIR)$(INCLUDEDIR)
 	install -m 755 $(OUT)/leasecheck $(DESTDIR)$(BINDIR)/leasecheck
-	install -m 644 $(OUT)/liblease.a $(DESTDIR)$(LIBDIR)/liblease.a
-	install -m 755 $(OUT)/liblease.so $(DESTDIR)$(LIBDIR)/liblease.so
-	install -m 644 include/lease.h $(DESTDIR)$(INCLUDEDIR)/lease.h
-	sed -e 's|@LIBDIR@|$(LIBDIR)|' -e 's|@INCLUDEDIR@|$(INCLUDEDIR)|' -e 's|@VERSION@|$(VERSION)|' include/lease.pc.in \
-	    > $(DESTDIR)$(LIBDIR)/pkgconfig/lease.pc
+	install -m 644 $(OUT)/libsmblease.a $(DESTDIR)$(LIBDIR)/libsmblease.a
+	install -m 755 $(OUT)/$(SHARED) $(DESTDIR)$(LIBDIR)/$(SHARED)
+	ln -sf $(SHARED) $(DESTDIR)$(LIBDIR)/$(SONAME)
+	ln -sf $(SONAME) $(DESTDIR)$(LIBDIR)/libsmblease.so
+	for header in $(HEADERS); do install -m 644 include/$$header $(DESTDIR)$(INCLUDEDIR)/$$header || exit 1; done
+	sed -e 's|@PREFIX@|$(PREFIX)|' -e 's|@LIBDIR@|$(LIBDIR:$(PREFIX)/%=$${prefix}/%)|' \
+	    -e 's|@INCLUDEDIR@|$(INCLUDEDIR:$(PREFIX)/%=$${prefix}/%)|' -e 's|@VERSION@|$(VERSION)|' include/smblease.pc.in \
+	    > $(DESTDIR)$(LIBDIR)/pkgconfig/smblease.pc
 
 uninstall:
-	rm -f $(DESTDIR)$(BINDIR)/leasecheck $(DESTDIR)$(LIBDIR)/liblease.a $(DESTDIR)$(LIBDIR)/liblease.so \
-	    $(DESTDIR)$(LIBDIR)/pkgconfig/lease.pc $(DESTDIR)$(INCLUDEDIR)/lease.h
+	rm -f $(DESTDIR)$(BINDIR)/leasecheck $(DESTDIR)$(LIBDIR)/pkgconfig/smblease.pc
+	rm -f $(foreach name,libsmblease.a libsmblease.so $(SONAME) $(SHARED),$(DESTDIR)$(LIBDIR)/$(name))
+	rm -f $(foreach name,$(HEADERS),$(DESTDIR)$(INCLUDEDIR)/$(name))
 
 check: all
 	tests/c/run
@@ -49,8 +65,9 @@ prove:
 
 dist: prove
 	mkdir -p $(DIST)
-	cp out/proved/leasecheck out/proved/liblease.a out/proved/SOURCES $(DIST)/
-	cd $(DIST) && sha256sum leasecheck liblease.a > SHA256SUMS
+	rm -f $(DIST)/*
+	cp out/proved/leasecheck out/proved/libsmblease.a out/proved/SOURCES $(DIST)/
+	cd $(DIST) && sha256sum leasecheck libsmblease.a > SHA256SUMS
 
 clean:
 	rm -rf $(OUT)

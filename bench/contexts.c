@@ -1,6 +1,6 @@
-/* Reads or writes create contexts many times by the calls of lease.h, as the program wire_bench does:
+/* Reads or writes create contexts many times by the calls of smblease.h, as the program wire_bench does:
    contexts read|write|write_others COUNT. */
-#include <lease.h>
+#include <smblease.h>
 #include <stdio.h>
 #include <stdlib.h>
 #include <string.h>
@@ -15,35 +15,35 @@ static const char chain[] =
 static uint64_t read_many(uint32_t count) {
     uint8_t text[120];
     uint64_t sum = 0;
-    struct lease_create_ask ask = {{0}, 0, 0, 0, 0, 0};
+    struct smblease_create_ask ask = {0};
     memcpy(text, chain, sizeof text);
     for (uint32_t turn = 0; turn < count; turn++) {
         text[24] = (uint8_t)turn;
-        if (lease_read_create_ask(text, sizeof text, &ask).kind == LEASE_NO_FAULT && ask.has_lease) sum += ask.key[0];
+        if (smblease_read_create_ask(text, sizeof text, &ask).kind == SMBLEASE_NO_FAULT && ask.has_lease) sum += ask.key[0];
     }
     return sum;
 }
 
 /* The ask of 96 bytes that is written each time. */
-static struct lease_create_ask same_ask(uint32_t turn) {
-    struct lease_create_ask ask = {{0}, 0, 3, 1, 1, 0};
+static struct smblease_create_ask same_ask(uint32_t turn) {
+    struct smblease_create_ask ask = {.state = 3, .has_lease = 1, .durable = 1};
     memset(ask.key, (uint8_t)turn, sizeof ask.key);
     return ask;
 }
 
 /* Asks for other contexts from turn to turn, of none to 136 bytes. */
-static struct lease_create_ask other_ask(uint32_t turn) {
-    struct lease_create_ask ask = {{0}, turn, turn, turn % 4 != 0, turn % 3 == 0, turn % 8 == 3};
+static struct smblease_create_ask other_ask(uint32_t turn) {
+    struct smblease_create_ask ask = {.file_id = turn, .state = turn, .has_lease = turn % 4 != 0, .durable = turn % 3 == 0, .has_reconnect = turn % 8 == 3};
     memset(ask.key, (uint8_t)turn, sizeof ask.key);
     return ask;
 }
 
-static uint64_t write_many(uint32_t count, struct lease_create_ask (*ask_at)(uint32_t)) {
-    uint8_t room[LEASE_CREATE_ASK_MOST] = {0};
+static uint64_t write_many(uint32_t count, struct smblease_create_ask (*ask_at)(uint32_t)) {
+    uint8_t room[SMBLEASE_CREATE_ASK_MOST] = {0};
     uint64_t sum = 0;
     for (uint32_t turn = 0; turn < count; turn++) {
-        struct lease_create_ask ask = ask_at(turn);
-        if (lease_write_create_ask(&ask, room, sizeof room) > 30) sum += room[30];
+        struct smblease_create_ask ask = ask_at(turn);
+        if (smblease_write_create_ask(&ask, room, sizeof room) > 30) sum += room[30];
     }
     return sum;
 }

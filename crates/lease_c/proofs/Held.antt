@@ -39,20 +39,20 @@ acknowledged_is_held v = rw (state_held v.state) refl
 pub responded_is_held : (v : KeyAndState) → responded_held (responded_fields v) ≡ v
 responded_is_held v = rw (state_held v.state) refl
 
-pub ask_is_held : (ask : CreateAsk) → ask_held (ask_fields (ask_of ask)) ≡ ask_of ask
-ask_is_held ask = by_parts ask.lease ask.durable ask.reconnect
+pub ask_is_held : (other : Bool) (ask : CreateAsk) → ask_held (ask_fields other (ask_of ask)) ≡ ask_of ask
+ask_is_held other ask = by_parts ask.lease ask.durable ask.reconnect
   where
     by_parts : (lease : Option (LeaseKey × LeaseState)) (durable : Bool) (reconnect : Option FileId)
-        → ask_held (ask_fields (ask_of (record { lease = lease; durable = durable; reconnect = reconnect }))) ≡ ask_of (record { lease = lease; durable = durable; reconnect = reconnect })
+        → ask_held (ask_fields other (ask_of (record { lease = lease; durable = durable; reconnect = reconnect }))) ≡ ask_of (record { lease = lease; durable = durable; reconnect = reconnect })
     by_parts None durable None = rw (flag_held durable) refl
     by_parts None durable (Some file_id) = rw (flag_held durable) refl
     by_parts (Some lease) durable None = rw (flag_held durable, state_held (state_of lease.1)) refl
     by_parts (Some lease) durable (Some file_id) = rw (flag_held durable, state_held (state_of lease.1)) refl
 
-pub answer_is_held : (answer : CreateAnswer) → answer_held (answer_fields (answer_of answer)) ≡ answer_of answer
-answer_is_held answer = by_parts answer.lease answer.durable
+pub answer_is_held : (other : Bool) (answer : CreateAnswer) → answer_held (answer_fields other (answer_of answer)) ≡ answer_of answer
+answer_is_held other answer = by_parts answer.lease answer.durable
   where
     by_parts : (lease : Option (LeaseKey × LeaseState × Bool)) (durable : Bool)
-        → answer_held (answer_fields (answer_of (record { lease = lease; durable = durable }))) ≡ answer_of (record { lease = lease; durable = durable })
+        → answer_held (answer_fields other (answer_of (record { lease = lease; durable = durable }))) ≡ answer_of (record { lease = lease; durable = durable })
     by_parts None durable = rw (flag_held durable) refl
     by_parts (Some lease) durable = rw (flag_held durable, flag_held lease.2, state_held (state_of lease.1)) refl

@@ -1,2 +1,3 @@
 pub mod Held
 pub mod Contexts
+pub mod Appended

@@ -1,5 +1,5 @@
 -- What create contexts ask for or grant, as structs hold it.
-use Rattle.std.specs.Prelude.{ℕ, false, List, replicate, Option, Some, None, is_some, if◌then◌else◌}
+use Rattle.std.specs.Prelude.{ℕ, Bool, false, List, replicate, Option, Some, None, is_some, if◌then◌else◌}
 use Rattle.lease_state.specs.State.{state_of_bits, bits_of_state}
 use Rattle.lease_wire.specs.Names.{LeaseView, CreateView}
 use Rattle.lease_c.specs.Flag.{is_set, flag_of}
@@ -24,7 +24,8 @@ answer_held answer = record {
   reconnect = None;
 }
 
--- the fields as they are written: all of a lease or a reconnect that isn't there are 0
+-- the fields as they are written: all of a lease or a reconnect that isn't there are 0, and all that is reserved;
+-- with it is said whether a lease of version 2 was passed over
 abbrev pub key_field : Option LeaseView → List ℕ
 key_field None = replicate 16 0
 key_field (Some lease) = lease.key
@@ -41,21 +42,25 @@ abbrev pub file_id_field : Option ℕ → ℕ
 file_id_field None = 0
 file_id_field (Some file_id) = file_id
 
-abbrev pub ask_fields : CreateView → LeaseCreateAsk
-ask_fields v = record {
+abbrev pub ask_fields : Bool → CreateView → LeaseCreateAsk
+ask_fields other_lease v = record {
   key = key_field v.lease;
   file_id = file_id_field v.reconnect;
   state = state_field v.lease;
   has_lease = flag_of (is_some v.lease);
   durable = flag_of v.durable;
   has_reconnect = flag_of (is_some v.reconnect);
+  has_other_lease = flag_of other_lease;
+  reserved = replicate 6 0;
 }
 
-abbrev pub answer_fields : CreateView → LeaseCreateAnswer
-answer_fields v = record {
+abbrev pub answer_fields : Bool → CreateView → LeaseCreateAnswer
+answer_fields other_lease v = record {
   key = key_field v.lease;
   state = state_field v.lease;
   has_lease = flag_of (is_some v.lease);
   breaking = breaking_field v.lease;
   durable = flag_of v.durable;
+  has_other_lease = flag_of other_lease;
+  reserved = replicate 6 0;
 }

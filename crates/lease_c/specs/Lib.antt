@@ -1,5 +1,10 @@
 pub mod Flag
 pub mod Told
+pub mod Faults
+pub mod Kind
 pub mod Create
+pub mod OtherLease
 pub mod Messages
 pub mod Context
+pub mod Found
+pub mod Appended

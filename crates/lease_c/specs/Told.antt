@@ -6,5 +6,5 @@ use Rattle.lease_c.specs.declared.fault.LeaseFault.{LeaseFault}
 
 -- no fault is told by zeros, a fault by its number, which is none of these, and its place
 abbrev pub told : Option WireFault → LeaseFault
-told None = record { place = 0; kind = 0 }
-told (Some fault) = record { place = fault_place fault; kind = fault_number fault }
+told None = record { place = 0; kind = 0; reserved = 0 }
+told (Some fault) = record { place = fault_place fault; kind = fault_number fault; reserved = 0 }

@@ -5,16 +5,19 @@ ghost use Rattle.lease_wire.specs.Canonical.{canonical_text};
 ghost use Rattle.lease_wire.specs.Create.{ask_of, answer_of, asked_view, granted_view, IsReadingOf};
 ghost use Rattle.lease_wire.specs.Gathering.{value_of};
 ghost use Rattle.lease_wire.specs.declared.create.Direction.TheVariants.{Request, Reply};
+ghost use Rattle.lease_wire.specs.Contexts.{item_view};
 ghost use Rattle.lease_c.specs.Create.{ask_held, answer_held, ask_fields, answer_fields};
+ghost use Rattle.lease_c.specs.OtherLease.{has_other_lease, is_other_lease};
 ghost use Rattle.lease_c.specs.Told.{told};
 
 use crate::fault::LeaseFault;
 use lease_state::{FileId, LeaseKey, LeaseState};
 use lease_wire::{
-    CreateAnswer, CreateAsk, fill_create_ask, fill_create_reply, read_create, read_create_reply,
+    Context, CreateAnswer, CreateAsk, WireFault, contexts, fill_create_ask, fill_create_reply,
+    read_create, read_create_reply,
 };
 
-/// What the create contexts of a CREATE request ask for: `struct lease_create_ask`.
+/// What the create contexts of a CREATE request ask for: `struct smblease_create_ask`.
 #[repr(C)]
 #[derive(Clone, Copy, Debug, PartialEq, Eq)]
 pub struct LeaseCreateAsk {
@@ -30,9 +33,14 @@ pub struct LeaseCreateAsk {
     pub durable: u8,
     /// `DHnC`: a durable open is to be connected again.
     pub has_reconnect: u8,
+    /// `RqLs` of 52 bytes, the lease context of version 2 (2.2.13.2.10): it is there, and is passed
+    /// over. A writer passes over this field.
+    pub has_other_lease: u8,
+    /// Left 0, for what later versions may read.
+    pub reserved: [u64; 6],
 }
 
-/// What the create contexts of a CREATE response grant: `struct lease_create_answer`.
+/// What the create contexts of a CREATE response grant: `struct smblease_create_answer`.
 #[repr(C)]
 #[derive(Clone, Copy, Debug, PartialEq, Eq)]
 pub struct LeaseCreateAnswer {
@@ -46,6 +54,10 @@ pub struct LeaseCreateAnswer {
     pub breaking: u8,
     /// `DHnQ`: the open is durable.
     pub durable: u8,
+    /// `RqLs` of 52 bytes, the lease context of version 2 (2.2.14.2.11), as in [`LeaseCreateAsk`].
+    pub has_other_lease: u8,
+    /// Left 0, for what later versions may read.
+    pub reserved: [u64; 6],
 }
 
 impl LeaseCreateAsk {
@@ -69,8 +81,8 @@ impl LeaseCreateAsk {
     }
 
     // The fields that hold a value: those of what isn't there are 0.
-    fn holding(ask: &CreateAsk) -> LeaseCreateAsk
-        ensures { result ≡ ask_fields (ask_of ask.now) }
+    fn holding(ask: &CreateAsk, other_lease: bool) -> LeaseCreateAsk
+        ensures { result ≡ ask_fields other_lease (ask_of ask.now) }
     {
         let (key, state) = match ask.lease {
             Some((key, state)) => {
@@ -90,6 +102,8 @@ impl LeaseCreateAsk {
             has_lease: u8::from(ask.lease.is_some()),
             durable: u8::from(ask.durable),
             has_reconnect: u8::from(ask.reconnect.is_some()),
+            has_other_lease: u8::from(other_lease),
+            reserved: [0; 6],
         }
     }
 }
@@ -114,8 +128,8 @@ impl LeaseCreateAnswer {
     }
 
     // The fields that hold a value: those of what isn't there are 0.
-    fn holding(answer: &CreateAnswer) -> LeaseCreateAnswer
-        ensures { result ≡ answer_fields (answer_of answer.now) }
+    fn holding(answer: &CreateAnswer, other_lease: bool) -> LeaseCreateAnswer
+        ensures { result ≡ answer_fields other_lease (answer_of answer.now) }
     {
         let (key, state, breaking) = match answer.lease {
             Some((key, state, breaking)) => {
@@ -130,25 +144,49 @@ impl LeaseCreateAnswer {
             has_lease: u8::from(answer.lease.is_some()),
             breaking: u8::from(breaking),
             durable: u8::from(answer.durable),
+            has_other_lease: u8::from(other_lease),
+            reserved: [0; 6],
         }
     }
 }
 
+// Whether one of the contexts is a lease context of version 2.
+fn has_other_lease(text: &[u8]) -> bool
+    ensures { result ≡ has_other_lease text.now }
+{
+    for item in contexts(text) {
+        if is_other_lease(&item) {
+            return true;
+        }
+    }
+    false
+}
+
+fn is_other_lease(item: &Result<Context<'_>, WireFault>) -> bool
+    ensures { result ≡ is_other_lease (item_view item.now) }
+{
+    match item {
+        Ok(context) => context.name == b"RqLs".as_slice() && context.body.len() == 52,
+        Err(_) => false,
+    }
+}
+
 /// Reads the create contexts of a CREATE request (MS-SMB2 2.2.13.2) into `out`. A text of no bytes
-/// asks for nothing; contexts that aren't known are passed over.
+/// asks for nothing; contexts that aren't known are passed over, also an `RqLs` of 52 bytes, which
+/// `has_other_lease` reports.
 ///
-/// Gives the first fault in the order of the text, and then `out` is as it was.
+/// Returns the first fault in the order of the text, and then `out` is as it was.
 #[unsafe(no_mangle)]
-pub extern "C" fn lease_read_create_ask(text: &[u8], out: &mut LeaseCreateAsk) -> LeaseFault
+pub extern "C" fn smblease_read_create_ask(text: &[u8], out: &mut LeaseCreateAsk) -> LeaseFault
     ensures reading { IsReadingOf Request text.now (value_of Request text.now) }
     ensures fault { result ≡ told (result_err (value_of Request text.now)) }
     ensures value { IfOk (value_of Request text.now) (λ v. ask_held out.new ≡ v) }
-    ensures fields { IfOk (value_of Request text.now) (λ v. out.new ≡ ask_fields v) }
+    ensures fields { IfOk (value_of Request text.now) (λ v. out.new ≡ ask_fields (has_other_lease text.now) v) }
     ensures unchanged { IfErr (value_of Request text.now) (λ fault. out.new ≡ out.old) }
 {
     match read_create(text) {
         Ok(ask) => {
-            *out = LeaseCreateAsk::holding(&ask);
+            *out = LeaseCreateAsk::holding(&ask, has_other_lease(text));
             LeaseFault::none()
         }
         Err(fault) => LeaseFault::of(fault),
@@ -156,18 +194,21 @@ pub extern "C" fn lease_read_create_ask(text: &[u8], out: &mut LeaseCreateAsk) -
 }
 
 /// Reads the create contexts of a CREATE response (MS-SMB2 2.2.14.2) into `out`, as
-/// [`lease_read_create_ask`] those of a request. A `DHnC` is not known there.
+/// [`smblease_read_create_ask`] those of a request. A `DHnC` is not known there.
 #[unsafe(no_mangle)]
-pub extern "C" fn lease_read_create_answer(text: &[u8], out: &mut LeaseCreateAnswer) -> LeaseFault
+pub extern "C" fn smblease_read_create_answer(
+    text: &[u8],
+    out: &mut LeaseCreateAnswer,
+) -> LeaseFault
     ensures reading { IsReadingOf Reply text.now (value_of Reply text.now) }
     ensures fault { result ≡ told (result_err (value_of Reply text.now)) }
     ensures value { IfOk (value_of Reply text.now) (λ v. answer_held out.new ≡ v) }
-    ensures fields { IfOk (value_of Reply text.now) (λ v. out.new ≡ answer_fields v) }
+    ensures fields { IfOk (value_of Reply text.now) (λ v. out.new ≡ answer_fields (has_other_lease text.now) v) }
     ensures unchanged { IfErr (value_of Reply text.now) (λ fault. out.new ≡ out.old) }
 {
     match read_create_reply(text) {
         Ok(answer) => {
-            *out = LeaseCreateAnswer::holding(&answer);
+            *out = LeaseCreateAnswer::holding(&answer, has_other_lease(text));
             LeaseFault::none()
         }
         Err(fault) => LeaseFault::of(fault),
@@ -175,10 +216,10 @@ pub extern "C" fn lease_read_create_answer(text: &[u8], out: &mut LeaseCreateAns
 }
 
 /// Writes the create contexts of a request (MS-SMB2 2.2.13.2) in their canonical text to the front
-/// of `room`. Gives the length of the text, 136 bytes at most; where `room` is shorter, nothing is
-/// written.
+/// of `room`. Returns the length of the text, 136 bytes at most; where `room` is shorter, nothing
+/// is written.
 #[unsafe(no_mangle)]
-pub extern "C" fn lease_write_create_ask(ask: &LeaseCreateAsk, room: &mut [u8]) -> usize
+pub extern "C" fn smblease_write_create_ask(ask: &LeaseCreateAsk, room: &mut [u8]) -> usize
     ensures length { result ≡ length (canonical_text Request (ask_held ask.now)) }
     ensures written { result ≤ length room.old → room.new ≡ canonical_text Request (ask_held ask.now) ++ drop result room.old }
     ensures no_room { length room.old < result → room.new ≡ room.old }
@@ -186,10 +227,10 @@ pub extern "C" fn lease_write_create_ask(ask: &LeaseCreateAsk, room: &mut [u8]) 
     fill_create_ask(&ask.value(), room)
 }
 
-/// Writes the create contexts of a response (MS-SMB2 2.2.14.2), as [`lease_write_create_ask`] those
+/// Writes the create contexts of a response (MS-SMB2 2.2.14.2), as [`smblease_write_create_ask`] those
 /// of a request: 88 bytes at most.
 #[unsafe(no_mangle)]
-pub extern "C" fn lease_write_create_answer(answer: &LeaseCreateAnswer, room: &mut [u8]) -> usize
+pub extern "C" fn smblease_write_create_answer(answer: &LeaseCreateAnswer, room: &mut [u8]) -> usize
     ensures length { result ≡ length (canonical_text Reply (answer_held answer.now)) }
     ensures written { result ≤ length room.old → room.new ≡ canonical_text Reply (answer_held answer.now) ++ drop result room.old }
     ensures no_room { length room.old < result → room.new ≡ room.old }

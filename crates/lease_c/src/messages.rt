@@ -6,38 +6,45 @@ ghost use Rattle.lease_c.specs.Messages.{notice_held, notice_fields, acknowledge
 ghost use Rattle.lease_c.specs.Told.{told};
 
 use crate::fault::LeaseFault;
+use crate::room::fill;
 use lease_state::{LeaseKey, LeaseState};
 use lease_wire::{Acknowledgment, BreakResponse, Notification};
 
-/// A lease break notification: `struct lease_notification`.
+/// A lease break notification: `struct smblease_notification`.
 #[repr(C)]
 #[derive(Clone, Copy, Debug, PartialEq, Eq)]
 pub struct LeaseNotification {
     pub key: [u8; 16],
-    /// CurrentLeaseState, that the server breaks.
+    /// CurrentLeaseState: the state that the server breaks.
     pub current_state: u32,
-    /// NewLeaseState, that it is broken to.
+    /// NewLeaseState: the state that it is broken to.
     pub new_state: u32,
     /// SMB2_NOTIFY_BREAK_LEASE_FLAG_ACK_REQUIRED: the client has to acknowledge the break.
     pub ack_required: u8,
+    /// Left 0, for what later versions may read.
+    pub reserved: [u8; 15],
 }
 
-/// A lease break acknowledgment: `struct lease_acknowledgment`.
+/// A lease break acknowledgment: `struct smblease_acknowledgment`.
 #[repr(C)]
 #[derive(Clone, Copy, Debug, PartialEq, Eq)]
 pub struct LeaseAcknowledgment {
     pub key: [u8; 16],
-    /// LeaseState, that the client keeps.
+    /// LeaseState: the state that the client keeps.
     pub state: u32,
+    /// Left 0, for what later versions may read.
+    pub reserved: [u8; 12],
 }
 
-/// A lease break response: `struct lease_response`.
+/// A lease break response: `struct smblease_response`.
 #[repr(C)]
 #[derive(Clone, Copy, Debug, PartialEq, Eq)]
 pub struct LeaseResponse {
     pub key: [u8; 16],
-    /// LeaseState, that the lease now has.
+    /// LeaseState: the state that the lease now has.
     pub state: u32,
+    /// Left 0, for what later versions may read.
+    pub reserved: [u8; 12],
 }
 
 impl LeaseNotification {
@@ -64,6 +71,7 @@ impl LeaseNotification {
             current_state: message.current.to_wire(),
             new_state: message.new.to_wire(),
             ack_required: u8::from(message.ack_required),
+            reserved: [0; 15],
         }
     }
 }
@@ -88,6 +96,7 @@ impl LeaseAcknowledgment {
         LeaseAcknowledgment {
             key: message.key.0,
             state: message.state.to_wire(),
+            reserved: [0; 12],
         }
     }
 }
@@ -112,30 +121,21 @@ impl LeaseResponse {
         LeaseResponse {
             key: message.key.0,
             state: message.state.to_wire(),
+            reserved: [0; 12],
         }
     }
-}
-
-// Writes all of the message to the front of the room, or nothing; tells how long the message is.
-fn fill(room: &mut [u8], message: &[u8]) -> usize
-    ensures length { result ≡ length message.now }
-    ensures written { length message.now ≤ length room.old → room.new ≡ message.now ++ drop (length message.now) room.old }
-    ensures front { length message.now ≤ length room.old → take (length message.now) room.new ≡ message.now }
-    ensures no_room { length room.old < length message.now → room.new ≡ room.old }
-{
-    if message.len() <= room.len() {
-        room[..message.len()].copy_from_slice(message);
-    }
-    message.len()
 }
 
 /// Reads a lease break notification (MS-SMB2 2.2.23.2) from the front of `bytes` into `out`. Other
 /// fields that carry no value of the message, and state bits past 7, are passed over, as are the
 /// bytes after its 44.
 ///
-/// Gives the fault where there is one, and then `out` is as it was.
+/// Returns the fault where there is one, and then `out` is as it was.
 #[unsafe(no_mangle)]
-pub extern "C" fn lease_read_notification(bytes: &[u8], out: &mut LeaseNotification) -> LeaseFault
+pub extern "C" fn smblease_read_notification(
+    bytes: &[u8],
+    out: &mut LeaseNotification,
+) -> LeaseFault
     ensures fault { result ≡ told (message_fault 44 bytes.now) }
     ensures value { message_fault 44 bytes.now ≡ None → IsNotification (take 44 bytes.now) (notice_held out.new) }
     ensures fields { message_fault 44 bytes.now ≡ None → out.new ≡ notice_fields (notice_held out.new) }
@@ -150,10 +150,10 @@ pub extern "C" fn lease_read_notification(bytes: &[u8], out: &mut LeaseNotificat
     }
 }
 
-/// Writes a lease break notification (MS-SMB2 2.2.23.2) to the front of `room`. Gives its length,
+/// Writes a lease break notification (MS-SMB2 2.2.23.2) to the front of `room`. Returns its length,
 /// 44; where `room` is shorter, nothing is written. Free fields are 0.
 #[unsafe(no_mangle)]
-pub extern "C" fn lease_write_notification(message: &LeaseNotification, room: &mut [u8]) -> usize
+pub extern "C" fn smblease_write_notification(message: &LeaseNotification, room: &mut [u8]) -> usize
     ensures length { result ≡ 44 }
     ensures layout { 44 ≤ length room.old → IsNotification (take 44 room.new) (notice_held message.now) }
     ensures written { 44 ≤ length room.old → room.new ≡ notification_bytes (notice_held message.now) ++ drop 44 room.old }
@@ -166,9 +166,9 @@ pub extern "C" fn lease_write_notification(message: &LeaseNotification, room: &m
 /// Reads a lease break acknowledgment (MS-SMB2 2.2.24.2) from the front of `bytes` into `out`. Other
 /// fields, and state bits past 7, are passed over, as are the bytes after its 36.
 ///
-/// Gives the fault where there is one, and then `out` is as it was.
+/// Returns the fault where there is one, and then `out` is as it was.
 #[unsafe(no_mangle)]
-pub extern "C" fn lease_read_acknowledgment(
+pub extern "C" fn smblease_read_acknowledgment(
     bytes: &[u8],
     out: &mut LeaseAcknowledgment,
 ) -> LeaseFault
@@ -186,10 +186,10 @@ pub extern "C" fn lease_read_acknowledgment(
     }
 }
 
-/// Writes a lease break acknowledgment (MS-SMB2 2.2.24.2) to the front of `room`. Gives its length,
-/// 36; where `room` is shorter, nothing is written. Free fields are 0.
+/// Writes a lease break acknowledgment (MS-SMB2 2.2.24.2) to the front of `room`. Returns its
+/// length, 36; where `room` is shorter, nothing is written. Free fields are 0.
 #[unsafe(no_mangle)]
-pub extern "C" fn lease_write_acknowledgment(
+pub extern "C" fn smblease_write_acknowledgment(
     message: &LeaseAcknowledgment,
     room: &mut [u8],
 ) -> usize
@@ -202,10 +202,10 @@ pub extern "C" fn lease_write_acknowledgment(
     fill(room, &acknowledgment.encode())
 }
 
-/// Reads a lease break response (MS-SMB2 2.2.25.2), as [`lease_read_acknowledgment`] an
+/// Reads a lease break response (MS-SMB2 2.2.25.2), as [`smblease_read_acknowledgment`] an
 /// acknowledgment.
 #[unsafe(no_mangle)]
-pub extern "C" fn lease_read_response(bytes: &[u8], out: &mut LeaseResponse) -> LeaseFault
+pub extern "C" fn smblease_read_response(bytes: &[u8], out: &mut LeaseResponse) -> LeaseFault
     ensures fault { result ≡ told (message_fault 36 bytes.now) }
     ensures value { message_fault 36 bytes.now ≡ None → IsAcknowledgment (take 36 bytes.now) (responded_held out.new) }
     ensures fields { message_fault 36 bytes.now ≡ None → out.new ≡ responded_fields (responded_held out.new) }
@@ -220,10 +220,10 @@ pub extern "C" fn lease_read_response(bytes: &[u8], out: &mut LeaseResponse) -> 
     }
 }
 
-/// Writes a lease break response (MS-SMB2 2.2.25.2), as [`lease_write_acknowledgment`] an
+/// Writes a lease break response (MS-SMB2 2.2.25.2), as [`smblease_write_acknowledgment`] an
 /// acknowledgment.
 #[unsafe(no_mangle)]
-pub extern "C" fn lease_write_response(message: &LeaseResponse, room: &mut [u8]) -> usize
+pub extern "C" fn smblease_write_response(message: &LeaseResponse, room: &mut [u8]) -> usize
     ensures length { result ≡ 36 }
     ensures layout { 36 ≤ length room.old → IsAcknowledgment (take 36 room.new) (responded_held message.now) }
     ensures written { 36 ≤ length room.old → room.new ≡ acknowledgment_bytes (responded_held message.now) ++ drop 36 room.old }
@@ -233,10 +233,10 @@ pub extern "C" fn lease_write_response(message: &LeaseResponse, room: &mut [u8])
     fill(room, &response.encode())
 }
 
-/// Gives whether a break asks for an acknowledgment (MS-SMB2 3.2.5.19.2), and writes it to `out`
+/// Returns whether a break asks for an acknowledgment (MS-SMB2 3.2.5.19.2), and writes it to `out`
 /// where it does: that of the notification's key, with the state that the lease is broken to.
 #[unsafe(no_mangle)]
-pub extern "C" fn lease_acknowledgment_due(
+pub extern "C" fn smblease_acknowledgment_due(
     notification: &LeaseNotification,
     out: &mut LeaseAcknowledgment,
 ) -> bool

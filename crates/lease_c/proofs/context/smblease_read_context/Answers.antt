@@ -1,6 +1,6 @@
 use Rattle.std.proofs.Common.{sym, arith}
 use Rattle.lease_c.proofs.Contexts.{context_is_held, name_is_within, data_is_within, items_are_read}
-use Rattle.lease_c.proofs.context.lease_read_context.Goals as goal
+use Rattle.lease_c.proofs.context.smblease_read_context.Goals as goal
 
 pub returns-in-Ok-clause-items : goal.returns-in-Ok-clause-items
 returns-in-Ok-clause-items c = rw (c.context_from.ensures, c.bytes_from.ensures) (items_are_read c.args.place c.args.text.now (sym c.in-Ok.ensures.fault))

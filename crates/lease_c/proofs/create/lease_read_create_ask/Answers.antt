@@ -1,5 +1,0 @@
-use Rattle.lease_c.proofs.Held.{ask_is_held}
-use Rattle.lease_c.proofs.create.lease_read_create_ask.Goals as goal
-
-pub returns-in-Ok-clause-value : goal.returns-in-Ok-clause-value
-returns-in-Ok-clause-value c = rw (← c.in-Ok.ensures.value, c.holding.ensures) (ask_is_held c.in-Ok.ask)

@@ -1,0 +1,25 @@
+ghost use Rattle.std.specs.Prelude.{◌≡◌};
+
+/// The version of this library: `struct smblease_version_numbers`.
+#[repr(C)]
+#[derive(Clone, Copy, Debug, PartialEq, Eq)]
+pub struct LeaseVersion {
+    /// Another one where a program that was linked before could no longer run.
+    pub major: u32,
+    /// Another one where something was added.
+    pub minor: u32,
+    pub patch: u32,
+}
+
+/// Returns the version of the library that runs (profile). The header has that of the library that
+/// a program was compiled for.
+#[unsafe(no_mangle)]
+pub extern "C" fn smblease_version() -> LeaseVersion
+    ensures { result ≡ record { major = 0; minor = 2; patch = 0 } }
+{
+    LeaseVersion {
+        major: 0,
+        minor: 2,
+        patch: 0,
+    }
+}
