@@ -1,0 +1,28 @@
+/// A ClientGuid (MS-SMB2 2.2.3), its bytes in the order of the wire: `smblease_guid`.
+#[repr(C)]
+#[derive(Clone, Copy, Debug, PartialEq, Eq)]
+pub struct ClientGuid {
+    pub bytes: [u8; 16],
+}
+
+/// A lease break notification without its header (2.2.23.2): `smblease_break_message`.
+#[repr(C)]
+#[derive(Clone, Copy, Debug, PartialEq, Eq)]
+pub struct BreakMessage {
+    pub bytes: [u8; 44],
+}
+
+/// A lease break acknowledgment or response without its header (2.2.24.2, 2.2.25.2):
+/// `smblease_ack_message`.
+#[repr(C)]
+#[derive(Clone, Copy, Debug, PartialEq, Eq)]
+pub struct ResponseMessage {
+    pub bytes: [u8; 36],
+}
+
+/// A lease key: `smblease_key`.
+#[repr(C)]
+#[derive(Clone, Copy, Debug, PartialEq, Eq)]
+pub struct KeyBytes {
+    pub bytes: [u8; 16],
+}

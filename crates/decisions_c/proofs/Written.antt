@@ -1,0 +1,58 @@
+-- Structs that were written hold what they were written for, and what every server does with an acknowledgment.
+use Rattle.std.proofs.Common.{◌≡◌, refl, subst, Bool, true, false}
+use Rattle.std.specs.Prelude.{Option, Some, None}
+use Rattle.lease_state.specs.State.{State, state_of_bits, bits_of_state, granted_form_of, is_state_within}
+use Rattle.lease_laws.proofs.server.Keys.{put_key-here}
+use Rattle.lease_laws.proofs.server.Lists.{either}
+use Rattle.lease_model.specs.server.Acknowledge.{acknowledged, judged, break_ended}
+use Rattle.lease_model.specs.server.Progress.{begun}
+use Rattle.lease_model.specs.server.State.{Server, Lease}
+use Rattle.lease_model.specs.values.Keys.{Key}
+use Rattle.decisions_c.specs.Judged.{acknowledged_status, lease_acknowledged, status_out, IsAnswered, IsAnsweredByAll}
+use Rattle.decisions_c.specs.Tables.{lease_held, entry_fields}
+
+pub state_held : (s : State) → state_of_bits (bits_of_state s) ≡ s
+state_held s = eight s.read s.write s.handle
+  where
+    eight : (r w h : Bool) → state_of_bits (bits_of_state (record { read = r; write = w; handle = h })) ≡ record { read = r; write = w; handle = h }
+    eight false false false = refl
+    eight false false true = refl
+    eight false true false = refl
+    eight false true true = refl
+    eight true false false = refl
+    eight true false true = refl
+    eight true true false = refl
+    eight true true true = refl
+
+pub lease_is_held : (key : Key) (expired : Bool) (lease : Lease) → lease_held (entry_fields key expired lease) ≡ lease
+lease_is_held key expired lease = by_parts lease.state lease.broken_to
+  where
+    by_parts : (state : State) (broken_to : Option State)
+        → lease_held (entry_fields key expired (record { state = state; broken_to = broken_to })) ≡ record { state = state; broken_to = broken_to }
+    by_parts state None = rw (state_held state) refl
+    by_parts state (Some lowered) = rw (state_held state, state_held lowered) refl
+
+judged_status : (key : Key) (state : State) (broken_to : Option State) (server : Server)
+    → status_out (judged key state broken_to (begun server)).outs ≡ Some (acknowledged_status state broken_to)
+unfolding break_ended
+judged_status key state None server = refl
+judged_status key state (Some lowered) server = either (is_state_within state lowered) (λ e. rw e refl) (λ e. rw e refl)
+
+judged_lease : (key : Key) (state : State) (broken_to : Option State) (server : Server)
+    → (judged key state broken_to (begun server)).server.leases key ≡ lease_acknowledged state (server.leases key) broken_to
+unfolding break_ended
+judged_lease key state None server = refl
+judged_lease key state (Some lowered) server = either (is_state_within state lowered)
+    (λ e. rw e (put_key-here server.leases key (record { state = granted_form_of state; broken_to = None })))
+    (λ e. rw e refl)
+
+pub answered_by_all : (key : Key) (state : State) (lease : Lease)
+    → IsAnsweredByAll key state lease (acknowledged_status state lease.broken_to) (lease_acknowledged state lease lease.broken_to)
+unfolding acknowledged
+answered_by_all key state lease server has same =
+    subst (λ (l : Lease). IsAnswered key state l (acknowledged_status state l.broken_to) (lease_acknowledged state l l.broken_to) server)
+    same
+    (record {
+      answer = rw has (judged_status key state (server.leases key).broken_to server);
+      leaves = rw has (judged_lease key state (server.leases key).broken_to server);
+    })

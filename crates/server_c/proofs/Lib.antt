@@ -1,0 +1,2 @@
+pub mod FilesHandles
+pub mod Handles

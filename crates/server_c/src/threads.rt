@@ -1,0 +1,17 @@
+use crate::files::FilesHandle;
+use crate::handle::ServerHandle;
+
+// Whatever may go to another thread.
+fn sent<T: Send>(value: T) -> T {
+    value
+}
+
+/// The same handle. It is proved here that it may go to another thread.
+pub fn sent_files(handle: FilesHandle) -> FilesHandle {
+    sent(handle)
+}
+
+/// The same handle. It is proved here that it may go to another thread.
+pub fn sent_server(handle: ServerHandle) -> ServerHandle {
+    sent(handle)
+}
