@@ -1,0 +1,23 @@
+"""SMB 2.1 leases and durable opens by libsmblease, which is proved: messages, create contexts, and the client and the server as
+machines (docs/PYTHON.md). The decisions of a server on leases are in smblease.decisions."""
+from smblease.client import Client, lease_key
+from smblease.contexts import Context, CreateAnswer, CreateAsk, append_context, each_context, find_context
+from smblease.faults import Fault, MachineLost
+from smblease.messages import Acknowledgment, MessageKind, Notification, Response
+from smblease.outs import Changed, Opened, Out, Sent
+from smblease.replies import (AcknowledgeDone, AcknowledgeFailed, Break, Closed, CloseFailed, Created, CreateFailed, ReadDone,
+                              ReadFailed, Reply, WriteDone, WriteFailed)
+from smblease.requests import AcknowledgeRequest, CloseRequest, CreateRequest, ReadRequest, Request, WriteRequest
+from smblease.server import Server
+from smblease.steps import (Answer, Believes, CachedRead, Done, Failed, FileBytes, Note, Quiet, Refusal, Refused, Settled,
+                            Settlement, Step, Waiting, Wrote)
+from smblease.values import Access, LeaseState, Share, Status
+
+__all__ = [
+    "Access", "AcknowledgeDone", "AcknowledgeFailed", "AcknowledgeRequest", "Acknowledgment", "Answer", "Believes", "Break",
+    "CachedRead", "Changed", "Client", "Closed", "CloseFailed", "CloseRequest", "Context", "CreateAnswer", "CreateAsk",
+    "CreateFailed", "CreateRequest", "Created", "Done", "Failed", "Fault", "FileBytes", "LeaseState", "MachineLost", "MessageKind",
+    "Note", "Notification", "Opened", "Out", "Quiet", "ReadDone", "ReadFailed", "ReadRequest", "Refusal", "Refused", "Reply",
+    "Request", "Response", "Sent", "Server", "Settled", "Settlement", "Share", "Status", "Step", "Waiting", "WriteDone",
+    "WriteFailed", "WriteRequest", "Wrote", "append_context", "each_context", "find_context", "lease_key",
+]

@@ -1,0 +1,36 @@
+"""Arguments of calls, checked: ctypes would cut a number to the width of its type without a word."""
+import ctypes
+import operator
+import uuid
+from typing import Type, TypeVar, Union
+
+Octets = Union[bytes, bytearray, memoryview]
+Struct = TypeVar("Struct", bound=ctypes.Structure)
+
+BYTE, WORD, LONG = 0xFF, 0xFFFF_FFFF, 0xFFFF_FFFF_FFFF_FFFF
+
+
+def number(value: int, most: int, name: str) -> int:
+    found = operator.index(value)
+    if not 0 <= found <= most:
+        raise ValueError(f"{name} is a number from 0 to {most}, and not {found}")
+    return found
+
+
+def octets(value: Octets) -> bytes:
+    # (`bytes` of a number would be so many zero bytes)
+    return value if isinstance(value, bytes) else bytes(memoryview(value))
+
+
+def key_octets(value: uuid.UUID) -> bytes:
+    if not isinstance(value, uuid.UUID):
+        raise TypeError(f"a uuid.UUID is needed, and not {value!r}")
+    return value.bytes
+
+
+def struct_of(kind: Type[Struct], value: Octets, name: str) -> Struct:
+    """A struct that is nothing but bytes."""
+    given, size = octets(value), ctypes.sizeof(kind)
+    if len(given) != size:
+        raise ValueError(f"{name} has {size} bytes, and not {len(given)}")
+    return kind.from_buffer_copy(given)

@@ -1,0 +1,109 @@
+"""The functions of the headers: of each what it gives, and what it is given."""
+from ctypes import POINTER, c_bool, c_char, c_char_p, c_size_t, c_uint8, c_uint32, c_uint64
+from typing import Any, Dict, Tuple
+
+from smblease import _structs as structs
+
+_BYTES = (c_char_p, c_size_t)
+_ROOM = (POINTER(c_char), c_size_t)
+_CLIENT = POINTER(structs.Client)
+_SERVER = POINTER(structs.Server)
+_OPENS = (POINTER(structs.Open), c_size_t)
+_TABLES = (*_OPENS, POINTER(structs.Lease), c_size_t)
+_REQUEST = POINTER(structs.Request)
+_LEASE = POINTER(structs.Lease)
+_KEY = POINTER(structs.Key)
+
+Signature = Tuple[Any, Tuple[Any, ...]]
+
+CODEC: Dict[str, Signature] = {
+    "version": (structs.VersionNumbers, ()),
+    "fault_status": (c_uint32, (c_uint32,)),
+    "fault_name": (c_size_t, (c_uint32, *_ROOM)),
+    "read_create_ask": (structs.Fault, (*_BYTES, POINTER(structs.CreateAsk))),
+    "read_create_answer": (structs.Fault, (*_BYTES, POINTER(structs.CreateAnswer))),
+    "read_context": (structs.Fault, (*_BYTES, c_uint64, POINTER(structs.Context))),
+    "find_context": (c_bool, (*_BYTES, *_BYTES, POINTER(structs.Context))),
+    "append_context": (c_size_t, (*_ROOM, c_uint64, *_BYTES, *_BYTES)),
+    "message_kind": (c_uint32, _BYTES),
+    "read_notification": (structs.Fault, (*_BYTES, POINTER(structs.Notification))),
+    "read_acknowledgment": (structs.Fault, (*_BYTES, POINTER(structs.Acknowledgment))),
+    "read_response": (structs.Fault, (*_BYTES, POINTER(structs.Response))),
+    "write_create_ask": (c_size_t, (POINTER(structs.CreateAsk), *_ROOM)),
+    "write_create_answer": (c_size_t, (POINTER(structs.CreateAnswer), *_ROOM)),
+    "write_notification": (c_size_t, (POINTER(structs.Notification), *_ROOM)),
+    "write_acknowledgment": (c_size_t, (POINTER(structs.Acknowledgment), *_ROOM)),
+    "write_response": (c_size_t, (POINTER(structs.Response), *_ROOM)),
+    "acknowledgment_due": (c_bool, (POINTER(structs.Notification), POINTER(structs.Acknowledgment))),
+}
+
+DECISIONS: Dict[str, Signature] = {
+    "create_finding": (structs.Finding, (*_TABLES, _REQUEST)),
+    "create_want": (structs.Want, (*_TABLES, _REQUEST, _LEASE)),
+    "write_finding": (structs.Finding, (*_TABLES, _REQUEST)),
+    "write_want": (structs.Want, (*_TABLES, _REQUEST, _LEASE)),
+    "read_finding": (structs.Finding, (_REQUEST,)),
+    "opens_conflict": (c_bool, (c_uint8, c_uint8, c_uint8, c_uint8)),
+    "allowed": (c_uint32, (*_OPENS, _REQUEST)),
+    "lease_after_grant": (c_bool, (*_TABLES, _REQUEST, _LEASE)),
+    "acknowledge": (c_uint32, (_LEASE, c_uint32)),
+    "granted_form": (c_uint32, (c_uint32,)),
+    "needs_acknowledgment": (c_bool, (c_uint32,)),
+    "is_within": (c_bool, (c_uint32, c_uint32)),
+}
+
+CLIENT: Dict[str, Signature] = {
+    "client_new": (c_uint32, (_CLIENT, POINTER(structs.Guid), c_uint8)),
+    "client_free": (None, (_CLIENT,)),
+    "client_connect": (c_uint32, (_CLIENT,)),
+    "client_notice": (c_uint32, (_CLIENT,)),
+    "client_open": (c_uint32, (_CLIENT, POINTER(structs.OpenTerms))),
+    "client_close": (c_uint32, (_CLIENT, c_uint8)),
+    "client_read": (c_uint32, (_CLIENT, c_uint8)),
+    "client_write": (c_uint32, (_CLIENT, c_uint8, c_uint32, *_BYTES)),
+    "client_flush": (c_uint32, (_CLIENT, c_uint8)),
+    "client_take_created": (c_uint32, (_CLIENT, c_uint8, c_uint64, *_BYTES)),
+    "client_take_create_failed": (c_uint32, (_CLIENT, c_uint8, c_uint32)),
+    "client_take_read_done": (c_uint32, (_CLIENT, c_uint64, *_BYTES)),
+    "client_take_read_failed": (c_uint32, (_CLIENT, c_uint64, c_uint32)),
+    "client_take_write_done": (c_uint32, (_CLIENT, c_uint64, c_uint64)),
+    "client_take_write_failed": (c_uint32, (_CLIENT, c_uint64, c_uint64, c_uint32)),
+    "client_take_closed": (c_uint32, (_CLIENT, c_uint64)),
+    "client_take_close_failed": (c_uint32, (_CLIENT, c_uint64, c_uint32)),
+    "client_take_break": (c_uint32, (_CLIENT, POINTER(structs.BreakMessage))),
+    "client_take_ack_done": (c_uint32, (_CLIENT, POINTER(structs.AckMessage))),
+    "client_take_ack_failed": (c_uint32, (_CLIENT, c_uint32)),
+    "client_answer": (c_uint32, (_CLIENT, POINTER(structs.Answer), *_ROOM)),
+    "client_request_at": (c_uint32, (_CLIENT, c_size_t, POINTER(structs.ClientRequest), *_ROOM)),
+    "client_note_at": (c_uint32, (_CLIENT, c_size_t, POINTER(structs.Note), *_ROOM)),
+    "client_request_count": (c_size_t, (_CLIENT,)),
+    "client_note_count": (c_size_t, (_CLIENT,)),
+    "client_belief": (c_uint32, (_CLIENT, c_uint8)),
+    "client_key": (None, (POINTER(structs.Guid), c_uint8, _KEY)),
+}
+
+SERVER: Dict[str, Signature] = {
+    "files_add": (c_uint32, (POINTER(structs.Files), *_BYTES)),
+    "files_free": (None, (POINTER(structs.Files),)),
+    "server_new": (c_uint32, (_SERVER, POINTER(structs.Files))),
+    "server_free": (None, (_SERVER,)),
+    "server_join": (c_uint32, (_SERVER, c_uint8)),
+    "server_cut": (c_uint32, (_SERVER, c_uint8)),
+    "server_expire": (c_uint32, (_SERVER, c_uint8, _KEY)),
+    "server_scavenge": (c_uint32, (_SERVER, c_uint64)),
+    "server_receive_create": (c_uint32, (_SERVER, c_uint8, c_uint8, c_uint8, c_uint8, *_BYTES)),
+    "server_receive_read": (c_uint32, (_SERVER, c_uint8, c_uint64)),
+    "server_receive_write": (c_uint32, (_SERVER, c_uint8, c_uint64, c_uint64, c_uint32, *_BYTES)),
+    "server_receive_close": (c_uint32, (_SERVER, c_uint8, c_uint64)),
+    "server_receive_ack": (c_uint32, (_SERVER, c_uint8, POINTER(structs.AckMessage))),
+    "server_out_count": (c_size_t, (_SERVER,)),
+    "server_out_at": (c_uint32, (_SERVER, c_size_t, POINTER(structs.ServerOut), *_ROOM)),
+    "server_allowed": (c_uint32, (_SERVER, c_uint8, POINTER(structs.MaybeKey), c_uint8, c_uint32)),
+    "server_connected": (c_uint32, (_SERVER, c_uint8)),
+    "server_breaking": (c_uint32, (_SERVER, c_uint8, _KEY)),
+    "server_left_behind": (c_uint32, (_SERVER, c_uint64)),
+    "server_kept": (c_uint32, (_SERVER, c_uint8, c_uint8, POINTER(c_uint64))),
+    "server_content": (c_uint32, (_SERVER, c_uint8, POINTER(c_uint64), *_ROOM)),
+}
+
+FUNCTIONS: Dict[str, Signature] = {**CODEC, **DECISIONS, **CLIENT, **SERVER}

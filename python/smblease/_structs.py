@@ -1,0 +1,117 @@
+"""The structs of the headers, as ctypes lays them out: smblease_create_ask is CreateAsk here, and so on."""
+import ctypes
+from ctypes import c_uint8, c_uint32, c_uint64
+
+
+class VersionNumbers(ctypes.Structure):
+    _fields_ = [("major", c_uint32), ("minor", c_uint32), ("patch", c_uint32)]
+
+
+class Fault(ctypes.Structure):
+    _fields_ = [("place", c_uint64), ("kind", c_uint32), ("reserved", c_uint32)]
+
+
+class Context(ctypes.Structure):
+    _fields_ = [("name_place", c_uint64), ("name_length", c_uint64), ("data_place", c_uint64), ("data_length", c_uint64),
+                ("next_place", c_uint64)]
+
+
+class CreateAsk(ctypes.Structure):
+    _fields_ = [("key", c_uint8 * 16), ("file_id", c_uint64), ("state", c_uint32), ("has_lease", c_uint8), ("durable", c_uint8),
+                ("has_reconnect", c_uint8), ("has_other_lease", c_uint8), ("reserved", c_uint64 * 6)]
+
+
+class CreateAnswer(ctypes.Structure):
+    _fields_ = [("key", c_uint8 * 16), ("state", c_uint32), ("has_lease", c_uint8), ("breaking", c_uint8), ("durable", c_uint8),
+                ("has_other_lease", c_uint8), ("reserved", c_uint64 * 6)]
+
+
+class Notification(ctypes.Structure):
+    _fields_ = [("key", c_uint8 * 16), ("current_state", c_uint32), ("new_state", c_uint32), ("ack_required", c_uint8),
+                ("reserved", c_uint8 * 15)]
+
+
+class Acknowledgment(ctypes.Structure):
+    _fields_ = [("key", c_uint8 * 16), ("state", c_uint32), ("reserved", c_uint8 * 12)]
+
+
+class Response(ctypes.Structure):
+    _fields_ = [("key", c_uint8 * 16), ("state", c_uint32), ("reserved", c_uint8 * 12)]
+
+
+class Open(ctypes.Structure):
+    _fields_ = [("client", c_uint64), ("key", c_uint8 * 16), ("has_key", c_uint8), ("access", c_uint8), ("share", c_uint8),
+                ("reserved", c_uint8 * 5)]
+
+
+class Lease(ctypes.Structure):
+    _fields_ = [("client", c_uint64), ("key", c_uint8 * 16), ("state", c_uint32), ("broken_to", c_uint32), ("breaking", c_uint8),
+                ("expired", c_uint8), ("reserved", c_uint8 * 6)]
+
+
+class Request(ctypes.Structure):
+    _fields_ = [("client", c_uint64), ("key", c_uint8 * 16), ("state", c_uint32), ("has_key", c_uint8), ("access", c_uint8),
+                ("share", c_uint8), ("reserved", c_uint8 * 9)]
+
+
+class Finding(ctypes.Structure):
+    _fields_ = [("status", c_uint32), ("wants_breaks", c_uint8), ("reserved", c_uint8 * 3)]
+
+
+class Want(ctypes.Structure):
+    _fields_ = [("lowered", c_uint32), ("wanted", c_uint8), ("reserved", c_uint8 * 3)]
+
+
+class Guid(ctypes.Structure):
+    _fields_ = [("bytes", c_uint8 * 16)]
+
+
+class Key(ctypes.Structure):
+    _fields_ = [("bytes", c_uint8 * 16)]
+
+
+class MaybeKey(ctypes.Structure):
+    _fields_ = [("bytes", c_uint8 * 16), ("has_key", c_uint8)]
+
+
+class BreakMessage(ctypes.Structure):
+    _fields_ = [("bytes", c_uint8 * 44)]
+
+
+class AckMessage(ctypes.Structure):
+    _fields_ = [("bytes", c_uint8 * 36)]
+
+
+class Client(ctypes.Structure):
+    _fields_ = [("state", ctypes.c_void_p)]
+
+
+class OpenTerms(ctypes.Structure):
+    _fields_ = [("want", c_uint32), ("file", c_uint8), ("access", c_uint8), ("share", c_uint8), ("durable", c_uint8)]
+
+
+class Answer(ctypes.Structure):
+    _fields_ = [("length", c_uint64), ("kind", c_uint32), ("refusal", c_uint32), ("status", c_uint32), ("cached", c_uint8)]
+
+
+class ClientRequest(ctypes.Structure):
+    _fields_ = [("file_id", c_uint64), ("number", c_uint64), ("length", c_uint64), ("kind", c_uint32), ("offset", c_uint32),
+                ("file", c_uint8), ("access", c_uint8), ("share", c_uint8)]
+
+
+class Note(ctypes.Structure):
+    _fields_ = [("number", c_uint64), ("length", c_uint64), ("kind", c_uint32), ("outcome", c_uint32), ("offset", c_uint32),
+                ("state", c_uint32), ("file", c_uint8), ("buffered", c_uint8)]
+
+
+class Files(ctypes.Structure):
+    _fields_ = [("state", ctypes.c_void_p)]
+
+
+class Server(ctypes.Structure):
+    _fields_ = [("state", ctypes.c_void_p)]
+
+
+class ServerOut(ctypes.Structure):
+    _fields_ = [("file_id", c_uint64), ("number", c_uint64), ("length", c_uint64), ("kind", c_uint32), ("status", c_uint32),
+                ("offset", c_uint32), ("client", c_uint8), ("file", c_uint8)]

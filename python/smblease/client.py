@@ -1,0 +1,293 @@
+"""The client machine: the cache of a client of leases and durable opens (MS-SMB2 3.2), with no sockets and no clock.
+
+A call passes in a command of the application, or a reply of the server, and gives a Step. Numbers of files are from 1.
+"""
+from __future__ import annotations
+
+import ctypes
+import uuid
+from functools import partial
+from typing import Any, Callable, Dict, Type
+
+from smblease import _structs as structs
+from smblease import replies, requests, steps
+from smblease._arguments import BYTE, LONG, WORD, Octets, key_octets, number, octets, struct_of
+from smblease._handles import Handle, with_bytes
+from smblease._library import library
+from smblease.values import Access, LeaseState, Share
+
+_ANSWERS: Dict[int, Callable[[Any, bytes], steps.Answer]] = {
+    1: lambda has, data: steps.Done(),
+    2: lambda has, data: steps.Waiting(),
+    3: lambda has, data: steps.FileBytes(data, bool(has.cached)),
+    4: lambda has, data: steps.Refused(steps.Refusal(has.refusal)),
+    5: lambda has, data: steps.Failed(has.status),
+    6: lambda has, data: steps.Quiet(),
+}
+_REQUESTS: Dict[int, Callable[[Any, bytes], requests.Request]] = {
+    1: lambda has, data: requests.CreateRequest(has.file, Access(has.access), Share(has.share), data),
+    2: lambda has, data: requests.ReadRequest(has.file_id),
+    3: lambda has, data: requests.WriteRequest(has.file_id, has.number, has.offset, data),
+    4: lambda has, data: requests.CloseRequest(has.file_id),
+    5: lambda has, data: requests.AcknowledgeRequest(data),
+}
+_NOTES: Dict[int, Callable[[Any, bytes], steps.Note]] = {
+    1: lambda has, data: steps.Settled(has.number, steps.Settlement(has.outcome)),
+    2: lambda has, data: steps.Wrote(has.file, has.number, has.offset, data, bool(has.buffered)),
+    3: lambda has, data: steps.Believes(has.file, LeaseState(has.state)),
+    4: lambda has, data: steps.CachedRead(has.file, data),
+}
+
+
+def lease_key(guid: uuid.UUID, file: int) -> uuid.UUID:
+    """The lease key under which the client of a ClientGuid opens a file (3.2.4.3.8).
+
+    >>> lease_key(uuid.UUID("11111111-1111-1111-1111-111111111111"), 2)
+    UUID('11111111-1111-1111-1111-111102000000')
+    """
+    found = structs.Key()
+    library.smblease_client_key(ctypes.byref(structs.Guid.from_buffer_copy(key_octets(guid))), number(file, BYTE, "file"),
+                                ctypes.byref(found))
+    return uuid.UUID(bytes=bytes(found.bytes))
+
+
+class Client(Handle[structs.Client]):
+    """A client with files from 1 to `files`, that was never connected.
+
+    `guid` is its ClientGuid, whose `bytes` are those of the wire. Where there is no memory for a call, MemoryError is raised and
+    nothing changed; where memory ran out within it, MachineLost.
+
+    >>> with Client(uuid.UUID(int=1), files=1) as client:
+    ...     client.read(1).answer
+    Refused(refusal=<Refusal.NOT_OPEN: 1>)
+    >>> client.read(1)
+    Traceback (most recent call last):
+    ...
+    ValueError: the client is closed
+    """
+
+    def __init__(self, guid: uuid.UUID, files: int) -> None:
+        super().__init__(structs.Client(), library.smblease_client_free, "client")
+        self.guid = guid
+        given = structs.Guid.from_buffer_copy(key_octets(guid))
+        self._check(library.smblease_client_new(ctypes.byref(self._handle), ctypes.byref(given), number(files, BYTE, "files")))
+
+    def _step(self, call: Callable[..., int], *arguments: object) -> steps.Step:
+        with self._lock:
+            self._check(call(ctypes.byref(self._handle), *arguments))
+            answer, data = with_bytes(partial(library.smblease_client_answer, ctypes.byref(self._handle)), structs.Answer(), "client")
+            sent = self._parts(library.smblease_client_request_count, library.smblease_client_request_at, structs.ClientRequest)
+            noted = self._parts(library.smblease_client_note_count, library.smblease_client_note_at, structs.Note)
+        return steps.Step(_ANSWERS[answer.kind](answer, data), tuple(_REQUESTS[has.kind](has, its) for has, its in sent),
+                          tuple(_NOTES[has.kind](has, its) for has, its in noted))
+
+    def connect(self) -> steps.Step:
+        """The client connects (3.2.4.4). The requests are those by which it opens again what it had kept.
+
+        >>> Client(uuid.UUID(int=1), 1).connect().requests
+        ()
+        """
+        return self._step(library.smblease_client_connect)
+
+    def notice(self) -> steps.Step:
+        """The client notices that its connection is lost (3.2.7.1).
+
+        >>> client = Client(uuid.UUID(int=1), 1)
+        >>> connected = client.connect()
+        >>> client.notice().notes
+        ()
+        """
+        return self._step(library.smblease_client_notice)
+
+    def open(self, file: int, access: Access, share: Share, want: LeaseState, durable: bool = False) -> steps.Step:
+        """The application opens a file, and wants this state of a lease.
+
+        >>> client = Client(uuid.UUID(int=1), 1)
+        >>> client.open(1, Access.READ, Share.READ, LeaseState.of("RH")).answer
+        Refused(refusal=<Refusal.OFFLINE: 4>)
+        >>> connected = client.connect()
+        >>> client.open(1, Access.READ, Share.READ, LeaseState.of("RH")).requests[0].access
+        <Access.READ: 1>
+        """
+        terms = structs.OpenTerms(LeaseState(want).value, number(file, BYTE, "file"), Access(access).value, Share(share).value,
+                                  bool(durable))
+        return self._step(library.smblease_client_open, ctypes.byref(terms))
+
+    def close_file(self, file: int) -> steps.Step:
+        """The application closes a file.
+
+        >>> Client(uuid.UUID(int=1), 1).close_file(1).answer
+        Refused(refusal=<Refusal.NOT_OPEN: 1>)
+        """
+        return self._step(library.smblease_client_close, number(file, BYTE, "file"))
+
+    def read(self, file: int) -> steps.Step:
+        """The application reads a whole file.
+
+        >>> Client(uuid.UUID(int=1), 1).read(1).answer
+        Refused(refusal=<Refusal.NOT_OPEN: 1>)
+        """
+        return self._step(library.smblease_client_read, number(file, BYTE, "file"))
+
+    def write(self, file: int, offset: int, data: Octets) -> steps.Step:
+        """The application writes these bytes from `offset` on.
+
+        >>> Client(uuid.UUID(int=1), 1).write(1, 0, b"X").answer
+        Refused(refusal=<Refusal.NOT_OPEN: 1>)
+        """
+        given = octets(data)
+        return self._step(library.smblease_client_write, number(file, BYTE, "file"), number(offset, WORD, "offset"), given, len(given))
+
+    def flush(self, file: int) -> steps.Step:
+        """The application has the buffered writes of a file sent.
+
+        >>> Client(uuid.UUID(int=1), 1).flush(1).answer
+        Refused(refusal=<Refusal.NOT_OPEN: 1>)
+        """
+        return self._step(library.smblease_client_flush, number(file, BYTE, "file"))
+
+    def take_created(self, file: int, file_id: int, contexts: Octets) -> steps.Step:
+        """The server opened a file. What fits no open is passed over, here and below.
+
+        >>> client = Client(uuid.UUID(int=1), 1)
+        >>> connected = client.connect()
+        >>> [asked] = client.open(1, Access.READ, Share.READ, LeaseState.R).requests
+        >>> client.take_created(1, 7, asked.contexts).notes
+        (Believes(file=1, state=<LeaseState R>),)
+        """
+        given = octets(contexts)
+        return self._step(library.smblease_client_take_created, number(file, BYTE, "file"), number(file_id, LONG, "file_id"),
+                          given, len(given))
+
+    def take_create_failed(self, file: int, status: int) -> steps.Step:
+        """The server didn't open a file.
+
+        >>> client = Client(uuid.UUID(int=1), 1)
+        >>> connected = client.connect()
+        >>> opened = client.open(1, Access.READ, Share.READ, LeaseState.R)
+        >>> client.take_create_failed(1, 0xC0000043).answer == steps.Failed(0xC0000043)
+        True
+        """
+        return self._step(library.smblease_client_take_create_failed, number(file, BYTE, "file"), number(status, WORD, "status"))
+
+    def take_read_done(self, file_id: int, data: Octets) -> steps.Step:
+        """The server read the file of an open.
+
+        >>> Client(uuid.UUID(int=1), 1).take_read_done(7, b"abc").answer
+        Quiet()
+        """
+        given = octets(data)
+        return self._step(library.smblease_client_take_read_done, number(file_id, LONG, "file_id"), given, len(given))
+
+    def take_read_failed(self, file_id: int, status: int) -> steps.Step:
+        """The server didn't read the file of an open.
+
+        >>> Client(uuid.UUID(int=1), 1).take_read_failed(7, 0xC0000128).answer
+        Quiet()
+        """
+        return self._step(library.smblease_client_take_read_failed, number(file_id, LONG, "file_id"), number(status, WORD, "status"))
+
+    def take_write_done(self, file_id: int, write: int) -> steps.Step:
+        """The server did the write of this number.
+
+        >>> Client(uuid.UUID(int=1), 1).take_write_done(7, 1).answer
+        Quiet()
+        """
+        return self._step(library.smblease_client_take_write_done, number(file_id, LONG, "file_id"), number(write, LONG, "write"))
+
+    def take_write_failed(self, file_id: int, write: int, status: int) -> steps.Step:
+        """The server didn't do the write of this number.
+
+        >>> Client(uuid.UUID(int=1), 1).take_write_failed(7, 1, 0xC0000022).answer
+        Quiet()
+        """
+        return self._step(library.smblease_client_take_write_failed, number(file_id, LONG, "file_id"), number(write, LONG, "write"),
+                          number(status, WORD, "status"))
+
+    def take_closed(self, file_id: int) -> steps.Step:
+        """The server closed an open.
+
+        >>> Client(uuid.UUID(int=1), 1).take_closed(7).answer
+        Quiet()
+        """
+        return self._step(library.smblease_client_take_closed, number(file_id, LONG, "file_id"))
+
+    def take_close_failed(self, file_id: int, status: int) -> steps.Step:
+        """The server didn't close an open.
+
+        >>> Client(uuid.UUID(int=1), 1).take_close_failed(7, 0xC0000128).answer
+        Quiet()
+        """
+        return self._step(library.smblease_client_take_close_failed, number(file_id, LONG, "file_id"), number(status, WORD, "status"))
+
+    def take_break(self, message: Octets) -> steps.Step:
+        """The server breaks a lease: the 44 bytes of a notification.
+
+        >>> Client(uuid.UUID(int=1), 1).take_break(bytes(43))
+        Traceback (most recent call last):
+        ...
+        ValueError: a lease break notification has 44 bytes, and not 43
+        """
+        given = struct_of(structs.BreakMessage, message, "a lease break notification")
+        return self._step(library.smblease_client_take_break, ctypes.byref(given))
+
+    def take_acknowledge_done(self, message: Octets) -> steps.Step:
+        """The server accepted an acknowledgment: the 36 bytes of its response.
+
+        >>> Client(uuid.UUID(int=1), 1).take_acknowledge_done(bytes(36)).answer
+        Quiet()
+        """
+        given = struct_of(structs.AckMessage, message, "a lease break response")
+        return self._step(library.smblease_client_take_ack_done, ctypes.byref(given))
+
+    def take_acknowledge_failed(self, status: int) -> steps.Step:
+        """The server refused an acknowledgment.
+
+        >>> Client(uuid.UUID(int=1), 1).take_acknowledge_failed(0xC0000001).answer
+        Quiet()
+        """
+        return self._step(library.smblease_client_take_ack_failed, number(status, WORD, "status"))
+
+    def take(self, reply: replies.Reply) -> steps.Step:
+        """Takes a reply by the method of its kind.
+
+        >>> Client(uuid.UUID(int=1), 1).take(replies.Closed(7)).answer
+        Quiet()
+        """
+        taking = _TAKING.get(type(reply))
+        if taking is None:
+            raise TypeError(f"a reply is needed, and not {reply!r}")
+        return taking(self, reply)
+
+    def belief(self, file: int) -> LeaseState:
+        """What the client believes of the lease of a file; NONE where it isn't open.
+
+        >>> Client(uuid.UUID(int=1), 1).belief(1)
+        <LeaseState none>
+        """
+        with self._lock:
+            self._check_open()
+            return LeaseState(library.smblease_client_belief(ctypes.byref(self._handle), number(file, BYTE, "file")))
+
+    def key(self, file: int) -> uuid.UUID:
+        """The lease key under which the client opens a file.
+
+        >>> Client(uuid.UUID(int=0), 1).key(1) == lease_key(uuid.UUID(int=0), 1)
+        True
+        """
+        return lease_key(self.guid, file)
+
+
+_TAKING: Dict[Type[Any], Callable[[Client, Any], steps.Step]] = {
+    replies.Created: lambda client, it: client.take_created(it.file, it.file_id, it.contexts),
+    replies.CreateFailed: lambda client, it: client.take_create_failed(it.file, it.status),
+    replies.ReadDone: lambda client, it: client.take_read_done(it.file_id, it.data),
+    replies.ReadFailed: lambda client, it: client.take_read_failed(it.file_id, it.status),
+    replies.WriteDone: lambda client, it: client.take_write_done(it.file_id, it.number),
+    replies.WriteFailed: lambda client, it: client.take_write_failed(it.file_id, it.number, it.status),
+    replies.Closed: lambda client, it: client.take_closed(it.file_id),
+    replies.CloseFailed: lambda client, it: client.take_close_failed(it.file_id, it.status),
+    replies.Break: lambda client, it: client.take_break(it.message),
+    replies.AcknowledgeDone: lambda client, it: client.take_acknowledge_done(it.message),
+    replies.AcknowledgeFailed: lambda client, it: client.take_acknowledge_failed(it.status),
+}

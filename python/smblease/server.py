@@ -1,0 +1,257 @@
+"""The server machine: a server of leases and durable opens (MS-SMB2 3.3), with no sockets and no clock.
+
+Clients and files are numbers from 1. A call passes in what happens, and gives what the server gives out.
+"""
+from __future__ import annotations
+
+import ctypes
+import uuid
+from typing import Any, Callable, Dict, Iterable, Optional, Tuple, Type
+
+from smblease import _structs as structs
+from smblease import outs, replies, requests
+from smblease._arguments import BYTE, LONG, WORD, Octets, key_octets, number, octets, struct_of
+from smblease._handles import Handle, Outcome, check
+from smblease._library import library
+from smblease.values import Access, LeaseState, Share
+
+Outs = Tuple[outs.Out, ...]
+
+_OUTS: Dict[int, Callable[[Any, bytes], outs.Out]] = {
+    1: lambda has, data: outs.Sent(has.client, replies.Created(has.file, has.file_id, data)),
+    2: lambda has, data: outs.Sent(has.client, replies.CreateFailed(has.file, has.status)),
+    3: lambda has, data: outs.Sent(has.client, replies.ReadDone(has.file_id, data)),
+    4: lambda has, data: outs.Sent(has.client, replies.ReadFailed(has.file_id, has.status)),
+    5: lambda has, data: outs.Sent(has.client, replies.WriteDone(has.file_id, has.number)),
+    6: lambda has, data: outs.Sent(has.client, replies.WriteFailed(has.file_id, has.number, has.status)),
+    7: lambda has, data: outs.Sent(has.client, replies.Closed(has.file_id)),
+    8: lambda has, data: outs.Sent(has.client, replies.CloseFailed(has.file_id, has.status)),
+    9: lambda has, data: outs.Sent(has.client, replies.Break(data)),
+    10: lambda has, data: outs.Sent(has.client, replies.AcknowledgeDone(data)),
+    11: lambda has, data: outs.Sent(has.client, replies.AcknowledgeFailed(has.status)),
+    12: lambda has, data: outs.Opened(has.file, has.client),
+    13: lambda has, data: outs.Changed(has.file, has.client, has.number, has.offset, data),
+}
+
+
+def _key(key: uuid.UUID) -> structs.Key:
+    return structs.Key.from_buffer_copy(key_octets(key))
+
+
+def _maybe_key(key: Optional[uuid.UUID]) -> structs.MaybeKey:
+    return structs.MaybeKey() if key is None else structs.MaybeKey((ctypes.c_uint8 * 16)(*key_octets(key)), 1)
+
+
+def _add_files(files: structs.Files, contents: Iterable[Octets]) -> None:
+    for content in map(octets, contents):
+        outcome = library.smblease_files_add(ctypes.byref(files), content, len(content))
+        if outcome == Outcome.NO_SUCH:
+            raise ValueError("a server has at most 255 files, and a file at most 1048576 bytes")
+        check(outcome, "server")
+
+
+class Server(Handle[structs.Server]):
+    """A server whose files have these contents, in the order of their numbers from 1. No client has joined.
+
+    Where there is no memory for a call, MemoryError is raised and nothing changed; where memory ran out within it, MachineLost.
+
+    >>> with Server([b"abc", b""]) as server:
+    ...     server.content(1), server.content(2)
+    (b'abc', b'')
+    >>> server.content(1)
+    Traceback (most recent call last):
+    ...
+    ValueError: the server is closed
+    """
+
+    def __init__(self, contents: Iterable[Octets]) -> None:
+        super().__init__(structs.Server(), library.smblease_server_free, "server")
+        files = structs.Files()
+        try:
+            _add_files(files, contents)
+            if library.smblease_server_new(ctypes.byref(self._handle), ctypes.byref(files)) != Outcome.DONE:
+                raise MemoryError("there is no memory for a server")
+        finally:
+            library.smblease_files_free(ctypes.byref(files))
+
+    def _outs(self, call: Callable[..., int], *arguments: object) -> Outs:
+        with self._lock:
+            self._check(call(ctypes.byref(self._handle), *arguments))
+            given = self._parts(library.smblease_server_out_count, library.smblease_server_out_at, structs.ServerOut)
+        return tuple(_OUTS[has.kind](has, data) for has, data in given)
+
+    def _asked(self, call: Callable[..., int], *arguments: object) -> int:
+        with self._lock:
+            self._check_open()
+            return int(call(ctypes.byref(self._handle), *arguments))
+
+    def join(self, client: int) -> Outs:
+        """A client connects (3.3.5.1).
+
+        >>> Server([]).join(1)
+        ()
+        """
+        return self._outs(library.smblease_server_join, number(client, BYTE, "client"))
+
+    def cut(self, client: int) -> Outs:
+        """A client's connection is lost (3.3.7.1).
+
+        >>> Server([]).cut(1)
+        ()
+        """
+        return self._outs(library.smblease_server_cut, number(client, BYTE, "client"))
+
+    def expire(self, client: int, key: uuid.UUID) -> Outs:
+        """The timer of the break of a client's lease runs out (3.3.6.5).
+
+        >>> Server([]).expire(1, uuid.UUID(int=1))
+        ()
+        """
+        return self._outs(library.smblease_server_expire, number(client, BYTE, "client"), ctypes.byref(_key(key)))
+
+    def scavenge(self, file_id: int) -> Outs:
+        """The timer of a durable open runs out (3.3.6.2).
+
+        >>> Server([]).scavenge(1)
+        ()
+        """
+        return self._outs(library.smblease_server_scavenge, number(file_id, LONG, "file_id"))
+
+    def receive_create(self, client: int, file: int, access: Access, share: Share, contexts: Octets) -> Outs:
+        """A client asks to open a file. Of a client that isn't connected nothing is received, here and below.
+
+        >>> server = Server([b"abc"])
+        >>> server.join(1)
+        ()
+        >>> server.receive_create(1, 1, Access.READ, Share.READ, b"")
+        (Opened(file=1, client=1), Sent(client=1, reply=Created(file=1, file_id=1, contexts=b'')))
+        """
+        given = octets(contexts)
+        return self._outs(library.smblease_server_receive_create, number(client, BYTE, "client"), number(file, BYTE, "file"),
+                          Access(access).value, Share(share).value, given, len(given))
+
+    def receive_read(self, client: int, file_id: int) -> Outs:
+        """A client asks to read the file of an open.
+
+        >>> server = Server([b"abc"])
+        >>> outs = server.join(1), server.receive_create(1, 1, Access.READ, Share.READ, b"")
+        >>> server.receive_read(1, 1)
+        (Sent(client=1, reply=ReadDone(file_id=1, data=b'abc')),)
+        """
+        return self._outs(library.smblease_server_receive_read, number(client, BYTE, "client"), number(file_id, LONG, "file_id"))
+
+    def receive_write(self, client: int, file_id: int, write: int, offset: int, data: Octets) -> Outs:
+        """A client asks to write these bytes from `offset` on; `write` is the client's number of the write.
+
+        >>> server = Server([b"abc"])
+        >>> outs = server.join(1), server.receive_create(1, 1, Access.WRITE, Share.READ, b"")
+        >>> changed, sent = server.receive_write(1, 1, 1, 0, b"X")
+        >>> changed, server.content(1)
+        (Changed(file=1, client=1, number=1, offset=0, data=b'X'), b'Xbc')
+        """
+        given = octets(data)
+        return self._outs(library.smblease_server_receive_write, number(client, BYTE, "client"), number(file_id, LONG, "file_id"),
+                          number(write, LONG, "write"), number(offset, WORD, "offset"), given, len(given))
+
+    def receive_close(self, client: int, file_id: int) -> Outs:
+        """A client asks to close an open.
+
+        >>> server = Server([b"abc"])
+        >>> outs = server.join(1), server.receive_create(1, 1, Access.READ, Share.READ, b"")
+        >>> server.receive_close(1, 1)
+        (Sent(client=1, reply=Closed(file_id=1)),)
+        """
+        return self._outs(library.smblease_server_receive_close, number(client, BYTE, "client"), number(file_id, LONG, "file_id"))
+
+    def receive_acknowledge(self, client: int, message: Octets) -> Outs:
+        """A client acknowledges a break of its lease: the 36 bytes of the message.
+
+        >>> Server([]).receive_acknowledge(1, bytes(35))
+        Traceback (most recent call last):
+        ...
+        ValueError: a lease break acknowledgment has 36 bytes, and not 35
+        """
+        given = struct_of(structs.AckMessage, message, "a lease break acknowledgment")
+        return self._outs(library.smblease_server_receive_ack, number(client, BYTE, "client"), ctypes.byref(given))
+
+    def receive(self, client: int, request: requests.Request) -> Outs:
+        """Receives a request by the method of its kind.
+
+        >>> server = Server([])
+        >>> outs = server.join(1)
+        >>> [sent] = server.receive(1, requests.ReadRequest(7))
+        >>> sent.reply == replies.ReadFailed(7, 0xC0000128)
+        True
+        """
+        receiving = _RECEIVING.get(type(request))
+        if receiving is None:
+            raise TypeError(f"a request is needed, and not {request!r}")
+        return receiving(self, client, request)
+
+    def allowed(self, client: int, key: Optional[uuid.UUID], file: int, want: LeaseState) -> LeaseState:
+        """What may be granted to a client of the state that it wants.
+
+        >>> str(Server([b""]).allowed(1, None, 1, LeaseState.of("RWH")))
+        'RWH'
+        """
+        return LeaseState(self._asked(library.smblease_server_allowed, number(client, BYTE, "client"), ctypes.byref(_maybe_key(key)),
+                                      number(file, BYTE, "file"), LeaseState(want).value))
+
+    def connected(self, client: int) -> bool:
+        """Whether a client is connected.
+
+        >>> Server([]).connected(1)
+        False
+        """
+        return bool(self._asked(library.smblease_server_connected, number(client, BYTE, "client")))
+
+    def breaking(self, client: int, key: uuid.UUID) -> bool:
+        """Whether a break of a client's lease waits for its acknowledgment.
+
+        >>> Server([]).breaking(1, uuid.UUID(int=1))
+        False
+        """
+        return bool(self._asked(library.smblease_server_breaking, number(client, BYTE, "client"), ctypes.byref(_key(key))))
+
+    def left_behind(self, file_id: int) -> bool:
+        """Whether an open waits for its client to connect again.
+
+        >>> Server([]).left_behind(1)
+        False
+        """
+        return bool(self._asked(library.smblease_server_left_behind, number(file_id, LONG, "file_id")))
+
+    def kept(self, client: int, file: int) -> Optional[int]:
+        """The FileId of a client's oldest durable open on a file that waits for it, or None where there is none.
+
+        >>> Server([b""]).kept(1, 1) is None
+        True
+        """
+        found = ctypes.c_uint64()
+        outcome = self._asked(library.smblease_server_kept, number(client, BYTE, "client"), number(file, BYTE, "file"),
+                              ctypes.byref(found))
+        return found.value if outcome == Outcome.DONE else None
+
+    def content(self, file: int) -> bytes:
+        """The bytes of a file.
+
+        >>> Server([b"abc"]).content(2)
+        Traceback (most recent call last):
+        ...
+        ValueError: a number stands for nothing of the server
+        """
+        with self._lock:
+            count, handle, place = ctypes.c_uint64(), ctypes.byref(self._handle), number(file, BYTE, "file")
+            self._check(library.smblease_server_content(handle, place, ctypes.byref(count), None, 0))
+            room = ctypes.create_string_buffer(count.value)
+            self._check(library.smblease_server_content(handle, place, ctypes.byref(count), room, count.value))
+        return room.raw
+
+
+_RECEIVING: Dict[Type[Any], Callable[[Server, int, Any], Outs]] = {
+    requests.CreateRequest: lambda server, client, it: server.receive_create(client, it.file, it.access, it.share, it.contexts),
+    requests.ReadRequest: lambda server, client, it: server.receive_read(client, it.file_id),
+    requests.WriteRequest: lambda server, client, it: server.receive_write(client, it.file_id, it.number, it.offset, it.data),
+    requests.CloseRequest: lambda server, client, it: server.receive_close(client, it.file_id),
+    requests.AcknowledgeRequest: lambda server, client, it: server.receive_acknowledge(client, it.message),
+}
