@@ -1,4 +1,4 @@
--- Texts of whole lines, and the lines of what is put behind them.
+-- Texts of whole lines, and the lines of what is put after them.
 use Rattle.std.proofs.Common.{◌≡◌, ◌≢◌, inl, inr, ℕ, zero, suc, ◌+◌, ◌≤◌, ◌<◌, ◌++◌, List, [], ◌∷◌, refl, sym, ap, subst, append_assoc, length, take, slice_index, arith, ◌==◌, true, false, if◌then◌else◌, add-one}
 use Rattle.lease_texts.specs.Pieces.{pieces, longer, lines_of}
 use Rattle.leasecheck.specs.Judging.{EndsLine}

@@ -1,4 +1,4 @@
--- What a record is refused as, and what is said beside that.
+-- What a record is refused as, and what else is said.
 use Rattle.std.proofs.Common.{◌≡◌, inl, inr, ℕ, List, Option, Some, None, Err, sym, ap, ◌∙◌, subst}
 use Rattle.std.specs.Prelude.{IfSome}
 use Rattle.std.specs.String.{string_bytes}

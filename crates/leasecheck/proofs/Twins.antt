@@ -1,4 +1,4 @@
--- The first of a list's items that stands again behind it.
+-- The first of a list's items that stands again after it.
 use Rattle.std.proofs.Common.{◌≡◌, ℕ, zero, suc, ◌+◌, ◌-◌, ◌<◌, ◌≤◌, List, [], ◌∷◌, length, take, drop, get_or, Some, None, refl, sym, ap, ◌∙◌, arith, add-one, drop-cons}
 use Rattle.std.specs.Prelude.{bytes_eq, position}
 use Rattle.std.proofs.lemmas.List.{take_all, length-drop}

@@ -54,6 +54,9 @@ replay_app = with_rule (with_rule (new_app (codes "replay")) (needed (codes "FIL
 abbrev pub judge_app : App
 judge_app = with_rule (with_rule (new_app (codes "judge")) (needed (codes "FILE"))) (flag (codes "explain"))
 
+abbrev pub draw_app : App
+draw_app = with_rule (new_app (codes "draw")) (needed (codes "FILE"))
+
 -- a version, no command `help`, and a command has to be named
 abbrev pub with_settings : Shape → Shape
 with_settings shape = record shape { has_version = true; disable_help_subcommand = true; subcommand_required = true }
@@ -67,7 +70,7 @@ with_commands app (command ∷ commands) = with_commands (with_subcommand app co
 
 abbrev pub leasecheck_app : ValueParser → App
 leasecheck_app kinds = with_commands bare_app
-    (ack_app ∷ show_app kinds ∷ replay_app ∷ judge_app ∷ new_app (codes "client") ∷ new_app (codes "server") ∷ [])
+    (ack_app ∷ show_app kinds ∷ replay_app ∷ judge_app ∷ draw_app ∷ new_app (codes "client") ∷ new_app (codes "server") ∷ [])
 
 -- ---- what is asked for
 
@@ -77,6 +80,7 @@ pub data Request : Type 0 where
   Replay : (path : Text) (telling : Telling) → Request
   Judge : (path : Text) → Request
   Explain : (path : Text) → Request
+  Draw : (path : Text) → Request
   Version : Request
   Clients : Request
   Server : Request
@@ -87,6 +91,7 @@ request_of (asked.Task (task.Show kind argument)) = Show kind (string_bytes argu
 request_of (asked.Task (task.Replay path telling)) = Replay (string_bytes path) telling
 request_of (asked.Task (task.Judge path)) = Judge (string_bytes path)
 request_of (asked.Task (task.Explain path)) = Explain (string_bytes path)
+request_of (asked.Task (task.Draw path)) = Draw (string_bytes path)
 request_of (asked.Task task.Version) = Version
 request_of asked.Clients = Clients
 request_of asked.Server = Server
@@ -128,6 +133,7 @@ requested name rows =
     then replayed (telling_of (is_given (first_of (codes "messages") rows))) (first_of (codes "FILE") rows)
     else if bytes_eq name (codes "judge")
     then judged (is_given (first_of (codes "explain") rows)) (first_of (codes "FILE") rows)
+    else if bytes_eq name (codes "draw") then option_map Draw (first_of (codes "FILE") rows)
     else if bytes_eq name (codes "client") then Some Clients
     else if bytes_eq name (codes "server") then Some Server
     else None
@@ -137,7 +143,7 @@ requested_by found = option_and_then (λ command. requested command.0 command.1)
 
 -- ---- the words
 
--- the program's name and the words behind it
+-- the program's name and the words after it
 abbrev pub all_words : List Text → List Text
 all_words words = codes "leasecheck" ∷ words
 

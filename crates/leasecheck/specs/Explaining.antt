@@ -1,5 +1,5 @@
 -- The verdict on a record that is read as a whole, and why it is that.
-use Rattle.std.specs.Prelude.{◌≡◌, ◌⊎◌, ℕ, List, map, Result, MatchResult, Some, None}
+use Rattle.std.specs.Prelude.{◌≡◌, ℕ, List, map}
 use Rattle.lease_model.specs.records.Verdict as model
 use Rattle.lease_facts.specs.Facts.{fact_of}
 use Rattle.lease_world.specs.Verdicts.{verdict_of}

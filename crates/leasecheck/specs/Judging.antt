@@ -23,7 +23,7 @@ abbrev pub IsVerdictOn : List ℕ → Verdict → Type 0
 IsVerdictOn text verdict =
     (facts : List Fact) × (record_in text ≡ Ok facts) × (verdict_of verdict ≡ model.verdict (map fact_of facts))
 
--- a failure beside which nothing is said
+-- a failure of which nothing more is said
 abbrev pub bare : Failure → Refusal
 bare failure = record { failure = failure; second = None }
 
@@ -55,7 +55,7 @@ Judges (Some text) answer = JudgesText text answer
 
 -- ---- lines
 
--- The lines were read: the judge was given their facts, and what follows is read behind them.
+-- The lines were read: the judge was given their facts, and what follows is read after them.
 pub record HasRead (progress : Progress) (lines : List (List ℕ)) : Type 0 where
   pub facts : List Fact
   pub judged : HasJudged progress.judge (map fact_of facts)
@@ -68,7 +68,7 @@ TakesLine facts line number answer = MatchResult answer
     (λ judge. (more : List Fact) × (with_line facts line ≡ Some more) × HasJudged judge (map fact_of more))
     (λ told. (told ≡ bare failure.Memory) ⊎ ((with_line facts line ≡ None) × (told.failure ≡ failure.Line number) × SaysLine number line told))
 
--- Lines are read behind those that were, or one of them is refused.
+-- Lines are read after those that were, or one of them is refused.
 abbrev pub ReadsMore : List (List ℕ) → List (List ℕ) → Result Progress Refusal → Type 0
 ReadsMore lines new answer = MatchResult answer (λ progress. HasRead progress (lines ++ new))
     (λ told. (told ≡ bare failure.Memory) ⊎ RunsOut (length (lines ++ new)) told

@@ -10,6 +10,7 @@ pub mod Messages
 pub mod Replayed
 pub mod Judging
 pub mod Explaining
+pub mod Drawing
 pub mod Printed
 pub mod Remarks
 pub mod Refusals

@@ -5,12 +5,13 @@ use Rattle.std.specs.Io.KnownBytes.{Appends}
 use Rattle.leasecheck.specs.Answer.{AnswersWith}
 use Rattle.leasecheck.specs.Arguments.{argument_bytes}
 use Rattle.lease_world.specs.declared.verdict.Verdict.{Verdict}
+use Rattle.leasecheck.specs.Drawing.{Draws}
 use Rattle.leasecheck.specs.Shown.{Shows}
 use Rattle.leasecheck.specs.Explaining.{ExplainsVerdict}
 use Rattle.leasecheck.specs.Judging.{IsVerdictOn}
 use Rattle.leasecheck.specs.Replayed.{Replays, verdict_line, status_of}
 use Rattle.leasecheck.specs.declared.tasks.Task.{Task}
-use Rattle.leasecheck.specs.declared.tasks.Task.TheVariants.{Ack, Show, Replay, Judge, Explain, Version}
+use Rattle.leasecheck.specs.declared.tasks.Task.TheVariants.{Ack, Show, Replay, Judge, Explain, Draw, Version}
 
 -- the program's name and version, and the kit that it is proved and built with, a line each
 abbrev pub version_text : List ℕ
@@ -30,6 +31,7 @@ IsTextOf (Judge path) file text status =
 IsTextOf (Explain path) file text status =
     (verdict : Verdict) × (explanation : List ℕ) × (text ≡ verdict_line verdict ++ explanation) × (status ≡ status_of verdict)
     × IfSome file (λ bytes. ExplainsVerdict bytes verdict explanation)
+IsTextOf (Draw path) file text status = (status ≡ 0) × IfSome file (λ bytes. Draws bytes text)
 IsTextOf Version file text status = (status ≡ 0) × (text ≡ version_text)
 
 -- a writer whose bytes are known before and after has got what the task prints

@@ -14,11 +14,12 @@ use Rattle.lease_wire.specs.declared.create.Direction.TheVariants.{Request, Repl
 use Rattle.lease_wire.specs.declared.fault.WireFault.{WireFault}
 use Rattle.lease_texts.specs.Records.{record_in}
 use Rattle.leasecheck.specs.Arguments.{argument_bytes}
+use Rattle.leasecheck.specs.Drawing.{draw_refusal}
 use Rattle.leasecheck.specs.Printed.{IsTextOf, Prints}
 use Rattle.leasecheck.specs.Remarks.{IsRemark, Says}
 use Rattle.leasecheck.specs.Replayed.{replay_refusal}
 use Rattle.leasecheck.specs.declared.failure.Failure.{Failure}
-use Rattle.leasecheck.specs.declared.failure.Failure.TheVariants.{Hex, Wire, File, Lines, Line, Run, Memory, Output}
+use Rattle.leasecheck.specs.declared.failure.Failure.TheVariants.{Hex, Wire, File, Lines, Line, Run, Picture, Memory, Output}
 use Rattle.lease_world.specs.declared.setup.RunFault.TheVariants as run
 use Rattle.leasecheck.specs.declared.refusal.Refusal.{Refusal}
 use Rattle.leasecheck.specs.declared.tasks.Kind.{Kind}
@@ -80,6 +81,11 @@ abbrev pub judge_refusal : Option (List ℕ) → Option Failure
 judge_refusal None = None
 judge_refusal (Some text) = line_refusal (record_in text)
 
+-- what a file that is to be drawn is refused as, where its bytes are known
+abbrev pub drawing_refusal : Option (List ℕ) → Option Failure
+drawing_refusal None = None
+drawing_refusal (Some file) = draw_refusal file
+
 -- what the task's argument, or its file, is refused as
 abbrev pub refusal_of : Task → Option (List ℕ) → Option Failure
 refusal_of (task.Ack argument) file = argument_refusal (message_fault 44) (argument_bytes (string_bytes argument))
@@ -87,6 +93,7 @@ refusal_of (task.Show kind argument) file = argument_refusal (shown_fault kind) 
 refusal_of (task.Replay path telling) file = known_refusal file
 refusal_of (task.Judge path) file = judge_refusal file
 refusal_of (task.Explain path) file = judge_refusal file
+refusal_of (task.Draw path) file = drawing_refusal file
 refusal_of task.Version file = None
 
 -- A file is refused as this: where its bytes aren't known, as some file would be.
@@ -98,14 +105,21 @@ abbrev pub IsRecordRefusal : Option (List ℕ) → Failure → Type 0
 IsRecordRefusal None failure = (number : ℕ) × (failure ≡ Line number)
 IsRecordRefusal (Some text) failure = line_refusal (record_in text) ≡ Some failure
 
+abbrev pub IsDrawingRefusal : Option (List ℕ) → Failure → Type 0
+IsDrawingRefusal None failure = (file : List ℕ) × (draw_refusal file ≡ Some failure)
+IsDrawingRefusal (Some file) failure = draw_refusal file ≡ Some failure
+
 -- a record has more lines than there are numbers
 abbrev pub RunsOutOf : Option (List ℕ) → Failure → Type 0
 RunsOutOf None failure = failure ≡ Lines
 RunsOutOf (Some text) failure = (failure ≡ Lines) × (2 ^ 64 ≤ length text + 2)
 
--- What may end a replay or a judging: its file is refused, or there was no memory, or a read failed.
+-- What may end a replay, a drawing or a judging: its file is refused, or there was no memory, or a read failed.
 abbrev pub MayEndReplay : Option (List ℕ) → Failure → Type 0
 MayEndReplay file failure = (failure ≡ Memory) ⊎ (failure ≡ File) ⊎ IsScheduleRefusal file failure
+
+abbrev pub MayEndDrawing : Option (List ℕ) → Failure → Type 0
+MayEndDrawing file failure = (failure ≡ Memory) ⊎ (failure ≡ File) ⊎ IsDrawingRefusal file failure
 
 abbrev pub MayEndJudging : Option (List ℕ) → Failure → Type 0
 MayEndJudging file failure = (failure ≡ Memory) ⊎ (failure ≡ File) ⊎ RunsOutOf file failure ⊎ IsRecordRefusal file failure
@@ -115,13 +129,14 @@ abbrev pub MayEnd : Task → Option (List ℕ) → Failure → Type 0
 MayEnd (task.Replay path telling) file failure = MayEndReplay file failure
 MayEnd (task.Judge path) file failure = MayEndJudging file failure
 MayEnd (task.Explain path) file failure = MayEndJudging file failure
+MayEnd (task.Draw path) file failure = MayEndDrawing file failure
 MayEnd asked file failure = (failure ≡ Memory) ⊎ (refusal_of asked file ≡ Some failure)
 
 -- An answer to a task is given only where nothing of it is refused.
 abbrev pub AnswersOrRefuses : {X : Type 0} → Task → Option (List ℕ) → Result X Refusal → Type 0
 AnswersOrRefuses asked file answer = MatchResult answer (λ _. refusal_of asked file ≡ None) (λ refusal. MayEnd asked file refusal.failure)
 
--- What is said beside a refusal is about it.
+-- What is said after a refusal is about it.
 abbrev pub SaysOf : {X : Type 0} → Task → Option (List ℕ) → Result X Refusal → Type 0
 SaysOf asked file answer = IfErr answer (λ refusal. Says refusal (IsRemark asked file))
 
@@ -156,18 +171,19 @@ failure_text (Line number) = codes "fault line " ++ decimal number
 failure_text (Run run.BadSetup) = codes "fault run 1 BadSetup"
 failure_text (Run run.TooMany) = codes "fault run 2 TooMany"
 failure_text (Run run.Memory) = codes "fault memory"
+failure_text Picture = codes "fault picture TooMany"
 failure_text Memory = codes "fault memory"
 failure_text Output = codes "fault output"
 
 abbrev pub failure_line : Failure → List ℕ
 failure_line failure = failure_text failure ++ 10 ∷ []
 
--- nothing, or what is said beside this failure of the task
+-- nothing, or what is said after this failure of the task
 abbrev pub IsSecond : Task → Option (List ℕ) → Failure → List ℕ → Type 0
 IsSecond asked file failure second = (second ≡ []) ⊎ IsRemark asked file failure second
 
 -- How a task ends with status 1: it prints what tells so, as that a record is malformed; or it has a failure, whose line is told on
--- the other stream, and behind it nothing or the second line about that failure; or a beginning of this.
+-- the other stream, and after it nothing or the second line about that failure; or a beginning of this.
 abbrev pub Ends : Task → Option (List ℕ) → Option (List ℕ) → Option (List ℕ) → Option (List ℕ) → Option (List ℕ) → Type 0
 Ends asked file old new faults told =
     (Prints asked file old new 1 × Keeps faults told)

@@ -1,18 +1,20 @@
 -- The second line that a refusal may have: what was expected where, and what stands there.
-use Rattle.std.specs.Prelude.{◌≡◌, ℕ, List, [], Option, Some, None, Result, Ok, Err, IfSome, unwrap_or}
+use Rattle.std.specs.Prelude.{◌≡◌, ◌⊎◌, ℕ, Bool, true, false, List, [], Option, Some, None, Result, Ok, Err, IfSome, unwrap_or}
 use Rattle.std.specs.Option.{option_map}
 use Rattle.std.specs.String.{string_bytes}
 use Rattle.lease_texts.specs.Pieces.{lines_of}
+use Rattle.lease_texts.specs.Records.{record_in}
 use Rattle.lease_texts.specs.Schedules.{Draft, schedule_in}
 use Rattle.lease_wire.specs.declared.fault.WireFault.{WireFault}
 use Rattle.lease_world.specs.declared.setup.RunFault.TheVariants as run
 use Rattle.leasecheck.specs.Arguments.{argument_bytes}
+use Rattle.leasecheck.specs.Drawing.{is_schedule, facts_line, count_of}
 use Rattle.leasecheck.specs.HexRemarks.{hex_remark}
 use Rattle.leasecheck.specs.LineRemarks.{fact_remark, part_remark, line_among, line_at}
 use Rattle.leasecheck.specs.SetupRemarks.{setup_remark, events_remark}
 use Rattle.leasecheck.specs.WireRemarks.{bare_remark, shown_remark}
 use Rattle.leasecheck.specs.declared.failure.Failure.{Failure}
-use Rattle.leasecheck.specs.declared.failure.Failure.TheVariants.{Hex, Wire, File, Lines, Line, Run, Memory, Output}
+use Rattle.leasecheck.specs.declared.failure.Failure.TheVariants.{Hex, Wire, File, Lines, Line, Run, Picture, Memory, Output}
 use Rattle.leasecheck.specs.declared.refusal.Refusal.{Refusal}
 use Rattle.leasecheck.specs.declared.tasks.Kind.TheVariants as kind
 use Rattle.leasecheck.specs.declared.tasks.Task.{Task}
@@ -27,6 +29,7 @@ IsArgumentRemark remark argument File line = ⊥
 IsArgumentRemark remark argument Lines line = ⊥
 IsArgumentRemark remark argument (Line number) line = ⊥
 IsArgumentRemark remark argument (Run fault) line = ⊥
+IsArgumentRemark remark argument Picture line = ⊥
 IsArgumentRemark remark argument Memory line = ⊥
 IsArgumentRemark remark argument Output line = ⊥
 
@@ -44,6 +47,7 @@ run_remark (Wire fault) draft = None
 run_remark File draft = None
 run_remark Lines draft = None
 run_remark (Line number) draft = None
+run_remark Picture draft = None
 run_remark Memory draft = None
 run_remark Output draft = None
 
@@ -55,6 +59,7 @@ schedule_remark text Hex = None
 schedule_remark text (Wire fault) = None
 schedule_remark text File = None
 schedule_remark text Lines = None
+schedule_remark text Picture = None
 schedule_remark text Memory = None
 schedule_remark text Output = None
 
@@ -66,21 +71,36 @@ record_remark text (Wire fault) = None
 record_remark text (Run fault) = None
 record_remark text File = None
 record_remark text Lines = None
+record_remark text Picture = None
 record_remark text Memory = None
 record_remark text Output = None
+
+-- what is said of a file that is to be drawn: of a schedule, of a record, or of how many facts there are
+abbrev pub DrawRemark : Bool → List ℕ → Failure → List ℕ → Type 0
+DrawRemark true text failure line = schedule_remark text failure ≡ Some line
+DrawRemark false text failure line = record_remark text failure ≡ Some line
+
+abbrev pub IsDrawRemark : List ℕ → Failure → List ℕ → Type 0
+IsDrawRemark text failure line = DrawRemark (is_schedule (record_in text) (schedule_in text)) text failure line
+    ⊎ ((failure ≡ Picture) × (line ≡ facts_line (count_of (record_in text) (schedule_in text))))
+
+abbrev pub IsDrawingRemark : Option (List ℕ) → Failure → List ℕ → Type 0
+IsDrawingRemark None failure line = (text : List ℕ) × IsDrawRemark text failure line
+IsDrawingRemark (Some text) failure line = IsDrawRemark text failure line
 
 -- what is said of a file; of one that isn't known, what is said of some one
 abbrev pub IsFileRemark : (List ℕ → Failure → Option (List ℕ)) → Option (List ℕ) → Failure → List ℕ → Type 0
 IsFileRemark remark None failure line = (text : List ℕ) × (remark text failure ≡ Some line)
 IsFileRemark remark (Some text) failure line = remark text failure ≡ Some line
 
--- The line is what is said beside this failure of a task.
+-- The line is what is said after this failure of a task.
 abbrev pub IsRemark : Task → Option (List ℕ) → Failure → List ℕ → Type 0
 IsRemark (task.Ack argument) file failure line = IsArgumentRemark (bare_remark kind.Break) (string_bytes argument) failure line
 IsRemark (task.Show kind argument) file failure line = IsArgumentRemark (shown_remark kind) (string_bytes argument) failure line
 IsRemark (task.Replay path telling) file failure line = IsFileRemark schedule_remark file failure line
 IsRemark (task.Judge path) file failure line = IsFileRemark record_remark file failure line
 IsRemark (task.Explain path) file failure line = IsFileRemark record_remark file failure line
+IsRemark (task.Draw path) file failure line = IsDrawingRemark file failure line
 IsRemark task.Version file failure line = ⊥
 
 -- A refusal has no second line, or this one.

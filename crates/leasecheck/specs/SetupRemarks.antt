@@ -3,7 +3,7 @@ use Rattle.std.specs.Prelude.{ℕ, ◌+◌, ◌++◌, nat_lt, bytes_eq, if◌the
 use Rattle.std.specs.Fmt.{decimal}
 use Rattle.lease_texts.specs.Schedules.{Draft}
 
--- the first of the GUIDs that stands again behind it, and where it does, each by its number from this one on
+-- the first of the GUIDs that stands again after it, and where it does, each by its number from this one on
 abbrev pub or_twins : ℕ → Option ℕ → Option (ℕ × ℕ) → Option (ℕ × ℕ)
 or_twins first (Some behind) others = Some (first, first + 1 + behind)
 or_twins first None others = others

@@ -36,7 +36,7 @@ ShowsBare Break bytes text = ShowsBreak bytes text
 ShowsBare Ack bytes text = ShowsKeyAndState (codes "ack") bytes text
 ShowsBare Response bytes text = ShowsKeyAndState (codes "response") bytes text
 
--- a whole message: contexts from where the CREATE has them, and else what stands behind its header
+-- a whole message: contexts from where the CREATE has them, and else what stands after its header
 abbrev pub ShowsMessage : Kind → List ℕ → List ℕ → Type 0
 ShowsMessage Ask message text = ShowsCreate Request (items_in Request message) text
 ShowsMessage ReplyKind message text = ShowsCreate Reply (items_in Reply message) text

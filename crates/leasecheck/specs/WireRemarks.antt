@@ -20,13 +20,13 @@ use Rattle.leasecheck.specs.declared.tasks.Kind.TheVariants as kind
 
 -- what the fault of a create context means
 abbrev pub context_meaning : WireFault → List ℕ
-context_meaning (Short place) = codes "fewer than the 16 bytes are left that it begins with"
+context_meaning (Short place) = codes "fewer than 16 bytes are left for its header"
 context_meaning (WrongSize place) = codes "its size is another"
 context_meaning (BadNext place) = codes "Next is below 16, no multiple of 8, or past the end"
 context_meaning (BadName place) = codes "its name begins below 16 or ends past its end"
 context_meaning (BadData place) = codes "its data begin below 16 or end past its end"
 context_meaning (BadLength place) = codes "its data have another length than its structure"
-context_meaning (Twice place) = codes "one of its name stands before it"
+context_meaning (Twice place) = codes "an earlier context has its name"
 
 -- the context that is refused: its number, and its name where it could be read
 pub record Refused : Type 0 where
@@ -86,7 +86,7 @@ wanted_words wanted = kind_words wanted ++ codes ", of StructureSize " ++ decima
 
 -- what stands there
 unfoldable pub stands_words : List ℕ → List ℕ
-stands_words found = codes "; here stands " ++ found
+stands_words found = codes "; this is " ++ found
 
 unfoldable pub found_end : List ℕ → ℕ → List ℕ
 found_end side size = side ++ codes " of StructureSize " ++ decimal size ++ 10 ∷ []
@@ -176,7 +176,7 @@ unfoldable pub header_remark : List ℕ → List ℕ
 header_remark bytes =
     if nat_lt (length bytes) 64 then codes "the header of an SMB2 message has 64 bytes; they end before that" ++ 10 ∷ []
     else if number_at 4 2 bytes == 64 then codes "NextCommand leads into the header or past the end" ++ 10 ∷ []
-    else codes "the header of an SMB2 message, of StructureSize 64; here stands another" ++ 10 ∷ []
+    else codes "the header of an SMB2 message, of StructureSize 64; this is another" ++ 10 ∷ []
 
 -- ---- all bytes
 

@@ -60,6 +60,6 @@ break_line v =
     codes "break " ++ key_text v.key ++ codes " " ++ state_word v.current ++ codes " to " ++ state_word v.new
     ++ (if v.ack_required then codes " ack" else codes " no ack") ++ 10 ∷ []
 
--- an acknowledgment or a response, behind the word that says which it is
+-- an acknowledgment or a response, after the word that says which it is
 abbrev pub key_and_state_line : List ℕ → KeyAndState → List ℕ
 key_and_state_line word v = word ++ codes " " ++ key_text v.key ++ codes " " ++ state_word v.state ++ 10 ∷ []

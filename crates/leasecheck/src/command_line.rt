@@ -3,7 +3,7 @@ ghost use Rattle.std.specs.String.{string_bytes};
 ghost use Rattle.clap.specs.Words.{Text, first_of, found_of, kind_of, new_app, rows_of, rule_of, shape_of, subcommand_rows_of, app_of};
 ghost use Rattle.clap.specs.declared.builder.command.Command.TheViews.{out-Command as fields_of};
 ghost use Rattle.clap.specs.declared.builder.value_parser.ValueParser.{ValueParser};
-ghost use Rattle.leasecheck.specs.CommandLine.{Request, Errs, TakesKinds, Parses, AsksFor, IsUsageOf, needed, flag, kind_rule, ack_app, show_app, replay_app, judge_app, leasecheck_app, kind_named, telling_of, is_given, judged, replayed, requested, requested_by, request_of, all_words, shown};
+ghost use Rattle.leasecheck.specs.CommandLine.{Request, Errs, TakesKinds, Parses, AsksFor, IsUsageOf, needed, flag, kind_rule, ack_app, show_app, replay_app, judge_app, draw_app, bare_app, leasecheck_app, kind_named, telling_of, is_given, judged, replayed, requested, requested_by, request_of, all_words, shown};
 
 use crate::help;
 use crate::tasks::{Asked, Kind, Task, Telling, Usage, VERSION};
@@ -114,6 +114,14 @@ fn judge_command<'a>(alloc: Global) -> Result<Command<'a>, AllocError>
         .arg(explain)
 }
 
+fn draw_command<'a>(alloc: Global) -> Result<Command<'a>, AllocError>
+    ensures { IfOk result (λ command. (app_of command ≡ draw_app) × ((fields_of command).has_globals ≡ false)) }
+{
+    let about = "Prints a picture of a record, or of the run of a schedule, as SVG";
+    let file = file_argument(alloc, "The record or the schedule; - is standard input");
+    command(alloc, "draw", about, help::DRAW, help::DRAW_END).arg(file)
+}
+
 fn client_command<'a>(alloc: Global) -> Command<'a>
     ensures app { app_of result ≡ new_app (codes "client") }
     ensures own { (fields_of result).has_globals ≡ false }
@@ -148,8 +156,9 @@ fn kind_named(name: &str) -> Option<Kind>
     }
 }
 
-fn program<'a>(alloc: Global) -> Result<Command<'a>, AllocError>
-    ensures { IfOk result (λ command. (kinds : ValueParser) × TakesKinds kinds × (app_of command ≡ leasecheck_app kinds)) }
+// The program without its commands.
+fn bare_program<'a>(alloc: Global) -> Command<'a>
+    ensures { app_of result ≡ bare_app }
 {
     let about =
         "Reads and answers messages of SMB 2.1 leases, replays schedules and judges records";
@@ -157,10 +166,17 @@ fn program<'a>(alloc: Global) -> Result<Command<'a>, AllocError>
         .version(VERSION)
         .disable_help_subcommand(true)
         .subcommand_required(true)
+}
+
+fn program<'a>(alloc: Global) -> Result<Command<'a>, AllocError>
+    ensures { IfOk result (λ command. (kinds : ValueParser) × TakesKinds kinds × (app_of command ≡ leasecheck_app kinds)) }
+{
+    bare_program(alloc)
         .subcommand(ack_command(alloc)?)?
         .subcommand(show_command(alloc)?)?
         .subcommand(replay_command(alloc)?)?
         .subcommand(judge_command(alloc)?)?
+        .subcommand(draw_command(alloc)?)?
         .subcommand(client_command(alloc))?
         .subcommand(server_command(alloc))
 }
@@ -171,7 +187,7 @@ fn parse<'a>(alloc: Global, words: &'a [&'a str]) -> Result<ArgMatches<'a>, Erro
     program(alloc)?.try_get_matches_from(words)
 }
 
-// The words behind the program's name, by which usage lines begin.
+// The words after the program's name, by which usage lines begin.
 fn with_name<'a>(alloc: Global, words: &[&'a str]) -> Result<Vec<&'a str>, AllocError>
     ensures { IfOk result (λ all. map (λ word. word.now) all.items ≡ all_words (map (λ word. word.now) words.now)) }
 {
@@ -297,6 +313,15 @@ fn judge_asked(alloc: Global, given: &ArgMatches) -> Result<Option<Asked>, Alloc
     }
 }
 
+fn draw_asked(alloc: Global, given: &ArgMatches) -> Result<Option<Asked>, AllocError>
+    ensures { IfOk result (λ found. option_map request_of found ≡ option_map Request.Draw (first_of (codes "FILE") (rows_of (found_of given.now)))) }
+{
+    match owned(alloc, given, "FILE")? {
+        Some(path) => Ok(Some(Asked::Task(Task::Draw(path)))),
+        None => Ok(None),
+    }
+}
+
 #[tactic(auto, unfolding(crate::specs::CommandLine::requested))]
 fn asked_of(alloc: Global, name: &str, given: &ArgMatches) -> Result<Option<Asked>, AllocError>
     ensures { IfOk result (λ found. option_map request_of found ≡ requested name.now (rows_of (found_of given.now))) }
@@ -309,6 +334,8 @@ fn asked_of(alloc: Global, name: &str, given: &ArgMatches) -> Result<Option<Aske
         replay_asked(alloc, given)
     } else if name == "judge" {
         judge_asked(alloc, given)
+    } else if name == "draw" {
+        draw_asked(alloc, given)
     } else if name == "client" {
         Ok(Some(Asked::Clients))
     } else if name == "server" {

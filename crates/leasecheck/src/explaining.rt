@@ -16,9 +16,13 @@ use lease_world::{Verdict, judge};
 use reason_texts::{Placed, push_explanation, read_placed};
 use std::alloc::Global;
 
-// The facts of a text, with their lines.
+/// The facts of a text, with their lines.
+///
+/// # Errors
+///
+/// `Line` with the number of the first line that is refused, and `Memory` where there is none left.
 #[tactic(auto, unfolding(crate::specs::LineRemarks::line_at))]
-fn placed_of(alloc: Global, text: &[u8]) -> Result<Placed, Refusal>
+pub(crate) fn placed_of(alloc: Global, text: &[u8]) -> Result<Placed, Refusal>
     ensures read { IfOk result (λ placed. IsPlaced text.now placed) }
     ensures refused { IfErr result (λ told. (told.failure ≡ Failure.Memory)
         ⊎ (line_refusal (record_in text.now) ≡ Some told.failure)) }

@@ -10,7 +10,7 @@ use std::fmt;
 /// Why a task is refused. As text it is the line that standard error gets, without its line feed.
 #[derive(Clone, Copy, Debug, PartialEq, Eq)]
 pub enum Failure {
-    /// The argument writes no bytes as hexadecimal digits.
+    /// The argument isn't bytes in hexadecimal digits.
     Hex,
     /// The bytes are refused.
     Wire(WireFault),
@@ -22,6 +22,8 @@ pub enum Failure {
     Line(u64),
     /// There is no run of the schedule.
     Run(RunFault),
+    /// There are more facts than a picture has.
+    Picture,
     /// There was no memory.
     Memory,
     /// A write to standard output failed.
@@ -42,6 +44,7 @@ impl fmt::Display for Failure {
             Failure::Line(number) => write!(f, "fault line {number}"),
             Failure::Run(RunFault::BadSetup) => f.write_str("fault run 1 BadSetup"),
             Failure::Run(RunFault::TooMany) => f.write_str("fault run 2 TooMany"),
+            Failure::Picture => f.write_str("fault picture TooMany"),
             Failure::Run(RunFault::Memory) | Failure::Memory => f.write_str("fault memory"),
             Failure::Output => f.write_str("fault output"),
         }

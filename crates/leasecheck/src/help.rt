@@ -1,4 +1,4 @@
-//! What `--help` tells of the program and of its commands.
+//! What `--help` prints of the program and of its commands.
 
 pub(crate) const PROGRAM: &str =
     "Reads and answers the messages of SMB 2.1 leases, replays schedules of clients
@@ -8,14 +8,14 @@ server that other programs drive by lines";
 pub(crate) const PROGRAM_END: &str = "Exit status:
   0  done: the answer is on standard output
   1  the input is refused, memory ran out, or a read or a write failed: a line on
-     standard error says which, and mostly a second one what was expected where;
+     standard error says which, and usually a second one what was expected where;
      or the record that was judged is malformed
   2  the command line is refused
   3  the record that was judged is unsafe
 
 Each command has its own --help, with an example. In the project's repository
 docs/FORMATS.md has the layouts of messages, the lines of schedules and records,
-and all that is printed, and README.md a session.";
+and all that is printed, and docs/SESSIONS.md has sessions.";
 
 pub(crate) const ACK: &str =
     "Reads a lease break notification (44 bytes, without the SMB2 header) and prints
@@ -62,8 +62,8 @@ printed, and the faults.";
 
 pub(crate) const REPLAY: &str =
     "Reads a schedule, that is files, clients and events, one a line, runs it on the
-server and the clients, and prints the record, one fact a line, and '# safe'
-behind it. The whole output is a record that 'judge' reads. With --messages a
+server and the clients, and prints the record, one fact a line, with '# safe'
+after it. The whole output is a record that 'judge' reads. With --messages a
 comment line before each 'sent' and 'took' says what is in the message.";
 
 pub(crate) const REPLAY_END: &str = "Example:
@@ -85,10 +85,11 @@ records, and the faults.";
 pub(crate) const JUDGE: &str =
     "Reads a record, one fact a line, and prints 'safe' (status 0), 'unsafe PLACE
 RULE' (status 3) or 'malformed PLACE' (status 1). PLACE is the number of the
-first bad fact, from 1; RULE is 1 for a write cache beside another cache, 2 for
-a cached read of other bytes, 3 for a buffered write that was accepted late, and
-4 for a write told as done that was not accepted. With --explain the facts that
-make it so stand behind that, with their lines, and how much was judged.";
+first bad fact, from 1; RULE is 1 where one client caches writes of a file that
+another caches, 2 for a cached read of other bytes, 3 for a buffered write that
+was accepted late, and 4 for a write reported as done that was not accepted.
+With --explain it then prints the facts that make it so, with their lines, and
+how much was judged.";
 
 pub(crate) const JUDGE_END: &str = "Example:
   $ printf 'start 1 61\\njoined 1\\nsettled 1 1 done\\n' | leasecheck judge -
@@ -100,7 +101,7 @@ at place 3 of FILE with the number of its line:
 
 Exit status:
   0  the record is safe
-  1  the record is malformed, which standard output tells; or it is refused,
+  1  the record is malformed, as standard output says; or it is refused,
      memory ran out, or a read or a write failed: then one line on standard
      error says which, as 'fault line 7' or 'fault file', and of a refused
      record a second one what was expected where
@@ -110,9 +111,31 @@ Exit status:
 docs/FORMATS.md in the project's repository has the lines of records, the rules
 and the faults.";
 
+pub(crate) const DRAW: &str =
+    "Prints a picture of a record as SVG: a sequence picture, in which time runs down.
+Each client has a lane, and so has the server, in the middle. Each fact has a
+mark: messages are arrows, beliefs are bars to the left of a client's line, and
+a client without a connection has no solid line. The facts that make a record
+unsafe or malformed are red, and below the marks is what 'judge --explain'
+says. A schedule is run first, and its messages say what is in them.";
+
+pub(crate) const DRAW_END: &str = "Example:
+  $ leasecheck draw examples/shared.txt > shared.svg
+
+Exit status:
+  0  the picture was printed, also of a record that isn't safe
+  1  FILE is neither a record nor a schedule, it has no run or more than 5000
+     facts, memory ran out, or a read or a write failed: one line on standard
+     error says which, as 'fault line 7' or 'fault picture TooMany', and of a
+     refused file a second one what was expected where
+  2  the command line is refused
+
+docs/FORMATS.md in the project's repository has the lines of records and
+schedules, and the marks.";
+
 pub(crate) const CLIENT: &str =
     "Runs client machines: reads standard input line by line, and answers each line
-before the next is read. 'files N' tells how many files there are, and a line
+before the next is read. 'files N' says how many files there are, and a line
 'client GUID' makes each client. Then come the calls of applications, 'open',
 'close', 'read', 'write' and 'flush', as in schedules; 'connect C' and
 'notice C'; and 'take C' with what the server sent to client C. A line is

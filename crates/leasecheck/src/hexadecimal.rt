@@ -50,8 +50,8 @@ pub(crate) fn digits_in(alloc: Global, text: &[u8]) -> Result<Vec<u8>, AllocErro
     Ok(digits)
 }
 
-/// The bytes that an argument writes: hexadecimal digits of either case, two a byte. They may begin with `0x`, and one colon or
-/// one space may stand between two bytes.
+/// The bytes that an argument gives: hexadecimal digits of either case, two a byte. They may begin
+/// with `0x`, and one colon or one space may stand between two bytes.
 ///
 /// # Errors
 ///

@@ -14,6 +14,7 @@
 
 mod command_line;
 mod conversing;
+mod drawing;
 mod explaining;
 mod failure;
 mod help;

@@ -9,7 +9,7 @@ use lease_state::{ClientNo, Reply};
 use lease_texts::push_fact;
 use std::alloc::{AllocError, Global};
 
-// The line of the first of these messages; those behind it are given.
+// The line of the first of these messages; those after it are given.
 fn push_message<'a>(
     alloc: Global,
     text: &mut String,
@@ -30,7 +30,7 @@ fn push_message<'a>(
     Ok(&messages[1..])
 }
 
-// The line of the message that a fact speaks of, the first of these; those behind it are given.
+// The line of the message that a fact speaks of, the first of these; those after it are given.
 #[tactic(auto, unfolding(crate::specs::Messages::message_before, crate::specs::Messages::messages_behind))]
 fn push_message_of<'a>(
     alloc: Global,

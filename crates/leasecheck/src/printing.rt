@@ -4,6 +4,7 @@ ghost use Rattle.std.specs.Io.KnownBytes.{Appends, Keeps};
 ghost use Rattle.leasecheck.specs.Printed.{IsTextOf, Prints};
 ghost use Rattle.lease_world.specs.declared.verdict.Verdict.{Verdict};
 ghost use Rattle.leasecheck.specs.Replayed.{Replays, verdict_line, status_of};
+ghost use Rattle.leasecheck.specs.Drawing.{Draws};
 ghost use Rattle.leasecheck.specs.Explaining.{ExplainsVerdict};
 ghost use Rattle.leasecheck.specs.Judging.{IsVerdictOn};
 ghost use Rattle.lease_wire.specs.WireFaults.{message_fault};
@@ -11,10 +12,11 @@ ghost use Rattle.leasecheck.specs.Answer.{AnswersWith};
 ghost use Rattle.leasecheck.specs.Arguments.{argument_bytes};
 ghost use Rattle.leasecheck.specs.Shown.{Shows};
 ghost use Rattle.leasecheck.specs.WireRemarks.{bare_remark, shown_remark};
-ghost use Rattle.leasecheck.specs.Remarks.{Says, IsArgumentRemark, IsFileRemark, record_remark, schedule_remark, second_of};
+ghost use Rattle.leasecheck.specs.Remarks.{Says, IsArgumentRemark, IsFileRemark, IsDrawingRemark, record_remark, schedule_remark, second_of};
 ghost use Rattle.leasecheck.specs.declared.tasks.Kind.TheVariants as kind;
-ghost use Rattle.leasecheck.specs.Refusals.{AnswersOrRefuses, SaysOf, RefusesArgument, shown_fault, EndsWith, Ends, Begins, Puts, MayEndReplay, MayEndJudging, known_refusal, judge_refusal, refusal_of, failure_line};
+ghost use Rattle.leasecheck.specs.Refusals.{AnswersOrRefuses, SaysOf, RefusesArgument, shown_fault, EndsWith, Ends, Begins, Puts, MayEndReplay, MayEndDrawing, MayEndJudging, drawing_refusal, known_refusal, judge_refusal, refusal_of, failure_line};
 
+use crate::drawing::draw_text;
 use crate::explaining::explain_text;
 use crate::failure::Failure;
 use crate::hexadecimal;
@@ -106,6 +108,24 @@ fn explained<I: Read>(alloc: Global, input: &mut I) -> Result<Printed, Refusal>
     }
 }
 
+// The picture of a record, or of the run of a schedule.
+fn drawn<I: Read>(alloc: Global, input: &mut I) -> Result<Printed, Refusal>
+    ensures printed { IfOk result (λ printed. (printed.status ≡ 0)
+        × IfSome (I.remaining input.old) (λ bytes. Draws bytes (string_bytes printed.text))) }
+    ensures refused { MatchResult result (λ _. drawing_refusal (I.remaining input.old) ≡ None)
+        (λ refusal. MayEndDrawing (I.remaining input.old) refusal.failure) }
+    ensures said { IfErr result (λ refusal. Says refusal (IsDrawingRemark (I.remaining input.old))) }
+{
+    let mut bytes = Vec::new(alloc);
+    let Ok(_) = input.read_to_end(&mut bytes) else {
+        return Err(Refusal::bare(Failure::File));
+    };
+    match draw_text(alloc, bytes.as_slice()) {
+        Ok(text) => Ok(Printed { text, status: 0 }),
+        Err(refusal) => Err(refusal),
+    }
+}
+
 fn acknowledged(alloc: Global, argument: &str) -> Result<Printed, Refusal>
     ensures printed { IfOk result (λ printed. (printed.status ≡ 0)
         × (bytes : List ℕ) × (argument_bytes argument.now ≡ Ok bytes) × AnswersWith bytes (string_bytes printed.text)) }
@@ -148,6 +168,7 @@ fn text_of<I: Read>(alloc: Global, task: &Task, input: &mut I) -> Result<Printed
         Task::Replay(_, telling) => replayed(alloc, *telling, input),
         Task::Judge(_) => judged(alloc, input),
         Task::Explain(_) => explained(alloc, input),
+        Task::Draw(_) => drawn(alloc, input),
         Task::Version => Ok(done(String::from_str(alloc, VERSION)?)),
     }
 }
@@ -248,8 +269,8 @@ fn tell_refusal<F: Write>(refusal: &Refusal, faults: &mut F) -> Result<(), Failu
     put(second_bytes(refusal), faults)
 }
 
-/// Does a task, and gives the exit status: 0 where it was done, 1 where its input is refused, where
-/// memory ran out or where a write to `out` failed, 3 where the record of a judge is unsafe.
+/// Does a task, and returns the exit status: 0 where it was done, 1 where its input is refused,
+/// where memory ran out or where a write to `out` failed, 3 where the record of a judge is unsafe.
 ///
 /// The whole text is made before anything is written to `out`; on a refusal nothing is, and
 /// `faults` gets the line of the failure and mostly a second one, which says more of it, or a beginning of this where a write
@@ -265,7 +286,8 @@ pub fn perform<I: Read, O: Write, F: Write>(
     ensures printed { result ≢ 1 → Prints task.now (I.remaining input.old) (O.contents out.old) (O.contents out.new) result }
     ensures silent { result ≢ 1 → Keeps (F.contents faults.old) (F.contents faults.new) }
 
-    // A record that is malformed is told on `out`; all else that ends with 1 has a line on `faults`.
+    // A record that is malformed is reported on `out`; all else that ends with 1 has a line on
+    // `faults`.
     ensures ended { result ≡ 1 → Ends task.now (I.remaining input.old) (O.contents out.old) (O.contents out.new)
         (F.contents faults.old) (F.contents faults.new) }
 

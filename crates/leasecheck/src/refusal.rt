@@ -2,16 +2,17 @@ ghost use Rattle.std.specs.Prelude.{◌≡◌, Some, None, MatchResult};
 
 use crate::failure::Failure;
 use crate::remarks::{
-    bare_remark, events_remark, fact_remark, hex_remark, line_at, part_remark, setup_remark,
-    shown_remark,
+    bare_remark, events_remark, fact_remark, facts_remark, hex_remark, line_at, part_remark,
+    setup_remark, shown_remark,
 };
 use crate::tasks::Kind;
 use lease_state::Memory;
 use lease_texts::Schedule;
 use lease_world::RunFault;
+use record_pictures::PictureFault;
 use std::alloc::{AllocError, AllocFailed, Global};
 
-/// Why a task is refused, and what is said beside that.
+/// Why a task is refused, and what else is said of it.
 #[derive(Debug, Drop)]
 pub struct Refusal {
     pub failure: Failure,
@@ -44,13 +45,15 @@ impl Refusal {
     ghost use Rattle.lease_texts.specs.Drafts.{draft_of};
     ghost use Rattle.lease_wire.specs.declared.fault.WireFault.{WireFault};
     ghost use Rattle.leasecheck.specs.Arguments.{argument_bytes};
+    ghost use Rattle.leasecheck.specs.Drawing.{facts_line, picture_failure};
     ghost use Rattle.leasecheck.specs.Judging.{SaysLine};
+    ghost use Rattle.record_pictures.specs.declared.fault.PictureFault.TheVariants as picture_fault;
     ghost use Rattle.leasecheck.specs.LineRemarks.{line_at, part_remark};
     ghost use Rattle.leasecheck.specs.Remarks.{Says, IsArgumentRemark, run_remark};
     ghost use Rattle.leasecheck.specs.WireRemarks.{bare_remark, shown_remark};
     ghost use Rattle.leasecheck.specs.declared.tasks.Kind.TheVariants as kind;
 
-    /// A failure beside which no more is said.
+    /// A failure of which no more is said.
     pub fn bare(failure: Failure) -> Refusal
         ensures failure { result.failure ≡ failure }
         ensures silent { result.second ≡ None }
@@ -61,7 +64,7 @@ impl Refusal {
         }
     }
 
-    /// The failure of an argument that is to write bytes.
+    /// The failure of an argument that should be bytes.
     pub fn of_digits(alloc: Global, failure: Failure, argument: &str) -> Refusal
         ensures failure { result.failure ≡ failure }
         ensures said { (remark : List ℕ → WireFault → List ℕ) → Says result (IsArgumentRemark remark argument.now) }
@@ -75,7 +78,7 @@ impl Refusal {
         }
     }
 
-    /// The failure of the bytes that an argument writes, of a notification without a header.
+    /// The failure of the bytes of an argument, those of a notification without a header.
     pub fn of_notification(alloc: Global, failure: Failure, bytes: &[u8]) -> Refusal
         ensures failure { result.failure ≡ failure }
         ensures said { (argument : List ℕ) → argument_bytes argument ≡ Ok bytes.now
@@ -124,6 +127,20 @@ impl Refusal {
         Refusal {
             failure: Failure::Line(number),
             second: part_remark(alloc, number, line_at(text, number)),
+        }
+    }
+
+    /// Why there is no picture of so many facts.
+    pub fn of_picture(alloc: Global, fault: PictureFault, count: usize) -> Refusal
+        ensures failure { result.failure ≡ picture_failure fault }
+        ensures said { IfSome result.second (λ line. (fault ≡ picture_fault.TooMany) × (string_bytes line ≡ facts_line count)) }
+    {
+        match fault {
+            PictureFault::TooMany => Refusal {
+                failure: Failure::Picture,
+                second: some(facts_remark(alloc, count)),
+            },
+            PictureFault::Memory => Refusal::bare(Failure::Memory),
         }
     }
 

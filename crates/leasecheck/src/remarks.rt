@@ -1,4 +1,5 @@
-//! What is said of a refused input beside its fault: what was expected, where, and what stands there.
+//! What is said of a refused input after its fault: what was expected, where, and what stands
+//! there.
 
 mod bytes;
 mod digits;
@@ -8,4 +9,4 @@ mod setup;
 pub(crate) use bytes::{bare_remark, shown_remark};
 pub(crate) use digits::hex_remark;
 pub(crate) use lines::{fact_remark, line_at, part_remark};
-pub(crate) use setup::{events_remark, setup_remark};
+pub(crate) use setup::{events_remark, facts_remark, setup_remark};

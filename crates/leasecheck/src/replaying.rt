@@ -29,7 +29,7 @@ fn push_record(alloc: Global, text: &mut String, facts: &[Fact]) -> Result<(), A
     Ok(())
 }
 
-// The verdict on a record behind its text, and a sign that it is none of the facts.
+// The verdict on a record after its text, and a sign that it is none of the facts.
 fn push_end(text: &mut String, verdict: &Verdict) -> Result<(), AllocError>
     ensures { OnOk result (string_bytes text.new ≡ string_bytes text.old ++ codes "# " ++ verdict_line verdict.now) }
 {
@@ -37,7 +37,7 @@ fn push_end(text: &mut String, verdict: &Verdict) -> Result<(), AllocError>
     push_verdict(text, verdict)
 }
 
-fn not_run(fault: RunFault) -> Failure
+pub(crate) fn not_run(fault: RunFault) -> Failure
     ensures { result ≡ run_failure fault }
 {
     match fault {
@@ -112,8 +112,8 @@ fn schedule_of(alloc: Global, text: &[u8]) -> Result<Schedule, Refusal>
 ///
 /// # Errors
 ///
-/// `Line` with the number of the first line that is refused, else `Run` where there is no run of the schedule, and
-/// `Memory` where there is none left; with what is said beside it.
+/// `Line` with the number of the first line that is refused, else `Run` where there is no run of
+/// the schedule, and `Memory` where there is none left; with what else is said of it.
 pub fn replay(
     alloc: Global,
     telling: Telling,

@@ -99,9 +99,9 @@ fn speak<R: Input + AllocGlobal, O: Write, F: Write>(
     }
 }
 
-/// Does what the words of a command line ask for, those after the program's name, and gives the exit
-/// status: 0 where it was done or help was told, 1 where the input is refused, memory ran out or a
-/// write failed, 2 where the words are refused, 3 where a judged record is unsafe.
+/// Does what the words of a command line ask for, those after the program's name, and returns the
+/// exit status: 0 where it was done or help was printed, 1 where the input is refused, memory ran
+/// out or a write failed, 2 where the words are refused, 3 where a judged record is unsafe.
 ///
 /// What is printed with status 0 or 3 is what the words ask for.
 ///

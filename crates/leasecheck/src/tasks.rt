@@ -25,9 +25,9 @@ pub enum Telling {
 /// What a command line asks for.
 #[derive(Debug, PartialEq, Eq, Drop)]
 pub enum Task {
-    /// The acknowledgment of the break notification whose bytes this argument writes.
+    /// The acknowledgment of the break notification whose bytes this argument gives.
     Ack(String),
-    /// What the bytes hold that this argument writes.
+    /// What the bytes of this argument hold.
     Show(Kind, String),
     /// The record of the run that the schedule in this file asks for.
     Replay(String, Telling),
@@ -35,6 +35,8 @@ pub enum Task {
     Judge(String),
     /// The same, and why it is that.
     Explain(String),
+    /// The picture of the record in this file, or of the run of the schedule in it.
+    Draw(String),
     /// The version of the program.
     Version,
 }
@@ -57,12 +59,13 @@ impl Task {
     pub fn path(&self) -> Option<&str> {
         match self {
             Task::Ack(_) | Task::Show(_, _) | Task::Version => None,
-            Task::Replay(path, _) | Task::Judge(path) | Task::Explain(path) => Some(path.as_str()),
+            Task::Replay(path, _) | Task::Judge(path) | Task::Explain(path) | Task::Draw(path) =>
+                Some(path.as_str()),
         }
     }
 }
 
-/// Why there is no task, with what is told.
+/// Why there is no task, with what is printed.
 #[derive(Debug, Drop)]
 pub enum Usage {
     /// Help was asked for; it goes to standard output.

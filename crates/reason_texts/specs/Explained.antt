@@ -18,7 +18,7 @@ unjoined_line client =
     codes "client " ++ (decimal client.0 ++ (codes " hasn't joined: its caches and cached reads aren't judged" ++ (10 ∷ [])))
 
 abbrev pub strayed_line : ClientNo → List ℕ
-strayed_line client = codes "client " ++ (decimal client.0 ++ (codes " has strayed: nothing of it is judged" ++ (10 ∷ [])))
+strayed_line client = codes "client " ++ (decimal client.0 ++ (codes " has strayed, so nothing of it is judged" ++ (10 ∷ [])))
 
 abbrev pub count_line : ℕ → ℕ → List ℕ
 count_line facts clients =

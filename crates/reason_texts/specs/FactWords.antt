@@ -1,12 +1,11 @@
 -- Facts in words.
-use Rattle.std.specs.Prelude.{ℕ, ◌++◌, Bool, true, false, List, [], codes, if◌then◌else◌, nat_le, length, take, Option, Some, None}
+use Rattle.std.specs.Prelude.{ℕ, ◌++◌, Bool, true, false, List, codes, if◌then◌else◌, nat_le, length, take}
 use Rattle.std.specs.Fmt.{decimal}
 use Rattle.hex.specs.Hex.{encode_lower}
 use Rattle.lease_state.specs.State.{state_of}
 use Rattle.lease_state.specs.declared.patch.Patch.{Patch}
 use Rattle.lease_facts.specs.declared.fact.Fact.{Fact}
 use Rattle.lease_facts.specs.declared.fact.Fact.TheVariants as fact
-use Rattle.lease_client.specs.declared.note.Settlement.{Settlement}
 use Rattle.lease_texts.specs.Records.{digits_word, outcome_word}
 use Rattle.lease_texts.specs.Words.{state_word}
 
@@ -57,7 +56,7 @@ fact_words (fact.Changed file client number patch) = changed_words file.0 client
 fact_words (fact.Wrote client file number patch buffered) =
     wrote_words client.0 file.0 number ++ (shown_patch patch ++ way_words buffered)
 fact_words (fact.Settled client number outcome) =
-    codes "client " ++ (decimal client.0 ++ (codes " is told that its write " ++ (decimal number ++ (codes " is " ++
+    codes "client " ++ (decimal client.0 ++ (codes " learns that its write " ++ (decimal number ++ (codes " is " ++
     outcome_word outcome))))
 fact_words (fact.Believes client file state) =
     codes "client " ++ (decimal client.0 ++ (codes " believes " ++ (state_word (state_of state) ++ (codes " of file " ++

@@ -1,5 +1,5 @@
 -- The lines of a record in which its facts stand.
-use Rattle.std.specs.Prelude.{◌≡◌, ◌⊎◌, ℕ, ◌+◌, ◌-◌, List, [], ◌∷◌, if◌then◌else◌, Result, Ok, Err, MatchResult, slice_get, unwrap_or}
+use Rattle.std.specs.Prelude.{◌≡◌, ℕ, ◌+◌, ◌-◌, List, [], ◌∷◌, if◌then◌else◌, Ok, Err, slice_get, unwrap_or}
 use Rattle.lease_texts.specs.Pieces.{lines_of}
 use Rattle.lease_texts.specs.Reading.{is_passed_over}
 use Rattle.lease_texts.specs.Records.{record_in}

@@ -51,7 +51,7 @@ expected_lines placed expected =
     placed expected.started (codes ", as it begins") ++ (place_line_if placed expected.changed (codes
     ", its last change before that message is sent") ++ waiting_lines placed expected.unanswered.items))))))
 
--- the lines behind that of the fact itself
+-- the lines after that of the fact itself
 abbrev pub reason_lines : Placed → ℕ → Reason → List ℕ
 reason_lines placed told (reason.NotStarted file) =
     codes "file " ++ (decimal file.0 ++ (codes " isn't started before that" ++ (10 ∷ [])))
@@ -74,5 +74,5 @@ reason_lines placed told (reason.LateWrite client file number wrote touched) =
     (codes "rule 3: a buffered write changes its file before another client opens or changes it" ++ (10 ∷ [])))
 reason_lines placed told (reason.FalseDone client number wrote changed) =
     place_line_if placed wrote (codes ", the write") ++ (place_line_if placed changed (codes
-    ", which isn't that write behind its line") ++ (codes
-    "rule 4: a write is told as done only where its file was changed by it" ++ (10 ∷ [])))
+    ", which isn't that write after its line") ++ (codes
+    "rule 4: a write is reported as done only if it changed its file" ++ (10 ∷ [])))

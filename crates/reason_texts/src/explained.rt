@@ -31,7 +31,10 @@ fn push_strayed(text: &mut String, clients: &[ClientNo]) -> Result<(), AllocErro
 {
     for client in clients {
         let client = client.0;
-        writeln!(text, "client {client} has strayed: nothing of it is judged")?;
+        writeln!(
+            text,
+            "client {client} has strayed, so nothing of it is judged"
+        )?;
     }
     Ok(())
 }
@@ -45,8 +48,8 @@ fn push_extent(text: &mut String, extent: &Extent) -> Result<(), AllocError>
     push_strayed(text, extent.strayed.as_slice())
 }
 
-// The place of a bad fact.
-fn bad_place(verdict: &Verdict) -> Option<usize>
+/// The place of a bad fact.
+pub fn bad_place(verdict: &Verdict) -> Option<usize>
     ensures { result ≡ bad_place verdict.now }
 {
     match verdict {
@@ -86,6 +89,22 @@ fn push_bad(
     push_behind(alloc, text, placed, place, reason)
 }
 
+/// Adds why the verdict on a record is what it is, by a reason that was found, and how much was judged.
+pub fn push_reasoned(
+    alloc: Global,
+    text: &mut String,
+    placed: &Placed,
+    verdict: &Verdict,
+    reason: &Option<Reason>,
+    extent: &Extent,
+) -> Result<(), AllocError>
+    ensures { OnOk result (string_bytes text.new ≡ string_bytes text.old
+        ++ (bad_lines placed.now (bad_place verdict.now) reason.now ++ extent_lines extent.now)) }
+{
+    push_bad(alloc, text, placed, bad_place(verdict), reason)?;
+    push_extent(text, extent)
+}
+
 /// Adds why the verdict on a record is what it is.
 ///
 /// # Errors
@@ -104,7 +123,6 @@ pub fn push_explanation(
     let facts = placed.facts.as_slice();
     let reason = explain(alloc, facts, verdict)?;
     let extent = extent_of(alloc, facts, verdict)?;
-    push_bad(alloc, text, placed, bad_place(verdict), &reason)?;
-    push_extent(text, &extent)?;
+    push_reasoned(alloc, text, placed, verdict, &reason, &extent)?;
     Ok(())
 }

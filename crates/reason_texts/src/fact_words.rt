@@ -150,7 +150,7 @@ pub fn push_fact_words(alloc: Global, text: &mut String, fact: &Fact) -> Result<
             let (client, outcome) = (client.0, outcome_word(*outcome));
             write!(
                 text,
-                "client {client} is told that its write {number} is {outcome}"
+                "client {client} learns that its write {number} is {outcome}"
             )
         }
         Fact::Believes(client, file, state) => {

@@ -4,7 +4,10 @@
 mod explained;
 mod fact_words;
 mod placed;
+mod places;
 mod reason_words;
 
-pub use explained::push_explanation;
+pub use explained::{push_explanation, push_reasoned};
+pub use fact_words::push_fact_words;
 pub use placed::{Placed, read_placed};
+pub use places::bad_places;

@@ -7,7 +7,8 @@ use lease_facts::Fact;
 use lease_texts::{LineFault, TextFault, first_line, is_passed_over, read_fact};
 use std::alloc::Global;
 
-/// The facts of a record, and the number of the line in which each stands. Lines count from 1, with those that tell no fact.
+/// The facts of a record, and the number of the line in which each stands. Lines count from 1, and
+/// those that hold no fact count too.
 #[derive(Debug, Drop)]
 pub struct Placed {
     pub facts: Vec<Fact>,

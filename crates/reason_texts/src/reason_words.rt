@@ -55,7 +55,7 @@ fn push_place_if(
     }
 }
 
-// The line of a place that isn't told already.
+// The line of a place that isn't printed already.
 fn push_other(
     alloc: Global,
     text: &mut String,
@@ -136,7 +136,7 @@ fn push_expected(
     push_waiting(alloc, text, placed, expected.unanswered.as_slice())
 }
 
-/// Adds the lines behind that of the fact that is told already: those that make it bad.
+/// Adds the lines after that of the fact that is printed already: those that make it bad.
 pub fn push_reason(
     alloc: Global,
     text: &mut String,
@@ -215,11 +215,11 @@ pub fn push_reason(
                 text,
                 placed,
                 *changed,
-                ", which isn't that write behind its line",
+                ", which isn't that write after its line",
             )?;
             push_words(
                 text,
-                "rule 4: a write is told as done only where its file was changed by it\n",
+                "rule 4: a write is reported as done only if it changed its file\n",
             )
         }
     }

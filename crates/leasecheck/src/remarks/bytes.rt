@@ -22,13 +22,13 @@ fn context_meaning(fault: WireFault) -> &'static str
     ensures { result.now ≡ remarks.context_meaning fault }
 {
     match fault {
-        WireFault::Short(_) => "fewer than the 16 bytes are left that it begins with",
+        WireFault::Short(_) => "fewer than 16 bytes are left for its header",
         WireFault::WrongSize(_) => "its size is another",
         WireFault::BadNext(_) => "Next is below 16, no multiple of 8, or past the end",
         WireFault::BadName(_) => "its name begins below 16 or ends past its end",
         WireFault::BadData(_) => "its data begin below 16 or end past its end",
         WireFault::BadLength(_) => "its data have another length than its structure",
-        WireFault::Twice(_) => "one of its name stands before it",
+        WireFault::Twice(_) => "an earlier context has its name",
     }
 }
 
@@ -160,7 +160,7 @@ fn push_wanted(text: &mut String, wanted: Kind) -> Result<(), AllocError>
 fn push_stands(text: &mut String, found: &str) -> Result<(), AllocError>
     ensures { OnOk result (string_bytes text.new ≡ string_bytes text.old ++ remarks.stands_words found.now) }
 {
-    write!(text, "; here stands {found}")
+    write!(text, "; this is {found}")
 }
 
 #[tactic(auto, unfolding(crate::specs::WireRemarks::found_end))]
@@ -250,7 +250,8 @@ fn command_word(command: u16) -> &'static str
     }
 }
 
-// Break messages have one command; who sends them and StructureSize tell them apart (2.2.23 to 2.2.25).
+// Break messages have one command; the sender and StructureSize distinguish them (2.2.23 to
+// 2.2.25).
 fn break_words(from_server: bool, size: u16) -> &'static str
     ensures { result.now ≡ remarks.break_words from_server size }
 {
@@ -334,7 +335,7 @@ fn header_words(bytes: &[u8]) -> &'static str
     } else if number_at(bytes, 4) == 64 {
         "NextCommand leads into the header or past the end\n"
     } else {
-        "the header of an SMB2 message, of StructureSize 64; here stands another\n"
+        "the header of an SMB2 message, of StructureSize 64; this is another\n"
     }
 }
 

@@ -64,8 +64,8 @@ fn push_bad_digit(
     text.push_str("\n")
 }
 
-/// What is said of an argument that writes no bytes: its first character that is no digit where there has to be one, or else that
-/// the number of digits is odd.
+/// What is said of an argument that isn't bytes: its first character that is no digit where there
+/// has to be one, or else that the number of digits is odd.
 pub(crate) fn hex_remark(alloc: Global, argument: &[u8]) -> Result<String, AllocError>
     ensures { IfOk result (λ text. string_bytes text ≡ hex_remark argument.now) }
 {

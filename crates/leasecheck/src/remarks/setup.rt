@@ -2,6 +2,7 @@ ghost use Rattle.std.specs.Prelude.{◌≡◌, ◌<◌, bytes_eq, length, Some, 
 ghost use Rattle.std.specs.Option.{option_map};
 ghost use Rattle.std.specs.String.{string_bytes};
 ghost use Rattle.lease_texts.specs.Drafts.{draft_of};
+ghost use Rattle.leasecheck.specs.Drawing.{facts_line};
 ghost use Rattle.leasecheck.specs.SetupRemarks.{twins, twins_line, too_many_line, setup_remark, events_remark};
 
 use lease_texts::Schedule;
@@ -69,4 +70,11 @@ pub(crate) fn events_remark(alloc: Global, schedule: &Schedule) -> Result<String
     ensures { IfOk result (λ text. string_bytes text ≡ events_remark (draft_of schedule.now)) }
 {
     too_many(alloc, "events", 10_000, schedule.events.len())
+}
+
+/// How many facts there are, which are too many for a picture.
+pub(crate) fn facts_remark(alloc: Global, count: usize) -> Result<String, AllocError>
+    ensures { IfOk result (λ text. string_bytes text ≡ facts_line count) }
+{
+    too_many(alloc, "facts", 5000, count)
 }

@@ -79,7 +79,7 @@ fn render_break(alloc: Global, bytes: &[u8]) -> Result<String, Failure>
     Ok(text)
 }
 
-// A key with its state behind a word, and how many bytes follow.
+// A key with its state after a word, and how many bytes follow.
 fn key_and_state_text(
     alloc: Global,
     word: &str,

@@ -1,25 +1,25 @@
-use Rattle.std.proofs.Common.{◌≡◌, ◌∙◌, rules, ap, ap₂}
+use Rattle.std.proofs.Common.{◌∙◌, ap, ap₂}
 use Rattle.std.proofs.lemmas.Result.{IfOk-weaker}
-use Rattle.clap.specs.Words.{App, app_of, with_subcommand}
-use Rattle.leasecheck.specs.CommandLine.{bare_app}
+use Rattle.clap.specs.Words.{App, with_subcommand}
 use Rattle.leasecheck.proofs.command_line.program.Goals as goal
 
 pub returns : goal.returns
 returns c =
     let show = c.in_ok-show_command.ensures in
-    let bare : app_of c.subcommand_required.result ≡ bare_app = search rules in
     let one = c.in_ok-subcommand.ensures.shape c.in_ok-ack_command.ensures.1
-    ∙ ap₂ with_subcommand bare (ap (λ (a : App). a.top) c.in_ok-ack_command.ensures.0) in
+    ∙ ap₂ with_subcommand c.bare_program.ensures (ap (λ (a : App). a.top) c.in_ok-ack_command.ensures.0) in
     let two = c.in_ok-subcommand-2.ensures.shape show.3 ∙ ap₂ with_subcommand one (ap (λ (a : App). a.top) show.2) in
     let three = c.in_ok-subcommand-3.ensures.shape c.in_ok-replay_command.ensures.1
     ∙ ap₂ with_subcommand two (ap (λ (a : App). a.top) c.in_ok-replay_command.ensures.0) in
     let four = c.in_ok-subcommand-4.ensures.shape c.in_ok-judge_command.ensures.1
     ∙ ap₂ with_subcommand three (ap (λ (a : App). a.top) c.in_ok-judge_command.ensures.0) in
-    let five = c.in_ok-subcommand-5.ensures.shape c.client_command.ensures.own
-    ∙ ap₂ with_subcommand four (ap (λ (a : App). a.top) c.client_command.ensures.app) in
-    IfOk-weaker c.subcommand-6.result _ _ (λ command added. (
+    let five = c.in_ok-subcommand-5.ensures.shape c.in_ok-draw_command.ensures.1
+    ∙ ap₂ with_subcommand four (ap (λ (a : App). a.top) c.in_ok-draw_command.ensures.0) in
+    let six = c.in_ok-subcommand-6.ensures.shape c.client_command.ensures.own
+    ∙ ap₂ with_subcommand five (ap (λ (a : App). a.top) c.client_command.ensures.app) in
+    IfOk-weaker c.subcommand-7.result _ _ (λ command added. (
       show.0,
       show.1,
       added.shape c.server_command.ensures.own
-          ∙ ap₂ with_subcommand five (ap (λ (a : App). a.top) c.server_command.ensures.app),
-    )) c.subcommand-6.ensures
+          ∙ ap₂ with_subcommand six (ap (λ (a : App). a.top) c.server_command.ensures.app),
+    )) c.subcommand-7.ensures

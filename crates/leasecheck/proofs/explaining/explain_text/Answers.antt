@@ -1,5 +1,4 @@
-use Rattle.std.proofs.Common.{List, ℕ, [], ◌++◌, map, ap, ◌∙◌}
-use Rattle.std.specs.String.{string_bytes}
+use Rattle.std.proofs.Common.{List, ℕ, ◌++◌, map, ap, ◌∙◌}
 use Rattle.lease_facts.specs.Facts.{fact_of}
 use Rattle.lease_facts.specs.declared.fact.Fact.{Fact}
 use Rattle.lease_model.specs.records.Verdict as model

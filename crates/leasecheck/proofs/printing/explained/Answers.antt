@@ -2,7 +2,7 @@ use Rattle.std.proofs.Common.{◌≡◌, ◌⊎◌, List, ℕ, [], ◌++◌, Opt
 use Rattle.std.specs.Prelude.{IfSome}
 use Rattle.lease_texts.specs.Records.{record_in}
 use Rattle.leasecheck.proofs.Puts.{says_more}
-use Rattle.leasecheck.specs.Refusals.{MayEndJudging, judge_refusal, line_refusal}
+use Rattle.leasecheck.specs.Refusals.{MayEndJudging, line_refusal}
 use Rattle.leasecheck.specs.Remarks.{IsFileRemark, record_remark}
 use Rattle.leasecheck.specs.declared.failure.Failure.{Failure}
 use Rattle.leasecheck.specs.declared.failure.Failure.TheVariants.{Memory, Line}

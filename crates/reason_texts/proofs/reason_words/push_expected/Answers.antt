@@ -1,4 +1,4 @@
-use Rattle.std.proofs.Common.{List, ℕ, Option, ◌++◌, ap, ◌∙◌, sym}
+use Rattle.std.proofs.Common.{List, ℕ, ◌++◌, ap, ◌∙◌}
 use Rattle.std.specs.String.{string_bytes}
 use Rattle.reason_texts.proofs.Chain.{on_ok, eight_parts}
 use Rattle.reason_texts.proofs.reason_words.push_expected.Goals as goal

@@ -1,4 +1,3 @@
-use Rattle.std.proofs.Common.{List, ℕ, Option, ◌++◌, ap, ◌∙◌, sym}
 use Rattle.std.specs.String.{string_bytes}
 use Rattle.reason_texts.proofs.Chain.{on_ok, behind}
 use Rattle.reason_texts.proofs.reason_words.push_reason.Goals as goal

@@ -1,0 +1,103 @@
+-- The picture of a record, or of the run of a schedule, and why there is none.
+use Rattle.std.specs.Prelude.{◌≡◌, ◌⊎◌, ℕ, ◌++◌, nat_lt, Bool, true, false, List, length, map, codes, if◌then◌else◌, Option, Some, None, Result, Ok, Err, MatchResult}
+use Rattle.std.specs.String.{string_bytes}
+use Rattle.lease_model.specs.records.Verdict as model
+use Rattle.lease_facts.specs.Facts.{fact_of}
+use Rattle.lease_facts.specs.declared.fact.Fact.{Fact}
+use Rattle.lease_reasons.specs.Extent.{IsExtent}
+use Rattle.lease_reasons.specs.Reasons.{Explains}
+use Rattle.lease_reasons.specs.declared.extent.Extent.{Extent}
+use Rattle.lease_reasons.specs.declared.reason.Reason.{Reason}
+use Rattle.lease_texts.specs.Records.{record_in}
+use Rattle.lease_texts.specs.Schedules.{Draft, schedule_in}
+use Rattle.lease_world.specs.Verdicts.{verdict_of}
+use Rattle.lease_world.specs.declared.verdict.Verdict.{Verdict}
+use Rattle.reason_texts.specs.BadPlaces.{bad_places}
+use Rattle.reason_texts.specs.Explained.{bad_lines, bad_place, extent_lines}
+use Rattle.reason_texts.specs.Placed.{IsPlaced}
+use Rattle.reason_texts.specs.declared.placed.Placed.{Placed}
+use Rattle.record_pictures.specs.Captions.{captions, seen_mark}
+use Rattle.record_pictures.specs.Svg.{picture_text}
+use Rattle.record_pictures.specs.declared.picture.Picture.{Picture}
+use Rattle.record_pictures.specs.declared.fault.PictureFault.{PictureFault}
+use Rattle.record_pictures.specs.declared.fault.PictureFault.TheVariants as fault
+use Rattle.leasecheck.specs.Replayed.{record_of, run_refusal, verdict_line}
+use Rattle.leasecheck.specs.SetupRemarks.{too_many_line}
+use Rattle.leasecheck.specs.declared.failure.Failure.{Failure}
+use Rattle.leasecheck.specs.declared.failure.Failure.TheVariants as failure
+use Rattle.leasecheck.specs.declared.refusal.Refusal.{Refusal}
+
+-- ---- what is drawn
+
+-- A picture of facts has one mark for each of them, in their order, with the fact in words. The marks of the facts that make the
+-- record bad say so, and below the marks stands what `judge --explain` says.
+pub record IsDrawn (placed : Placed) (text : List ℕ) : Type 0 where
+  pub verdict : Verdict
+  pub reason : Option Reason
+  pub extent : Extent
+  pub picture : Picture
+  pub verdict_is : verdict_of verdict ≡ model.verdict (map fact_of placed.facts.items)
+  pub explains : Explains (map fact_of placed.facts.items) verdict reason
+  pub judged : IsExtent placed.facts.items verdict extent
+  pub marks : map seen_mark picture.marks.items ≡ captions (bad_places verdict reason) 1 placed.facts.items
+  pub notes : string_bytes picture.notes
+      ≡ verdict_line verdict ++ (bad_lines placed (bad_place verdict) reason ++ extent_lines extent)
+  pub text_is : text ≡ picture_text picture
+
+-- the facts of a run of this draft
+abbrev pub IsRunOf : Draft → Placed → Type 0
+IsRunOf draft placed = map fact_of placed.facts.items ≡ record_of draft
+
+-- The text is the picture of the record that the file is, or else of the run of the schedule that it is.
+abbrev pub Draws : List ℕ → List ℕ → Type 0
+Draws file text = (placed : Placed) × IsDrawn placed text
+    × (IsPlaced file placed ⊎ ((draft : Draft) × (schedule_in file ≡ Ok draft) × IsRunOf draft placed))
+
+-- ---- why there is no picture
+
+abbrev pub picture_failure : PictureFault → Failure
+picture_failure fault.TooMany = failure.Picture
+picture_failure fault.Memory = failure.Memory
+
+abbrev pub too_many_facts : ℕ → Option Failure
+too_many_facts count = if nat_lt 5000 count then Some failure.Picture else None
+
+-- A file that is no record is read as a schedule, where that has more lines in order before the first that isn't.
+abbrev pub is_schedule : {A B : Type 0} → Result A ℕ → Result B ℕ → Bool
+is_schedule (Ok facts) draft = false
+is_schedule (Err number) (Ok draft) = true
+is_schedule (Err number) (Err other) = nat_lt number other
+
+abbrev pub or_failure : Option Failure → Option Failure → Option Failure
+or_failure None later = later
+or_failure (Some earlier) later = Some earlier
+
+abbrev pub facts_refusal : Result (List Fact) ℕ → Option Failure
+facts_refusal (Ok facts) = too_many_facts (length facts)
+facts_refusal (Err number) = Some (failure.Line number)
+
+abbrev pub run_facts_refusal : Result Draft ℕ → Option Failure
+run_facts_refusal (Ok draft) = or_failure (run_refusal (Ok draft)) (too_many_facts (length (record_of draft)))
+run_facts_refusal (Err number) = Some (failure.Line number)
+
+abbrev pub either_refusal : Result (List Fact) ℕ → Result Draft ℕ → Option Failure
+either_refusal facts draft = if is_schedule facts draft then run_facts_refusal draft else facts_refusal facts
+
+-- what a file is refused as
+abbrev pub draw_refusal : List ℕ → Option Failure
+draw_refusal file = either_refusal (record_in file) (schedule_in file)
+
+-- It is drawn only where it isn't refused, and refused as that, or for want of memory.
+abbrev pub RefusesDraw : {X : Type 0} → List ℕ → Result X Refusal → Type 0
+RefusesDraw file answer = MatchResult answer (λ _. draw_refusal file ≡ None)
+    (λ told. (told.failure ≡ failure.Memory) ⊎ (draw_refusal file ≡ Some told.failure))
+
+-- ---- what is said of a file that is refused
+
+abbrev pub facts_line : ℕ → List ℕ
+facts_line count = too_many_line (codes "facts") 5000 count
+
+abbrev pub count_of : Result (List Fact) ℕ → Result Draft ℕ → ℕ
+count_of (Ok facts) draft = length facts
+count_of (Err number) (Ok draft) = length (record_of draft)
+count_of (Err number) (Err other) = 0

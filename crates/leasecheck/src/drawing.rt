@@ -1,0 +1,154 @@
+ghost use Rattle.std.specs.Prelude.{◌≡◌, ◌⊎◌, ◌++◌, ℕ, List, map, length, Some, None, Ok, Err, MatchResult, IfOk, IfErr, OnOk, IfSome};
+ghost use Rattle.std.specs.String.{string_bytes};
+ghost use Rattle.lease_facts.specs.Facts.{fact_of};
+ghost use Rattle.lease_texts.specs.Drafts.{draft_of};
+ghost use Rattle.lease_texts.specs.Records.{record_in};
+ghost use Rattle.lease_texts.specs.Schedules.{schedule_in};
+ghost use Rattle.reason_texts.specs.Explained.{bad_lines, bad_place, extent_lines};
+ghost use Rattle.reason_texts.specs.Placed.{IsPlaced};
+ghost use Rattle.record_pictures.specs.Svg.{picture_text};
+ghost use Rattle.leasecheck.specs.Drawing.{Draws, IsDrawn, IsRunOf, RefusesDraw, facts_line, too_many_facts, run_facts_refusal};
+ghost use Rattle.leasecheck.specs.Remarks.{Says, IsDrawRemark, record_remark, run_remark};
+ghost use Rattle.leasecheck.specs.Replayed.{RefusesRun, record_of, verdict_line};
+
+use crate::explaining::placed_of;
+use crate::failure::Failure;
+use crate::judging::push_verdict;
+use crate::refusal::Refusal;
+use crate::replaying::not_run;
+use lease_reasons::{Extent, Reason, explain, extent_of};
+use lease_state::Reply;
+use lease_texts::{Schedule, TextFault, read_schedule};
+use lease_world::{Verdict, judge, run_with_messages};
+use reason_texts::{Placed, bad_places, push_reasoned};
+use record_pictures::{Picture, PictureFault, picture_of, push_picture};
+use std::alloc::{AllocError, Global};
+
+// The verdict on facts, why it is that, and how much was judged.
+fn notes_of(
+    alloc: Global,
+    placed: &Placed,
+    verdict: &Verdict,
+    reason: &Option<Reason>,
+    extent: &Extent,
+) -> Result<String, AllocError>
+    ensures { IfOk result (λ notes. string_bytes notes ≡ verdict_line verdict.now
+        ++ (bad_lines placed.now (bad_place verdict.now) reason.now ++ extent_lines extent.now)) }
+{
+    let mut notes = String::new(alloc);
+    push_verdict(&mut notes, verdict)?;
+    push_reasoned(alloc, &mut notes, placed, verdict, reason, extent)?;
+    Ok(notes)
+}
+
+fn text_of(alloc: Global, picture: &Picture) -> Result<String, AllocError>
+    ensures { IfOk result (λ text. string_bytes text ≡ picture_text picture.now) }
+{
+    let mut text = String::new(alloc);
+    push_picture(&mut text, picture)?;
+    Ok(text)
+}
+
+// The picture of facts, with the messages that they speak of where these are known.
+fn drawn(alloc: Global, placed: &Placed, messages: &[Reply]) -> Result<String, Refusal>
+    ensures drawn { IfOk result (λ text. IsDrawn placed.now (string_bytes text)) }
+    ensures refused { MatchResult result (λ _. too_many_facts (length placed.now.facts.items) ≡ None)
+        (λ told. (told.failure ≡ Failure.Memory) ⊎ (too_many_facts (length placed.now.facts.items) ≡ Some told.failure)) }
+    ensures said { IfErr result (λ told. Says told (λ failure line. (failure ≡ Failure.Picture)
+        × (line ≡ facts_line (length placed.now.facts.items)))) }
+{
+    let facts = placed.facts.as_slice();
+    let verdict = judge(alloc, facts)?;
+    let reason = explain(alloc, facts, &verdict)?;
+    let extent = extent_of(alloc, facts, &verdict)?;
+    let notes = notes_of(alloc, placed, &verdict, &reason, &extent)?;
+    let bad = bad_places(alloc, &verdict, &reason)?;
+    match picture_of(alloc, facts, bad.as_slice(), notes, messages) {
+        Ok(picture) => Ok(text_of(alloc, &picture)?),
+        Err(fault) => Err(Refusal::of_picture(alloc, fault, facts.len())),
+    }
+}
+
+// The facts of the run of a schedule, and their messages. A run is safe, so no line of it is spoken of.
+fn ran(alloc: Global, schedule: &Schedule) -> Result<(Placed, Vec<Reply>), Refusal>
+    ensures ran { IfOk result (λ run. IsRunOf (draft_of schedule.now) run.0) }
+    ensures refused { RefusesRun (draft_of schedule.now) result }
+    ensures said { IfErr result (λ told. Says told (λ failure line. run_remark failure (draft_of schedule.now) ≡ Some line)) }
+{
+    match run_with_messages(alloc, &schedule.setup, schedule.events.as_slice()) {
+        Ok((facts, messages)) => {
+            let lines = Vec::new(alloc);
+            Ok((Placed { facts, lines }, messages))
+        }
+        Err(fault) => Err(Refusal::of_run(alloc, not_run(fault), schedule)),
+    }
+}
+
+// The picture of the run of a schedule.
+fn run_drawn(alloc: Global, schedule: &Schedule) -> Result<String, Refusal>
+    ensures drawn { IfOk result (λ text. (placed : Placed) × IsDrawn placed (string_bytes text)
+        × IsRunOf (draft_of schedule.now) placed) }
+    ensures refused { MatchResult result (λ _. run_facts_refusal (Ok (draft_of schedule.now)) ≡ None)
+        (λ told. (told.failure ≡ Failure.Memory) ⊎ (run_facts_refusal (Ok (draft_of schedule.now)) ≡ Some told.failure)) }
+    ensures said { IfErr result (λ told. Says told (λ failure line. (run_remark failure (draft_of schedule.now) ≡ Some line)
+        ⊎ ((failure ≡ Failure.Picture) × (line ≡ facts_line (length (record_of (draft_of schedule.now))))))) }
+{
+    let (placed, messages) = ran(alloc, schedule)?;
+    let text = drawn(alloc, &placed, messages.as_slice())?;
+    Ok(text)
+}
+
+// The picture of the run of a schedule that the text is, where it isn't the record that its line of this number keeps it from being.
+fn draw_schedule(
+    alloc: Global,
+    text: &[u8],
+    number: u64,
+    refusal: Refusal,
+) -> Result<String, Refusal>
+    requires read { record_in text.now ≡ Err number }
+    requires failure { refusal.failure ≡ Failure.Line number }
+    requires remark { Says refusal (λ failure line. record_remark text.now failure ≡ Some line) }
+    ensures drawn { IfOk result (λ drawn. Draws text.now (string_bytes drawn)) }
+    ensures refused { RefusesDraw text.now result }
+    ensures said { IfErr result (λ told. Says told (IsDrawRemark text.now)) }
+{
+    match read_schedule(alloc, text) {
+        Ok(schedule) => {
+            let drawn = run_drawn(alloc, &schedule)?;
+            Ok(drawn)
+        }
+        Err(TextFault::Line(other)) => {
+            if number < other {
+                Err(Refusal::of_part(alloc, other, text))
+            } else {
+                Err(refusal)
+            }
+        }
+        Err(TextFault::Memory) => Err(Refusal::bare(Failure::Memory)),
+    }
+}
+
+/// What `leasecheck draw` prints for a text that is a record, or else a schedule, which is run first: a picture as SVG.
+///
+/// # Errors
+///
+/// A text that is neither is refused as whichever it has more lines of, and as a record where both
+/// have as many: `Line` with the number of the first line that is refused. Else `Run` where there
+/// is no run of the schedule, `Picture` where there are more than 5000 facts, and `Memory` where
+/// there is none left.
+pub fn draw_text(alloc: Global, text: &[u8]) -> Result<String, Refusal>
+    ensures drawn { IfOk result (λ drawn. Draws text.now (string_bytes drawn)) }
+    ensures refused { RefusesDraw text.now result }
+    ensures said { IfErr result (λ told. Says told (IsDrawRemark text.now)) }
+{
+    match placed_of(alloc, text) {
+        Ok(placed) => {
+            let drawn = drawn(alloc, &placed, &[])?;
+            Ok(drawn)
+        }
+        Err(refusal) => match refusal.failure {
+            Failure::Line(number) => draw_schedule(alloc, text, number, refusal),
+            _ => Err(refusal),
+        },
+    }
+}

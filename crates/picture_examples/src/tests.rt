@@ -1,0 +1,111 @@
+use lease_reasons::{Messages, client_of, explain, extent_of};
+use lease_state::ClientNo;
+use lease_world::judge;
+use reason_texts::{bad_places, push_explanation, push_fact_words, push_reasoned, read_placed};
+use record_pictures::{
+    Caption, Kind, Look, Mark, Picture, PictureFault, Point, Shape, Size, picture_of, push_picture,
+};
+use std::test::Fail;
+
+const RECORD: &[u8] = b"start 1 61\n# a remark\njoined 1\nsent 1\ntook 1\nsettled 1 1 done\n";
+
+#[test]
+fn words_are_escaped(rt: HostRuntime) -> Result<(), Fail> {
+    let alloc = rt.alloc();
+    let at = Point { x: 3, y: 4 };
+    let words = Shape::Words {
+        at,
+        text: String::from_str(alloc, "<1 & 2>")?,
+        look: Look::Label,
+    };
+    let mark = Mark {
+        caption: Caption {
+            place: 1,
+            kind: Kind::Sent,
+            is_bad: true,
+            words: String::from_str(alloc, "a\tb")?,
+        },
+        shapes: vec![in alloc; words]?,
+    };
+    let picture = Picture {
+        size: Size {
+            width: 10,
+            height: 20,
+        },
+        lanes: Vec::new(alloc),
+        marks: vec![in alloc; mark]?,
+        notes: String::from_str(alloc, "safe\n")?,
+        notes_at: 7,
+    };
+    let mut text = String::new(alloc);
+    push_picture(&mut text, &picture)?;
+    let begin =
+        "<svg xmlns='http://www.w3.org/2000/svg' width='10' height='20' viewBox='0 0 10 20'>\n<style>";
+    let end = "<rect class='paper' width='100%' height='100%'/>\n\
+        <g id='fact-1' class='sent bad'><title>a&#xfffd;b</title>\n\
+        <text class='label' x='3' y='4'>&lt;1 &amp; 2&gt;</text>\n</g>\n\
+        <text class='notes' x='8' y='7'>\n<tspan x='8' dy='18'>safe</tspan>\n</text>\n</svg>\n";
+    assert!(rt; text.as_str().starts_with(begin));
+    assert!(rt; text.as_str().ends_with(end));
+    Ok(())
+}
+
+#[test]
+fn a_bad_fact_is_marked(rt: HostRuntime) -> Result<(), Fail> {
+    let alloc = rt.alloc();
+    let placed = read_placed(alloc, RECORD)?;
+    let facts = placed.facts.as_slice();
+    let verdict = judge(alloc, facts)?;
+    let reason = explain(alloc, facts, &verdict)?;
+    let extent = extent_of(alloc, facts, &verdict)?;
+    let bad = bad_places(alloc, &verdict, &reason)?;
+    assert_eq!(rt; bad.as_slice(), [5].as_slice());
+    let (mut once, mut again) = (String::new(alloc), String::new(alloc));
+    push_reasoned(alloc, &mut once, &placed, &verdict, &reason, &extent)?;
+    push_explanation(alloc, &mut again, &placed, &verdict)?;
+    assert!(rt;
+        once.as_str().starts_with("line 6: client 1 learns that its write 1 is done\nrule 4: ")
+    );
+    assert_eq!(rt; once.as_str(), again.as_str());
+    let picture = picture_of(alloc, facts, bad.as_slice(), once, &[])?;
+    assert_eq!(rt; picture.marks.len(), 5);
+    assert_eq!(rt; picture.marks[4].caption.kind, Kind::Settled);
+    assert!(rt; picture.marks[4].caption.is_bad);
+    assert!(rt; !picture.marks[3].caption.is_bad);
+    assert_eq!(rt;
+        picture.marks[3].caption.words.as_str(),
+        "client 1 takes a message"
+    );
+    Ok(())
+}
+
+#[test]
+fn facts_are_told_in_words(rt: HostRuntime) -> Result<(), Fail> {
+    let alloc = rt.alloc();
+    let placed = read_placed(alloc, RECORD)?;
+    assert_eq!(rt; placed.line(3), 4);
+    let Some(fact) = placed.fact(3) else {
+        return Err(Fail::new("there is no third fact"));
+    };
+    let mut text = String::new(alloc);
+    push_fact_words(alloc, &mut text, fact)?;
+    assert_eq!(rt; text.as_str(), "a message is sent to client 1");
+    assert_eq!(rt; client_of(fact), Some(ClientNo(1)));
+    let messages = Messages::of(alloc, placed.facts.as_slice(), ClientNo(1))?;
+    assert_eq!(rt; (messages.sent(), messages.taken()), (1, 1));
+    assert_eq!(rt; messages.last_sent(), Some(3));
+    Ok(())
+}
+
+#[test]
+fn more_facts_than_a_picture_has(rt: HostRuntime) -> Result<(), Fail> {
+    let alloc = rt.alloc();
+    let mut text = String::new(alloc);
+    for _ in 0..5001 {
+        text.push_str("joined 1\n")?;
+    }
+    let placed = read_placed(alloc, text.as_bytes())?;
+    let answer = picture_of(alloc, placed.facts.as_slice(), &[], String::new(alloc), &[]);
+    assert!(rt; matches!(answer, Err(PictureFault::TooMany)));
+    Ok(())
+}

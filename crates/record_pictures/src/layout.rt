@@ -1,0 +1,219 @@
+ghost use Rattle.std.specs.Prelude.{◌≡◌, ◌≤◌, ◌⊎◌, ◌<◌, ◌+◌, length, map, MatchResult, OnOk, IfOk};
+ghost use Rattle.std.specs.String.{string_bytes};
+ghost use Rattle.record_pictures.specs.Captions.{captions, caption_of, seen_mark};
+ghost use Rattle.record_pictures.specs.declared.fault.PictureFault.TheVariants as fault;
+
+use crate::captions::caption_of;
+use crate::fault::PictureFault;
+use crate::lanes::{Lanes, at, down, line_of, spot};
+use crate::marks::shapes_of;
+use crate::picture::{Mark, Picture};
+use crate::shape::{Look, Point, Shape, Size};
+use lease_facts::Fact;
+use lease_state::{ClientNo, Memory, Reply};
+use std::alloc::{AllocError, Global};
+
+/// More facts are in no picture.
+pub const MOST_FACTS: usize = 5000;
+
+// The name of a lane, above its line.
+fn heading(lane: u16, text: String) -> Shape {
+    Shape::Words {
+        at: Point {
+            x: line_of(lane).saturating_sub(30),
+            y: 40,
+        },
+        text,
+        look: Look::Heading,
+    }
+}
+
+fn line(lane: u16, rows: (u16, u16), look: Look) -> Shape {
+    Shape::Line {
+        from: spot(lane, rows.0),
+        to: spot(lane, rows.1),
+        look,
+    }
+}
+
+// The row from which a client is connected after the fact in a row, if it is.
+fn connected_after(fact: &Fact, client: ClientNo, row: u16, since: Option<u16>) -> Option<u16> {
+    match fact {
+        Fact::Joined(other) if *other == client => Some(since.unwrap_or(row)),
+        Fact::Dropped(other) if *other == client => None,
+        _ => since,
+    }
+}
+
+// Adds the times of a client's connections.
+fn push_connections(
+    shapes: &mut Vec<Shape>,
+    facts: &[Fact],
+    client: ClientNo,
+    lane: u16,
+) -> Result<(), AllocError> {
+    let mut since = None;
+    for (index, fact) in facts.iter().enumerate() {
+        let row = at(index);
+        let before = since;
+        since = connected_after(fact, client, row, before);
+        if let (Some(begin), None) = (before, since) {
+            shapes.push(line(lane, (begin, row), Look::Connection))?;
+        }
+    }
+    if let Some(begin) = since {
+        shapes.push(line(lane, (begin, at(facts.len())), Look::Connection))?;
+    }
+    Ok(())
+}
+
+// The lanes with their names.
+fn lanes_of(alloc: Global, lanes: &Lanes, facts: &[Fact]) -> Result<Vec<Shape>, AllocError> {
+    let mut shapes = Vec::new(alloc);
+    let rows = (0, at(facts.len()));
+    shapes.push(heading(lanes.server(), format!(in alloc; "server")?))?;
+    shapes.push(line(lanes.server(), rows, Look::Connection))?;
+    for client in lanes.clients() {
+        let (number, lane) = (client.0, lanes.client(*client));
+        shapes.push(heading(lane, format!(in alloc; "client {number}")?))?;
+        shapes.push(line(lane, rows, Look::Lane))?;
+        push_connections(&mut shapes, facts, *client, lane)?;
+    }
+    Ok(shapes)
+}
+
+// The message of a fact, the first of those that are left, where the fact speaks of one.
+fn message_of<'a>(fact: &Fact, left: &'a [Reply]) -> Option<&'a Reply> {
+    match fact {
+        Fact::Sent(_) | Fact::Took(_) => left.first(),
+        _ => None,
+    }
+}
+
+// The messages of the facts after a fact.
+fn messages_left<'a>(fact: &Fact, left: &'a [Reply]) -> &'a [Reply] {
+    match (fact, left) {
+        (Fact::Sent(_) | Fact::Took(_), [_, later @ ..]) => later,
+        _ => left,
+    }
+}
+
+// What a picture is made of.
+#[derive(Clone, Copy)]
+struct Sheet<'a> {
+    lanes: &'a Lanes,
+    facts: &'a [Fact],
+    bad: &'a [usize],
+}
+
+impl<'a> Sheet<'a> {
+    // The mark of the fact at this index.
+    fn mark(
+        &self,
+        alloc: Global,
+        index: usize,
+        fact: &Fact,
+        message: Option<&Reply>,
+    ) -> Result<Mark, Memory>
+        requires { index < length self.now.facts.now }
+        ensures { IfOk result (λ mark. seen_mark mark ≡ caption_of self.now.bad.now (index + 1) fact.now) }
+    {
+        let caption = caption_of(alloc, self.bad, index + 1, fact)?;
+        let shapes = shapes_of(
+            alloc,
+            self.lanes,
+            self.facts,
+            at(index),
+            caption.is_bad,
+            message,
+        )?;
+        Ok(Mark { caption, shapes })
+    }
+}
+
+// A mark for each fact.
+#[tactic(auto, unfolding(crate::specs::Captions::captions))]
+fn marks_of(alloc: Global, sheet: &Sheet<'_>, messages: &[Reply]) -> Result<Vec<Mark>, Memory>
+    ensures { IfOk result (λ marks. map seen_mark marks.items ≡ captions sheet.now.bad.now 1 sheet.now.facts.now) }
+{
+    let mut marks = Vec::new(alloc);
+    let mut left = messages;
+    for (index, fact) in sheet.facts.iter().enumerate() {
+        let message = message_of(fact, left);
+        left = messages_left(fact, left);
+        marks.push(sheet.mark(alloc, index, fact, message)?)?;
+    }
+    Ok(marks)
+}
+
+// How many lines a text has, of those that end with a line feed.
+fn count_lines(text: &[u8]) -> usize {
+    text.iter().filter(|byte| **byte == b'\n').count()
+}
+
+// How wide and how high a picture is that has this many rows, with notes from so far down.
+fn size_of(lanes: &Lanes, notes_at: u32, notes: &str) -> Size {
+    let lines = u32::try_from(count_lines(notes.as_bytes())).unwrap_or(u32::MAX);
+    Size {
+        width: lanes.width().max(1020),
+        height: lines
+            .saturating_mul(18)
+            .saturating_add(notes_at)
+            .saturating_add(24),
+    }
+}
+
+fn laid_out(
+    alloc: Global,
+    facts: &[Fact],
+    bad: &[usize],
+    notes: String,
+    messages: &[Reply],
+) -> Result<Picture, Memory>
+    ensures marks { IfOk result (λ picture. map seen_mark picture.marks.items ≡ captions bad.now 1 facts.now) }
+    ensures notes { IfOk result (λ picture. string_bytes picture.notes ≡ string_bytes notes) }
+{
+    let lanes = Lanes::of(alloc, facts)?;
+    let sheet = Sheet {
+        lanes: &lanes,
+        facts,
+        bad,
+    };
+    let marks = marks_of(alloc, &sheet, messages)?;
+    let notes_at = down(at(facts.len()), 48);
+    Ok(Picture {
+        size: size_of(&lanes, notes_at, notes.as_str()),
+        lanes: lanes_of(alloc, &lanes, facts)?,
+        marks,
+        notes,
+        notes_at,
+    })
+}
+
+/// The picture of these facts, with `notes` below it, lines that are each ended by a line feed.
+/// `bad` are the places, from 1, of the facts that make the record bad. `messages` are those that
+/// the facts report as sent and taken, in their order; there may be fewer.
+///
+/// # Errors
+///
+/// `TooMany` where there are more than [`MOST_FACTS`] facts, else `Memory` where there is none left.
+pub fn picture_of(
+    alloc: Global,
+    facts: &[Fact],
+    bad: &[usize],
+    notes: String,
+    messages: &[Reply],
+) -> Result<Picture, PictureFault>
+    ensures marks { IfOk result (λ picture. map seen_mark picture.marks.items ≡ captions bad.now 1 facts.now) }
+    ensures notes { IfOk result (λ picture. string_bytes picture.notes ≡ string_bytes notes) }
+    ensures refused { MatchResult result (λ _. length facts.now ≤ 5000)
+        (λ given. (given ≡ fault.TooMany) × (5000 < length facts.now) ⊎ (given ≡ fault.Memory) × (length facts.now ≤ 5000)) }
+{
+    if facts.len() > MOST_FACTS {
+        return Err(PictureFault::TooMany);
+    }
+    match laid_out(alloc, facts, bad, notes, messages) {
+        Ok(picture) => Ok(picture),
+        Err(Memory) => Err(PictureFault::Memory),
+    }
+}

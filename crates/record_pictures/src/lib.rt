@@ -1,0 +1,21 @@
+//! Pictures of records of SMB 2.1 leases: sequence pictures as SVG, with a mark for each fact.
+//!
+//! [`picture_of`] lays the facts of a record out, and [`push_picture`] writes the picture as text. Time runs down. Each client has a
+//! lane, and so has the server, in the middle.
+#![tactic(auto)]
+
+mod captions;
+mod fault;
+mod labels;
+mod lanes;
+mod layout;
+mod marks;
+mod picture;
+mod shape;
+mod svg;
+
+pub use fault::PictureFault;
+pub use layout::{MOST_FACTS, picture_of};
+pub use picture::{Caption, Kind, Mark, Picture};
+pub use shape::{Look, Point, Shape, Size};
+pub use svg::push_picture;

@@ -1,0 +1,176 @@
+use crate::labels::label_of;
+use crate::lanes::{Lanes, at, down, line_of, spot, words_at};
+use crate::shape::{Look, Point, Shape, Size};
+use lease_facts::Fact;
+use lease_reasons::{Messages, client_of};
+use lease_state::{ClientNo, FileNo, LeaseState, Memory, Reply};
+use std::alloc::{AllocError, Global};
+
+// The lane on which a fact has its mark: what a client does is on its own, what the server does on the server's.
+fn lane_of(lanes: &Lanes, fact: &Fact) -> u16 {
+    match fact {
+        Fact::Start(_, _)
+        | Fact::Expired(_, _)
+        | Fact::Sent(_)
+        | Fact::Opened(_, _)
+        | Fact::Changed(_, _, _, _) => lanes.server(),
+        _ => match client_of(fact) {
+            Some(client) => lanes.client(client),
+            None => lanes.server(),
+        },
+    }
+}
+
+fn look_of(fact: &Fact) -> Look {
+    match fact {
+        Fact::Dropped(_) | Fact::Expired(_, _) => Look::Loss,
+        Fact::Changed(_, _, _, _) => Look::Accepted,
+        Fact::CachedRead(_, _, _) => Look::CachedRead,
+        Fact::Strayed(_) => Look::Stray,
+        _ => Look::Event,
+    }
+}
+
+// Whether a fact ends the time of a client's belief of a file.
+fn ends_belief(fact: &Fact, client: ClientNo, file: FileNo) -> bool {
+    match fact {
+        Fact::Believes(other, of, _) => *other == client && *of == file,
+        _ => false,
+    }
+}
+
+// The row in which a belief ends that begins before these facts.
+fn belief_end(later: &[Fact], row: u16, client: ClientNo, file: FileNo) -> u16 {
+    let found = later
+        .iter()
+        .position(|fact| ends_belief(fact, client, file));
+    let rows = at(found.unwrap_or(later.len()));
+    row.saturating_add(1).saturating_add(rows)
+}
+
+// The bar of a belief, to the left of the client's line. Files beyond the eighth share bars with the first ones.
+fn bar(lane: u16, rows: (u16, u16), file: FileNo, look: Look) -> Shape {
+    let (row, end) = rows;
+    let column = 1 + u32::from(file.0.saturating_sub(1) % 8);
+    let (top, bottom) = (down(row, 12), down(end, 12));
+    Shape::Rectangle {
+        at: Point {
+            x: line_of(lane).saturating_sub(10 * column),
+            y: top,
+        },
+        size: Size {
+            width: 8,
+            height: bottom.saturating_sub(top),
+        },
+        look,
+    }
+}
+
+fn caching(state: LeaseState) -> Option<Look> {
+    if state.caches_writes() {
+        Some(Look::WriteCaching)
+    } else if state.caches_reads() || state.caches_handles() {
+        Some(Look::Caching)
+    } else {
+        None
+    }
+}
+
+// The line of a message, from the row in which it was sent to the one in which it is taken.
+fn message_line(
+    alloc: Global,
+    lanes: &Lanes,
+    facts: &[Fact],
+    client: ClientNo,
+    row: u16,
+) -> Result<Option<Shape>, Memory> {
+    let messages = Messages::of(alloc, facts, client)?;
+    let Some(sent) = messages.last_sent() else {
+        return Ok(None);
+    };
+    Ok(Some(Shape::Line {
+        from: spot(lanes.server(), at(sent.saturating_sub(1))),
+        to: spot(lanes.client(client), row),
+        look: Look::Message,
+    }))
+}
+
+// What a fact has beside its point: a belief its time, and a message that is taken its way.
+fn reach(alloc: Global, lanes: &Lanes, facts: &[Fact], row: u16) -> Result<Option<Shape>, Memory> {
+    let index = usize::from(row);
+    let (before, later) = facts.split_at(facts.len().min(index.saturating_add(1)));
+    match facts.get(index) {
+        Some(Fact::Took(client)) => message_line(alloc, lanes, before, *client, row),
+        Some(Fact::Believes(client, file, state)) => {
+            let end = belief_end(later, row, *client, *file);
+            let lane = lanes.client(*client);
+            Ok(caching(*state).map(|look| bar(lane, (row, end), *file, look)))
+        }
+        _ => Ok(None),
+    }
+}
+
+// The number of a fact, at the left of its row.
+fn number(alloc: Global, row: u16) -> Result<Shape, AllocError> {
+    let place = u32::from(row).saturating_add(1);
+    Ok(Shape::Words {
+        at: Point {
+            x: 8,
+            y: down(row, 16),
+        },
+        text: format!(in alloc; "{place}")?,
+        look: Look::Number,
+    })
+}
+
+// The row of a fact that makes the record bad, as wide as the picture.
+fn band(lanes: &Lanes, row: u16) -> Shape {
+    Shape::Rectangle {
+        at: Point {
+            x: 0,
+            y: down(row, 0),
+        },
+        size: Size {
+            width: lanes.width(),
+            height: 24,
+        },
+        look: Look::Row,
+    }
+}
+
+/// The shapes of the mark of the fact in a row. `message` is the one that the fact speaks of, where that is known.
+///
+/// # Errors
+///
+/// `Memory` where there is none left.
+pub fn shapes_of(
+    alloc: Global,
+    lanes: &Lanes,
+    facts: &[Fact],
+    row: u16,
+    is_bad: bool,
+    message: Option<&Reply>,
+) -> Result<Vec<Shape>, Memory> {
+    let mut shapes = Vec::new(alloc);
+    let Some(fact) = facts.get(usize::from(row)) else {
+        return Ok(shapes);
+    };
+    if is_bad {
+        shapes.push(band(lanes, row))?;
+    }
+    shapes.push(number(alloc, row)?)?;
+    if let Some(shape) = reach(alloc, lanes, facts, row)? {
+        shapes.push(shape)?;
+    }
+    let lane = lane_of(lanes, fact);
+    shapes.push(Shape::Circle {
+        at: spot(lane, row),
+        look: look_of(fact),
+    })?;
+    shapes.push(Shape::Words {
+        at: words_at(lane, row),
+        text: label_of(alloc, fact, message)?,
+        look: Look::Label,
+    })?;
+    Ok(shapes)
+}

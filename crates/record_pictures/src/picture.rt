@@ -1,0 +1,52 @@
+use crate::shape::{Shape, Size};
+
+/// The kind of a fact.
+#[derive(Clone, Copy, Debug, PartialEq, Eq)]
+pub enum Kind {
+    Start,
+    Joined,
+    Dropped,
+    Expired,
+    Sent,
+    Took,
+    Opened,
+    Changed,
+    Wrote,
+    Settled,
+    Believes,
+    CachedRead,
+    Strayed,
+}
+
+/// What a mark says of its fact.
+#[derive(Debug, Drop, PartialEq, Eq)]
+pub struct Caption {
+    /// The place of the fact, from 1.
+    pub place: usize,
+    pub kind: Kind,
+    /// Whether it is one of the facts that make the record bad.
+    pub is_bad: bool,
+    /// The fact in words.
+    pub words: String,
+}
+
+/// What stands for a fact.
+#[derive(Debug, Drop, PartialEq, Eq)]
+pub struct Mark {
+    pub caption: Caption,
+    pub shapes: Vec<Shape>,
+}
+
+/// A picture of a record.
+#[derive(Debug, Drop, PartialEq, Eq)]
+pub struct Picture {
+    pub size: Size,
+    /// What stands behind the marks: the lanes with their names.
+    pub lanes: Vec<Shape>,
+    /// A mark for each fact, in their order.
+    pub marks: Vec<Mark>,
+    /// What is said of the record below the marks, in lines.
+    pub notes: String,
+    /// How far down the notes begin, in pixels.
+    pub notes_at: u32,
+}
