@@ -1,0 +1,91 @@
+"""Families of schedules for `leasecheck replay`. A run has at most 16 clients and 10,000 events, so
+many leases are asked for by raw requests of one client, each with a key of its own."""
+from typing import List
+
+from growing.family import Family
+
+HOLDERS = 14
+READ_HANDLES = 3
+FILE_BYTES = 4096
+# An open that is granted all it asks for, and a read that fills the cache.
+CACHING = ['open 1 1 rw rw RWH', 'serve 1', 'take 1', 'read 1 1', 'serve 1', 'take 1']
+
+
+def guid(client: int) -> str:
+    return f'{client:032x}'
+
+
+def begun(content: str, clients: int) -> List[str]:
+    """A file and connected clients."""
+    numbers = range(1, clients + 1)
+    return ([f'file {content}'] + [f'client {guid(client)}' for client in numbers]
+            + [f'connect {client}' for client in numbers])
+
+
+def lease_ask(key: int, state: int) -> str:
+    """An RqLs context, as hexadecimal digits."""
+    header = bytes(4) + b'\x10\0\x04\0\0\0\x18\0\x20\0\0\0' + b'RqLs' + bytes(4)
+    return (header + key.to_bytes(16, 'big') + state.to_bytes(4, 'little') + bytes(12)).hex()
+
+
+def served(client: int, request: str) -> List[str]:
+    return [f'raw {client} {request}', f'serve {client}']
+
+
+def leases(n: int) -> List[str]:
+    """n opens of client 1, each with a lease of its own on reads and handles."""
+    lines: List[str] = []
+    for key in range(1, n + 1):
+        lines += served(1, f'create 1 r rw {lease_ask(key, READ_HANDLES)}')
+    return lines
+
+
+def text(lines: List[str]) -> str:
+    return '\n'.join(lines) + '\n'
+
+
+def held_creates(n: int) -> str:
+    """n leases on a file, whose breaks 14 creates of other clients wait for; another client then
+    sends n closes that are refused, after each of which the held creates are tried again: a try is
+    to cost the same however many leases there are."""
+    lines = begun('61', HOLDERS + 2) + leases(n)
+    for client in range(2, HOLDERS + 2):
+        lines += served(client, 'create 1 r - -')
+    for _ in range(n):
+        lines += served(HOLDERS + 2, 'close 18446744073709551615')
+    return text(lines)
+
+
+def writes_that_break(n: int) -> str:
+    """n leases on a file and n writes of another client. The first write breaks all leases to none;
+    the others are done while these breaks wait, and are to find nothing more to break without
+    asking each lease."""
+    lines = begun('61', 2) + leases(n) + served(2, 'create 1 rw rw -')
+    for number in range(1, n + 1):
+        lines += served(2, f'write {n + 1} {number} 0 61')
+    return text(lines)
+
+
+def buffered_then_read(n: int) -> str:
+    """n buffered writes to the one byte of a file, then n reads from the cache: a read is to cost
+    what it gives, however many writes are unsent."""
+    lines = begun('61', 1) + CACHING + ['write 1 1 0 61'] * n + ['read 1 1'] * n
+    return text(lines)
+
+
+def large_cached_reads(n: int) -> str:
+    """n reads of a file of 4 KiB from the cache. What is printed is n times the file; the peak of
+    memory is to stay near the file's size and what the schedule's events need."""
+    return text(begun('61' * FILE_BYTES, 1) + CACHING + ['read 1 1'] * n)
+
+
+SCHEDULES = [
+    Family('replay-held-creates', 'replay', held_creates, 32, 'lease',
+           facts={'sent 1': 2, f'sent {HOLDERS + 2}': 1}),
+    Family('replay-writes-that-break', 'replay', writes_that_break, 64, 'lease',
+           facts={'sent 1': 2, 'changed 1 2': 1}),
+    Family('replay-buffered-then-read', 'replay', buffered_then_read, 400, 'write',
+           facts={'wrote 1 1': 1, 'cachedread 1 1 61': 1}),
+    Family('replay-large-cached-reads', 'replay', large_cached_reads, 600, 'read',
+           facts={'cachedread 1 1': 1}, most_memory=FILE_BYTES),
+]

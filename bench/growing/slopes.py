@@ -1,0 +1,19 @@
+"""Exponents of growth: slopes of the logarithm of the cost over the logarithm of the size."""
+import math
+from typing import List, Sequence, Tuple
+
+Point = Tuple[int, int]
+
+
+def slope(points: Sequence[Point]) -> float:
+    """The slope of the line of least squares through the points' logarithms."""
+    xs: List[float] = [math.log(size) for size, _ in points]
+    ys: List[float] = [math.log(max(1, cost)) for _, cost in points]
+    x, y = sum(xs) / len(xs), sum(ys) / len(ys)
+    above = sum((one - x) * (other - y) for one, other in zip(xs, ys))
+    return above / sum((one - x) ** 2 for one in xs)
+
+
+def exponents(points: Sequence[Point]) -> Tuple[float, float]:
+    """Between the last two points, and over all of them."""
+    return slope(points[-2:]), slope(points)
