@@ -20,7 +20,7 @@ abbrev pub is_refused : Answer → Bool
 is_refused (Answer.Refused refusal) = true
 is_refused answer = false
 
--- why an entry that isn't live, or is parked, hears no command but an Open
+-- why an entry that isn't live, or is parked, accepts no command but an Open
 abbrev pub refusal_in : Phase → Refusal
 refusal_in Phase.Closed = Refusal.NotOpen
 refusal_in (Phase.Opening access share) = Refusal.Busy
@@ -160,7 +160,7 @@ flush_turn live sent = turn_of
     (if is_empty live.unsent then Answer.Done else Answer.Waiting)
     (write_requests live.file_id live.unsent)
 
--- a parked entry hears no command but an Open
+-- a parked entry accepts no command but an Open
 abbrev pub unless_parked : LiveEntry → List Pending → Turn → Turn
 unless_parked live sent turn =
     if live.handles == 0 then refused_turn (live_entry live sent) Refusal.NotOpen else turn

@@ -61,7 +61,8 @@ impl Client {
     }
 
     /// What the client believes of the lease of a file (MS-SMB2 3.2.1.5, LeaseState). Nothing is
-    /// cached where the file isn't open, or the client has no file of this number. No memory is taken.
+    /// cached where the file isn't open, or the client has no file of this number. Allocates
+    /// nothing.
     pub fn belief(&self, file: FileNo) -> LeaseState
         ensures { state_of result ≡ model.belief (client_of self.now) file.0 }
     {
@@ -78,8 +79,8 @@ impl Client {
         let _machine = &self.machine;
     }
 
-    /// A command comes from the application (own). No belief rises by it; a command that is refused changes
-    /// nothing, sends nothing and notes nothing.
+    /// A command comes from the application (profile). No belief rises by it; a command that is
+    /// refused changes nothing, sends nothing and notes nothing.
     ///
     /// # Errors
     ///
@@ -109,8 +110,8 @@ impl Client {
     }
 
     /// A message comes from the server (MS-SMB2 3.2.5). What fits no entry, and contexts or
-    /// notifications that can't be read, are passed over. A belief rises only by the answer to a create of
-    /// its file that tells of no break in progress.
+    /// notifications that can't be read, are passed over. A belief rises only by the answer to a
+    /// create of its file that reports no break in progress.
     ///
     /// # Errors
     ///

@@ -1,6 +1,6 @@
 use lease_state::{Access, Bytes, FileNo, LeaseState, Patch, Share, Status};
 
-/// What an application asks of a client machine (own).
+/// What an application asks of a client machine (profile).
 #[derive(Debug, Drop, PartialEq, Eq)]
 pub enum Command {
     /// One more handle on the file. `want` is the lease's state that is wanted with it; a `durable`
@@ -49,7 +49,7 @@ ghost use Rattle.std.specs.Prelude.{◌≡◌};
 ghost use Rattle.lease_model.specs.client.Commanded.{file_of};
 ghost use Rattle.lease_client.specs.Answers.{command_of};
 
-/// Why a command is refused (own). It then changes nothing and sends nothing.
+/// Why a command is refused (profile). It then changes nothing and sends nothing.
 #[derive(Clone, Copy, Debug, PartialEq, Eq, Hash)]
 pub enum Refusal {
     /// The client has no such file, or no handle on it.
@@ -68,7 +68,7 @@ pub enum Refusal {
     UsedUp,
 }
 
-/// What an application is answered (own).
+/// What an application is answered (profile).
 #[derive(Debug, Drop, PartialEq, Eq)]
 pub enum Answer {
     Done,

@@ -59,7 +59,7 @@ impl Entry {
         }
     }
 
-    /// A Close: one handle less (own).
+    /// A Close: one handle less (profile).
     ///
     /// # Errors
     ///
@@ -87,7 +87,7 @@ impl Entry {
         }
     }
 
-    /// A Read of the whole file (own).
+    /// A Read of the whole file (profile).
     ///
     /// # Errors
     ///
@@ -110,7 +110,7 @@ impl Entry {
         live.read(&self.sent, file, given)
     }
 
-    /// A Write, which takes the next number of the client (own).
+    /// A Write, which takes the next number of the client (profile).
     ///
     /// # Errors
     ///
@@ -141,7 +141,7 @@ impl Entry {
         live.write(&mut self.sent, file, last_number, patch, given)
     }
 
-    /// A Flush: unsent writes are sent (own).
+    /// A Flush: unsent writes are sent (profile).
     ///
     /// # Errors
     ///
@@ -174,7 +174,7 @@ fn is_within_limit(change: &Patch) -> bool
 }
 
 impl Live {
-    // With no handle an entry hears no command but an Open.
+    // With no handle an entry accepts no command but an Open.
     fn is_parked(&self) -> bool
         ensures { result ≡ (self.now.handles == 0) }
     {

@@ -135,7 +135,7 @@ impl Model for Entry {
 }
 
 impl Entry {
-    /// The entry of a file that isn't open. No memory is taken.
+    /// The entry of a file that isn't open. Allocates nothing.
     pub fn closed(alloc: Global) -> Entry
         ensures { result ≡ closed_entry [] }
     {
@@ -165,7 +165,7 @@ impl Entry {
         }
     }
 
-    /// Takes the entry out of its place, where a closed one stays. No memory is taken.
+    /// Takes the entry out of its place, where a closed one stays. Allocates nothing.
     pub fn take(&mut self) -> Entry
         ensures entry { result ≡ self.old }
         ensures rest { self.new ≡ closed_entry [] }

@@ -142,7 +142,7 @@ impl Machine {
         lease_key(self.guid, file)
     }
 
-    /// The entry of a file hears a command.
+    /// A command reaches the entry of a file.
     ///
     /// # Errors
     ///

@@ -1,6 +1,6 @@
 use lease_state::{Bytes, FileNo, LeaseState, Patch};
 
-/// What became of a write (own).
+/// What became of a write (profile).
 #[derive(Clone, Copy, Debug, PartialEq, Eq, Hash)]
 pub enum Settlement {
     /// The server did it.
@@ -13,7 +13,7 @@ pub enum Settlement {
     Lost,
 }
 
-/// What a client machine notes (own), for the program that embeds it.
+/// What a client machine notes (profile), for the program that embeds it.
 #[derive(Debug, Drop, PartialEq, Eq)]
 pub enum Note {
     /// What became of the write of this number.

@@ -13,8 +13,8 @@ use crate::turn::{Given, Turn};
 use lease_state::{Access, FileNo, LeaseKey, Memory, Share};
 
 impl Entry {
-    /// An Open of the file, whose key this is. A file that isn't open is opened only while the client
-    /// is online (own).
+    /// An Open of the file, whose key this is. A file that isn't open is opened only while the
+    /// client is online (profile).
     ///
     /// # Errors
     ///
@@ -50,7 +50,7 @@ impl Entry {
         }
     }
 
-    /// Why the entry hears no command but an Open, where it isn't live or is parked.
+    /// Why the entry accepts no command but an Open, where it isn't live or is parked.
     pub fn refusal(&self) -> Refusal
         ensures { refusal_of result ≡ rules.refusal_in self.now.phase }
     {

@@ -35,7 +35,7 @@ fn write_request(file_id: FileId, write: &Pending) -> Result<Request, Memory>
     })
 }
 
-/// Sends the writes under a FileId, behind the requests that there are.
+/// Sends the writes under a FileId, after the requests that there are.
 ///
 /// # Errors
 ///
@@ -92,7 +92,7 @@ pub fn open(alloc: Global, file: FileNo, key: LeaseKey, terms: Terms) -> Result<
     })
 }
 
-/// To connect an open again (2.2.13): RqLs with no state (own), and DHnC.
+/// To connect an open again (2.2.13): RqLs with no state (profile), and DHnC.
 ///
 /// # Errors
 ///

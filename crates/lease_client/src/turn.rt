@@ -61,7 +61,7 @@ impl Model for Given {
 }
 
 impl Given {
-    /// An answer, with nothing sent or noted. No memory is taken.
+    /// An answer, with nothing sent or noted. Allocates nothing.
     pub fn answer(alloc: Global, answer: Answer) -> Given
         ensures { result ≡ record { answer = answer_of answer; requests = []; notes = [] } }
     {
@@ -72,7 +72,7 @@ impl Given {
         }
     }
 
-    /// An answer in place of what was there, with nothing sent or noted yet. No memory is taken.
+    /// An answer in place of what was there, with nothing sent or noted yet. Allocates nothing.
     #[inline(always)]
     pub fn begin(&mut self, answer: Answer)
         ensures { self.new ≡ record { answer = answer_of answer; requests = []; notes = [] } }
@@ -82,7 +82,7 @@ impl Given {
         self.notes.clear();
     }
 
-    /// Its requests and notes go behind those that there are.
+    /// Its requests and notes go after those that there are.
     ///
     /// # Errors
     ///
@@ -101,7 +101,7 @@ impl Given {
         Ok(())
     }
 
-    /// Notes what is believed of the file's lease behind the other notes, if it isn't what was believed
+    /// Notes what is believed of the file's lease, after the other notes, unless that was believed
     /// before.
     ///
     /// # Errors
@@ -126,7 +126,7 @@ impl Given {
 }
 
 impl Turn {
-    /// The entry as it is, with an answer and nothing sent or noted. No memory is taken.
+    /// The entry as it is, with an answer and nothing sent or noted. Allocates nothing.
     pub fn still(entry: Entry, answer: Answer) -> Turn
         ensures { result ≡ record { entry = entry; answer = answer_of answer; requests = []; notes = [] } }
     {

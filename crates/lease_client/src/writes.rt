@@ -8,7 +8,7 @@ use crate::entry::Pending;
 use crate::note::{Note, Settlement};
 use lease_state::{Bytes, Memory, Patch};
 
-/// Notes that each of the writes is settled in this way, behind the notes that there are.
+/// Notes that each of the writes is settled in this way, after the notes that there are.
 ///
 /// # Errors
 ///

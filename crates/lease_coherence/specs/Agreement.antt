@@ -1,4 +1,4 @@
--- What a client that never strayed and the server know of each other in every run, beyond that the run is safe (own).
+-- What a client that never strayed and the server know of each other in every run, beyond that the run is safe (profile).
 use Rattle.std.specs.Prelude.{◌≡◌, ◌≢◌, ◌⊎◌, ℕ, ◌≤◌, Bool, true, false, not, Some, None, List, [], ◌∷◌, ◌++◌, ◌==◌, ◌&&◌, ◌||◌}
 use Rattle.lease_state.specs.State.{State, nothing_cached, is_state_within}
 use Rattle.lease_state.specs.declared.patch.Patch.{Patch}
@@ -166,7 +166,7 @@ BasesAreCurrent world client file = (live : LiveEntry)
 -- ---- held requests
 
 -- Where the lease of a client's file holds writes, nothing that the client asks of the file is held: no second create of it,
--- and so nothing behind one.
+-- and so nothing after one.
 abbrev pub WritersAreNotHeld : World → ℕ → Type 0
 WritersAreNotHeld world client = (file : ℕ) → (lease_of world client file).state.write ≡ true
     → held_by client (world.server.held file) ≡ []

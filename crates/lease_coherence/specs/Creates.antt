@@ -1,4 +1,4 @@
--- How many creates of a file are under way: asked, held, or answered and not yet taken (own).
+-- How many creates of a file are under way: asked, held, or answered and not yet taken (profile).
 use Rattle.std.specs.Prelude.{◌≡◌, ℕ, ◌+◌, Bool, true, false, List, [], ◌∷◌, ◌==◌, filter}
 use Rattle.lease_model.specs.client.Commanded.{is_asking}
 use Rattle.lease_model.specs.client.State.{Client, Phase}

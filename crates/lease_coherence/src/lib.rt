@@ -1,4 +1,5 @@
-//! Every run is safe: public functions with an empty body whose contracts carry the parts of that theorem.
+//! Every run is safe: public functions with an empty body whose contracts carry the parts of that
+//! theorem. A client *strays* where a request is sent in its name that its machine didn't make.
 #![tactic(auto)]
 
 mod agreement;

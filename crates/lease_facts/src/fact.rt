@@ -1,7 +1,8 @@
 use lease_client::Settlement;
 use lease_state::{Bytes, ClientNo, FileNo, LeaseState, Patch};
 
-/// What happened (own). A list of facts, in order, is a record; it names no table, no queue and no lease.
+/// What happened (profile). A list of facts, in order, is a record; it names no table, no queue and
+/// no lease.
 #[derive(Debug, Drop, PartialEq, Eq)]
 pub enum Fact {
     /// The file is there, with its first bytes.
@@ -22,7 +23,7 @@ pub enum Fact {
     Changed(FileNo, ClientNo, u64, Patch),
     /// The client was given a write of this number; true where it was buffered and false where it was sent.
     Wrote(ClientNo, FileNo, u64, Patch, bool),
-    /// The client was told what became of its write of this number.
+    /// The client learned what became of its write of this number.
     Settled(ClientNo, u64, Settlement),
     /// The client's belief of the file's lease became this state.
     Believes(ClientNo, FileNo, LeaseState),

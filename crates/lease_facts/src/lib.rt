@@ -1,6 +1,7 @@
-//! What can happen in a world of clients of SMB 2.1 leases round one server, and what is told of it: [`Setup`] is what a run begins with,
-//! [`Event`] what happens in it, and [`Fact`] what a record has. `lease_world` runs the events and judges records; `lease_texts` reads
-//! and writes both as lines.
+//! What can happen in a world of clients of SMB 2.1 leases round one server, and the facts that
+//! record it: [`Setup`] is what a run begins with, [`Event`] what happens in it, and [`Fact`] what
+//! a record has. `lease_world` runs the events and judges records; `lease_texts` reads and writes
+//! both as lines.
 #![tactic(auto)]
 
 mod fact;

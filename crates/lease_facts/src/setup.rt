@@ -1,7 +1,7 @@
 use lease_client::Command;
 use lease_state::{ClientNo, Content, FileNo, Request};
 
-/// What a run begins with (own).
+/// What a run begins with (profile).
 #[derive(Debug, Drop)]
 pub struct Setup {
     /// The files, numbered from 1: 8 at most.
@@ -10,8 +10,8 @@ pub struct Setup {
     pub clients: Vec<[u8; 16]>,
 }
 
-/// What can happen in a world (own). An event that doesn't apply, or that names a client or a file which the setup lacks,
-/// does nothing.
+/// What can happen in a world (profile). An event that doesn't apply, or that names a client or a
+/// file which the setup lacks, does nothing.
 #[derive(Debug, Drop, PartialEq, Eq)]
 pub enum Event {
     /// A client's application gives a command.

@@ -29,10 +29,11 @@ pub fn waiting_of_servers()
     ensures writers { WritersDontWait }
 {}
 
-/// What a call gives out. Breaks are flagged rightly. A Changed stands directly before its WriteDone.
-/// The Breaks for a request stand before its answer, and so before its Changed: a try gives out Breaks
-/// alone, and the end of a try none; so it is in the whole of a call that tries one request. And once
-/// a write is ready to be done, each other key on its file holds nothing or is breaking to nothing.
+/// What a call gives out. Breaks are flagged rightly. A Changed stands directly before its
+/// WriteDone. The Breaks for a request stand before its answer, and so before its Changed: a try
+/// gives out Breaks alone, and the end of a try none; so it is in the whole of a call that tries
+/// one request. Once a write is ready to be done, each other key on its file holds nothing or is
+/// breaking to nothing.
 pub fn outs_of_calls()
     ensures flagged { (server : Server) (call : Call) → EachOut IsFlaggedRightly (called server call).outs }
     ensures paired { (server : Server) (call : Call) → ArePaired None (called server call).outs }

@@ -13,14 +13,16 @@ pub fn calls_go_by_steps()
     ensures kept { StepsKeepTheLaws }
 {}
 
-/// What small steps make of leases and tell of breaks. A lease is lowered, or begins to break, only by a step
-/// that names it and tells its Break, with the state that it had and the one that it is lowered to. So
-/// wherever a call has come, what is breaking was breaking when it began, or its Break was told already.
+/// What small steps do to leases, and which breaks they give out. A lease is lowered, or begins to
+/// break, only by a step that names it and gives out its Break, with the state that it had and the
+/// one that it is lowered to. So at any point of a call, what is breaking was breaking when the
+/// call began, or its Break was given out already.
 ///
-/// And among the outs of any call, with its passes, a Break stands before the Changed that needed it: where a change of a
-/// file stands, every other key with an open on the file has given up what it cached, and each that cached something at
-/// an earlier point of the call had its Break to nothing given out since, before the change; or its opens were all closed
-/// since, or the call is its own acknowledgment of nothing. Does nothing.
+/// Among the outs of any call, with its passes, a Break stands before the Changed that needed it:
+/// where a change of a file stands, every other key with an open on the file has given up what it
+/// cached, and each that cached something at an earlier point of the call had its Break to nothing
+/// given out since, before the change; or its opens were all closed since, or the call is its own
+/// acknowledgment of nothing. Does nothing.
 pub fn breaks_of_steps()
     ensures leases { LeasesOfSteps }
     ensures told { BreaksOfSteps }

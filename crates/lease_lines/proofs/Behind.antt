@@ -1,4 +1,4 @@
--- Text that is put behind a word.
+-- Text that is put after a word.
 use Rattle.std.proofs.Common.{◌≡◌, ◌++◌, List, ℕ, Result, Ok, Err, OnOk, ap, ◌∙◌, append_assoc}
 
 on_ok : {A E P Q : Type 0} (r : Result A E) → (P → Q) → OnOk r P → OnOk r Q

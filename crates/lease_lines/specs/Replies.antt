@@ -1,4 +1,4 @@
--- Messages of the server as words: behind the word of its kind what the message holds.
+-- Messages of the server as words: after the word of its kind what the message holds.
 use Rattle.std.specs.Prelude.{ℕ, ◌++◌, List, [], ◌∷◌, codes, bytes_eq, if◌then◌else◌, Option, Some, None}
 use Rattle.std.specs.Fmt.{decimal}
 use Rattle.std.specs.Result.{result_ok}
@@ -10,7 +10,6 @@ use Rattle.lease_texts.specs.Fields.{Taking, and_then, one, ordinal_in, number_i
 use Rattle.lease_texts.specs.Records.{digits_word}
 use Rattle.lease_lines.specs.Statuses.{status_word, status_in}
 use Rattle.lease_lines.specs.declared.replies.Arrival.{Arrival}
-use Rattle.lease_lines.specs.declared.status.GivenStatus.{GivenStatus}
 
 -- a number and a status
 unfoldable pub failed_words : ℕ → Status → List ℕ
@@ -105,7 +104,7 @@ unfoldable pub ack_failed_in : Taking Arrival
 ack_failed_in words =
     and_then (one status_in words) (λ given words. Some (record { reply = reply.AckFailed given.status; other = given.other }, words))
 
--- the message of a kind, by the fields behind the one that names it
+-- the message of a kind, by the fields after the one that names it
 unfoldable pub arrival_named : List ℕ → Taking Arrival
 arrival_named kind words =
     if bytes_eq kind (codes "created") then created_in words

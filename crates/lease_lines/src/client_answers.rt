@@ -122,7 +122,8 @@ fn push_answer_words(
     }
 }
 
-/// Adds the line of an answer. Where it tells of a failure, `other` is the number of a status that was given by its number.
+/// Adds the line of an answer. Where it reports a failure, `other` is the number of a status that
+/// was given by its number.
 pub fn push_answer(
     alloc: Global,
     text: &mut String,

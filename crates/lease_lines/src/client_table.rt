@@ -19,7 +19,7 @@ use std::mem;
 // No more clients than there are numbers.
 const CLIENTS: usize = 255;
 
-/// Client machines, numbered from 1 in the order in which they were told.
+/// Client machines, numbered from 1 in the order in which lines added them.
 #[derive(Debug, Drop)]
 pub struct ClientTable {
     files: Option<u8>,
@@ -74,7 +74,7 @@ fn ask(
 }
 
 impl ClientTable {
-    /// No clients yet, whose number of files isn't told.
+    /// No clients yet, and no number of files for them.
     pub fn new(alloc: Global) -> ClientTable
         ensures { clients_of result ≡ no_clients }
     {
@@ -198,7 +198,7 @@ impl ClientTable {
     }
 }
 
-/// Adds the line that tells of a refused one.
+/// Adds the line that reports a refused one.
 pub fn push_fault(text: &mut String, number: u64) -> Result<(), AllocError>
     ensures { OnOk result (string_bytes text.new ≡ string_bytes text.old ++ fault_line number) }
 {

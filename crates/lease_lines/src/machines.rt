@@ -19,14 +19,14 @@ pub enum Machines {
 }
 
 impl Machines {
-    /// Clients, of which none is told yet.
+    /// Clients, none of which has been added yet.
     pub fn clients(alloc: Global) -> Machines
         ensures { machines_of result ≡ rules.Machines.AreClients no_clients }
     {
         Machines::Clients(ClientTable::new(alloc))
     }
 
-    /// A server, of which no file is told yet.
+    /// A server, to which no file has been added yet.
     pub fn server(alloc: Global) -> Machines
         ensures { machines_of result ≡ rules.Machines.IsServer (tables.Stage.Filling []) }
     {

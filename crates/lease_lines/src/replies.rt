@@ -11,7 +11,7 @@ use lease_state::{Bytes, FileId, FileNo, Reply, Status};
 use lease_texts::{Fields, LineFault, digits_of, is};
 use std::alloc::{AllocError, Global};
 
-/// A message of the server, as a line tells it to a client.
+/// A message of the server, as a line gives it to a client.
 #[derive(Debug, Drop, PartialEq, Eq)]
 pub struct Arrival {
     /// The message. For a status that the rules don't have stands `STATUS_UNSUCCESSFUL` in it.
@@ -176,7 +176,7 @@ fn read_ack_failed(fields: &mut Fields) -> Result<Arrival, LineFault>
     })
 }
 
-// The message of a kind, by the fields behind the one that names it.
+// The message of a kind, by the fields after the one that names it.
 #[tactic(auto, unfolding(crate::specs::Replies::arrival_named))]
 fn read_named(alloc: Global, kind: &[u8], fields: &mut Fields) -> Result<Arrival, LineFault>
     ensures { Takes (λ arrival. arrival) (arrival_named kind.now) fields.old fields.new result }
@@ -208,11 +208,11 @@ fn read_named(alloc: Global, kind: &[u8], fields: &mut Fields) -> Result<Arrival
     }
 }
 
-/// A message of the server, by its word and the fields behind it.
+/// A message of the server, by its word and the fields after it.
 ///
 /// # Errors
 ///
-/// `Refused` where the next fields tell none, and `Memory` where there is none left for it.
+/// `Refused` where the next fields are none, and `Memory` where there is none left for it.
 pub fn read_arrival(alloc: Global, fields: &mut Fields) -> Result<Arrival, LineFault>
     ensures { Takes (λ arrival. arrival) arrival_in fields.old fields.new result }
 {
@@ -317,7 +317,7 @@ fn push_ack_done(alloc: Global, text: &mut String, message: &[u8; 36]) -> Result
     write!(text, "ackdone {digits}")
 }
 
-/// Adds a message of the server: its word, and the fields behind it.
+/// Adds a message of the server: its word, and the fields after it.
 pub fn push_reply(alloc: Global, text: &mut String, told: &Reply) -> Result<(), AllocError>
     ensures { OnOk result (string_bytes text.new ≡ string_bytes text.old ++ reply_words told.now) }
 {

@@ -22,7 +22,7 @@ use std::alloc::{AllocError, Global};
 // No more files than there are numbers.
 const FILES: usize = 255;
 
-/// A server whose files are told first; with the first other line it begins.
+/// A server whose files are given first; it begins with the first other line.
 #[derive(Debug, Drop)]
 pub enum Stage {
     Filling(Vec<Content>),

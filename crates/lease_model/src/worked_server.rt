@@ -29,7 +29,7 @@ pub fn two_passes()
 {}
 
 /// Which leases are broken, in which order, what goes on or waits while they are breaking, and what
-/// a break whose timer ran out leaves behind.
+/// a break whose timer ran out leaves.
 pub fn breaks_of_servers()
     ensures keys { KeysInOrder }
     ensures own_lease { OwnLeaseBroken }

@@ -10,7 +10,7 @@ pub fn verdicts()
     ensures large_writes { LargeWrites }
 {}
 
-/// Verdicts that tell each rule from what is close to it.
+/// Verdicts on records that just keep a rule or just break it.
 pub fn verdicts_of_each_rule()
     ensures beliefs_and_reads { BeliefsAndReads }
     ensures unfit { UnfitFacts }

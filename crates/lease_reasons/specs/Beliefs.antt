@@ -102,7 +102,7 @@ rivals_with beliefs (Some writer) = rivals_of writer (find (λ other. not (other
 abbrev pub rivals_among : List Belief → Option Rivals
 rivals_among beliefs = rivals_with beliefs (find (λ belief. (state_of belief.state).write) beliefs)
 
--- Of the file no good client believes that it may cache writes beside another.
+-- Of the file no good client believes that it may cache writes while another caches anything.
 abbrev pub HasNoRivals : List Fact → ℕ → Type 0
 HasNoRivals past file = (client other : ℕ) → other ≢ client → is_good client past ≡ true → (believed client file past).write ≡
     true

@@ -8,7 +8,7 @@ pub record Mail : Type 0 where
   pub sent : List ℕ
   pub taken : ℕ
 
--- a fact stands behind its past
+-- a fact stands after its past
 abbrev pub place_behind : List Fact → ℕ
 place_behind past = length past + 1
 

@@ -1,4 +1,4 @@
--- Where facts stand in a record. A place counts facts from 1, so a fact stands at the place behind its past.
+-- Where facts stand in a record. A place counts facts from 1, so a fact stands at the place after its past.
 use Rattle.std.specs.Prelude.{ℕ, ◌+◌, Bool, List, [], ◌∷◌, length, map, reverse, Option, Some, None, if◌then◌else◌, ◌&&◌, nat_le}
 use Rattle.lease_facts.specs.Facts.{fact_of}
 use Rattle.lease_facts.specs.declared.fact.Fact as code
@@ -17,7 +17,7 @@ abbrev pub earlier : Option ℕ → Option ℕ → Option ℕ
 earlier None later = later
 earlier (Some place) later = Some place
 
--- where the first of those facts stands, behind a place, that pass the test
+-- where the first of those facts stands, after a place, that pass the test
 unfoldable pub first_place : (Fact → Bool) → ℕ → List Fact → Option ℕ
 first_place test behind [] = None
 first_place test behind (fact ∷ past) =

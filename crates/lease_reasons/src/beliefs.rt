@@ -56,7 +56,7 @@ fn put_belief(beliefs: &mut Vec<Belief>, belief: Belief) -> Result<(), Memory>
     Ok(())
 }
 
-// The belief of the file that the fact at this place tells.
+// The belief of the file that the fact at this place reports.
 fn belief_told(fact: &Fact, file: FileNo, place: usize) -> Option<Belief>
     ensures { result ≡ belief_told file.0 place fact.now }
 {
@@ -90,7 +90,7 @@ fn beliefs_of(alloc: Global, facts: &[Fact], file: FileNo) -> Result<Vec<Belief>
     Ok(beliefs)
 }
 
-// The file of which a fact tells a belief.
+// The file of which a fact reports a belief.
 fn file_told(fact: &Fact) -> Option<FileNo>
     ensures { result ≡ file_told fact.now }
 {

@@ -38,7 +38,7 @@ fn read_reason(
     }
 }
 
-// Why a fact behind these is no fresh cached read.
+// Why a fact after these is no fresh cached read.
 fn stale(alloc: Global, facts: &[Fact], fact: &Fact) -> Result<Option<Reason>, Memory>
     ensures { IfOk result (λ told. TellsRead fact.now (past_of facts.now) told) }
 {
@@ -51,7 +51,7 @@ fn stale(alloc: Global, facts: &[Fact], fact: &Fact) -> Result<Option<Reason>, M
     }
 }
 
-// Why a fact behind these is a late change.
+// Why a fact after these is a late change.
 fn late(facts: &[Fact], fact: &Fact) -> Option<Reason>
     ensures { result ≡ late fact.now (past_of facts.now) }
 {
@@ -61,7 +61,7 @@ fn late(facts: &[Fact], fact: &Fact) -> Option<Reason>
     }
 }
 
-// Why a fact behind these tells a false done.
+// Why a fact after these reports a false done.
 fn done(facts: &[Fact], fact: &Fact) -> Option<Reason>
     ensures { result ≡ done fact.now (past_of facts.now) }
 {

@@ -21,11 +21,13 @@ pub struct Extent {
     pub clients: Vec<ClientNo>,
     /// Those of them that didn't join: their caches and cached reads aren't judged.
     pub unjoined: Vec<ClientNo>,
-    /// Those of them that strayed: no rule says anything of them.
+    /// Those of them that strayed, in whose name a request was sent that their machine didn't make:
+    /// no rule says anything of them.
     pub strayed: Vec<ClientNo>,
 }
 
-fn client_of(fact: &Fact) -> Option<ClientNo>
+/// The client that a fact is about, if it is about one.
+pub fn client_of(fact: &Fact) -> Option<ClientNo>
     ensures { client_number result ≡ client_of (fact_of fact.now) }
 {
     match fact {

@@ -72,7 +72,7 @@ ghost use Rattle.lease_reasons.specs.Marks.{fits};
 ghost use Rattle.lease_reasons.specs.Places.{last_place};
 ghost use Rattle.lease_reasons.specs.declared.marks.Mark.TheVariants as mark;
 
-/// Why a fact behind these is malformed, if it is.
+/// Why a fact after these is malformed, if it is.
 ///
 /// # Errors
 ///

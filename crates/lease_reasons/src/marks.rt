@@ -74,7 +74,7 @@ impl Mark {
         found
     }
 
-    /// Where the first fact of this kind stands behind a place.
+    /// Where the first fact of this kind stands after a place.
     pub fn first(self, facts: &[Fact], behind: usize) -> Option<usize>
         ensures { result ≡ first_place (fits self) behind (past_of facts.now) }
     {

@@ -24,7 +24,7 @@ impl Model for Messages {
 }
 
 impl Messages {
-    /// Those that facts tell of.
+    /// Those that facts report.
     ///
     /// # Errors
     ///

@@ -24,7 +24,8 @@ pub struct Expected {
     pub bytes: Bytes,
 }
 
-/// Why a fact is malformed, or breaks a rule (own). Facts are named by their places, which count facts from 1.
+/// Why a fact is malformed, or breaks a rule (profile). Facts are named by their places, which
+/// count facts from 1.
 #[derive(Debug, Drop)]
 pub enum Reason {
     /// It names a file that wasn't started.

@@ -1,4 +1,4 @@
--- The content of a file, and what patches make of it (own).
+-- The content of a file, and what patches make of it (profile).
 use Rattle.std.specs.Prelude.{ℕ, ◌+◌, ◌-◌, max, if◌then◌else◌, ◌&&◌, nat_lt, nat_le, List, [], ◌∷◌, length, map, slice_index}
 use Rattle.std.specs.List.{range_with_len}
 use Rattle.lease_state.specs.declared.patch.Patch.{Patch}
@@ -31,6 +31,6 @@ abbrev pub patches : List ℕ → List Patch → List ℕ
 patches content [] = content
 patches content (p ∷ ps) = patches (patch content p) ps
 
--- the place behind a patch's last byte
+-- the place after a patch's last byte
 abbrev pub end_of : Patch → ℕ
 end_of p = p.offset + length p.bytes

@@ -30,7 +30,7 @@ impl Access {
         }
     }
 
-    /// The access as a number (own): 1 for reading, plus 2 for writing.
+    /// The access as a number (profile): 1 for reading, plus 2 for writing.
     pub fn bits(self) -> u8
         ensures { result ≡ bits_of_uses (uses_of self) }
     {

@@ -6,7 +6,7 @@ use crate::Memory;
 use std::convert::AsSlice;
 use std::marker::Model;
 
-/// Bytes that a value owns, as those of a write or of a request's create contexts (own).
+/// Bytes that a value owns, as those of a write or of a request's create contexts (profile).
 /// Contracts see the list of them.
 #[derive(Debug, Drop)]
 pub struct Bytes {
@@ -20,7 +20,7 @@ impl Model for Bytes {
 }
 
 impl Bytes {
-    /// The bytes of `items`, which stay where they are: no memory is taken.
+    /// The bytes of `items`, which stay where they are. Allocates nothing.
     pub fn new(items: Vec<u8>) -> Bytes
         ensures { result ≡ items.items }
     {
@@ -48,7 +48,7 @@ impl Bytes {
         self.items.is_empty()
     }
 
-    /// The bytes as a vector, without taking memory.
+    /// The bytes as a vector. Allocates nothing.
     pub fn into_vec(self) -> Vec<u8>
         ensures { result.items ≡ self }
     {

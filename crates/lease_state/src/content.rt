@@ -6,10 +6,10 @@ use std::alloc::AllocError;
 use std::marker::Model;
 use thiserror::Error;
 
-/// The most bytes that a file holds (own).
+/// The most bytes that a file holds (profile).
 pub const FILE_LIMIT: usize = 1_048_576;
 
-/// Why bytes didn't become a content, or a content took no patch (own).
+/// Why bytes didn't become a content, or a content took no patch (profile).
 #[derive(Clone, Copy, Debug, PartialEq, Eq, Hash, Error)]
 pub enum ContentFault {
     /// There are, or would be, more than `FILE_LIMIT` bytes.
@@ -31,7 +31,7 @@ impl From<AllocError> for ContentFault {
     }
 }
 
-/// The bytes of a file (own): `FILE_LIMIT` at most. Contracts see the list of them.
+/// The bytes of a file (profile): `FILE_LIMIT` at most. Contracts see the list of them.
 #[derive(Debug, Drop)]
 pub struct Content {
     bytes: Vec<u8>,
@@ -49,7 +49,7 @@ impl Model for Content {
 }
 
 impl Content {
-    /// The content of these bytes, which stay where they are: no memory is taken.
+    /// The content of these bytes, which stay where they are. Allocates nothing.
     ///
     /// # Errors
     ///
@@ -84,7 +84,7 @@ impl Content {
         ensures patched { OnOk result (self.new ≡ patch self.old change.now) }
         ensures err { OnErr result (self.new ≡ self.old) }
 
-        // A patch that adds no byte takes no memory.
+        // A patch that adds no byte allocates nothing.
         ensures inside { end_of change.now ≤ length self.old → IsOk result }
         ensures empty { change.now.bytes ≡ [] → end_of change.now ≤ FILE_LIMIT → IsOk result }
     {
@@ -209,7 +209,8 @@ mod tests {
         Ok(())
     }
 
-    // Where a patch is refused memory, the content is as it was. `tests/refused_growths` runs this with each growth refused.
+    // Where a patch is refused memory, the content is as it was. `tests/refused_growths` runs this
+    // with each allocation refused.
     #[test]
     fn a_refused_patch_leaves_the_content(rt: HostRuntime) -> Result<(), Fail> {
         let alloc = rt.alloc();
@@ -222,7 +223,7 @@ mod tests {
                 assert_eq!(rt; abc.bytes(), b"abc".as_slice());
             }
         }
-        // What ends within the content takes no memory.
+        // What ends within the content allocates nothing.
         let within = patch(alloc, 1, b"Z")?;
         assert!(rt; abc.apply(&within).is_ok());
         assert!(rt; abc.bytes().starts_with(b"aZc"));

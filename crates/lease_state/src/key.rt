@@ -9,7 +9,7 @@ pub struct LeaseKey(pub [u8; 16]);
 
 impl LeaseKey {
     /// The key as text: its bytes as they stand in lower-case hexadecimal digits, 36 characters
-    /// with hyphens after 8, 12, 16 and 20 digits (own). The text is written into `buffer`.
+    /// with hyphens after 8, 12, 16 and 20 digits (profile). The text is written into `buffer`.
     pub fn text<'b>(&self, buffer: &'b mut [u8; 36]) -> &'b str
         ensures { result.now ≡ hyphenated_text lower self.now.0 }
     {

@@ -1,7 +1,7 @@
 use std::alloc::{AllocError, AllocFailed};
 use thiserror::Error;
 
-/// The one fault of a call that can only run out of memory (own).
+/// The one fault of a call that can only run out of memory (profile).
 #[derive(Clone, Copy, Debug, PartialEq, Eq, Hash, Error)]
 #[error("out of memory")]
 pub struct Memory;
@@ -13,7 +13,7 @@ impl From<AllocError> for Memory {
     }
 }
 
-/// So that `?` passes a refused growth on as `Memory`. The item that found no room is dropped.
+/// So that `?` passes a refused push on as `Memory`. The item that found no room is dropped.
 impl<T: Drop> From<AllocFailed<T>> for Memory {
     fn from(_refused: AllocFailed<T>) -> Memory {
         Memory

@@ -7,6 +7,6 @@ pub struct ClientNo(pub u8);
 pub struct FileNo(pub u8);
 
 /// The FileId of an open (MS-SMB2 2.2.14.1): its Persistent part, which the profile gives the
-/// Volatile part too (own).
+/// Volatile part too (profile).
 #[derive(Clone, Copy, Debug, PartialEq, Eq, PartialOrd, Ord, Hash)]
 pub struct FileId(pub u64);

@@ -2,7 +2,7 @@ ghost use Rattle.std.specs.Prelude.{◌≡◌, IfOk};
 
 use crate::{Bytes, Memory};
 
-/// Bytes to be put into a file (own): its content from byte `offset` on becomes `bytes`.
+/// Bytes to be put into a file (profile): its content from byte `offset` on becomes `bytes`.
 #[derive(Debug, Drop, PartialEq, Eq)]
 pub struct Patch {
     /// The place of the first byte, counted in bytes from the file's start.

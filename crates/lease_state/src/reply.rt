@@ -1,7 +1,7 @@
 use crate::{Bytes, FileId, FileNo, Status};
 
-/// What the server tells a client (own): a message of MS-SMB2 without its header, in which the
-/// standard's bytes stand where a lease is spoken of.
+/// A message from the server to a client (profile): a message of MS-SMB2 without its header. Where
+/// it concerns a lease it has the standard's bytes.
 #[derive(Debug, Drop, PartialEq, Eq)]
 pub enum Reply {
     /// A file was opened (2.2.14). `contexts` is the list of create contexts as the standard lays

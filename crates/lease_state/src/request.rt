@@ -1,7 +1,7 @@
 use crate::{Access, Bytes, FileId, FileNo, Patch, Share};
 
-/// What a client asks of the server (own): a message of MS-SMB2 without its header, in which the
-/// standard's bytes stand where a lease is spoken of.
+/// What a client asks of the server (profile): a message of MS-SMB2 without its header. Where it
+/// concerns a lease it has the standard's bytes.
 #[derive(Debug, Drop, PartialEq, Eq)]
 pub enum Request {
     /// To open a file (2.2.13). `contexts` is the list of create contexts as the standard lays it

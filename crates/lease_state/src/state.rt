@@ -91,8 +91,8 @@ impl LeaseState {
         u32::from(self.0 & 7)
     }
 
-    /// The state as a server grants it: itself, or the empty state where it lacks
-    /// `READ_CACHING` (own).
+    /// The state as a server grants it: itself, or the empty state where it lacks `READ_CACHING`
+    /// (profile).
     pub fn granted_form(self) -> LeaseState
         ensures { state_of result ≡ granted_form_of (state_of self) }
     {

@@ -13,7 +13,7 @@ use Rattle.lease_texts.specs.declared.complaints.expected.Expected.TheVariants a
 
 -- ---- the table
 
--- a word, and the fields behind it
+-- a word, and the fields after it
 abbrev pub Row : Type 0
 Row = List ℕ × List Expected
 
@@ -71,7 +71,7 @@ request_rows =
 
 -- ---- a line along the table
 
--- what a field may hold, of which the fields behind it don't depend
+-- what a field may hold, of which the fields after it don't depend
 abbrev pub fits : Expected → List ℕ → Bool
 fits field.FactKind word = false
 fits field.PartKind word = false
@@ -97,7 +97,7 @@ abbrev pub if_fits : Bool → List Expected → Option (List Expected)
 if_fits true rest = Some rest
 if_fits false rest = None
 
--- the fields that are expected behind a word, where the word is one that was expected
+-- the fields that are expected after a word, where the word is one that was expected
 abbrev pub behind : Expected → List ℕ → List Expected → Option (List Expected)
 behind field.FactKind word rest = fields_behind fact_rows word
 behind field.PartKind word rest = fields_behind part_rows word
@@ -105,7 +105,7 @@ behind field.Request word rest = fields_behind request_rows word
 behind other word rest = if_fits (fits other word) rest
 
 -- What was expected in the field of a number, and what stands there: nothing, where the line ends before it; whether the line ends
--- behind it.
+-- after it.
 pub record Complaint : Type 0 where
   pub field : ℕ
   pub expected : Expected

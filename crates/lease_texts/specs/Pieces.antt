@@ -6,7 +6,7 @@ unfoldable pub longer : ℕ → List (List ℕ) → List (List ℕ)
 longer byte [] = (byte ∷ []) ∷ []
 longer byte (piece ∷ pieces) = (byte ∷ piece) ∷ pieces
 
--- the pieces of a text; those of an empty one, and behind a separator at the end, are given
+-- the pieces of a text; those of an empty one, and after a separator at the end, are given
 unfoldable pub pieces : ℕ → List (List ℕ) → List ℕ → List (List ℕ)
 pieces separator last [] = last
 pieces separator last (byte ∷ bytes) =

@@ -11,7 +11,7 @@ is_plain byte = nat_le 32 byte && nat_lt byte 127 && not (byte == 34 || byte == 
 unfoldable pub escaped : ℕ → List ℕ
 escaped byte = if is_plain byte then byte ∷ [] else 92 ∷ 120 ∷ encode_lower (byte ∷ [])
 
--- what stands behind the quotation marks where more than 40 bytes are quoted
+-- what stands after the quotation marks where more than 40 bytes are quoted
 abbrev pub quoted_end : List ℕ → List ℕ
 quoted_end bytes = if nat_lt 40 (length bytes) then codes "..." else []
 

@@ -81,7 +81,7 @@ outcome_in field =
     else if bytes_eq field (codes "lost") then Some settlement.Lost
     else None
 
--- facts of a client, and of a client and a file, by the fields behind the first
+-- facts of a client, and of a client and a file, by the fields after the first
 abbrev pub of_client : (ℕ → Fact) → Taking Fact
 of_client tell words = and_then (one ordinal_in words) (λ client words. Some (tell client, words))
 
@@ -124,7 +124,7 @@ read_in words =
     and_then (one bytes_in words) (λ bytes words.
     Some (fact.CachedRead (record { 0 = client }) (record { 0 = file }) bytes, words))))
 
--- the fact of a kind, by the fields behind the one that names it
+-- the fact of a kind, by the fields after the one that names it
 unfoldable pub fact_named : List ℕ → Taking Fact
 fact_named kind words =
     if bytes_eq kind (codes "sent") then of_client (λ c. fact.Sent (record { 0 = c })) words

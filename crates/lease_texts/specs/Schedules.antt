@@ -23,7 +23,7 @@ use Rattle.lease_texts.specs.Reading.{reads_on, is_passed_over}
 use Rattle.lease_texts.specs.Records.{digits_word, patch_words}
 use Rattle.lease_texts.specs.Words.{state_word}
 
--- the word behind a durable open, which others lack
+-- the word after a durable open, which others lack
 abbrev pub durable_word : List ℕ → Option Bool
 durable_word field = if bytes_eq field (codes "durable") then Some true else None
 
@@ -154,12 +154,12 @@ share_word share.ReadWrite = codes "rw"
 abbrev pub terms_words : Access → Share → LeaseState → List ℕ
 terms_words access share want = access_word access ++ codes " " ++ share_word share ++ codes " " ++ state_word (state_of want)
 
--- what stands behind an open
+-- what stands after an open
 abbrev pub durable_words : Bool → List ℕ
 durable_words true = codes " durable"
 durable_words false = []
 
--- a request in a client's name, behind the client
+-- a request in a client's name, after the client
 abbrev pub request_words : Request → List ℕ
 request_words (request.Create file access share contexts) =
     codes "create " ++ decimal file.0 ++ codes " " ++ access_word access ++ codes " " ++ share_word share

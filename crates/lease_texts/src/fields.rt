@@ -257,7 +257,7 @@ fn number_of(digits: &[u8]) -> Option<u64>
     Some(value)
 }
 
-// The number with one digit more behind it.
+// The number with one more digit at its end.
 fn with_digit(value: u64, digit: u8) -> Option<u64>
     ensures { result ≡ digit_behind value digit }
 {

@@ -49,8 +49,8 @@ fn quoted_end(bytes: &[u8]) -> &'static str
     if bytes.len() > 40 { "..." } else { "" }
 }
 
-/// Quotes bytes: those that aren't printable ASCII, quotation marks and backslashes are written as `\xHH`, and of more than 40
-/// bytes the first 40 are quoted, with `...` behind them.
+/// Quotes bytes: those that aren't printable ASCII, quotation marks and backslashes are written as
+/// `\xHH`, and of more than 40 bytes the first 40 are quoted, with `...` after them.
 #[tactic(auto, unfolding(crate::specs::Quoting::quoted))]
 pub fn push_quoted(alloc: Global, text: &mut String, bytes: &[u8]) -> Result<(), AllocError>
     ensures { OnOk result (string_bytes text.new ≡ string_bytes text.old ++ quoted bytes.now) }

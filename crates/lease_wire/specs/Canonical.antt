@@ -1,4 +1,4 @@
--- Create contexts as they are written (own, where MS-SMB2 2.2.13.2 leaves it open): the lease context,
+-- Create contexts as they are written (profile, where MS-SMB2 2.2.13.2 leaves it open): the lease context,
 -- then the durable one, then the reconnect, without padding between them, since each is a multiple of 8 long.
 use Rattle.std.specs.Prelude.{◌≡◌, ℕ, ◌+◌, ◌<◌, ◌^◌, ◌++◌, Bool, true, false, ◌||◌, if◌then◌else◌, List, [], length, Option, Some, None, is_some, IfSome}
 use Rattle.byteorder.specs.Endian.{little_bytes}
@@ -8,7 +8,7 @@ use Rattle.lease_wire.specs.declared.create.Direction.{Direction}
 use Rattle.lease_wire.specs.declared.create.Direction.TheVariants.{Request, Reply}
 
 -- a header with its name: NameOffset 16, NameLength 4, Reserved 0, DataOffset 24, and four bytes of
--- padding behind the name
+-- padding after the name
 abbrev pub header_bytes : ℕ → List ℕ → ℕ → List ℕ
 header_bytes next name count =
     little_bytes 4 next ++ (little_bytes 2 16 ++ (little_bytes 2 4 ++ (little_bytes 2 0 ++ (little_bytes 2 24
@@ -30,7 +30,7 @@ abbrev pub durable_body : Direction → List ℕ
 durable_body Request = little_bytes 8 0 ++ little_bytes 8 0
 durable_body Reply = little_bytes 8 0
 
--- Persistent and Volatile both hold the FileId (own)
+-- Persistent and Volatile both hold the FileId (profile)
 abbrev pub reconnect_body : ℕ → List ℕ
 reconnect_body file_id = little_bytes 8 file_id ++ little_bytes 8 file_id
 

@@ -26,7 +26,7 @@ data_offset_of piece = number_at 10 2 piece
 unfoldable pub data_length_of : List ℕ → ℕ
 data_length_of piece = number_at 12 4 piece
 
--- the part of the piece from an offset, so many bytes long: it begins behind the header and ends
+-- the part of the piece from an offset, so many bytes long: it begins after the header and ends
 -- within the piece
 pub record IsPart (piece : List ℕ) (offset count : ℕ) (part : List ℕ) : Type 0 where
   pub behind_the_header : 16 ≤ offset

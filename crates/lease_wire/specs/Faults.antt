@@ -15,7 +15,7 @@ abbrev pub twice_if : {X : Type 0} → List X → ℕ → Option WireFault
 twice_if [] place = None
 twice_if (x ∷ xs) place = Some (Twice place)
 
--- the rule of names that a context breaks behind others
+-- the rule of names that a context breaks after others
 abbrev pub meaning_fault : Direction → List ContextView → ℕ → Meaning → Option WireFault
 meaning_fault direction before place Unknown = None
 meaning_fault direction before place WrongLength = Some (BadLength place)
@@ -28,7 +28,7 @@ abbrev pub option_or : Option WireFault → Option WireFault → Option WireFaul
 option_or (Some fault) other = Some fault
 option_or None other = other
 
--- the first test that the context at a place fails, behind others
+-- the first test that the context at a place fails, after others
 abbrev pub first_fault : Direction → List ContextView → ℕ → List ℕ → Option WireFault
 first_fault direction before place bytes =
     option_or (layout_fault place bytes)

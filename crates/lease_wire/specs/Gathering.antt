@@ -35,7 +35,7 @@ abbrev pub carried : Result CreateView WireFault → (CreateView → Result Crea
 carried (Ok v) further = further v
 carried (Err fault) further = Err fault
 
--- the value behind a value, of the items that are left: the first fault ends it
+-- the value after a value, of the items that are left: the first fault ends it
 unfoldable pub gathered : Direction → CreateView → List Item → Result CreateView WireFault
 gathered direction v [] = Ok v
 gathered direction v (Err fault ∷ items) = Err fault

@@ -53,7 +53,7 @@ unfoldable pub area_length : Direction → List ℕ → ℕ
 area_length Request message = number_at 116 4 message
 area_length Reply message = number_at 148 4 message
 
--- there are contexts, and they are not behind the fixed part and within the message
+-- there are contexts, and they are not after the fixed part and within the message
 abbrev pub has_bad_area : ℕ → ℕ → ℕ → ℕ → Bool
 has_bad_area count fixed offset many = not (many == 0) && (nat_lt offset fixed || nat_lt count (offset + many))
 

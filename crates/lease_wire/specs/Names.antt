@@ -44,7 +44,7 @@ lease_view Reply body = record {
   breaking = bit_and (number_at 20 4 body) 2 == 2;
 }
 
--- "RqLs"; another length than 32, as that of version 2, is an unknown context (own)
+-- "RqLs"; another length than 32, as that of version 2, is an unknown context (profile)
 abbrev pub lease_meaning : Direction → List ℕ → Meaning
 lease_meaning direction body = if length body == 32 then Lease (lease_view direction body) else Unknown
 
@@ -53,7 +53,7 @@ abbrev pub durable_meaning : Direction → List ℕ → Meaning
 durable_meaning Request body = if length body == 16 then Durable else WrongLength
 durable_meaning Reply body = if length body == 8 then Durable else WrongLength
 
--- "DHnC" (2.2.13.2.4): the FileId's Persistent part; its Volatile part is free (own). Not known in a response.
+-- "DHnC" (2.2.13.2.4): the FileId's Persistent part; its Volatile part is free (profile). Not known in a response.
 abbrev pub reconnect_meaning : Direction → List ℕ → Meaning
 reconnect_meaning Request body = if length body == 16 then Reconnect (number_at 0 8 body) else WrongLength
 reconnect_meaning Reply body = Unknown
@@ -96,7 +96,7 @@ abbrev pub values_of_kind : {X : Type 0} → Direction → (Meaning → Option X
 values_of_kind direction part contexts = filter_map (λ context. part (meaning_of direction context)) contexts
 
 -- The contexts break no rule of names, and their value is this: none that is known has a wrong
--- length, and each kind stands once or not at all (own).
+-- length, and each kind stands once or not at all (profile).
 pub record HaveValue (direction : Direction) (contexts : List ContextView) (v : CreateView) : Type 0 where
   pub lengths : values_of_kind direction wrong_length_in contexts ≡ []
   pub lease : values_of_kind direction lease_in contexts ≡ option_to_list v.lease

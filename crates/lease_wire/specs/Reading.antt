@@ -32,11 +32,11 @@ size_of left h = if h.next == 0 then left else h.next
 abbrev pub has_bad_next : ℕ → Header → Bool
 has_bad_next left h = not (h.next == 0) && (nat_lt h.next 16 || (not (h.next % 8 == 0) || nat_lt left h.next))
 
--- the name is not behind the header and within the context
+-- the name is not after the header and within the context
 abbrev pub has_bad_name : ℕ → Header → Bool
 has_bad_name left h = nat_lt h.name_offset 16 || nat_lt (size_of left h) (h.name_offset + h.name_length)
 
--- there are data, and they are not behind the header and within the context
+-- there are data, and they are not after the header and within the context
 abbrev pub has_bad_data : ℕ → Header → Bool
 has_bad_data left h =
     not (h.data_length == 0) && (nat_lt h.data_offset 16 || nat_lt (size_of left h) (h.data_offset + h.data_length))
@@ -71,7 +71,7 @@ abbrev pub item_before : Option WireFault → ContextView → ℕ → List Item 
 item_before (Some fault) context next others = Err fault ∷ []
 item_before None context next others = Ok context ∷ (if next == 0 then [] else others)
 
--- the items from a place on, where a context is due behind so many bytes that are passed over
+-- the items from a place on, where a context is due after so many bytes that are passed over
 unfoldable pub items_behind : ℕ → ℕ → List ℕ → List Item
 items_behind place zero [] = Err (Short place) ∷ []
 items_behind place (suc skipped) [] = []
@@ -80,7 +80,7 @@ items_behind place zero (byte ∷ bytes) =
     (items_behind (place + next_of (byte ∷ bytes)) (next_of (byte ∷ bytes) - 1) bytes)
 items_behind place (suc skipped) (byte ∷ bytes) = items_behind place skipped bytes
 
--- the items behind a context: none where its Next is 0
+-- the items after a context: none where its Next is 0
 abbrev pub items_after : ℕ → ℕ → List ℕ → List Item
 items_after place next bytes = if next == 0 then [] else items_behind (place + next) 0 (drop next bytes)
 

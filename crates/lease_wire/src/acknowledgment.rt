@@ -21,7 +21,7 @@ const STATE_OFFSET: usize = 24;
 #[derive(Clone, Copy, Debug, PartialEq, Eq)]
 pub struct Acknowledgment {
     pub key: LeaseKey,
-    /// LeaseState, that the client keeps.
+    /// LeaseState: the state that the client keeps.
     pub state: LeaseState,
 }
 
@@ -71,11 +71,11 @@ impl Acknowledgment {
     }
 }
 
-/// A lease break response (MS-SMB2 2.2.25.2), by which the server takes an acknowledgment.
+/// A lease break response (MS-SMB2 2.2.25.2), by which the server accepts an acknowledgment.
 #[derive(Clone, Copy, Debug, PartialEq, Eq)]
 pub struct BreakResponse {
     pub key: LeaseKey,
-    /// LeaseState, that the lease now has.
+    /// LeaseState: the state that the lease now has.
     pub state: LeaseState,
 }
 

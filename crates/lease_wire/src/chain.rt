@@ -25,7 +25,7 @@ pub struct Context<'a> {
 }
 
 /// The create contexts of a text (MS-SMB2 2.2.13.2, 2.2.14.2), in their order: an iterator that
-/// borrows names and data from the text and takes no memory. A text of no bytes has no context.
+/// borrows names and data from the text and allocates nothing. A text of no bytes has no context.
 ///
 /// # Errors
 ///

@@ -33,7 +33,7 @@ pub struct CreateAnswer {
 }
 
 /// Whether create contexts are those of a CREATE request or of its response: contracts of the
-/// readers and writers name it (own).
+/// readers and writers name it (profile).
 #[derive(Clone, Copy, Debug, PartialEq, Eq)]
 pub enum Direction {
     Request,

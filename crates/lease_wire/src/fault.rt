@@ -1,8 +1,8 @@
 use std::fmt;
 
 /// Why bytes are refused. Each fault has the place, counted in bytes from 0, where the create
-/// context begins that it was found in; in a break message that is 0. As text a fault is its
-/// number, its name and its place, as `3 BadNext at 56`.
+/// context with the fault begins; in a break message that is 0. As text a fault is its number, its
+/// name and its place, as `3 BadNext at 56`.
 #[derive(Clone, Copy, Debug, PartialEq, Eq)]
 pub enum WireFault {
     /// There are fewer bytes than the fixed part takes.
@@ -17,7 +17,7 @@ pub enum WireFault {
     BadData(usize),
     /// The data of a context that is known have another length than its structure.
     BadLength(usize),
-    /// A context that is known has the name of an earlier one (own).
+    /// A context that is known has the name of an earlier one (profile).
     Twice(usize),
 }
 
@@ -55,7 +55,7 @@ impl WireFault {
         }
     }
 
-    /// Where the context begins that the fault was found in, in bytes.
+    /// Where the context with the fault begins, in bytes.
     pub fn place(self) -> usize
         ensures { result ≡ fault_place self }
     {

@@ -1,6 +1,6 @@
 //! The bytes of SMB 2.1 leases (MS-SMB2): create contexts, and the lease break notification,
 //! acknowledgment and response, read and written without the SMB2 header. What is read borrows from
-//! the input and takes no memory; what is written is laid out in one way for each value. Each
+//! the input and allocates nothing; what is written is laid out in one way for each value. Each
 //! reader's answer is proved right for every text: a value exactly where the layout holds one, and
 //! else the first fault with its place.
 //!

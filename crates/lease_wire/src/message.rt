@@ -99,8 +99,9 @@ fn is_area_bad(count: usize, fixed: usize, offset: u32, many: u32) -> bool
 ///
 /// # Errors
 ///
-/// `Short` at 64 where the message ends within the fixed part, `WrongSize` at 64 where StructureSize is that of another message, and
-/// `BadData` at their start where contexts are not behind the fixed part and within the message.
+/// `Short` at 64 where the message ends within the fixed part, `WrongSize` at 64 where
+/// StructureSize is that of another message, and `BadData` at their start where contexts are not
+/// after the fixed part and within the message.
 #[tactic(auto, unfolding(crate::specs::Message::area_fault))]
 pub fn contexts_of_create(direction: Direction, message: &[u8]) -> Result<Contexts<'_>, WireFault>
     ensures refused { result_err result ≡ area_fault direction message.now }

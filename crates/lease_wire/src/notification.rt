@@ -19,15 +19,15 @@ const NEW_STATE_OFFSET: usize = 28;
 // SMB2_NOTIFY_BREAK_LEASE_FLAG_ACK_REQUIRED
 const ACK_REQUIRED: u32 = 1;
 
-/// A lease break notification (MS-SMB2 2.2.23.2), which tells a client that its lease goes down.
+/// A lease break notification (MS-SMB2 2.2.23.2), by which the server lowers a client's lease.
 #[derive(Clone, Copy, Debug, PartialEq, Eq)]
 pub struct Notification {
     /// SMB2_NOTIFY_BREAK_LEASE_FLAG_ACK_REQUIRED: the client has to acknowledge the break.
     pub ack_required: bool,
     pub key: LeaseKey,
-    /// CurrentLeaseState, that the server breaks.
+    /// CurrentLeaseState: the state that the server breaks.
     pub current: LeaseState,
-    /// NewLeaseState, that it is broken to.
+    /// NewLeaseState: the state that it is broken to.
     pub new: LeaseState,
 }
 

@@ -24,10 +24,11 @@ mod snapshot;
 
 pub use snapshot::apply;
 
-/// Judges a record (own), of any origin, in one pass: it is given fact after fact, and can tell at any time what the record of
-/// the facts so far is. For each file it keeps the bytes with which it was started and its changes, for each client its
-/// beliefs, its writes, the numbers that were settled and the messages on their way, and for each client and file that the
-/// client read from its cache the bytes that it saw.
+/// Judges a record (profile), of any origin, in one pass: it is given fact after fact, and can give
+/// a verdict on the facts so far at any time. For each file it keeps the bytes with which it was
+/// started and its changes, for each client its beliefs, its writes, the numbers that were settled
+/// and the messages on their way, and for each client and file that the client read from its cache
+/// the bytes that it saw.
 #[derive(Debug, Drop)]
 pub struct Judge {
     verdict: Verdict,
@@ -49,7 +50,7 @@ impl Model for Judge {
 }
 
 impl Judge {
-    /// A judge that was given nothing. No memory is taken.
+    /// A judge that was given nothing. Allocates nothing.
     pub fn new(alloc: Global) -> Judge
         ensures { HasJudged result [] }
     {

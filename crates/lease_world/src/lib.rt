@@ -1,6 +1,6 @@
-//! A world of clients of SMB 2.1 leases round one server, the record of what happens in it, and the judge of
-//! such records. [`run`] gives the record of a run; a [`Judge`] takes a record fact after fact, whoever wrote it, and tells its
-//! verdict at any time.
+//! A world of clients of SMB 2.1 leases round one server, the record of what happens in it, and the
+//! judge of such records. [`run`] gives the record of a run; a [`Judge`] takes a record fact after
+//! fact, whoever wrote it, and gives its verdict at any time.
 //!
 //! ```
 //! let judge = Judge::new(alloc).take(&Fact::Joined(ClientNo(1)))?;
@@ -11,8 +11,8 @@
 //! assert!(judge.verdict() == Verdict::Malformed { place: 2 });
 //! ```
 //!
-//! Contracts speak of records, runs and verdicts of the rules in `lease_model`. That the record of every run is safe is the clause
-//! `safe` of [`run`].
+//! Contracts speak of records, runs and verdicts of the rules in `lease_model`. The clause `safe`
+//! of [`run`] is that the record of every run is safe.
 #![tactic(auto)]
 
 mod copies;

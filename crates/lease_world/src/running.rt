@@ -26,11 +26,13 @@ const EVENTS_LIMIT: usize = 10_000;
 /// The record of a run: what happens in a world of this setup by these events, in order. An event that doesn't apply
 /// does nothing.
 ///
-/// The record is safe, whatever the events. Among clients whose connection the server has, that never strayed and let no break
-/// timer run out since they connected, none caches writes of a file that another caches, and a cached read gives the file
-/// as it stood when the message that the client took last was sent, with its unanswered writes. And of clients that never
-/// strayed no write is told as done that wasn't accepted, nor a buffered one accepted after another client opened or
-/// changed the file. So `judge` calls it safe.
+/// The record is safe, whatever the events. Among clients whose connection the server has, that
+/// never strayed (only their machines made the requests sent in their name) and let no break timer
+/// run out since they connected, none caches writes of a file that another caches, and a cached
+/// read gives the file as it stood when the message that the client took last was sent, with its
+/// unanswered writes. Of clients that never strayed, no write is reported as done that wasn't
+/// accepted, and no buffered write is accepted after another client opened or changed the file. So
+/// `judge` calls it safe.
 ///
 /// # Errors
 ///
@@ -59,8 +61,9 @@ pub fn run(alloc: Global, setup: &Setup, events: &[Event]) -> Result<Vec<Fact>, 
     }
 }
 
-/// The record of a run, as `run` gives it, and the messages that it speaks of: one for each `Sent` and each `Took`, in their
-/// order. A break is told as it was sent, and so are the contexts of a created file.
+/// The record of a run, as `run` gives it, and the messages that it speaks of: one for each `Sent`
+/// and each `Took`, in their order. A break is given as it was sent, and so are the contexts of a
+/// created file.
 ///
 /// # Errors
 ///
@@ -103,7 +106,7 @@ fn are_too_many(events: &[Event]) -> bool
     events.len() > EVENTS_LIMIT
 }
 
-// The world after a run whose setup has few files. It keeps messages behind these, or none.
+// The world after a run whose setup has few files. It keeps messages after these, or none.
 fn play(alloc: Global, setup: &Setup, events: &[Event], messages: Messages) -> Result<World, Memory>
     requires { length setup.now.files.items ≤ 255 }
     ensures stands { IfOk result (λ world. Stands world (after (first_world (setup_of setup.now)) (map event_of events.now))) }

@@ -80,7 +80,7 @@ pub fn client_of(event: &Event) -> ClientNo
     }
 }
 
-/// Why there is no record of a run (own).
+/// Why there is no record of a run (profile).
 #[derive(Clone, Copy, Debug, PartialEq, Eq, Hash, Error)]
 pub enum RunFault {
     /// There are too many files or clients, or two clients have one ClientGuid.

@@ -1,4 +1,4 @@
-/// What is promised of every run's record (own).
+/// What is promised of every run's record (profile).
 #[derive(Clone, Copy, Debug, PartialEq, Eq, Hash)]
 pub enum Rule {
     /// Where a good client believes that it may cache writes of a file, no other good client believes that it may
@@ -30,7 +30,7 @@ impl Rule {
 ghost use Rattle.std.specs.Prelude.{◌≡◌};
 ghost use Rattle.lease_world.specs.Verdicts.{rule_number};
 
-/// What a record is (own): safe, or where it first goes wrong. Places count facts from 1.
+/// What a record is (profile): safe, or where it first goes wrong. Places count facts from 1.
 #[derive(Clone, Copy, Debug, PartialEq, Eq, Hash)]
 pub enum Verdict {
     Safe,

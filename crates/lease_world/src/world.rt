@@ -140,7 +140,7 @@ impl World {
         self.step(client, Doing::App(command))
     }
 
-    // A fact is told.
+    // A fact is recorded.
     fn tell(self, fact: Fact) -> Result<World, Memory>
         ensures becomes { IfOk result (λ world. Tells (fact_of fact) self world) }
         ensures count { IfOk result (λ world. length world.seats ≡ length self.seats) }
@@ -201,7 +201,7 @@ impl World {
         })
     }
 
-    // A client is called: what it sends is on its way, and what it notes is told.
+    // A client is called: what it sends is on its way, and what it notes is recorded.
     fn step(self, client: ClientNo, doing: Doing) -> Result<World, Memory>
         requires { IsPresent client.0 self.seats }
         ensures becomes { IfOk result (λ world. StepsIn client.0 (client_call doing) self world) }

@@ -77,7 +77,7 @@ RefusedAcknowledgments = (client : ℕ) (given : Option LeaseOf) (progress : Pro
 
 -- ---- whole calls
 
--- behind a Close come the passes over held requests, whatever became of it
+-- after a Close come the passes over held requests, whatever became of it
 abbrev pub passes_behind : FileRequest → Progress → Progress
 passes_behind (FileRequest.Close file_id) progress = all_passes progress
 passes_behind request progress = progress
@@ -153,7 +153,7 @@ pub record IsLeftToHeld (requests : ℕ → List Held) (before : Server) (after 
   pub stay : (one : Open) → Among one before.opens
       → ((now : Open) × IsSameOpen one now × Among now after.opens) ⊎ IsTakenByHeld requests one
 
--- So it is of all passes, also of those behind a Close or an acknowledgment that is refused.
+-- So it is of all passes, also of those after a Close or an acknowledgment that is refused.
 abbrev pub PassesAreOfHeld : Type 0
 PassesAreOfHeld = (progress : Progress)
     → IsLeftToHeld progress.server.held progress.server (all_passes progress).server

@@ -47,7 +47,7 @@ fn after_all(both: Both, alloc: Global, calls: &[Call]) -> Result<Both, Trouble>
     Ok(both)
 }
 
-/// Calls both servers as the worked examples do, and tells how many calls gave out the same.
+/// Calls both servers as the worked examples do, and reports how many calls gave out the same.
 pub fn worked_examples(alloc: Global) -> Result<u64, Trouble> {
     let mut calls = 0u64;
     for example in EXAMPLES {
@@ -59,8 +59,9 @@ pub fn worked_examples(alloc: Global) -> Result<u64, Trouble> {
     Ok(calls)
 }
 
-/// Calls both servers 1,000 times by numbers, after all clients joined: with keys that are used on several files,
-/// acknowledgments and reconnects that nobody waits for, and timers that run out. Tells how many calls gave out the same.
+/// Calls both servers 1,000 times by numbers, after all clients joined: with keys that are used on
+/// several files, acknowledgments and reconnects that nobody waits for, and timers that run out.
+/// Reports how many calls gave out the same.
 pub fn calls_by_numbers(alloc: Global) -> Result<u64, Trouble> {
     let mut numbers = Numbers::new(2024);
     let mut both = with_files(alloc, FILES)?;

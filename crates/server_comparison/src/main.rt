@@ -1,9 +1,9 @@
 //! Compares `share_server`, which answers by lease records and file summaries, with a server over plain lists: what they give
 //! out, call by call, and what they answer to queries.
 //!
-//! Without words: the worked examples, and calls by numbers. Each word is the path of a schedule, which is played with
-//! client machines over both. A line tells how many calls gave out the same; at the first difference it tells the call
-//! and what both gave out, and the status is 1.
+//! Without words: the worked examples, and calls by numbers. Each word is the path of a schedule,
+//! which is played with client machines over both. A line reports how many calls gave out the same;
+//! at the first difference it reports the call and what both gave out, and the status is 1.
 #![tactic(auto)]
 
 mod both;
@@ -30,7 +30,7 @@ fn play_file<R: Files + AllocGlobal>(rt: &R, path: &str) -> Result<u64, Trouble>
     }
 }
 
-// Whether the calls gave out the same, which is told.
+// Whether the calls gave out the same, which is reported.
 fn tell(rt: &impl Print, name: &str, compared: &Result<u64, Trouble>) -> io::Result<bool> {
     match compared {
         Ok(calls) => {

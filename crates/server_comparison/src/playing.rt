@@ -249,7 +249,7 @@ fn deliver(seats: &mut Vec<Seat>, outs: Vec<Out>) -> Result<(), Memory> {
     Ok(())
 }
 
-/// Plays the schedule that a text is, and tells how many calls gave out the same.
+/// Plays the schedule that a text is, and reports how many calls gave out the same.
 pub fn play_schedule(alloc: Global, text: &[u8]) -> Result<u64, Trouble> {
     let schedule = read_schedule(alloc, text)?;
     let mut play = Play::new(alloc, &schedule.setup)?;

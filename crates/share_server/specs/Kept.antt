@@ -1,4 +1,4 @@
--- What the tables keep beside the list of opens.
+-- What the tables keep next to the list of opens.
 use Rattle.std.specs.Prelude.{◌≡◌, ◌≤◌, ⊤, ℕ, Bool, true, false, Option, Some, None, List, [], ◌∷◌, ◌++◌, map, if◌then◌else◌}
 use Rattle.std.specs.List.{list_any}
 use Rattle.lease_laws.specs.server.Laws.{Among}

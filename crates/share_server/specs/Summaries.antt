@@ -25,7 +25,7 @@ is_on file one = one.file == file
 abbrev pub has_key_on : ℕ → Key → Open → Bool
 has_key_on file key one = is_on file one && has_key key one
 
--- it has no key, and counts as a key of its own (own)
+-- it has no key, and counts as a key of its own (profile)
 abbrev pub is_keyless_on : ℕ → Open → Bool
 is_keyless_on file one = is_on file one && not (is_some one.lease_key)
 

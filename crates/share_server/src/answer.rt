@@ -101,7 +101,7 @@ fn create(tables: &mut Tables, outs: &mut Outs, opening: Opening) -> Result<(), 
     }
 }
 
-// A read gives the whole file (own; MS-SMB2 3.3.5.12).
+// A read gives the whole file (profile; MS-SMB2 3.3.5.12).
 fn read(tables: &mut Tables, outs: &mut Outs, client: ClientNo, fid: FileId) -> Result<(), Memory>
     ensures { OnOk result (progress_of tables.new outs.new
         ≡ rules.on_open (connected_open (server_of tables.old) client.0 fid.0)

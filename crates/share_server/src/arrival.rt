@@ -19,7 +19,7 @@ use lease_state::{Access, Bytes, ClientNo, FileId, FileNo, Memory, Request, Shar
 use lease_wire::{Direction, read_create};
 
 /// A request of a connected client comes (MS-SMB2 3.3.5). After an acknowledgment or a close held
-/// requests are tried again (own).
+/// requests are tried again (profile).
 ///
 /// # Errors
 ///
@@ -149,7 +149,7 @@ fn file_of_open(tables: &Tables, client: ClientNo, fid: FileId) -> Result<FileNo
     }
 }
 
-// A request waits behind an earlier one of its client and file (own), and else is tried.
+// A request waits after an earlier one of its client and file (profile), and else is tried.
 fn try_on(
     tables: &mut Tables,
     outs: &mut Outs,

@@ -165,8 +165,8 @@ fn meet_all(tables: &mut Tables, outs: &mut Outs, wants: &[Want]) -> Result<(), 
     Ok(())
 }
 
-// Meets a want as far as that can be at once: the key's disconnected opens are closed (own), and its
-// lease, if any is left, is broken.
+// Meets a want as far as that can be at once: the key's disconnected opens are closed (profile),
+// and its lease, if any is left, is broken.
 fn meet(tables: &mut Tables, outs: &mut Outs, want: &Want) -> Result<(), Memory>
     ensures { OnOk result (progress_of tables.new outs.new
         ≡ rules.want_met want.now (progress_of tables.old outs.old)) }

@@ -15,9 +15,9 @@ pub enum Closing {
     Named(FileId),
     /// The one of this FileId, if its client is away (3.3.6.2).
     LeftBehind(FileId),
-    /// Those of the key (3.3.6.5; own).
+    /// Those of the key (3.3.6.5; profile).
     Of(Key),
-    /// Those of the key whose clients are away (own).
+    /// Those of the key whose clients are away (profile).
     LeftOf(Key),
     /// The connected ones of the client that don't outlive its connection (3.3.7.1).
     LostBy(ClientNo),

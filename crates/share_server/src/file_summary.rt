@@ -17,7 +17,7 @@ use std::alloc::Global;
 use std::collections::BTreeSet;
 
 /// What a server keeps of a file that is open: counts of the opens on it, and their keys. An open
-/// without a key counts as a key of its own (own).
+/// without a key counts as a key of its own (profile).
 #[derive(Debug, Drop)]
 pub struct FileSummary {
     pub tally: Tally,

@@ -124,7 +124,7 @@ impl Tables {
         }
     }
 
-    // A reconnect fails in one way whatever is wrong (own).
+    // A reconnect fails in one way whatever is wrong (profile).
     #[tactic(auto, unfolding(lease_model::specs::server::Findings::reconnect_finding))]
     fn reconnect_finding(
         &self,
@@ -142,7 +142,7 @@ impl Tables {
         }
     }
 
-    // First the key's file, then conflicts, then cached writes (own).
+    // First the key's file, then conflicts, then cached writes (profile).
     #[tactic(auto, unfolding(lease_model::specs::server::Findings::create_finding))]
     fn open_finding(
         &self,

@@ -28,8 +28,8 @@ pub struct Opening {
     pub ask: CreateAsk,
 }
 
-/// Grants a new open. FileIds are 1, 2, 3 and so on, never used again (own); after the last there is
-/// no grant.
+/// Grants a new open. FileIds are 1, 2, 3 and so on, never used again (profile); after the last
+/// there is no grant.
 ///
 /// # Errors
 ///
@@ -132,8 +132,8 @@ fn lease_after(
     }
 }
 
-// One that is breaking stays; one within the granted form of the want becomes what is offered, as a new
-// one does; any other stays (own).
+// One that is breaking stays; one within the granted form of the want becomes what is offered, as a
+// new one does; any other stays (profile).
 #[tactic(auto, unfolding(lease_model::specs::server::Grant::lease_granted))]
 fn lease_granted(tables: &Tables, key: Key, file: FileNo, want: LeaseState) -> Lease
     ensures { lease_of result ≡ rules.lease_granted (server_of tables.now) key file.0 (state_of want) }
@@ -148,7 +148,7 @@ fn lease_granted(tables: &Tables, key: Key, file: FileNo, want: LeaseState) -> L
     }
 }
 
-// What a key is offered: nothing where its timer ran out (own).
+// What a key is offered: nothing where its timer ran out (profile).
 #[tactic(auto, unfolding(lease_model::specs::server::Grant::offered))]
 fn offered(tables: &Tables, key: Key, file: FileNo, want: LeaseState) -> LeaseState
     ensures { state_of result ≡ rules.offered (server_of tables.now) key file.0 (state_of want) }
@@ -160,8 +160,8 @@ fn offered(tables: &Tables, key: Key, file: FileNo, want: LeaseState) -> LeaseSt
     }
 }
 
-/// Connects a durable open again (MS-SMB2 3.3.5.9.7): nothing is opened, and the lease is told as it
-/// stands.
+/// Connects a durable open again (MS-SMB2 3.3.5.9.7): nothing is opened, and the lease is reported
+/// as it stands.
 ///
 /// # Errors
 ///

@@ -43,7 +43,7 @@ impl Eq for Key {
     ghost laws = { Prim.search (comparing, rules) };
 }
 
-/// The order in which leases are broken (own): by their clients' numbers, then by their bytes.
+/// The order in which leases are broken (profile): by their clients' numbers, then by their bytes.
 impl Ord for Key {
     ghost cmp = { then_cmp (on (λ key. key.client) nat_cmp) (on (λ key. key.bytes) (slice_cmp nat_cmp)) };
 
@@ -80,8 +80,8 @@ impl Key {
         self.client == other.client && self.bytes == other.bytes
     }
 
-    /// Whether the lease of this key is broken before that of the other (own): by their clients'
-    /// numbers, then by their bytes.
+    /// Whether the lease of this key is broken before that of the other (profile): by their
+    /// clients' numbers, then by their bytes.
     #[tactic(auto, unfolding(lease_model::specs::values::Keys::key_before))]
     pub fn is_before(self, other: Key) -> bool
         ensures { result ≡ key_before self other }

@@ -24,7 +24,7 @@ pub struct LeftOpens {
 }
 
 impl LeftOpens {
-    /// None waits. No memory is taken.
+    /// None waits. Allocates nothing.
     pub fn new(alloc: Global) -> LeftOpens
         ensures { (owner : Owner) → left_at result owner ≡ [] }
     {

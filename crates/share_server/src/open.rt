@@ -21,7 +21,7 @@ pub struct Open {
     pub file_id: FileId,
     pub client: ClientNo,
     pub file: FileNo,
-    /// `None` for an open without an RqLs context, which counts as a key of its own (own).
+    /// `None` for an open without an RqLs context, which counts as a key of its own (profile).
     pub lease_key: Option<LeaseKey>,
     pub access: Access,
     pub share: Share,
@@ -120,7 +120,7 @@ impl Open {
         self.file_id == fid && !self.connected
     }
 
-    /// Whether the open, which stands under this lease, outlives its client's connection (own;
+    /// Whether the open, which stands under this lease, outlives its client's connection (profile;
     /// MS-SMB2 3.3.7.1).
     pub fn outlives_connection(&self, lease: Lease) -> bool
         ensures { result ≡ outlives_under (lease_of lease) self.now }

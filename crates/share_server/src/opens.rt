@@ -48,7 +48,7 @@ impl Model for Opens {
 }
 
 impl Opens {
-    /// No open. No memory is taken.
+    /// No open. Allocates nothing.
     pub fn new(alloc: Global) -> Opens
         ensures { result ≡ [] }
     {

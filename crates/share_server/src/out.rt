@@ -1,6 +1,6 @@
 use lease_state::{ClientNo, FileNo, Patch, Reply};
 
-/// What a call of the server gives out (own), for the program that embeds it to do or to note.
+/// What a call of the server gives out (profile), for the program that embeds it to do or to note.
 #[derive(Debug, Drop, PartialEq, Eq)]
 pub enum Out {
     /// The reply is to be sent to the client.

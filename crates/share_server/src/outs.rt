@@ -39,7 +39,7 @@ impl Model for Outs {
 }
 
 impl Outs {
-    /// Nothing yet. No memory is taken.
+    /// Nothing yet. Allocates nothing.
     pub fn new(alloc: Global) -> Outs
         ensures { result ≡ [] }
     {
@@ -170,7 +170,7 @@ impl Outs {
         Ok(())
     }
 
-    /// The client is told that its lease is broken, from this state to that.
+    /// The client is sent the break of its lease, from this state to that.
     pub fn lease_broken(
         &mut self,
         key: Key,
@@ -217,7 +217,7 @@ impl Outs {
         )
     }
 
-    /// The list, without taking memory.
+    /// The list. Allocates nothing.
     pub fn into_vec(self) -> Vec<Out>
         ensures { result.items ≡ map out_written self }
     {

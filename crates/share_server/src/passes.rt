@@ -12,8 +12,8 @@ use crate::tables::Tables;
 use lease_laws::rounds_and_passes_end;
 use lease_state::{ClientNo, FileNo, Memory};
 
-/// Tries the held requests again (own): files in the order of their numbers, and each until a pass
-/// over its queue answers nothing.
+/// Tries the held requests again (profile): files in the order of their numbers, and each until a
+/// pass over its queue answers nothing.
 ///
 /// # Errors
 ///

@@ -41,7 +41,7 @@ impl Model for Server {
 
 impl Server {
     /// A server with these files, numbered from 1 in their order, that no client has joined. Files
-    /// past the 255th have no number and are dropped (own).
+    /// past the 255th have no number and are dropped (profile).
     ///
     /// # Errors
     ///
@@ -54,8 +54,9 @@ impl Server {
         Ok(Server { tables })
     }
 
-    /// A client connects (MS-SMB2 3.3.5.1). The keys of its leases whose timer ran out may be granted
-    /// states again (own). Where the client is connected nothing changes, and nothing is given out.
+    /// A client connects (MS-SMB2 3.3.5.1). The keys of its leases whose timer ran out may be
+    /// granted states again (profile). Where the client is connected nothing changes, and nothing
+    /// is given out.
     ///
     /// # Errors
     ///
@@ -71,12 +72,13 @@ impl Server {
         Ok((Server { tables }, outs))
     }
 
-    /// A request of a client comes (MS-SMB2 3.3.5). It is refused at once where its create contexts have
-    /// a fault, or where it names no file or no open of the client's; it waits behind an earlier request
-    /// of the client that waits on its file (own); and else it is tried: what it needs of the leases of
-    /// other keys on its file is broken, and it is answered or refused, or waits for acknowledgments.
-    /// After an acknowledgment or a close requests that wait are tried again (own). Where the client
-    /// isn't connected nothing changes, and nothing is given out.
+    /// A request of a client comes (MS-SMB2 3.3.5). It is refused at once where its create contexts
+    /// have a fault, or where it names no file or no open of the client's; it waits after an
+    /// earlier request of the client that waits on its file (profile); and else it is tried: what
+    /// it needs of the leases of other keys on its file is broken, and it is answered or refused,
+    /// or waits for acknowledgments. After an acknowledgment or a close requests that wait are
+    /// tried again (profile). Where the client isn't connected nothing changes, and nothing is
+    /// given out.
     ///
     /// # Errors
     ///
@@ -94,9 +96,9 @@ impl Server {
     }
 
     /// A client's connection is lost (MS-SMB2 3.3.7.1). Its opens that are durable, and whose lease
-    /// holds `HANDLE_CACHING` and isn't breaking, stay, and wait for it; its others are closed, and its
-    /// requests that wait are forgotten (own). Then requests that wait are tried again. Where the client
-    /// isn't connected nothing changes, and nothing is given out.
+    /// holds `HANDLE_CACHING` and isn't breaking, stay, and wait for it; its others are closed, and
+    /// its requests that wait are forgotten (profile). Then requests that wait are tried again.
+    /// Where the client isn't connected nothing changes, and nothing is given out.
     ///
     /// # Errors
     ///
@@ -112,10 +114,10 @@ impl Server {
         Ok((Server { tables }, outs))
     }
 
-    /// The timer of a lease break runs out (MS-SMB2 3.3.6.5): the opens of the client's lease of this key
-    /// are closed, and the key is granted nothing until its client joins again (own). Then requests that
-    /// wait are tried again. Where no break of the lease waits for its acknowledgment nothing changes, and
-    /// nothing is given out.
+    /// The timer of a lease break runs out (MS-SMB2 3.3.6.5): the opens of the client's lease of
+    /// this key are closed, and the key is granted nothing until its client joins again (profile).
+    /// Then requests that wait are tried again. Where no break of the lease waits for its
+    /// acknowledgment nothing changes, and nothing is given out.
     ///
     /// # Errors
     ///
@@ -163,9 +165,9 @@ impl Server {
         let _tables = &self.tables;
     }
 
-    /// What the server may grant (own): the granted form of the wanted state, without
-    /// `WRITE_CACHING` where an open on the file has another key than this one of the client's. With
-    /// no key every open on the file has another one.
+    /// What the server may grant (profile): the granted form of the wanted state, without
+    /// `WRITE_CACHING` where an open on the file has another key than this one of the client's.
+    /// With no key every open on the file has another one.
     pub fn allowed(
         &self,
         client: ClientNo,
@@ -202,7 +204,7 @@ impl Server {
     }
 
     /// The FileId of the client's oldest durable open on the file that waits to be connected again
-    /// (own); `None` where there is none.
+    /// (profile); `None` where there is none.
     pub fn kept(&self, client: ClientNo, file: FileNo) -> Option<FileId>
         ensures { option_map (λ file_id. file_id.0) result ≡ queries.kept (server_of self.now) client.0 file.0 }
     {

@@ -49,7 +49,7 @@ pub struct Summaries {
 }
 
 impl Summaries {
-    /// Where there is no open. No memory is taken.
+    /// Where there is no open. Allocates nothing.
     pub fn new(alloc: Global) -> Summaries
         ensures agrees { Agrees result [] }
         ensures leases { result.leases.entries ≡ [] }
@@ -297,8 +297,8 @@ impl Summaries {
         }
     }
 
-    /// Whether an open on the file has another key than the request. An open without a key counts as
-    /// a key of its own (own).
+    /// Whether an open on the file has another key than the request. An open without a key counts
+    /// as a key of its own (profile).
     pub fn has_other_on(&self, own: Option<Key>, file: FileNo) -> bool
         ensures { (server : Server) → StandFor self.now server
             → result ≡ list_any (grants.is_other_on own file.0) server.opens }

@@ -23,7 +23,7 @@ mod changes;
 mod looks;
 mod wants;
 
-/// The last number that a file can have (own): those of one byte.
+/// The last number that a file can have (profile): those of one byte.
 const LAST_FILE_NUMBER: usize = 255;
 
 /// As many places as there are numbers of one byte.
@@ -45,7 +45,7 @@ impl Model for File {
 }
 
 impl File {
-    /// A file of these bytes where nothing waits. No memory is taken.
+    /// A file of these bytes where nothing waits. Allocates nothing.
     pub fn new(alloc: Global, content: Content) -> File
         ensures { result ≡ fresh_file content }
     {
@@ -65,7 +65,7 @@ impl File {
         }
     }
 
-    /// The request waits behind the others.
+    /// The request waits after the others.
     fn hold(&mut self, one: Held) -> Result<(), Memory>
         ensures { OnOk result (self.new ≡ record self.old { held = self.old.held ++ one ∷ [] }) }
     {

@@ -9,15 +9,15 @@ use crate::summaries::LeaseRecord;
 use lease_state::{Access, FileNo, LeaseState, Share};
 use std::marker::Model;
 
-/// What a request wishes of the leases of other keys on its file (own, but for handles: MS-SMB2
-/// 3.3.4.7).
+/// What a request wants of the leases of other keys on its file (profile, except for handles:
+/// MS-SMB2 3.3.4.7).
 #[derive(Clone, Copy, Debug)]
 pub enum Wish {
-    /// That opens which conflict with this access and share give up their handles.
+    /// Opens that conflict with this access and share are to give up their handles.
     NoHandles { access: Access, share: Share },
-    /// That writes are no longer cached.
+    /// Writes are no longer to be cached.
     NoWrites,
-    /// That nothing is cached any longer.
+    /// Nothing is to be cached any longer.
     Nothing,
 }
 

@@ -53,7 +53,7 @@ fn facts(alloc: Global) -> Result<Vec<Fact>, Fail> {
     Ok(all)
 }
 
-// The line of each fact tells that fact, also with other letters in its digits.
+// The line of each fact is read as that fact, also with other letters in its digits.
 #[test]
 fn lines_are_read_back(rt: HostRuntime) -> Result<(), Fail> {
     let alloc = rt.alloc();

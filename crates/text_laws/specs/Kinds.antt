@@ -73,7 +73,7 @@ abbrev pub Telling : Type 0 → List Field → Type 0
 Telling A [] = A
 Telling A (field ∷ fields) = Value field → Telling A fields
 
--- a kind of line: the word that it begins with, the fields behind it, and what their values tell
+-- a kind of line: the word that it begins with, the fields after it, and what their values tell
 pub record Kind (A : Type 0) : Type 0 where
   pub name : List ℕ
   pub fields : List Field

@@ -42,7 +42,7 @@ RunsAreReadBack = (setup : Setup) (events : List Event) (facts : List Fact) → 
 abbrev pub IsJudgedSafe : List ℕ → Type 0
 IsJudgedSafe text = (facts : List Fact) × (record_in text ≡ Ok facts) × (Verdict.Safe ≡ verdict (map fact_of facts))
 
--- So a judge is to call a run's record safe, alone and with the verdict behind it that a replay prints.
+-- So a judge is to call a run's record safe, alone and with the verdict after it that a replay prints.
 abbrev pub RunsAreJudgedSafe : Type 0
 RunsAreJudgedSafe = (setup : Setup) (events : List Event) (facts : List Fact) → AreOfRun setup events facts
     → IsJudgedSafe (record_text facts)

@@ -73,7 +73,7 @@ Each P (one ∷ others) = P one × Each P others
 abbrev pub RecordsAreReadBack : Type 0
 RecordsAreReadBack = (facts : List Fact) → Each CanBeTold facts → record_in (record_text facts) ≡ Ok facts
 
--- And what stands behind a record in a text is read behind it.
+-- And what stands after a record in a text is read after it.
 abbrev pub TextsGoOn : Type 0
 TextsGoOn = (facts : List Fact) (rest : List ℕ) → Each CanBeTold facts
     → record_in (record_text facts ++ rest) ≡ reads_on with_line (length facts + 1) facts (lines_of rest)

@@ -1,5 +1,5 @@
-//! What is written is read back, and lines are read by tables of their kinds: public functions whose contracts carry the laws of
-//! texts. They do nothing, or nothing beside a run.
+//! What is written is read back, and lines are read by tables of their kinds: public functions
+//! whose contracts carry the laws of texts. They do nothing, or nothing but a run.
 #![tactic(auto)]
 
 mod judged;

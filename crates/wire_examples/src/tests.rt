@@ -272,8 +272,8 @@ fn faults_tell_number_name_and_place(rt: HostRuntime) -> Result<(), Fail> {
     Ok(())
 }
 
-// A vector that a writer appends to: where the writer is refused memory, nothing was appended. `tests/refused_growths` runs this
-// with each growth refused.
+// A vector that a writer appends to: where the writer is refused memory, nothing was appended.
+// `tests/refused_growths` runs this with each allocation refused.
 #[test]
 fn a_refused_writer_leaves_the_vector(rt: HostRuntime) -> Result<(), Fail> {
     let ask = CreateAsk {

@@ -100,8 +100,8 @@ fn a_break_of_reads_drops_the_cache(rt: HostRuntime) -> Result<(), Fail> {
     Ok(())
 }
 
-// A parked entry that loses its handles closes its open in place of an acknowledgment, and hears no
-// further break.
+// A parked entry that loses its handles closes its open in place of an acknowledgment, and accepts
+// no further break.
 #[test]
 fn a_break_of_handles_closes_a_parked_entry(rt: HostRuntime) -> Result<(), Fail> {
     let alloc = rt.alloc();

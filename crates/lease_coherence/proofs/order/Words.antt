@@ -1,4 +1,4 @@
--- What a client asks about a file, in its order: what is held first, then what is on its way. No write stands behind a
+-- What a client asks about a file, in its order: what is held first, then what is on its way. No write stands after a
 -- Close of its open.
 use Rattle.std.proofs.Common.{◌≡◌, ◌≢◌, ⊎_elim, ℕ, Bool, true, false, List, [], ◌∷◌, ◌++◌, refl, sym, ap, ◌∙◌, subst, true≢false, ◌==◌}
 use Rattle.std.specs.Prelude.{⊤, ◌||◌}

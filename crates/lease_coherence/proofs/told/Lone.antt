@@ -1,4 +1,4 @@
--- A break that asks for no acknowledgment leaves nothing to its lease: as long as it is on its way with no grant behind it,
+-- A break that asks for no acknowledgment leaves nothing to its lease: as long as it is on its way with no grant after it,
 -- the lease holds no handles.
 use Rattle.std.proofs.Common.{◌≡◌, ◌⊎◌, inl, inr, ⊎_elim, ℕ, Bool, true, false, not, List, [], ◌∷◌, ◌++◌, Some, None, refl, sym, ap, ◌∙◌, subst, true≢false, ◌==◌}
 use Rattle.std.specs.Prelude.{⊤, ◌&&◌, ◌||◌, bytes_eq}

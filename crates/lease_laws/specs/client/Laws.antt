@@ -22,7 +22,7 @@ pub record IsSoundLive (live : LiveEntry) : Type 0 where
   pub asking_with_handles : is_asking live ≡ true → 1 ≤ live.handles
 
 -- An entry is opening, live or reconnecting only while the client is connected, and offline only
--- while it isn't. What it keeps over a lost connection are buffered writes, and beside them it has
+-- while it isn't. What it keeps over a lost connection are buffered writes, and apart from them it has
 -- no sent ones. While the client isn't connected, no sent write is unanswered.
 abbrev pub IsSoundPhase : Bool → List Pending → Phase → Type 0
 IsSoundPhase connected sent Phase.Closed = connected ≡ false → sent ≡ []

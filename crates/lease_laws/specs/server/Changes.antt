@@ -45,7 +45,7 @@ abbrev pub HasGivenUp : Call → Key → List SmallStep → Progress → Type 0
 HasGivenUp call key steps progress = IsBrokenBetween key progress.outs (steps_taken steps progress).outs
     ⊎ (WasClosed key steps progress ⊎ GivesUp call key)
 
--- What is so where a change of a file by a client stands behind these outs. The call had come so far by the first of
+-- What is so where a change of a file by a client stands after these outs. The call had come so far by the first of
 -- its guarded steps, where the client has an open on the file, and every other key with an open there has given up
 -- what it cached. And each of them that cached something at an earlier point of the call, where these steps begin or behind
 -- some of them, had its Break to nothing given out since, before the change; or its opens were all closed since, or

@@ -27,7 +27,7 @@ pub record Done : Type 0 where
   pub number : ℕ
 
 -- Each Changed stands directly before the WriteDone of its client and number, and each WriteDone
--- directly behind its Changed. `before` is the write of a Changed that stands just before these outs.
+-- directly after its Changed. `before` is the write of a Changed that stands just before these outs.
 abbrev pub ArePaired : Option Done → List Out → Type 0
 ArePaired None [] = ⊤
 ArePaired (Some done) [] = ⊥

@@ -27,7 +27,7 @@ use Rattle.lease_laws.specs.server.Outs.{CachesAlone}
 use Rattle.lease_laws.specs.server.Waiting.{WaitsWell}
 
 -- Answer: a request that has come is answered or refused. AnswerHeld: so is one that was held on a file,
--- between these before it and behind it. Acknowledge: an acknowledgment is judged. Hold: a request is held.
+-- between these before it and after it. Acknowledge: an acknowledgment is judged. Hold: a request is held.
 -- Drop: the disconnected opens of a key are closed. Lower: a lease is lowered at once. Begin: its break
 -- begins.
 pub data SmallStep : Type 0 where
@@ -131,7 +131,7 @@ pub record MayLower (server : Server) (key : Key) (lowered : State) : Type 0 whe
   pub is_settled : is_breaking (server.leases key) ≡ false
   pub is_lowered : IsLowered (server.leases key).state lowered
 
--- A held request has to wait itself, or stands behind an earlier one of its client, where requests wait well.
+-- A held request has to wait itself, or stands after an earlier one of its client, where requests wait well.
 abbrev pub MayHold : Server → ℕ → Held → Type 0
 MayHold server file one = (server.present one.client ≡ true)
     × (HasToWait server one.client one.request

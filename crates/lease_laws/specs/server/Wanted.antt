@@ -6,7 +6,7 @@ use Rattle.lease_model.specs.server.Wants.{Want, wants_where}
 use Rattle.lease_model.specs.values.Keys.{key_before}
 use Rattle.lease_laws.specs.server.Laws.{Among}
 
--- strictly in order: the key of each want stands before those of all wants behind it
+-- strictly in order: the key of each want stands before those of all wants after it
 abbrev pub AreInKeyOrder : List Want → Type 0
 AreInKeyOrder [] = ⊤
 AreInKeyOrder (want ∷ wants) =

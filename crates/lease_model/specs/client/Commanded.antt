@@ -1,4 +1,4 @@
--- What a client does with a command (own, but for the create that it sends: MS-SMB2 3.2.4.3).
+-- What a client does with a command (profile, but for the create that it sends: MS-SMB2 3.2.4.3).
 use Rattle.std.specs.Prelude.{ℕ, zero, suc, ◌+◌, Bool, true, false, Option, Some, None, List, [], ◌∷◌, ◌++◌, if◌then◌else◌, ◌==◌, ◌&&◌, ◌||◌, not, nat_lt, is_some}
 use Rattle.lease_model.specs.client.State.{Client, Entry, LiveEntry, Asked, Pending, Phase, closed_entry, live_entry, lease_key, knows_file, view}
 use Rattle.lease_model.specs.client.Step.{Step, Turn, turned, refused_step, write_requests}
@@ -191,7 +191,7 @@ flush_on_live client file live sent = turned client file (turn_of
     (if is_empty live.unsent then Answer.Done else Answer.Waiting)
     (write_requests live.file_id live.unsent))
 
--- a parked entry hears only an Open
+-- a parked entry accepts only an Open
 abbrev pub unless_parked : Client → LiveEntry → Step → Step
 unless_parked client live step = if live.handles == 0 then refused_step client Refusal.NotOpen else step
 

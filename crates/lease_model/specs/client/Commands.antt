@@ -1,5 +1,5 @@
 -- What an application asks of a client machine, what it is answered, and what the machine notes
--- (own).
+-- (profile).
 use Rattle.std.specs.Prelude.{ℕ, Bool, List}
 use Rattle.lease_state.specs.State.{State}
 use Rattle.lease_state.specs.declared.access.Access.{Access}

@@ -70,7 +70,7 @@ notice_turn sent (Phase.Reconnecting parted) = offline_turn parted sent
 unfoldable pub noticed : Client → Step
 noticed client = all_turned client false (λ file entry. notice_turn entry.sent entry.phase)
 
--- the create that reconnects: RqLs with the file's key and no state (own), and DHnC of the FileId
+-- the create that reconnects: RqLs with the file's key and no state (profile), and DHnC of the FileId
 abbrev pub reconnect_request : Client → ℕ → Parted → Request
 reconnect_request client file parted =
     Request.OnFile (FileRequest.Create file parted.access parted.share (Some (record {

@@ -77,7 +77,7 @@ new_client guid files = record {
   entries = λ file. closed_entry [];
 }
 
--- The LeaseKey of a file: twelve bytes of the ClientGuid, and the file's number in four (own).
+-- The LeaseKey of a file: twelve bytes of the ClientGuid, and the file's number in four (profile).
 unfoldable pub lease_key : List ℕ → ℕ → List ℕ
 lease_key guid file = take 12 guid ++ file ∷ 0 ∷ 0 ∷ 0 ∷ []
 

@@ -37,7 +37,7 @@ pub data Reply : Type 0 where
   AckDone : (response : Option LeaseOf) → Reply
   AckFailed : (status : Status) → Reply
 
--- What the server did that others can see (own): it sent a reply to a client, opened a file for
+-- What the server did that others can see (profile): it sent a reply to a client, opened a file for
 -- a client, or changed a file by the numbered write of a client.
 pub data Out : Type 0 where
   Sent : (client : ℕ) (reply : Reply) → Out

@@ -1,5 +1,5 @@
 -- Facts, and records of them. A record tells what happened, in order, and names no table, no queue
--- and no lease (own).
+-- and no lease (profile).
 use Rattle.std.specs.Prelude.{ℕ, Bool, List}
 use Rattle.lease_state.specs.State.{State}
 use Rattle.lease_model.specs.client.Commands.{Settlement}

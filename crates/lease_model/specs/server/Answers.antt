@@ -21,7 +21,7 @@ changed client file file_id number patch progress = stepped progress
     })
     (Out.Changed file client number patch ∷ Out.Sent client (Reply.WriteDone file_id number) ∷ [])
 
--- a read gives the whole file (own; 3.3.5.12)
+-- a read gives the whole file (profile; 3.3.5.12)
 abbrev pub read_done : ℕ → ℕ → ℕ → Progress → Progress
 read_done client file file_id progress =
     replied client (Reply.ReadDone file_id (progress.server.contents file)) progress

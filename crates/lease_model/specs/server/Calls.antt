@@ -40,7 +40,7 @@ after_first_try client file request progress Outcome.Waits =
     request_held file (held_of client request) progress
 after_first_try client file request progress outcome = concluded client request progress outcome
 
--- A request waits behind an earlier one of its client and file (own), and else is tried.
+-- A request waits after an earlier one of its client and file (profile), and else is tried.
 abbrev pub arrived_on : ℕ → FileRequest → Progress → Result ℕ Status → Progress
 arrived_on client request progress (Err status) = refused client request status progress
 arrived_on client request progress (Ok file) =
@@ -69,7 +69,7 @@ unfoldable pub receive : Server → ℕ → Request → Progress
 receive server client request =
     if server.present client then arrived client request (begun server) else begun server
 
--- A client connects (3.3.5.1), and its keys are no longer expired (own).
+-- A client connects (3.3.5.1), and its keys are no longer expired (profile).
 unfoldable pub joined : ℕ → Progress → Progress
 joined client progress = stepped progress (record progress.server {
   present = put progress.server.present client true;
@@ -115,7 +115,7 @@ unfoldable pub key_expired : Key → Progress → Progress
 key_expired key progress =
     stepped progress (record progress.server { expired = put_key progress.server.expired key true }) []
 
--- The timer of a lease break runs out (3.3.6.5; own): all opens of the lease are closed.
+-- The timer of a lease break runs out (3.3.6.5; profile): all opens of the lease are closed.
 unfoldable pub expire : Server → Key → Progress
 expire server key =
     if is_breaking (server.leases key)

@@ -42,7 +42,7 @@ awaits client file None file_id one = false
 awaits client file (Some key) file_id one =
     one.file_id == file_id && not one.connected && one.client == client && one.file == file && has_key key one
 
--- a reconnect fails in one way whatever is wrong (own)
+-- a reconnect fails in one way whatever is wrong (profile)
 unfoldable pub reconnect_finding : Server → ℕ → ℕ → Option Key → ℕ → Finding
 reconnect_finding server client file own file_id =
     if list_any (awaits client file own file_id) server.opens

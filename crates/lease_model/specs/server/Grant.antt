@@ -13,12 +13,12 @@ use Rattle.lease_model.specs.messages.Requests.{LeaseOf}
 use Rattle.lease_model.specs.server.State.{Server, Open, Lease, no_lease, is_breaking}
 use Rattle.lease_model.specs.server.Naming.{key_of}
 
--- what a key is offered: nothing where its timer ran out (own)
+-- what a key is offered: nothing where its timer ran out (profile)
 unfoldable pub offered : Server → Key → ℕ → State → State
 offered server key file want =
     if server.expired key then nothing_cached else allowed server (Some key) file want
 
--- The lease after a grant (own): one that is breaking stays; one within the granted form of the
+-- The lease after a grant (profile): one that is breaking stays; one within the granted form of the
 -- want becomes what is offered, as a new one does; any other stays.
 unfoldable pub lease_granted : Server → Key → ℕ → State → Lease
 lease_granted server key file want =
@@ -47,7 +47,7 @@ abbrev pub asked_key : Option LeaseOf → Option (List ℕ)
 asked_key None = None
 asked_key (Some asked) = Some asked.key
 
--- The open is durable where that was asked and the lease then holds H (own; 3.3.5.9.6).
+-- The open is durable where that was asked and the lease then holds H (profile; 3.3.5.9.6).
 abbrev pub new_open : Server → ℕ → ℕ → Access → Share → Option LeaseOf → Bool → Lease → Open
 new_open server client file access share asked durable lease = record {
   file_id = server.last_id + 1;
@@ -75,7 +75,7 @@ granted_with client file access share asked durable lease progress = stepped pro
     })))
     ∷ [])
 
--- FileIds are 1, 2, 3 and so on, never used again (own); after the last there is no grant.
+-- FileIds are 1, 2, 3 and so on, never used again (profile); after the last there is no grant.
 unfoldable pub granted : ℕ → ℕ → Access → Share → Option LeaseOf → Bool → Progress → Progress
 granted client file access share asked durable progress =
     if progress.server.last_id == last_file_id

@@ -1,4 +1,4 @@
--- The keys of opens, each once, in the order in which leases are broken (own).
+-- The keys of opens, each once, in the order in which leases are broken (profile).
 use Rattle.std.specs.Prelude.{ℕ, Option, Some, None, List, [], ◌∷◌, if◌then◌else◌}
 use Rattle.lease_model.specs.server.Naming.{key_of}
 use Rattle.lease_model.specs.server.State.{Open}

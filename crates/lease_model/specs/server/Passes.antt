@@ -1,4 +1,4 @@
--- Held requests are tried again (own): files in number order, and on each file passes over what
+-- Held requests are tried again (profile): files in number order, and on each file passes over what
 -- is held there, in order of arrival, until a pass answers nothing.
 use Rattle.std.specs.Prelude.{ℕ, ◌+◌, zero, suc, Bool, true, false, List, [], ◌∷◌, ◌++◌, length, if◌then◌else◌, ◌==◌}
 use Rattle.std.specs.List.{list_any}
@@ -36,7 +36,7 @@ after_try file one waiting pass progress outcome =
     pass_answered file one waiting pass (record { progress = progress; outcome = outcome })
 
 -- One held request is tried again, unless an earlier one of its client still waits; `waiting` are
--- those behind it.
+-- those after it.
 unfoldable pub tried_again : ℕ → Held → List Held → Pass → Pass
 tried_again file one waiting pass =
     if is_behind one.client pass.passed then left_waiting one pass pass.progress

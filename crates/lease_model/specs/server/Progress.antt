@@ -58,7 +58,7 @@ break_begun key lowered progress = stepped progress
     (record { state = (progress.server.leases key).state; broken_to = Some lowered }))
     (Out.Sent key.client (break_notice key (progress.server.leases key).state lowered) ∷ [])
 
--- a request is held on a file, behind those that are held there
+-- a request is held on a file, after those that are held there
 unfoldable pub request_held : ℕ → Held → Progress → Progress
 request_held file one progress = stepped progress
     (record progress.server {

@@ -1,4 +1,4 @@
--- What can be asked of a server beside `allowed`; nothing changes.
+-- What can be asked of a server apart from `allowed`; nothing changes.
 use Rattle.std.specs.Prelude.{ℕ, Bool, Option, Some, None, List, if◌then◌else◌, ◌==◌, ◌&&◌, not, find}
 use Rattle.std.specs.Option.{option_map}
 use Rattle.lease_model.specs.values.Keys.{Key}

@@ -1,4 +1,4 @@
--- When a request can be answered, and when it has to wait for a break (own).
+-- When a request can be answered, and when it has to wait for a break (profile).
 use Rattle.std.specs.Prelude.{Bool, false, Option, Some, None, List, not}
 use Rattle.std.specs.List.{list_all}
 use Rattle.lease_state.specs.State.{State}

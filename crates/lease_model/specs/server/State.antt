@@ -79,7 +79,7 @@ is_key key client (Some bytes) = key.client == client && bytes_eq key.bytes byte
 abbrev pub has_key : Key → Open → Bool
 has_key key one = is_key key one.client one.lease_key
 
--- an open without a key counts as a key of its own (own): it has the key of no request
+-- an open without a key counts as a key of its own (profile): it has the key of no request
 abbrev pub has_own_key : Option Key → Open → Bool
 has_own_key None one = false
 has_own_key (Some key) one = has_key key one

@@ -1,4 +1,4 @@
--- What a request wants of the leases of other keys on its file (own, but for handles: MS-SMB2 3.3.4.7).
+-- What a request wants of the leases of other keys on its file (profile, but for handles: MS-SMB2 3.3.4.7).
 use Rattle.std.specs.Prelude.{ℕ, Bool, Option, List, map, filter, ◌&&◌}
 use Rattle.lease_state.specs.State.{State, nothing_cached}
 use Rattle.lease_state.specs.declared.access.Access.{Access}
@@ -28,13 +28,13 @@ handle_wants server own file access share = wants_where server
     (λ one. conflicts_on file access share one && is_other_on own file one && (lease_of server one).state.handle)
     without_handle
 
--- A create that conflicts with none wants no other key on its file to cache writes (own).
+-- A create that conflicts with none wants no other key on its file to cache writes (profile).
 unfoldable pub write_wants : Server → Option Key → ℕ → List Want
 write_wants server own file = wants_where server
     (λ one. is_other_on own file one && (lease_of server one).state.write)
     without_write
 
--- A write wants no other key on its file to cache anything (own).
+-- A write wants no other key on its file to cache anything (profile).
 unfoldable pub all_wants : Server → Option Key → ℕ → List Want
 all_wants server own file = wants_where server
     (λ one. is_other_on own file one && holds_any (lease_of server one).state)

@@ -1,4 +1,4 @@
--- The limits of the profile (own), but that of a file, which is a constant of the shared values. Each is
+-- The limits of the profile (profile), but that of a file, which is a constant of the shared values. Each is
 -- named once; no other definition has its number.
 use Rattle.std.specs.Prelude.{ℕ}
 

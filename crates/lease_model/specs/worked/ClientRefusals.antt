@@ -116,7 +116,7 @@ parked_refusals_calls =
     ∷ flush_it
     ∷ []
 
--- A parked entry with a buffered write hears an Open alone: until then the write isn't sent, and nothing is
+-- A parked entry with a buffered write accepts an Open alone: until then the write isn't sent, and nothing is
 -- read, written or closed.
 abbrev pub ParkedRefusals : Type 0
 ParkedRefusals = steps_along one_client parked_refusals_calls ≡

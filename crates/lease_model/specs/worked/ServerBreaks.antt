@@ -78,7 +78,7 @@ one_break_calls =
     ∷ Call.Receive 1 (acknowledging sample_key nothing_cached)
     ∷ []
 
--- Two writes and one break: the change stands behind the break, and the second write sends none. The
+-- Two writes and one break: the change stands after the break, and the second write sends none. The
 -- create of client 3, which shares nothing, waits for the acknowledgment, and then meets a sharing violation.
 abbrev pub OneBreakForTwoWrites : Type 0
 OneBreakForTwoWrites = outs_along three_joined one_break_calls ≡
@@ -124,7 +124,7 @@ one_conflict_calls =
     ∷ []
 
 -- Clients 1 and 2 have RH. The create of client 3, which doesn't share writes, conflicts with the open of
--- client 2 alone, and breaks the handles of that one; client 1 hears nothing.
+-- client 2 alone, and breaks the handles of that one; client 1 is sent nothing.
 abbrev pub OneConflictBroken : Type 0
 OneConflictBroken = outs_along three_joined one_conflict_calls ≡
     (Out.Opened 1 1 ∷ Out.Sent 1 (created 1 1 sample_key RH false false) ∷ [])

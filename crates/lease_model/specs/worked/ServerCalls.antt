@@ -136,7 +136,7 @@ waiting_calls =
     ∷ []
 
 -- The create of client 1 waits for two leases, the write of client 2 for one of them, and the close
--- of client 2 behind its write. With the acknowledgment of client 3 a first pass answers the write,
+-- of client 2 after its write. With the acknowledgment of client 3 a first pass answers the write,
 -- for which the lease of reads that is left there is broken at once, and the close; a second pass
 -- finds nobody left who could give up handles, and refuses the create.
 abbrev pub TwoPasses : Type 0

@@ -1,4 +1,4 @@
--- What a run accepts: the limits of a setup, and of the number of events (own).
+-- What a run accepts: the limits of a setup, and of the number of events (profile).
 use Rattle.std.specs.Prelude.{ℕ, Bool, true, List, [], ◌∷◌, length, nat_le, nat_lt, ◌&&◌, not, bytes_eq}
 use Rattle.std.specs.List.{list_any, list_all}
 use Rattle.lease_state.specs.declared.content.TheConstants.{FILE_LIMIT}

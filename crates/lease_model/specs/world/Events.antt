@@ -1,4 +1,4 @@
--- What can happen in a world, and the record of a run (own).
+-- What can happen in a world, and the record of a run (profile).
 use Rattle.std.specs.Prelude.{ℕ, Option, Some, None, List, [], ◌∷◌, reverse, if◌then◌else◌}
 use Rattle.lease_model.specs.server.Calls.{receive, join, cut, expire, scavenge}
 use Rattle.lease_model.specs.client.Commanded.{commanded}

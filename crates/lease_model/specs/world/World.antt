@@ -1,4 +1,4 @@
--- Clients, a server, and what lies between them: for each client a link and two queues (own).
+-- Clients, a server, and what lies between them: for each client a link and two queues (profile).
 use Rattle.std.specs.Prelude.{ℕ, ◌+◌, Bool, List, [], ◌∷◌, ◌++◌, length, reverse, nat_le, ◌&&◌}
 use Rattle.lease_model.specs.client.State.{Client, new_client}
 use Rattle.lease_model.specs.client.Commands.{Note}

@@ -27,7 +27,7 @@ pub enum Expected {
     Guid,
     /// An acknowledgment's bytes.
     Message,
-    /// The word behind a durable open, which others lack.
+    /// The word after a durable open, which others lack.
     Durable,
     /// No more.
     End,

@@ -21,13 +21,13 @@ pub struct Complaint<'a> {
     pub expected: Expected,
     /// What stands there; none where the line ends before it.
     pub found: Option<&'a [u8]>,
-    /// Whether the line ends behind it.
+    /// Whether the line ends after it.
     pub is_last: bool,
 }
 
 // ---- the table
 
-// The fields behind the word for a kind of fact.
+// The fields after the word for a kind of fact.
 #[tactic(auto, unfolding(crate::specs::Complaints::fields_behind))]
 fn fact_fields(word: &[u8]) -> Option<&'static [Expected]>
     ensures { option_map (λ fields. fields.now) result ≡ complaints.fields_behind complaints.fact_rows word.now }
@@ -220,7 +220,7 @@ fn does_fit(alloc: Global, expected: Expected, word: &[u8]) -> Result<bool, Line
     }
 }
 
-// The fields that are expected behind a word, where the word is one that was expected.
+// The fields that are expected after a word, where the word is one that was expected.
 fn behind(
     alloc: Global,
     expected: Expected,

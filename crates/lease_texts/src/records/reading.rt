@@ -108,7 +108,7 @@ fn read_cached_read(alloc: Global, fields: &mut Fields) -> Result<Fact, LineFaul
     Ok(Fact::CachedRead(client, file, fields.bytes(alloc)?))
 }
 
-// The fact of a kind, by the fields behind the one that names it.
+// The fact of a kind, by the fields after the one that names it.
 #[tactic(auto, unfolding(crate::specs::Records::fact_named))]
 fn read_named(alloc: Global, kind: &[u8], fields: &mut Fields) -> Result<Fact, LineFault>
     ensures { Takes (λ fact. fact) (fact_named kind.now) fields.old fields.new result }
@@ -151,11 +151,11 @@ fn read_fields(alloc: Global, fields: &mut Fields) -> Result<Fact, LineFault>
     read_named(alloc, kind, fields)
 }
 
-/// The fact that a line of a record tells.
+/// The fact that a line of a record is.
 ///
 /// # Errors
 ///
-/// `Refused` where the line tells none, and `Memory` where there is none left for what it tells.
+/// `Refused` where the line is none, and `Memory` where there is none left for what it holds.
 #[tactic(auto, unfolding(crate::specs::Records::fact_in))]
 pub fn read_fact(alloc: Global, line: &[u8]) -> Result<Fact, LineFault>
     ensures { MatchResult result (λ fact. fact_in line.now ≡ Some fact)

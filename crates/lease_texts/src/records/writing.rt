@@ -86,7 +86,7 @@ fn push_bytes(alloc: Global, text: &mut String, bytes: &Bytes) -> Result<(), All
     text.push_str(digits.as_str())
 }
 
-// Two numbers, each with a space behind it.
+// Two numbers, each with a space after it.
 #[tactic(auto, unfolding(crate::specs::Records::pair_words))]
 fn push_pair(text: &mut String, first: u8, second: u8) -> Result<(), AllocError>
     ensures { OnOk result (string_bytes text.new ≡ string_bytes text.old ++ pair_words first second) }

@@ -109,11 +109,11 @@ fn read_request_of(alloc: Global, kind: &[u8], fields: &mut Fields) -> Result<Re
     }
 }
 
-/// A request, by its word and the fields behind it.
+/// A request, by its word and the fields after it.
 ///
 /// # Errors
 ///
-/// `Refused` where the next fields tell none, and `Memory` where there is none left for it.
+/// `Refused` where the next fields are none, and `Memory` where there is none left for it.
 pub fn read_request(alloc: Global, fields: &mut Fields) -> Result<Request, LineFault>
     ensures { Takes (λ value. value) (request_in) fields.old fields.new result }
 {
@@ -121,7 +121,7 @@ pub fn read_request(alloc: Global, fields: &mut Fields) -> Result<Request, LineF
     read_request_of(alloc, kind, fields)
 }
 
-// The event of a client, by the fields behind those that name it and the client.
+// The event of a client, by the fields after those that name it and the client.
 #[tactic(auto, unfolding(crate::specs::Schedules::event_of))]
 fn read_event_of(
     alloc: Global,
@@ -165,11 +165,11 @@ fn read_event_of(
     }
 }
 
-/// The event of a kind, by the fields behind the one that names it.
+/// The event of a kind, by the fields after the one that names it.
 ///
 /// # Errors
 ///
-/// `Refused` where they tell no event of that kind, and `Memory` where there is none left for it.
+/// `Refused` where they are no event of that kind, and `Memory` where there is none left for it.
 #[tactic(auto, unfolding(crate::specs::Schedules::event_named))]
 pub fn read_event(alloc: Global, kind: &[u8], fields: &mut Fields) -> Result<Event, LineFault>
     ensures { Takes (λ event. event) (event_named kind.now) fields.old fields.new result }

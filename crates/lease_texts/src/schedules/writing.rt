@@ -156,7 +156,7 @@ fn push_ack(alloc: Global, text: &mut String, message: &[u8; 36]) -> Result<(), 
     write!(text, "ack {digits}")
 }
 
-/// Adds a request: its word, and the fields behind it.
+/// Adds a request: its word, and the fields after it.
 pub fn push_request(alloc: Global, text: &mut String, asked: &Request) -> Result<(), AllocError>
     ensures { OnOk result (string_bytes text.new ≡ string_bytes text.old ++ request_words asked.now) }
 {

@@ -14,7 +14,7 @@ use lease_state::{FileId, LeaseKey, LeaseState};
 pub struct Lease {
     pub key: LeaseKey,
     pub state: LeaseState,
-    /// SMB2_LEASE_FLAG_BREAK_IN_PROGRESS, which only a response tells.
+    /// SMB2_LEASE_FLAG_BREAK_IN_PROGRESS, which only a response reports.
     pub breaking: bool,
 }
 

@@ -91,7 +91,7 @@ fn gather(direction: Direction, bytes: &[u8]) -> Result<ContextValues, WireFault
     Ok(values)
 }
 
-// A request tells of no break in progress.
+// A request reports no break in progress.
 fn asked_lease(lease: Option<Lease>) -> Option<(LeaseKey, LeaseState)>
     requires { IfSome lease (λ lease. lease.breaking ≡ false) }
     ensures { option_map lease_of lease ≡ option_map asked_view result }
@@ -117,7 +117,7 @@ fn granted_lease(lease: Option<Lease>) -> Option<(LeaseKey, LeaseState, bool)>
 /// # Errors
 ///
 /// The first fault in the order of the text. Within a context the tests come in the order of the
-/// faults' numbers. Reading takes no memory.
+/// faults' numbers. Reading allocates nothing.
 pub fn read_create(bytes: &[u8]) -> Result<CreateAsk, WireFault>
     ensures reading { IsReadingOf Request bytes.now (ask_result result) }
     ensures value { ask_result result ≡ value_of Request bytes.now }

@@ -26,7 +26,8 @@ fn append(out: &mut Vec<u8>, direction: Direction, values: &ContextValues) -> Re
     }
 }
 
-// Writes all of the canonical text to the front of the room, or nothing; tells how long the text is.
+// Writes all of the canonical text to the front of the room, or nothing; gives how long the text
+// is.
 #[inline(always)]
 fn fill(room: &mut [u8], direction: Direction, values: &ContextValues) -> usize
     ensures length { result ≡ length (canonical_text direction (values_of values.now)) }
@@ -113,8 +114,8 @@ pub fn write_create_reply(answer: &CreateAnswer, out: &mut Vec<u8>) -> Result<()
     append(out, Direction::Reply, &values_granted(answer))
 }
 
-/// Writes what [`write_create_ask`] appends to the front of `room`, and takes no memory. Gives the
-/// length of the text, 136 bytes at most; where `room` is shorter, nothing is written.
+/// Writes what [`write_create_ask`] appends to the front of `room`, and allocates nothing. Returns
+/// the length of the text, 136 bytes at most; where `room` is shorter, nothing is written.
 pub fn fill_create_ask(ask: &CreateAsk, room: &mut [u8]) -> usize
     ensures length { result ≡ length (canonical_text Request (ask_of ask.now)) }
     ensures written { result ≤ length room.old → room.new ≡ canonical_text Request (ask_of ask.now) ++ drop result room.old }
@@ -123,8 +124,8 @@ pub fn fill_create_ask(ask: &CreateAsk, room: &mut [u8]) -> usize
     fill(room, Direction::Request, &values_asked(ask))
 }
 
-/// Writes what [`write_create_reply`] appends to the front of `room`, and takes no memory. Gives the
-/// length of the text, 88 bytes at most; where `room` is shorter, nothing is written.
+/// Writes what [`write_create_reply`] appends to the front of `room`, and allocates nothing.
+/// Returns the length of the text, 88 bytes at most; where `room` is shorter, nothing is written.
 pub fn fill_create_reply(answer: &CreateAnswer, room: &mut [u8]) -> usize
     ensures length { result ≡ length (canonical_text Reply (answer_of answer.now)) }
     ensures written { result ≤ length room.old → room.new ≡ canonical_text Reply (answer_of answer.now) ++ drop result room.old }

@@ -1,6 +1,6 @@
 -- Each fact that speaks of a message has one: there are as many messages as such facts.
 use Rattle.std.proofs.Common.{◌≡◌, ℕ, suc, ◌+◌, Bool, true, false, List, [], ◌∷◌, ◌++◌, length, map, Option, Some, None, refl, sym, ap, ◌∙◌, arith}
-use Rattle.std.specs.Prelude.{◌&&◌, if◌then◌else◌, nat_le, reverse}
+use Rattle.std.specs.Prelude.{if◌then◌else◌, reverse}
 use Rattle.std.proofs.lemmas.List.{reverse-append, reverse-reverse, length-append, length-map}
 use Rattle.lease_model.specs.client.Calls.{ClientCall, client_called}
 use Rattle.lease_model.specs.client.Commands.{Note}
@@ -14,7 +14,7 @@ use Rattle.lease_model.specs.server.Queries.{breaking, kept}
 use Rattle.lease_model.specs.server.State.{has_file}
 use Rattle.lease_model.specs.values.Tables.{put}
 use Rattle.lease_model.specs.world.Events.{Event, served, stepped_in, server_takes, client_takes, link_cut, cut_over, link_noticed, notice_over, link_connected, connect_over, machine_key, timer_expired, scavenged, strayed_over, applied, client_of, happens, after, recorded}
-use Rattle.lease_model.specs.world.World.{World, Setup, Link, happened, first_world, starts_from, has_client, noted, requests_sent, all_delivered, fact_of}
+use Rattle.lease_model.specs.world.World.{World, Setup, Link, happened, first_world, starts_from, has_client, requests_sent, fact_of}
 use Rattle.lease_facts.specs.Facts.{fact_of as fact_told}
 use Rattle.lease_facts.specs.declared.fact.Fact as code_fact
 use Rattle.lease_model.specs.messages.FromBytes.{reply_of}

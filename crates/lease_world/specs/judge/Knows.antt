@@ -39,7 +39,7 @@ pub record KnowsClient (client : ℕ) (seen : SeenClient) (past : List Fact) : T
   pub writes : (number : ℕ) → write_in seen number ≡ write_of client number past
   pub caches : (file : ℕ) → KnowsCache client file (cache_in seen.caches file) past
 
--- the file at a place that isn't behind this one
+-- the file at a place that isn't after this one
 abbrev pub IsBase : SeenFile → ℕ → Option Snapshot → Type 0
 IsBase file taken None = ⊤
 IsBase file taken (Some base) = (is_some file.start ≡ true)

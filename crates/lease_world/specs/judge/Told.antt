@@ -48,7 +48,7 @@ pending client file whole (Fact.Wrote writer other number patch buffered ∷ pas
     else pending client file whole past
 pending client file whole (_ ∷ past) = pending client file whole past
 
--- the place of the fact behind a past
+-- the place of the fact after a past
 abbrev pub place_of : List Fact → ℕ
 place_of past = length past + 1
 

@@ -55,7 +55,7 @@ with_replies replies seat = record seat { replies = seat.replies ++ replies }
 abbrev pub HasReplies : List Seat → List Seat → List out.Out → Type 0
 HasReplies old new outs = (n : ℕ) → seat_at new n ≡ option_map (with_replies (replies_to n outs)) (seat_at old n)
 
--- these are kept behind those that were, where messages are kept
+-- these are kept after those that were, where messages are kept
 abbrev pub HasKept : Option (List Reply) → Option (List Reply) → List Reply → Type 0
 HasKept old new more = new ≡ option_map (λ kept. kept ++ more) old
 

@@ -21,11 +21,11 @@ use Rattle.lease_world.specs.world.Stands.{Seen, Stands}
 abbrev pub messages_kept : Seen → Option (List Reply)
 messages_kept code = option_map (map reply_of) code.messages
 
--- these are kept behind those that were, where messages are kept
+-- these are kept after those that were, where messages are kept
 abbrev pub Keeps : List Reply → Seen → Seen → Type 0
 Keeps more old new = messages_kept new ≡ option_map (λ replies. replies ++ more) (messages_kept old)
 
--- the same behind messages of the code
+-- the same after messages of the code
 abbrev pub KeepsBehind : Option (List code.Reply) → List Reply → Seen → Type 0
 KeepsBehind first more new =
     messages_kept new ≡ option_map (λ kept. map reply_of kept ++ more) first

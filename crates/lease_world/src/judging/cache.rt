@@ -56,7 +56,7 @@ impl Model for CacheSeen {
 }
 
 impl CacheSeen {
-    /// Of a client and a file of which nothing is known. No memory is taken.
+    /// Of a client and a file of which nothing is known. Allocates nothing.
     pub fn new(alloc: Global) -> CacheSeen
         ensures { result ≡ unseen_cache }
     {

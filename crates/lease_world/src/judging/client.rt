@@ -87,7 +87,7 @@ impl Model for ClientSeen {
 }
 
 impl ClientSeen {
-    /// Of a client that no fact named. No memory is taken.
+    /// Of a client that no fact named. Allocates nothing.
     pub fn new(alloc: Global) -> ClientSeen
         ensures { result ≡ unseen_client }
     {
@@ -111,7 +111,8 @@ impl ClientSeen {
         !self.strayed && self.served
     }
 
-    /// Whether the client ever strayed.
+    /// Whether the client ever strayed: whether a request was sent in its name that its machine
+    /// didn't make.
     pub fn has_strayed(&self) -> bool
         ensures { result ≡ self.now.strayed }
     {
@@ -224,7 +225,7 @@ impl ClientSeen {
         put_write(&mut self.writes, number, write)
     }
 
-    /// The client is told what became of its write of this number.
+    /// The client learns what became of its write of this number.
     ///
     /// # Errors
     ///

@@ -26,7 +26,7 @@ impl Model for Clients {
 }
 
 impl Clients {
-    /// Before any fact. No memory is taken.
+    /// Before any fact. Allocates nothing.
     pub fn new(alloc: Global) -> Clients
         ensures { result ≡ [] }
     {
@@ -182,7 +182,7 @@ impl Clients {
         seen.write(number, write)
     }
 
-    /// The client is told what became of its write of this number.
+    /// The client learns what became of its write of this number.
     pub fn settle(&mut self, client: ClientNo, number: u64) -> Result<(), Memory>
         ensures { OnOk result (ChangesClient (Settles number) client.0 self.old self.new) }
     {

@@ -107,7 +107,7 @@ impl Model for FileSeen {
 }
 
 impl FileSeen {
-    /// Of a file that no fact named. No memory is taken.
+    /// Of a file that no fact named. Allocates nothing.
     pub fn new(alloc: Global) -> FileSeen
         ensures { result ≡ unseen_file }
     {

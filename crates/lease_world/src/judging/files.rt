@@ -24,7 +24,7 @@ impl Model for Files {
 }
 
 impl Files {
-    /// Before any fact. No memory is taken.
+    /// Before any fact. Allocates nothing.
     pub fn new(alloc: Global) -> Files
         ensures { result ≡ [] }
     {

@@ -31,7 +31,7 @@ impl Model for Known {
 }
 
 impl Known {
-    /// Before any fact. No memory is taken.
+    /// Before any fact. Allocates nothing.
     pub fn new(alloc: Global) -> Known
         ensures { result ≡ record { files = []; clients = [] } }
     {
@@ -41,7 +41,7 @@ impl Known {
         }
     }
 
-    /// Takes the fact at this place, and tells what it is in the light of those before it.
+    /// Takes the fact at this place, and gives what it is in the light of those before it.
     ///
     /// # Errors
     ///

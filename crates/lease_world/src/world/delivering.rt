@@ -11,7 +11,8 @@ use lease_facts::Fact;
 use lease_state::{ClientNo, Memory, Reply};
 use share_server::Out;
 
-/// Tells what the server gave out, in order, sends its replies, and keeps them where messages are kept.
+/// Records what the server gave out, in order, sends its replies, and keeps them where messages are
+/// kept.
 ///
 /// # Errors
 ///
@@ -70,7 +71,7 @@ fn push_reply(seats: &mut Vec<Seat>, client: ClientNo, reply: Reply) -> Result<(
     Ok(())
 }
 
-/// Tells what a client notes, in order.
+/// Records what a client notes, in order.
 ///
 /// # Errors
 ///

@@ -1,4 +1,4 @@
-/// How a client is connected (own).
+/// How a client is connected (profile).
 #[derive(Clone, Copy, Debug, PartialEq, Eq)]
 pub enum Link {
     Down,

@@ -40,7 +40,7 @@ impl Messages {
         Messages { kept: None }
     }
 
-    /// Keeps an equal message behind those that were, where messages are kept.
+    /// Keeps an equal message after those that were, where messages are kept.
     ///
     /// # Errors
     ///

@@ -159,7 +159,7 @@ fn send_over(
     Ok(())
 }
 
-// Puts requests behind those that are in the queue.
+// Puts requests after those that are in the queue.
 fn push_all(queue: &mut VecDeque<Request>, requests: Vec<Request>) -> Result<(), Memory>
     ensures { OnOk result (queue.new.items ≡ queue.old.items ++ requests.items) }
 {

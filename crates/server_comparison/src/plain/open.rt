@@ -82,7 +82,7 @@ impl Opening {
         self.ask.lease.map(|(bytes, _)| Key { client, bytes })
     }
 
-    /// Whether it can't be beside this open.
+    /// Whether it conflicts with this open.
     pub fn conflicts(&self, one: &Open) -> bool {
         one.file == self.file
             && !(self.access.is_within(one.share) && one.access.is_within(self.share))

@@ -7,7 +7,8 @@ use lease_wire::Notification;
 use std::mem;
 
 impl Server {
-    // A request is refused at once, or waits behind an earlier one of its client on its file, or is tried.
+    // A request is refused at once, or waits after an earlier one of its client on its file, or is
+    // tried.
     pub(super) fn arrive(&mut self, client: ClientNo, request: Request) -> Result<(), Memory> {
         if let Request::Ack(message) = &request {
             return self.acknowledge(client, message);
@@ -64,8 +65,8 @@ impl Server {
         Ok(())
     }
 
-    // Tries what waits on a file in order of arrival, but for what is behind a request that still waits. Whether a request
-    // was answered.
+    // Tries what waits on a file in order of arrival, but for what comes after a request that still
+    // waits. Whether a request was answered.
     fn pass(&mut self, file: FileNo) -> Result<bool, Memory> {
         let none = Vec::new(self.alloc());
         let held = mem::replace(&mut self.held, none);
@@ -102,7 +103,7 @@ impl Server {
         Ok(true)
     }
 
-    // A write needn't wait for a break to nothing, since that was told before.
+    // A write needn't wait for a break to nothing, since that break was sent before.
     fn is_settled(&self, one: &Held, key: Key) -> bool {
         let writes = matches!(one.request, Request::Write { .. });
         writes && self.broken_to(key).is_some_and(|state| state.is_none())

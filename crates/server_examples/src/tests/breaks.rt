@@ -123,7 +123,7 @@ fn passes_until_one_answers_nothing(rt: HostRuntime) -> Result<(), Fail> {
     Ok(())
 }
 
-// Client 1 has RH, and hears nothing of writes and reads that are denied or end past the limit.
+// Client 1 has RH, and is sent nothing for writes and reads that are denied or end past the limit.
 #[test]
 fn denied_requests_break_nothing(rt: HostRuntime) -> Result<(), Fail> {
     let alloc = rt.alloc();

@@ -22,7 +22,7 @@ pub const RWH: u8 = 7;
 const LEASE_CONTEXT: [u8; 56] = *b"\0\0\0\0\x10\0\x04\0\0\0\x18\0\x20\0\0\0RqLs\0\0\0\0\
 \0\0\0\0\0\0\0\0\0\0\0\0\0\0\0\0\0\0\0\0\0\0\0\0\0\0\0\0\0\0\0\0";
 
-// The same, and behind it DHnQ as it is asked, DHnC, and DHnQ as it is given.
+// The same, followed by DHnQ as it is asked, DHnC, and DHnQ as it is given.
 const DURABLE_ASK: [u8; 96] = *b"\x38\0\0\0\x10\0\x04\0\0\0\x18\0\x20\0\0\0RqLs\0\0\0\0\
 \0\0\0\0\0\0\0\0\0\0\0\0\0\0\0\0\0\0\0\0\0\0\0\0\0\0\0\0\0\0\0\0\
 \0\0\0\0\x10\0\x04\0\0\0\x18\0\x10\0\0\0DHnQ\0\0\0\0\0\0\0\0\0\0\0\0\0\0\0\0\0\0\0\0";

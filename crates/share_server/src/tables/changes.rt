@@ -67,7 +67,7 @@ impl Tables {
         Ok(())
     }
 
-    /// The request waits on the file, behind those that wait there.
+    /// The request waits on the file, after those that wait there.
     ///
     /// # Errors
     ///

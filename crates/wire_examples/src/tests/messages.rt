@@ -1,4 +1,4 @@
-// Whole SMB2 messages: a header, and behind it a body.
+// Whole SMB2 messages: a header, and after it a body.
 use crate::tests::{ASK, KEY};
 use lease_state::LeaseState;
 use lease_wire::{

@@ -80,7 +80,7 @@ fn events_have_a_limit(rt: HostRuntime) -> Result<(), Fail> {
     assert_eq!(rt; fault(alloc, &small, &events), None);
     events.push(Event::Notice(ClientNo(1)))?;
     assert_eq!(rt; fault(alloc, &small, &events), Some(RunFault::TooMany));
-    // A bad setup is told first.
+    // A bad setup is reported first.
     let bad = setup(alloc, 9, 1)?;
     assert_eq!(rt; fault(alloc, &bad, &events), Some(RunFault::BadSetup));
     Ok(())
@@ -111,9 +111,9 @@ const BREAK: [u8; 44] = [
     0, 0, 0, 0, 0, 0, 0, 0, 0, 0, 0, 0, 0,
 ];
 
-// A client opens a file and is granted all; then another one opens it, and the first takes the break. The contexts and the break
-// are those of MS-SMB2 2.2.14.2.10 and 2.2.23.2, written by hand: the key is the client's GUID with the file's number behind its
-// first twelve bytes.
+// A client opens a file and is granted all; then another one opens it, and the first takes the
+// break. The contexts and the break are those of MS-SMB2 2.2.14.2.10 and 2.2.23.2, written by hand:
+// the key is the client's GUID with the file's number after its first twelve bytes.
 #[test]
 fn a_run_gives_what_is_in_its_messages(rt: HostRuntime) -> Result<(), Fail> {
     let alloc = rt.alloc();

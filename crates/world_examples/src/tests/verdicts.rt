@@ -38,7 +38,7 @@ fn two_caches_of_which_one_writes(rt: HostRuntime) -> Result<(), Fail> {
     )?;
     assert_eq!(rt; judge(alloc, &facts)?, breaks(5, Rule::OneWriteCache));
 
-    // Reads beside reads are no harm, nor is a belief of another file.
+    // Two clients that cache reads do no harm, nor is a belief of another file.
     let facts = record(
         alloc,
         [
@@ -383,7 +383,7 @@ fn a_file_may_start_with_more_than_the_limit(rt: HostRuntime) -> Result<(), Fail
     Ok(())
 }
 
-// A write that is late and ends past the limit is told as Malformed.
+// A write that is late and ends past the limit is reported as Malformed.
 #[test]
 fn malformed_goes_before_a_broken_rule(rt: HostRuntime) -> Result<(), Fail> {
     let alloc = rt.alloc();
