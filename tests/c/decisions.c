@@ -48,6 +48,12 @@ static void check_creates(void) {
     apart.key[15] = 9;
     check("a create under another key", same(&apart, &reader, 0, 1, 3));
     check("a file without opens", smblease_create_finding(NULL, 0, NULL, 0, &other).wants_breaks == 0);
+    struct smblease_lease without_handles = full;
+    without_handles.state = SMBLEASE_READ_CACHING | SMBLEASE_WRITE_CACHING;
+    writer.access = 2;
+    struct smblease_finding found = smblease_create_finding(&reader, 1, &without_handles, 1, &writer);
+    check("a create that conflicts where no handles are cached", found.status == SMBLEASE_STATUS_SHARING_VIOLATION
+                                                                     && found.wants_breaks == 0);
 }
 
 static void check_reads_and_writes(void) {
@@ -59,6 +65,14 @@ static void check_reads_and_writes(void) {
     check("a write", smblease_write_finding(&reader, 1, &full, 1, &writer).wants_breaks == 1);
     struct smblease_want want = smblease_write_want(&reader, 1, &full, 1, &writer, &full);
     check("what it wants", want.wanted == 1 && want.lowered == 0);
+    struct smblease_lease reads = full;
+    reads.state = SMBLEASE_READ_CACHING;
+    check("a write where reads are cached", smblease_write_finding(&reader, 1, &reads, 1, &writer).wants_breaks == 1);
+    want = smblease_write_want(&reader, 1, &reads, 1, &writer, &reads);
+    check("it wants these too", want.wanted == 1 && want.lowered == 0);
+    struct smblease_request owner = own;
+    check("its own reads stay", smblease_write_finding(&reader, 1, &reads, 1, &owner).wants_breaks == 0
+                                    && smblease_write_want(&reader, 1, &reads, 1, &owner, &reads).wanted == 0);
 }
 
 static void check_grants(void) {
@@ -76,11 +90,16 @@ static void check_grants(void) {
     struct smblease_lease expired = {LARGE, KEY, 0, 0, 0, 1, {0}};
     check("a grant after a timer", smblease_lease_after_grant(&reader, 1, &expired, 1, &own, &after));
     check("it is nothing", after.state == 0 && after.breaking == 0 && after.expired == 1);
+    struct smblease_request unkeyed = other;
+    unkeyed.has_key = 0;
+    after.state = 9;
+    check("a create without a key", !smblease_lease_after_grant(&reader, 1, &full, 1, &unkeyed, &after) && after.state == 9);
 }
 
 static void check_acknowledgments(void) {
     struct smblease_lease lease = {LARGE, KEY, ALL, 3, 1, 1, {0}};
-    check("too much is kept", smblease_acknowledge(&lease, 7) == SMBLEASE_STATUS_REQUEST_NOT_ACCEPTED && lease.state == ALL);
+    check("too much is kept", smblease_acknowledge(&lease, 7) == SMBLEASE_STATUS_REQUEST_NOT_ACCEPTED && lease.state == ALL
+                                  && lease.broken_to == 3 && lease.breaking == 1);
     check("it is accepted", smblease_acknowledge(&lease, 1) == SMBLEASE_STATUS_SUCCESS);
     check("the lease then", lease.state == 1 && lease.broken_to == 0 && lease.breaking == 0
                                 && lease.expired == 1 && lease.client == LARGE);
@@ -89,7 +108,7 @@ static void check_acknowledgments(void) {
 
 static void check_words(void) {
     check("conflicts", smblease_opens_conflict(1, 3, 3, 2) && !smblease_opens_conflict(2, 3, 3, 2)
-                           && !smblease_opens_conflict(1, 0, 0, 0));
+                           && !smblease_opens_conflict(1, 0, 0, 0) && !smblease_opens_conflict(0, 0, 3, 0));
     check("granted forms", smblease_granted_form(6) == 0 && smblease_granted_form(UINT32_C(0xfffffff5)) == 5);
     check("acknowledgments", smblease_needs_acknowledgment(2) && smblease_needs_acknowledgment(4)
                                  && !smblease_needs_acknowledgment(1));

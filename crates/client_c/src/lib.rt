@@ -11,8 +11,6 @@ mod handle;
 mod note;
 mod replies;
 mod request;
-#[cfg(test)]
-mod tests;
 mod threads;
 mod values;
 

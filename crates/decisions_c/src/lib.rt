@@ -9,8 +9,6 @@ mod grants;
 mod key;
 mod numbers;
 mod tables;
-#[cfg(test)]
-mod tests;
 mod wants;
 mod wish;
 

@@ -11,8 +11,6 @@ mod fault;
 mod kind;
 mod messages;
 mod room;
-#[cfg(test)]
-mod tests;
 mod version;
 
 pub use context::LeaseContext;

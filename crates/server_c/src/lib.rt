@@ -11,8 +11,6 @@ mod out;
 mod queries;
 mod requests;
 mod setting_up;
-#[cfg(test)]
-mod tests;
 mod threads;
 mod values;
 
