@@ -1,5 +1,5 @@
-//! Worked examples of `lease_texts`, the texts of schedules and records, as tests. They stand apart from it, so that it is
-//! proved once and not a second time with them.
+//! Worked examples of `lease_texts`, the texts of schedules and records, and of `lease_lines`, machines that speak lines, as
+//! tests. They stand apart, so that those crates are proved once and not a second time with them.
 #![tactic(auto)]
 
 #[cfg(test)]

@@ -9,6 +9,8 @@ use std::alloc::Global;
 use std::test::Fail;
 use text_laws::{facts_are_typed, judged_run};
 
+mod machines;
+
 fn bytes(alloc: Global, list: &[u8]) -> Result<Bytes, Fail> {
     Ok(Bytes::new(Vec::from_slice(alloc, list)?))
 }

@@ -1,0 +1,59 @@
+use lease_lines::Machines;
+use std::alloc::Global;
+use std::test::Fail;
+
+// What machines answer to the lines of a text.
+fn answers(alloc: Global, machines: Machines, lines: &[&str]) -> Result<String, Fail> {
+    let mut text = String::new(alloc);
+    let mut machines = machines;
+    let mut number = 0u64;
+    for line in lines {
+        number = number.saturating_add(1);
+        machines = machines.answer(alloc, number, line.as_bytes(), &mut text)?;
+    }
+    Ok(text)
+}
+
+const LEASE: &str =
+    "0000000010000400000018002000000052714c73000000001111111111111111111111110100000007000000000000000000000000000000";
+
+#[test]
+fn a_client_opens_and_is_refused(rt: HostRuntime) -> Result<(), Fail> {
+    let alloc = rt.alloc();
+    let lines = [
+        "files 1",
+        "client 11111111-1111-1111-1111-111111111111",
+        "# a remark",
+        "open 1 1 rw rw RWH",
+        "connect 1",
+        "open 1 1 rw rw RWH",
+        "take 1 createfailed 1 c0000999",
+        "open 2 1 rw rw RWH",
+    ];
+    let told = answers(alloc, Machines::clients(alloc), lines.as_slice())?;
+    let expected = format!(in alloc;
+        "answer refused offline\nanswer quiet\nrequest create 1 rw rw {LEASE}\nanswer waiting\nanswer failed c0000999\nfault line 8\n"
+    )?;
+    assert_eq!(rt; told.as_str(), expected.as_str());
+    Ok(())
+}
+
+#[test]
+fn a_server_opens_and_reads(rt: HostRuntime) -> Result<(), Fail> {
+    let alloc = rt.alloc();
+    let lines = [
+        "file 6162",
+        "join 1",
+        "join 1",
+        "receive 1 create 1 r r -",
+        "receive 1 read 1",
+        "kept 1 1",
+        "content 2",
+        "file -",
+    ];
+    let told = answers(alloc, Machines::server(alloc), lines.as_slice())?;
+    let expected =
+        "answer done\nanswer nothing\nopened 1 1\nsent 1 created 1 1 -\nanswer done\nsent 1 readdone 1 6162\nanswer done\nanswer none\nanswer none\nfault line 8\n";
+    assert_eq!(rt; told.as_str(), expected);
+    Ok(())
+}
