@@ -23,7 +23,7 @@ def server_arguments(parser: argparse.ArgumentParser) -> None:
     parser.add_argument("--smbd-log", metavar="FILE", help="keep the log of the private smbd there, at level 10")
     parser.add_argument("--leasecheck", metavar="PATH", default=OWN, help="the program leasecheck")
     parser.add_argument("--skip", action="store_true", help="leave out events that can't be driven")
-    parser.add_argument("--verbose", action="store_true", help="tell on standard error what each event did")
+    parser.add_argument("--verbose", action="store_true", help="say on standard error what each event did")
 
 
 def runner_of(arguments: argparse.Namespace) -> Runner:
@@ -32,7 +32,7 @@ def runner_of(arguments: argparse.Namespace) -> Runner:
 
 def _server_maker(arguments: argparse.Namespace) -> Callable[[], Server]:
     if [arguments.smbd, arguments.served, bool(arguments.server)].count(True) != 1:
-        raise Usage("one of --smbd, --served and --server is needed")
+        raise Usage("one of --smbd, --served and --server is needed, and one alone")
     if arguments.smbd:
         return lambda: PrivateServer(arguments.smbd_log)
     if arguments.smbd_log:

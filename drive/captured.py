@@ -11,7 +11,7 @@ from drive.shown import NONE, Shower, State, word_of
 from drive.sightings import MOST, Connection, File
 from drive.walking import Fact, Walk
 
-CANT = ("A capture shows no cached read, no buffered write, and not what applications were told: so rules 2 and 3, and that half",
+CANT = ("A capture shows no cached read, no buffered write, and not what applications were answered: so rules 2 and 3, and that half",
         "of rule 4, aren't judged. What clients believed of their leases is judged by rule 1.")
 
 

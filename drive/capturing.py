@@ -12,12 +12,12 @@ from drive.faults import DriveFault, Usage
 from drive.packets import read_capture
 from drive.program import OWN, Verdict, judged
 
-EPILOG = """The record is printed, and behind it the verdict as a line `# safe` or `# unsafe PLACE RULE` with the packets that
-show it, so that all of it is a record still. With --record it goes to a file, and the verdict and what else is told are
-printed. Behind each fact of a record a remark tells the packet that shows it.
+EPILOG = """The record is printed, and after it the verdict as a line `# safe` or `# unsafe PLACE RULE` with the packets that
+show it, so that all of it is still a record. With --record it goes to a file, and the verdict and all other findings are
+printed. After each fact of a record a remark names the packet that shows it.
 
 Exit status: 0 the record is safe; 1 the capture can't be read, or there is no SMB2 in it; 2 the command line is refused;
-3 the record is unsafe: whatever the order of what the capture doesn't tell, rule 1 is broken."""
+3 the record is unsafe: rule 1 is broken in every order that fits the capture."""
 
 
 def parser() -> argparse.ArgumentParser:
@@ -28,7 +28,7 @@ def parser() -> argparse.ArgumentParser:
     made.add_argument("--at", choices=("client", "server"), default="server",
                       help="where it was made; at a server, which is presumed, it only bounds when clients took messages")
     made.add_argument("--port", metavar="PORT", type=int, action="append", default=[],
-                      help="a port of a server, beside 445 and 139; may be given more than once")
+                      help="a port of a server, in addition to 445 and 139; may be given more than once")
     made.add_argument("--leasecheck", metavar="PATH", default=OWN, help="the program leasecheck")
     return made
 

@@ -16,9 +16,9 @@ from drive.running import schedule_in
 from drive.schedules import Schedule
 
 EPILOG = """Without --record the schedule is driven first. The lines of the difference begin with `- ` where the profile's server
-has a fact that this one hasn't, and with `+ ` the other way round. Behind them stands what explains it: the departures
+has a fact that this one hasn't, and with `+ ` the other way round. After them comes what explains it: the departures
 of smbd (docs/REAL_SERVERS.md) with which a model server gives the whole record, fact by fact, and none of which can be
-left out. Within a step messages on different connections are told in the driver's order.
+left out. Within a step messages on different connections are in the driver's order.
 
 Exit status: 0 the record is the profile's, or explained; 1 it isn't explained, or wasn't to be had; 2 the command line
 is refused."""

@@ -86,7 +86,7 @@ class Driver(World):
             return self._meant_create(request)
         if isinstance(request, Write):
             if request.offset + len(request.data) > FILE_LIMIT and not self._server.is_profiled:
-                raise Undrivable("a record doesn't tell writes past the limit of a file")
+                raise Undrivable("no record can hold a write past the limit of a file")
             return Write(self._real(request.file_id), request.number, request.offset, request.data)
         return type(request)(self._real(request.file_id))
 

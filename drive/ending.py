@@ -15,11 +15,14 @@ SAFE, NOT_DRIVEN, REFUSED, UNSAFE = 0, 1, 2, 3
 
 def ended(parser: argparse.ArgumentParser, main: Callable[[argparse.Namespace], int], words: Sequence[str]) -> int:
     """Runs a command; what goes wrong is one line on standard error, and a status."""
-    arguments = parser.parse_args(words)
-    logging.basicConfig(format="%(message)s", level=logging.DEBUG if getattr(arguments, "verbose", False) else logging.WARNING)
-    # A private server is ended too where the tool is.
-    signal.signal(signal.SIGTERM, lambda number, frame: sys.exit(NOT_DRIVEN))
+    if sys.stdout is None:
+        print(f"{parser.prog}: output: standard output is closed", file=sys.stderr)
+        return NOT_DRIVEN
     try:
+        arguments = _parsed(parser, words)
+        logging.basicConfig(format="%(message)s", level=logging.DEBUG if getattr(arguments, "verbose", False) else logging.WARNING)
+        # A private server is ended too where the tool is.
+        signal.signal(signal.SIGTERM, lambda number, frame: sys.exit(NOT_DRIVEN))
         status = main(arguments)
         sys.stdout.flush()
         return status
@@ -36,3 +39,11 @@ def ended(parser: argparse.ArgumentParser, main: Callable[[argparse.Namespace], 
         return NOT_DRIVEN
     except KeyboardInterrupt:
         return NOT_DRIVEN
+
+
+def _parsed(parser: argparse.ArgumentParser, words: Sequence[str]) -> argparse.Namespace:
+    try:
+        return parser.parse_args(words)
+    finally:
+        # (help that can't be written is found out here, and not at the interpreter's end)
+        sys.stdout.flush()

@@ -24,7 +24,7 @@ LOG = logging.getLogger("drive")
 EPILOG = """FOLDER/table gets a line for each schedule: its number; `blind` (its events were chosen beforehand) or `guided`
 (each by what the run had come to); its events, and how many of them did something; the verdict; `same` where the
 record is the profile's, else the known departures that explain it, or `unexplained` (docs/REAL_SERVERS.md); and for an
-unsafe one `shrunk N`, the events that are left. A schedule that is unsafe or unexplained stands beside the table by its
+unsafe one `shrunk N`, the events that are left. A schedule that is unsafe or unexplained is kept next to the table by its
 number, with its record and what is left of it. It counts as unsafe, and is shrunk, where it breaks one rule in both orders
 of messages; where the rules differ the table says `unsure` and both verdicts.
 One seed gives one table, as far as the server does the same again.
@@ -39,7 +39,7 @@ def parser() -> argparse.ArgumentParser:
     made.add_argument("--seed", type=int, required=True, metavar="S", help="what the schedules are drawn from")
     made.add_argument("--count", type=int, required=True, metavar="N", help="how many")
     made.add_argument("--folder", metavar="FOLDER", help="where the table and what is unsafe go (explored-S)")
-    made.add_argument("--resume", action="store_true", help="go on behind the last line of the table")
+    made.add_argument("--resume", action="store_true", help="go on after the last line of the table")
     made.add_argument("--no-shrink", action="store_true", help="keep what is unsafe as it is")
     server_arguments(made)
     return made
@@ -184,7 +184,7 @@ def main(arguments: argparse.Namespace) -> int:
         unsafe, faults = _all(explorer, begun, arguments.count, f"{folder}/table")
     except OSError as fault:
         raise DriveFault(f"{folder}: {fault.strerror}") from None
-    print(f"{arguments.count - begun} driven, {unsafe} unsafe, {faults} not driven to the end; {folder}/table has them")
+    print(f"{max(0, arguments.count - begun)} driven, {unsafe} unsafe, {faults} not driven to the end; {folder}/table has them")
     return UNSAFE if unsafe else NOT_DRIVEN if faults else SAFE
 
 

@@ -1,4 +1,4 @@
-"""The proved client machines, in a process of `leasecheck client` that is told a line and answers some."""
+"""The proved client machines, in a process of `leasecheck client` that is given a line and answers with some."""
 from __future__ import annotations
 
 import logging

@@ -58,7 +58,7 @@ def read_capture(path: str, ports: Sequence[int]) -> Capture:
         found = [_packet(line.rstrip("\n").split("\t"), one) for line, one in zip(rows, messages)]
     packets = tuple(packet for packet in found if packet)
     if not any(packet.messages for packet in packets):
-        raise DriveFault(f"{path}: {fault or 'no SMB2 is in it (--port tells ports other than 445 and 139)'}")
+        raise DriveFault(f"{path}: {fault or 'no SMB2 is in it (--port names ports other than 445 and 139)'}")
     return Capture(packets, fault)
 
 

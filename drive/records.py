@@ -52,10 +52,10 @@ class ArrivalKind(Enum):
 
 
 class Order(Enum):
-    """Which of two messages on different connections is told first within one step."""
+    """Which of two messages on different connections comes first within one step."""
 
     BREAKS_FIRST = "breaks before answers"
-    BREAKS_LAST = "breaks behind answers"
+    BREAKS_LAST = "breaks after answers"
 
 
 RANKS: Dict[Order, Dict[ArrivalKind, int]] = {

@@ -13,8 +13,8 @@ from drive.records import Order
 from drive.runs import Outcome
 from drive.schedules import Schedule, read_schedule
 
-EPILOG = """The record is printed, and behind it the verdict as a line `# safe` or `# unsafe PLACE RULE`, so that all of it is a
-record still. With --record it goes to a file, and the verdict alone is printed. Remarks of --messages begin with
+EPILOG = """The record is printed, and after it the verdict as a line `# safe` or `# unsafe PLACE RULE`, so that all of it is
+still a record. With --record it goes to a file, and the verdict alone is printed. Remarks of --messages begin with
 `# served`, a request that was sent to the server, `# sent` and `# took`, each with the client and the words of the message.
 
 Exit status: 0 the record is safe; 1 the schedule couldn't be driven to its end; 2 the command line is refused; 3 the

@@ -1,4 +1,4 @@
-"""Goes through a capture, packet by packet, and tells what it shows."""
+"""Goes through a capture, packet by packet, and reports what it shows."""
 from __future__ import annotations
 
 from dataclasses import dataclass

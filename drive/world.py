@@ -1,4 +1,4 @@
-"""Clients, what lies between them and a server, and what happens there; which server it is, is told elsewhere."""
+"""Clients, what lies between them and a server, and what happens there, whichever server it is."""
 from __future__ import annotations
 
 from typing import Callable, Dict

@@ -62,7 +62,7 @@ class Changing:
             node.attributes = attributes & KEPT_ATTRIBUTES & ~0x10 | node.attributes & 0x10
 
     def _rename(self, asked: "Asked", opened: Open, data: bytes) -> Steps:
-        """A name is changed once nobody else holds handles of the file (own, as in MS-FSA 2.1.5.14.11)."""
+        """A name is changed once nobody else holds handles of the file (profile, as in MS-FSA 2.1.5.14.11)."""
         if not opened.access & DELETE:
             raise Refused(Status.ACCESS_DENIED)
         length = int.from_bytes(data[16:20], "little")

@@ -45,7 +45,7 @@ def parser() -> argparse.ArgumentParser:
                       help="opens without a lease don't wait with what their client asks under its lease of the file")
     made.add_argument("--control", type=int, metavar="FD", help="read lines there that end a timer now")
     made.add_argument("--leasecheck", metavar="PATH", default=OWN, help="the program leasecheck")
-    made.add_argument("--verbose", action="store_true", help="tell more on standard error")
+    made.add_argument("--verbose", action="store_true", help="say more on standard error")
     return made
 
 
@@ -80,6 +80,8 @@ def files_in(folder: Optional[str]) -> Tuple[List[str], Dict[str, bytes]]:
             if path != ".":
                 folders.append(path)
             for name in sorted(names):
+                if not os.path.isfile(os.path.join(place, name)):
+                    raise DriveFault(f"{os.path.join(place, name)}: no plain file")
                 with open(os.path.join(place, name), "rb") as stream:
                     files[f"{path}\\{name}" if path != "." else name] = stream.read(LARGEST + 1)
     except OSError as fault:

@@ -153,7 +153,7 @@ class Server:
     # Who is connected
 
     def joins(self, connection: Connection) -> None:
-        """A client is connected, once at a time (own)."""
+        """A client is connected, once at a time (profile)."""
         if connection.holder or connection.guid is None:
             return
         holder = self.holders.of_guid(connection.guid) or self.holders.take(connection.guid)

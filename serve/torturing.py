@@ -61,7 +61,7 @@ def parser() -> argparse.ArgumentParser:
     made.add_argument("--apart", action="store_true", help="with serve/run --apart")
     made.add_argument("--limit", type=float, default=150.0, metavar="S", help="seconds that a test may take (150)")
     made.add_argument("--jobs", type=int, default=2, metavar="N", help="how many at a time (2)")
-    made.add_argument("--record", metavar="PREFIX", help="keep the records as PREFIX with the test's name behind it")
+    made.add_argument("--record", metavar="PREFIX", help="keep the records as PREFIX followed by the test's name")
     made.add_argument("--leasecheck", metavar="PATH", default=OWN, help="the program leasecheck")
     return made
 

@@ -1,4 +1,4 @@
-"""What a CREATE asks for (2.2.13), and what of it the machine is told."""
+"""What a CREATE asks for (2.2.13), and what of it goes to the machine."""
 from __future__ import annotations
 
 from dataclasses import dataclass, field
