@@ -30,6 +30,8 @@ class Driver(World):
         # the persistent halves of the FileIds that the server gave, in the order of opening
         self._opened: List[int] = []
         self._server = server
+        for peer in self.peers.values():
+            peer.loses_kept = not server.is_profiled
         self._wire = Wire(self.peers)
 
     def close(self) -> None:

@@ -42,6 +42,8 @@ class Peer:
     kept: Set[int] = field(default_factory=set)
     # the files of the opens that may be kept, by the persistent halves of their FileIds
     kept_opens: Dict[int, int] = field(default_factory=dict)
+    # whether its server drops what it left of a file once it opens that file anew, as smbd does
+    loses_kept: bool = False
 
     def key_of(self, file: int) -> bytes:
         return self.guid[:12] + struct.pack("<L", file)
@@ -56,6 +58,8 @@ class Peer:
         self.file_ids[file_id.persistent] = file_id
         self.files[file_id.persistent] = file
         self.kept_opens.pop(file_id.persistent, None)
+        if self.loses_kept:
+            self.kept_opens = {it: kept for it, kept in self.kept_opens.items() if kept != file}
         if file not in self.kept_opens.values():
             self.kept.discard(file)
 
