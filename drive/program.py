@@ -33,14 +33,15 @@ def _ran(program: str, words: List[str], given: str) -> "subprocess.CompletedPro
     try:
         return subprocess.run([program, *words], input=given, text=True, capture_output=True, timeout=600, check=False)
     except (OSError, subprocess.TimeoutExpired) as fault:
-        raise DriveFault(f"{program}: {fault}") from None
+        why = fault.strerror if isinstance(fault, OSError) else "it didn't end within ten minutes"
+        raise DriveFault(f"{program}: {why}") from None
 
 
 def judged(program: str, record: str) -> Verdict:
     ran = _ran(program, ["judge", "-"], record)
     told = ran.stdout.strip()
     if not told:
-        raise DriveFault(f"the record isn't judged: {ran.stderr.strip()}")
+        raise DriveFault(f"the record isn't judged: {ran.stderr.strip() or f'{program} ended with status {ran.returncode}'}")
     return Verdict(told)
 
 

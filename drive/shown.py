@@ -90,7 +90,8 @@ class Shower:
             ran = subprocess.run([self._program, "show", kind, message.hex()], text=True, capture_output=True, timeout=60,
                                  check=False)
         except (OSError, subprocess.TimeoutExpired) as fault:
-            raise DriveFault(f"{self._program}: {fault}") from None
+            why = fault.strerror if isinstance(fault, OSError) else "it didn't end within a minute"
+            raise DriveFault(f"{self._program}: {why}") from None
         if ran.returncode or not ran.stdout:
             return [], ran.stderr.strip() or f"status {ran.returncode}"
         return ran.stdout.splitlines(), None
