@@ -35,7 +35,8 @@
  *
  * Any number may stand in a field and any bytes may be given. A field of one byte says yes or no: 0 is no,
  * and any other number yes; where a call writes it, it is 0 or 1. What has no meaning for the kind of an
- * answer, a request, a note or an out is 0.
+ * answer, a request, a note or an out is 0. `reserved` is room for later versions: leave 0 there. A call
+ * that writes the struct writes 0 there, and this version doesn't look at it.
  */
 #ifndef SMBLEASE_MACHINES_H
 #define SMBLEASE_MACHINES_H
@@ -90,6 +91,7 @@ struct smblease_open_terms {
     uint8_t share;
     /* the open is to outlive its connection (2.2.13.2.3) */
     uint8_t durable;
+    uint8_t reserved[24];
 };
 
 enum smblease_answer_kind {
@@ -135,6 +137,7 @@ struct smblease_answer {
     uint32_t status;
     /* the bytes came from the cache */
     uint8_t cached;
+    uint8_t reserved[27];
 };
 
 enum smblease_request_kind {
@@ -159,6 +162,7 @@ struct smblease_client_request {
     uint8_t file;
     uint8_t access;
     uint8_t share;
+    uint8_t reserved[29];
 };
 
 enum smblease_note_kind {
@@ -194,6 +198,7 @@ struct smblease_note {
     uint32_t state;
     uint8_t file;
     uint8_t buffered;
+    uint8_t reserved[30];
 };
 
 /* Makes a client with files from 1 to `files` that was never connected. What the handle held is freed.
@@ -295,6 +300,7 @@ struct smblease_server_out {
     uint32_t offset;
     uint8_t client;
     uint8_t file;
+    uint8_t reserved[26];
 };
 
 /* Adds a file, with a copy of these bytes; the first has number 1. Allocates. DONE, NO_MEMORY, or NO_SUCH

@@ -111,7 +111,7 @@ static size_t unhex(const char *digits, uint8_t *bytes) {
 
 /* The files come first, then the clients, then what they do. */
 static void happen(const char *word, const char *rest) {
-    static const struct smblease_open_terms terms = {7, 1, 3, 3, 0}; /* RWH of file 1, to read and write, and so may others */
+    static const struct smblease_open_terms terms = {7, 1, 3, 3, 0, {0}}; /* RWH of file 1, to read and write, and so may others */
     static uint8_t clients;
     uint8_t bytes[ROOM] = {0}, c = (uint8_t)(rest[0] == '1' ? 1 : 2);
     struct smblease_guid guid = {{0}};

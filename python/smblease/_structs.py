@@ -87,21 +87,23 @@ class Client(ctypes.Structure):
 
 
 class OpenTerms(ctypes.Structure):
-    _fields_ = [("want", c_uint32), ("file", c_uint8), ("access", c_uint8), ("share", c_uint8), ("durable", c_uint8)]
+    _fields_ = [("want", c_uint32), ("file", c_uint8), ("access", c_uint8), ("share", c_uint8), ("durable", c_uint8),
+                ("reserved", c_uint8 * 24)]
 
 
 class Answer(ctypes.Structure):
-    _fields_ = [("length", c_uint64), ("kind", c_uint32), ("refusal", c_uint32), ("status", c_uint32), ("cached", c_uint8)]
+    _fields_ = [("length", c_uint64), ("kind", c_uint32), ("refusal", c_uint32), ("status", c_uint32), ("cached", c_uint8),
+                ("reserved", c_uint8 * 27)]
 
 
 class ClientRequest(ctypes.Structure):
     _fields_ = [("file_id", c_uint64), ("number", c_uint64), ("length", c_uint64), ("kind", c_uint32), ("offset", c_uint32),
-                ("file", c_uint8), ("access", c_uint8), ("share", c_uint8)]
+                ("file", c_uint8), ("access", c_uint8), ("share", c_uint8), ("reserved", c_uint8 * 29)]
 
 
 class Note(ctypes.Structure):
     _fields_ = [("number", c_uint64), ("length", c_uint64), ("kind", c_uint32), ("outcome", c_uint32), ("offset", c_uint32),
-                ("state", c_uint32), ("file", c_uint8), ("buffered", c_uint8)]
+                ("state", c_uint32), ("file", c_uint8), ("buffered", c_uint8), ("reserved", c_uint8 * 30)]
 
 
 class Files(ctypes.Structure):
@@ -114,4 +116,4 @@ class Server(ctypes.Structure):
 
 class ServerOut(ctypes.Structure):
     _fields_ = [("file_id", c_uint64), ("number", c_uint64), ("length", c_uint64), ("kind", c_uint32), ("status", c_uint32),
-                ("offset", c_uint32), ("client", c_uint8), ("file", c_uint8)]
+                ("offset", c_uint32), ("client", c_uint8), ("file", c_uint8), ("reserved", c_uint8 * 26)]

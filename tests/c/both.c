@@ -11,7 +11,7 @@
 uint32_t status_of_a_read(struct smblease_client *client, struct smblease_request *decided);
 
 uint32_t status_of_a_read(struct smblease_client *client, struct smblease_request *decided) {
-    struct smblease_client_request sent = {0, 0, 0, 0, 0, 0, 0, 0};
+    struct smblease_client_request sent = {0, 0, 0, 0, 0, 0, 0, 0, {0}};
     if (smblease_client_request_at(client, 0, &sent, NULL, 0) != SMBLEASE_DONE)
         return SMBLEASE_STATUS_UNSUCCESSFUL;
     decided->access = sent.access;

@@ -18,8 +18,8 @@ static void is(unsigned long long had, unsigned long long wanted, int line) {
 
 static void of_no_client(void) {
     struct smblease_client client = {0};
-    struct smblease_open_terms terms = {7, 1, 3, 3, 0};
-    struct smblease_answer answer = {9, 9, 9, 9, 9};
+    struct smblease_open_terms terms = {7, 1, 3, 3, 0, {0}};
+    struct smblease_answer answer = {9, 9, 9, 9, 9, {9}};
     struct smblease_client_request request = {0};
     struct smblease_break_message notice = {{0}};
     uint8_t room[4] = {1, 2, 3, 4};
@@ -47,7 +47,7 @@ static void of_a_client(void) {
     struct smblease_client client = {0};
     struct smblease_guid guid = {{1, 2, 3, 4, 5, 6, 7, 8, 9, 10, 11, 12, 13, 14, 15, 16}};
     struct smblease_key found = {{0}};
-    struct smblease_open_terms terms = {7, 2, 3, 4, 0};
+    struct smblease_open_terms terms = {7, 2, 3, 4, 0, {0}};
     struct smblease_answer answer = {0};
     struct smblease_client_request request = {0};
     uint8_t room[200] = {0};
@@ -83,7 +83,7 @@ static void of_a_client(void) {
 static void of_answers(void) {
     struct smblease_client client = {0};
     struct smblease_guid guid = {{0}};
-    struct smblease_open_terms terms = {7, 1, 3, 3, 0};
+    struct smblease_open_terms terms = {7, 1, 3, 3, 0, {0}};
     struct smblease_answer answer = {0};
     struct smblease_client_request request = {0};
     uint8_t room[56] = {0};

@@ -272,7 +272,7 @@ static size_t bytes_of(int place, uint8_t *bytes) {
 
 static void command(unsigned c) {
     struct smblease_client *client = &seats[c - 1].client;
-    struct smblease_open_terms terms = {state(5), (uint8_t)number(2), uses(3), uses(4), (uint8_t)is(6, "durable")};
+    struct smblease_open_terms terms = {state(5), (uint8_t)number(2), uses(3), uses(4), (uint8_t)is(6, "durable"), {0}};
     uint8_t bytes[BYTES], file = (uint8_t)number(2);
     if (is(0, "open"))
         MUST(smblease_client_open(client, &terms));

@@ -22,6 +22,8 @@ pub struct ClientAnswer {
     pub status: u32,
     /// Whether the bytes came from the cache.
     pub cached: u8,
+    /// Room for later versions: 0.
+    pub reserved: [u8; 27],
 }
 
 // The number of a refusal.
@@ -56,6 +58,7 @@ impl ClientAnswer {
         refusal: 0,
         status: 0,
         cached: 0,
+        reserved: [0; 27],
     };
 
     // The fields that hold an answer.

@@ -26,6 +26,8 @@ pub struct ClientOpen {
     pub share: u8,
     /// The open is to outlive its connection.
     pub durable: u8,
+    /// Room for later versions, which is not looked at.
+    pub reserved: [u8; 24],
 }
 
 impl ClientOpen {

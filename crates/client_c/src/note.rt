@@ -29,6 +29,8 @@ pub struct ClientNote {
     pub file: u8,
     /// Whether the write was buffered, and else it was sent.
     pub buffered: u8,
+    /// Room for later versions: 0.
+    pub reserved: [u8; 30],
 }
 
 // The number of what became of a write.
@@ -64,6 +66,7 @@ impl ClientNote {
         state: 0,
         file: 0,
         buffered: 0,
+        reserved: [0; 30],
     };
 
     // The fields that hold a note.

@@ -29,6 +29,8 @@ pub struct ClientRequest {
     pub access: u8,
     /// What other opens may do: 1 for reading, plus 2 for writing.
     pub share: u8,
+    /// Room for later versions: 0.
+    pub reserved: [u8; 29],
 }
 
 // The bytes of a request.
@@ -57,6 +59,7 @@ impl ClientRequest {
             file: 0,
             access: 0,
             share: 0,
+            reserved: [0; 29],
         }
     }
 

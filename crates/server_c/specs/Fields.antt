@@ -1,5 +1,5 @@
--- What a server gave out, as structs hold it: fields that have no meaning there are 0.
-use Rattle.std.specs.Prelude.{ℕ, List, [], length}
+-- What a server gave out, as structs hold it: fields that have no meaning there are 0, and so is all that is reserved.
+use Rattle.std.specs.Prelude.{ℕ, List, [], length, replicate}
 use Rattle.lease_state.specs.Status.{code_of}
 use Rattle.lease_state.specs.declared.reply.Reply as reply
 use Rattle.share_server.specs.declared.out.Out as out
@@ -7,8 +7,17 @@ use Rattle.server_c.specs.declared.out.ServerOut.{ServerOut}
 
 -- a message about an open
 abbrev pub about : ℕ → ℕ → ServerOut
-about kind file_id =
-    record { file_id = file_id; number = 0; length = 0; kind = kind; status = 0; offset = 0; client = 0; file = 0 }
+about kind file_id = record {
+  file_id = file_id;
+  number = 0;
+  length = 0;
+  kind = kind;
+  status = 0;
+  offset = 0;
+  client = 0;
+  file = 0;
+  reserved = replicate 26 0;
+}
 
 -- a message to a client whose number isn't there yet
 abbrev pub reply_fields : reply.Reply → ServerOut

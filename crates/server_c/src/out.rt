@@ -33,6 +33,8 @@ pub struct ServerOut {
     pub client: u8,
     /// The number of the file.
     pub file: u8,
+    /// Room for later versions: 0.
+    pub reserved: [u8; 26],
 }
 
 // The bytes of a message.
@@ -73,6 +75,7 @@ impl ServerOut {
             offset: 0,
             client: 0,
             file: 0,
+            reserved: [0; 26],
         }
     }
 
