@@ -1,4 +1,4 @@
--- What numbers and bytes from C ask of a client, and what they tell it.
+-- What numbers and bytes from C ask of a client, and what they say to it.
 use Rattle.std.specs.Prelude.{ℕ, List, Option, Some, None}
 use Rattle.lease_state.specs.State.{state_of_bits}
 use Rattle.lease_state.specs.declared.access.Access.{Access}

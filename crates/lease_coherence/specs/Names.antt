@@ -1,5 +1,5 @@
--- What a client that hasn't strayed names, in its requests, its opens and its entries, against what the record tells of
--- opens and writes (profile).
+-- What a client that hasn't strayed names, in its requests, its opens and its entries, compared with the opens and writes of
+-- the record (profile).
 use Rattle.std.specs.Prelude.{◌≡◌, ⊤, ℕ, true, false, Option, Some, None, List, [], ◌∷◌}
 use Rattle.lease_state.specs.declared.patch.Patch.{Patch}
 use Rattle.lease_model.specs.client.State.{Entry, Pending, Phase, lease_key}

@@ -1,4 +1,4 @@
--- Opens that stand: what is asked under a FileId, and what is believed of its open, has an open behind it (profile).
+-- Opens that stand: for what is asked under a FileId, and what is believed of its open, there is an open (profile).
 use Rattle.std.specs.Prelude.{◌≡◌, ◌≢◌, ◌⊎◌, ⊤, ℕ, true, Option, Some, None}
 use Rattle.lease_model.specs.client.State.{Client, Phase}
 use Rattle.lease_model.specs.messages.Replies.{Reply}

@@ -1,4 +1,4 @@
--- Facts that are told one after another, each after the message that it speaks of.
+-- Facts that are printed one after another, each after the message that it speaks of.
 use Rattle.std.proofs.Common.{◌≡◌, ℕ, zero, suc, ◌+◌, ◌<◌, ◌≤◌, List, [], ◌∷◌, ◌++◌, length, drop, get_or, refl, sym, ap, subst, ◌∙◌, arith}
 use Rattle.std.proofs.lemmas.List.{append_assoc, append-nil, drop_more}
 use Rattle.lease_facts.specs.declared.fact.Fact.{Fact}

@@ -1,4 +1,4 @@
--- What a break notification is answered with (MS-SMB2 3.2.5.19.2), and the line that tells it.
+-- What a break notification is answered with (MS-SMB2 3.2.5.19.2), and the line that says so.
 use Rattle.std.specs.Prelude.{◌≡◌, ℕ, ◌-◌, ◌==◌, ◌++◌, List, [], ◌∷◌, length, take, codes, if◌then◌else◌}
 use Rattle.std.specs.Fmt.{decimal}
 use Rattle.hex.specs.Hex.{encode_lower}

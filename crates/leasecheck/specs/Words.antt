@@ -1,4 +1,4 @@
--- The words in which states, keys and contexts are told.
+-- The words in which states, keys and contexts are printed.
 use Rattle.std.specs.Prelude.{ℕ, ◌++◌, Bool, ◌||◌, List, [], ◌∷◌, length, codes, if◌then◌else◌, Option, Some, None, is_some, Ok, Err}
 use Rattle.std.specs.Fmt.{decimal}
 use Rattle.std.specs.List.{flat_map}

@@ -1,4 +1,4 @@
--- No line is told by two kinds of a table whose kinds stand apart.
+-- No line is of two kinds of a table whose kinds stand apart.
 use Rattle.std.proofs.Common.{◌≡◌, inl, inr, ℕ, List, [], ◌∷◌, refl, sym, ap, ◌∙◌, subst, true, false, Bool, not, ◌&&◌, ◌||◌, Option, Some, None, bytes_eq}
 use Rattle.std.proofs.lemmas.Bool.{and_parts}
 use Rattle.std.proofs.lemmas.Slice.Eq.{bytes_eq-Decides}

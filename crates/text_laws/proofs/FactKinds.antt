@@ -1,4 +1,4 @@
--- The facts that lines are read as are those that they tell.
+-- The facts that lines are read as are those that they mean.
 use Rattle.std.proofs.Common.{◌≡◌, ℕ, true, drop, List, [], ◌∷◌, refl, Option, None}
 use Rattle.lease_state.specs.declared.number.ClientNo.{ClientNo}
 use Rattle.lease_state.specs.declared.number.FileNo.{FileNo}

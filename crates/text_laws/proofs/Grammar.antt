@@ -1,4 +1,4 @@
--- A reader that fits a table of kinds reads exactly what lines tell by it.
+-- A reader that fits a table of kinds reads exactly what lines mean by it.
 use Rattle.std.proofs.Common.{◌≡◌, ◌↔◌, ◌⊎◌, inl, inr, ℕ, List, [], ◌∷◌, refl, sym, ap, ◌∙◌, subst, true, false, Bool, Option, Some, None, bytes_eq}
 use Rattle.std.proofs.lemmas.Slice.Eq.{bytes_eq-Decides}
 use Rattle.lease_laws.specs.server.Laws.{Among}

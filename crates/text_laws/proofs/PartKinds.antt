@@ -1,4 +1,4 @@
--- The parts of schedules that lines are read as are those that they tell.
+-- The parts of schedules that lines are read as are those that they mean.
 use Rattle.std.proofs.Common.{◌≡◌, inl, inr, ℕ, drop, List, [], ◌∷◌, refl, codes, true, false, Option, Some, None, sym, ap, ◌∙◌, bytes_eq, ⊎_elim}
 use Rattle.uuid.specs.Text.{parsed}
 use Rattle.lease_client.specs.declared.command.Command.TheVariants as command

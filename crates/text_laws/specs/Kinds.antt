@@ -1,4 +1,4 @@
--- Lines as a grammar: the fields that lines have, the words that say their values, and what a line of a kind tells.
+-- Lines as a grammar: the fields that lines have, the words that say their values, and what a line of a kind means.
 use Rattle.std.specs.Prelude.{◌≡◌, ◌↔◌, ⊤, ℕ, Bool, List, [], ◌∷◌, Option, Some, None}
 use Rattle.lease_state.specs.declared.access.Access as accesses
 use Rattle.lease_state.specs.declared.access.Share as shares

@@ -1,4 +1,4 @@
--- Schedules that a text can tell, and that it is read back as them.
+-- Schedules that a text can state, and that it is read back as them.
 use Rattle.std.specs.Prelude.{◌≡◌, ◌≤◌, ◌<◌, ℕ, List, length, Ok}
 use Rattle.hex.specs.Hex.{IsBytes}
 use Rattle.lease_client.specs.declared.command.Command.{Command}

@@ -1,4 +1,4 @@
--- Facts that a text can tell, and that it is read back as them.
+-- Facts that a text can state, and that it is read back as them.
 use Rattle.std.specs.Prelude.{◌≡◌, ◌++◌, ◌≤◌, ◌<◌, ◌^◌, ⊤, ℕ, false, List, [], ◌∷◌, ◌+◌, length, Some, Ok}
 use Rattle.hex.specs.Hex.{IsBytes}
 use Rattle.lease_state.specs.State.{state_of, bits_of_state}

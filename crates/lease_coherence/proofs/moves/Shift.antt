@@ -1,4 +1,4 @@
--- A step of the server doesn't look at what was given out before it: it puts its own outs behind.
+-- A step of the server doesn't look at what was given out before it: it appends its own outs.
 use Rattle.std.proofs.Common.{◌≡◌, ℕ, Bool, true, false, List, [], ◌∷◌, ◌++◌, Option, Some, None, refl, sym, ap, ◌∙◌}
 use Rattle.std.specs.Prelude.{if◌then◌else◌, ◌==◌}
 use Rattle.lease_state.specs.State.{State, is_state_within}

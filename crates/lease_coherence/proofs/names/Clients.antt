@@ -1,4 +1,4 @@
--- What a client's step names was told of before, and a write that it settles as done was accepted.
+-- What a client's step names is in the record already, and a write that it settles as done was accepted.
 use Rattle.std.proofs.Common.{◌≡◌, ℕ, Bool, true, false, List, [], ◌∷◌, ◌++◌, flat_map, Option, Some, None, refl, sym, subst, ◌==◌}
 use Rattle.std.specs.Prelude.{⊤, ◌&&◌, not, bytes_eq, find, if◌then◌else◌}
 use Rattle.std.proofs.lemmas.Bool.{eq-eqb}

@@ -1,5 +1,5 @@
--- In every run, all that a client names that hasn't strayed was told of before; so a write that it settles as done was
--- accepted.
+-- In every run, all that a client names that hasn't strayed is in the record already; so a write that it settles as done
+-- was accepted.
 use Rattle.std.proofs.Common.{◌≡◌, inl, ⊎_elim, ℕ, ◌+◌, true, false, not, List, [], ◌∷◌, ◌++◌, map, Option, Some, None, refl, sym, ap, ◌∙◌, subst, true≢false, ◌==◌}
 use Rattle.std.specs.Prelude.{◌&&◌}
 use Rattle.std.proofs.lemmas.Bool.{eq-eqb, eqb-true}

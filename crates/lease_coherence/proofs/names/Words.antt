@@ -1,5 +1,5 @@
 -- Names: FileIds, lease keys and numbers of writes, as the messages, the opens and the entries of a client have them,
--- against what the record tells.
+-- compared with the record.
 use Rattle.std.proofs.Common.{◌≡◌, ⊎_elim, ℕ, ◌+◌, ◌≤◌, Bool, true, false, List, [], ◌∷◌, ◌++◌, Some, None, sym, ◌∙◌, arith, true≢false, ◌==◌}
 use Rattle.std.specs.Prelude.{filter, if◌then◌else◌}
 use Rattle.std.proofs.lemmas.Bool.{eqb-true}

@@ -1,4 +1,4 @@
--- What a record has told it tells at every later place too.
+-- What a record says at a place it says at every later place too.
 use Rattle.std.proofs.Common.{◌≡◌, ℕ, ◌+◌, Bool, true, false, List, [], ◌∷◌, refl, ◌==◌}
 use Rattle.std.specs.Prelude.{◌&&◌, ◌||◌}
 use Rattle.lease_state.specs.declared.patch.Patch.{Patch}

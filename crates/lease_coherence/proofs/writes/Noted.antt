@@ -1,4 +1,4 @@
--- What the notes of a client's step make of the unanswered writes that the record tells of.
+-- What the notes of a client's step make of the unanswered writes of the record.
 use Rattle.std.proofs.Common.{◌≡◌, ◌≢◌, ℕ, Bool, true, false, not, List, [], ◌∷◌, ◌++◌, Some, refl, sym, ap, ap₂, ◌∙◌, subst, true≢false, ◌==◌}
 use Rattle.std.specs.Prelude.{⊤, ◌&&◌, ◌||◌, if◌then◌else◌}
 use Rattle.std.proofs.lemmas.Bool.{eq-eqb}
