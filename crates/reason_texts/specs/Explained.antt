@@ -1,5 +1,5 @@
 -- What is said of a verdict.
-use Rattle.std.specs.Prelude.{◌≡◌, ℕ, ◌++◌, List, [], ◌∷◌, codes, map, length, Option, Some, None}
+use Rattle.std.specs.Prelude.{◌≡◌, ℕ, ◌++◌, ◌==◌, if◌then◌else◌, List, [], ◌∷◌, codes, map, length, Option, Some, None}
 use Rattle.std.specs.Fmt.{decimal}
 use Rattle.std.specs.List.{flat_map}
 use Rattle.lease_facts.specs.Facts.{fact_of}
@@ -20,9 +20,13 @@ unjoined_line client =
 abbrev pub strayed_line : ClientNo → List ℕ
 strayed_line client = codes "client " ++ (decimal client.0 ++ (codes " has strayed, so nothing of it is judged" ++ (10 ∷ [])))
 
+abbrev pub word_for : ℕ → List ℕ → List ℕ → List ℕ
+word_for count one more = if count == 1 then one else more
+
 abbrev pub count_line : ℕ → ℕ → List ℕ
-count_line facts clients =
-    codes "judged: " ++ (decimal facts ++ (codes " facts of " ++ (decimal clients ++ (codes " clients" ++ (10 ∷ [])))))
+count_line facts clients = codes "judged: " ++ (decimal facts ++ (codes " " ++ (word_for facts (codes "fact") (codes "facts")
+    ++ (codes " of " ++ (decimal clients ++ (codes " " ++ (word_for clients (codes "client") (codes "clients")
+    ++ (10 ∷ []))))))))
 
 -- how many facts of how many clients were judged, and whose aren't
 abbrev pub extent_lines : Extent → List ℕ

@@ -4,7 +4,7 @@ ghost use Rattle.std.specs.String.{string_bytes};
 ghost use Rattle.lease_facts.specs.Facts.{fact_of};
 ghost use Rattle.lease_model.specs.records.Verdict as verdicts;
 ghost use Rattle.lease_world.specs.Verdicts.{verdict_of};
-ghost use Rattle.reason_texts.specs.Explained.{unjoined_line, strayed_line, extent_lines, bad_place, lines_behind, bad_lines, IsExplained};
+ghost use Rattle.reason_texts.specs.Explained.{unjoined_line, strayed_line, count_line, extent_lines, bad_place, lines_behind, bad_lines, IsExplained};
 
 use crate::placed::Placed;
 use crate::reason_words::{push_place, push_reason};
@@ -39,11 +39,18 @@ fn push_strayed(text: &mut String, clients: &[ClientNo]) -> Result<(), AllocErro
     Ok(())
 }
 
+fn push_count(text: &mut String, facts: usize, clients: usize) -> Result<(), AllocError>
+    ensures { OnOk result (string_bytes text.new ≡ string_bytes text.old ++ count_line facts clients) }
+{
+    let some = if facts == 1 { "fact" } else { "facts" };
+    let those = if clients == 1 { "client" } else { "clients" };
+    writeln!(text, "judged: {facts} {some} of {clients} {those}")
+}
+
 fn push_extent(text: &mut String, extent: &Extent) -> Result<(), AllocError>
     ensures { OnOk result (string_bytes text.new ≡ string_bytes text.old ++ extent_lines extent.now) }
 {
-    let (facts, clients) = (extent.facts, extent.clients.len());
-    writeln!(text, "judged: {facts} facts of {clients} clients")?;
+    push_count(text, extent.facts, extent.clients.len())?;
     push_unjoined(text, extent.unjoined.as_slice())?;
     push_strayed(text, extent.strayed.as_slice())
 }
