@@ -2,8 +2,10 @@ pub mod Adding
 pub mod Caches
 pub mod Clients
 pub mod Contents
+pub mod Counts
 pub mod Files
 pub mod Flaws
+pub mod Holding
 pub mod Judges
 pub mod Keeping
 pub mod Knowing

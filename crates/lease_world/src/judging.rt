@@ -19,6 +19,7 @@ mod client;
 mod clients;
 mod file;
 mod files;
+mod holders;
 mod known;
 mod snapshot;
 

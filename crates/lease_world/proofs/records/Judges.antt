@@ -1,17 +1,17 @@
 -- A judge that was given facts, and is given one more.
-use Rattle.std.proofs.Common.{◌≡◌, ℕ, ◌+◌, Bool, true, false, List, [], ◌∷◌, ◌++◌, length, refl, sym, ap, subst, ◌∙◌, arith}
+use Rattle.std.proofs.Common.{◌≡◌, ℕ, zero, suc, ◌+◌, Bool, true, false, List, [], ◌∷◌, ◌++◌, length, refl, sym, ap, subst, ◌∙◌, arith}
 use Rattle.std.specs.Prelude.{◌==◌, if◌then◌else◌, reverse}
 use Rattle.std.proofs.lemmas.List.{length-append, length-reverse, reverse-append}
 use Rattle.lease_model.specs.records.Facts.{Fact}
-use Rattle.lease_model.specs.records.Past.{is_started, start_of, has_joined, is_served, has_strayed, sendings, takings, last_sending, is_settled, believed}
+use Rattle.lease_model.specs.records.Past.{is_started, start_of, has_joined, is_served, has_strayed, is_good, sendings, takings, last_sending, is_settled, believed}
 use Rattle.lease_model.specs.records.Safe.{OneWriteCache}
 use Rattle.lease_model.specs.records.Verdict as model
 use Rattle.lease_model.specs.records.Verdict.{or_else, flaw_at, verdict_from}
 use Rattle.lease_world.specs.Verdicts.{verdict_of}
 use Rattle.lease_world.specs.declared.verdict.Verdict.{Verdict}
 use Rattle.lease_world.specs.judge.Judged.{Judging, is_safe, Steps, HasJudged, JudgesOneMore}
-use Rattle.lease_world.specs.judge.Knows.{KnowsFile, KnowsCache, KnowsClient, HasContents, Knows}
-use Rattle.lease_world.specs.judge.Seen.{unseen_file, unseen_cache, unseen_client, file_in, client_in, cache_in}
+use Rattle.lease_world.specs.judge.Knows.{KnowsFile, KnowsCache, KnowsClient, HasContents, KnowsHolders, Knows, held, how_many}
+use Rattle.lease_world.specs.judge.Seen.{unseen_file, unseen_cache, unseen_client, unheld, file_in, client_in, cache_in}
 use Rattle.lease_world.specs.judge.Told.{placed_changes, last_touch, write_of, pending}
 use Rattle.lease_world.proofs.Places.{past_the_end}
 use Rattle.lease_world.proofs.records.Adding.{Judges, judged}
@@ -54,7 +54,23 @@ nobody_yet file client other ne good writes good_too = refl
 contents_unseen : (c f : ℕ) → HasContents (file_in [] f) (client_in [] c).taken (cache_in (client_in [] c).caches f)
 contents_unseen c f = (tt, tt)
 
-pub nothing_judged : HasJudged (record { verdict = Verdict.Safe; count = 0; known = record { files = []; clients = [] } }) []
+nobody_good : (client : ℕ) → is_good client [] ≡ false
+unfolding is_good is_served has_strayed
+nobody_good client = refl
+
+nothing_many : (n : ℕ) → how_many (λ client. false) n ≡ 0
+unfolding how_many
+nothing_many zero = refl
+nothing_many (suc n) = let e = nothing_many n in omega (arith, e)
+
+holders_unseen : KnowsHolders [] []
+unfolding held is_good is_served has_strayed
+holders_unseen = record {
+  few = λ c big. nobody_good c;
+  counted = λ f. rw (past_the_end unheld [] f (omega arith)) (record { any = sym (nothing_many 256); writing = sym (nothing_many 256) });
+}
+
+pub nothing_judged : HasJudged (record { verdict = Verdict.Safe; count = 0; known = record { files = []; clients = []; holders = [] } }) []
 unfolding verdict_from
 nothing_judged = record {
   verdict = refl;
@@ -64,6 +80,7 @@ nothing_judged = record {
       files = λ f. rw (past_the_end unseen_file [] f (omega arith)) (file_unseen f);
       clients = λ c. rw (past_the_end unseen_client [] c (omega arith)) (client_unseen c);
       contents = contents_unseen;
+      holders = holders_unseen;
       well_formed = tt;
       one_write_cache = nobody_yet;
     },

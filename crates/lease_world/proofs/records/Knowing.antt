@@ -1,15 +1,13 @@
 -- What is known after one fact more, from what is known of the file and the client that it is about.
-use Rattle.std.proofs.Common.{◌≡◌, ◌≢◌, ℕ, Bool, true, false, List, ◌∷◌, refl, sym, ◌∙◌, arith}
-use Rattle.std.specs.Prelude.{◌==◌, ◌&&◌, if◌then◌else◌, MatchBool}
+use Rattle.std.proofs.Common.{◌≡◌, ◌≢◌, ℕ, Bool, true, false, List, ◌∷◌, refl, ◌∙◌, arith}
+use Rattle.std.specs.Prelude.{◌==◌, if◌then◌else◌, MatchBool}
 use Rattle.lease_model.specs.records.Facts.{Fact}
-use Rattle.lease_model.specs.records.Past.{is_started, is_good, believed}
+use Rattle.lease_model.specs.records.Past.{is_started, is_good}
 use Rattle.lease_world.specs.judge.Knows.{KnowsFile, KnowsClient, HasContents, Knows}
-use Rattle.lease_world.specs.judge.Seen.{Seen, SeenFile, SeenClient, file_in, client_in, cache_in, is_good_client, is_conflict}
-use Rattle.lease_world.specs.judge.Tables.{HasClient, HasFile, HasSameClients, HasSameFiles, is_started_in, belief_in, HasRival, HasNoRival}
-use Rattle.lease_world.proofs.records.OneCache.{two-where}
+use Rattle.lease_world.specs.judge.Seen.{Seen, SeenFile, SeenClient, file_in, client_in, cache_in, is_good_client}
+use Rattle.lease_world.specs.judge.Tables.{HasClient, HasFile, HasSameClients, HasSameFiles, is_started_in}
 use Rattle.lease_world.proofs.records.Others.{file_stays, client_stays}
 use Rattle.lease_world.proofs.records.Skips.{touches, concerns}
-use Rattle.lease_model.specs.records.Verdict.{has_two_caches}
 
 -- ---- one place and the others
 
@@ -103,45 +101,10 @@ pub started_told : (seen : Seen) (file : ℕ) (past : List Fact) → Knows seen 
     → is_started_in seen.files file ≡ is_started file past
 started_told seen file past k = (k.files file).started
 
-good_told : (client : ℕ) (seen : SeenClient) (past : List Fact) → KnowsClient client seen past
+pub good_told : (client : ℕ) (seen : SeenClient) (past : List Fact) → KnowsClient client seen past
     → is_good_client seen ≡ is_good client past
 unfolding is_good
 good_told client seen past k = rw (k.strayed, k.served) refl
-
-both_true : (a b : Bool) → (a && b) ≡ true → (a ≡ true) × (b ≡ true)
-both_true true b e = (refl, e)
-both_true false b e = let c : ⊥ = cc in absurd c
-
-second_false : (a b : Bool) → (a && b) ≡ false → a ≡ true → b ≡ false
-second_false true b e a_is = e
-second_false false b e a_is = let c : ⊥ = cc in absurd c
-
--- a rival makes two caches
-pub two_by_rival : (clients : List SeenClient) (client file : ℕ) (past : List Fact)
-    → ((c : ℕ) → KnowsClient c (client_in clients c) past) → is_good_client (client_in clients client) ≡ true
-    → HasRival clients client file → has_two_caches past ≡ true
-two_by_rival clients client file past k good rival =
-    let other : ℕ = rival.0 in
-    let parts : (is_good_client (client_in clients other) ≡ true)
-    × (is_conflict (belief_in clients client file) (belief_in clients other file) ≡ true) = both_true _ _ rival.2 in
-    two-where past client other file rival.1
-    (sym (good_told client (client_in clients client) past (k client)) ∙ good)
-    (sym (good_told other (client_in clients other) past (k other)) ∙ parts.0)
-    (rw (← ((k client).caches file).belief, ← ((k other).caches file).belief) parts.1)
-
--- without a rival no good client conflicts
-pub free_of_rivals : (clients : List SeenClient) (client file : ℕ) (past : List Fact)
-    → ((c : ℕ) → KnowsClient c (client_in clients c) past) → HasNoRival clients client file
-    → (other : ℕ) → other ≢ client → is_good other past ≡ true
-    → is_conflict (believed client file past) (believed other file past) ≡ false
-free_of_rivals clients client file past k none other ne good =
-    rw (← ((k client).caches file).belief, ← ((k other).caches file).belief)
-    (second_false _ _ (none other ne) (good_told other (client_in clients other) past (k other) ∙ good))
-
-pub good_now : (clients : List SeenClient) (client : ℕ) (past : List Fact)
-    → ((c : ℕ) → KnowsClient c (client_in clients c) past) → is_good client past ≡ true
-    → is_good_client (client_in clients client) ≡ true
-good_now clients client past k good = good_told client (client_in clients client) past (k client) ∙ good
 
 -- ---- what is told by a test
 

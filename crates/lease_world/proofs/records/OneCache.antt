@@ -37,7 +37,7 @@ was_good client (Fact.Strayed other) past q g =
     good_unstrayed (has_strayed client past) (is_served client past) (other == client) g
 was_good client _ past q g = g
 
-same_belief : (client file : ℕ) (fact : Fact) (past : List Fact) → is_quiet fact ≡ true
+pub same_belief : (client file : ℕ) (fact : Fact) (past : List Fact) → is_quiet fact ≡ true
     → believed client file (fact ∷ past) ≡ believed client file past
 unfolding believed
 same_belief client file (Fact.Joined other) past q = let c : ⊥ = cc in absurd c

@@ -1,6 +1,6 @@
 -- What a judge makes of one fact: its verdict on it, and what it keeps afterwards. Where the verdict isn't Safe, nothing is
 -- said of what it keeps.
-use Rattle.std.specs.Prelude.{◌≡◌, ℕ, Bool, true, false, not, Option, Some, None, List, [], ◌∷◌, ◌++◌, ◌&&◌, is_some, MatchBool}
+use Rattle.std.specs.Prelude.{◌≡◌, ℕ, ◌<◌, Bool, true, false, not, Option, Some, None, List, [], ◌∷◌, ◌++◌, ◌&&◌, is_some, MatchBool}
 use Rattle.lease_state.specs.State.{State}
 use Rattle.lease_state.specs.declared.patch.Patch.{Patch}
 use Rattle.lease_model.specs.values.Patches.{is_within_limit}
@@ -9,12 +9,16 @@ use Rattle.lease_model.specs.records.Facts.{Fact}
 use Rattle.lease_world.specs.declared.verdict.Rule.{Rule}
 use Rattle.lease_world.specs.declared.verdict.Verdict.{Verdict}
 use Rattle.lease_world.specs.judge.Clients.{can_take, after_taking, is_buffered_before, is_accepted_write, taken_of, Accepts, Writes, Settles, Believes, Sees}
-use Rattle.lease_world.specs.judge.Seen.{Seen, SeenFile, SeenClient, joined, touched, touched_by_others, is_good_client, write_in, file_in, client_in}
-use Rattle.lease_world.specs.judge.Tables.{HasClient, ChangesClient, HasSameClients, HasFile, HasSameFiles, is_started_in, HasRivalAt, HasNoRivalAt, HasRivalSomewhere, HasRivalNowhere}
+use Rattle.lease_world.specs.judge.Holders.{without_holder, conflicts_with, is_newcomer, HasConflict, HasNoConflict, HasEntered, Leaves, Moves}
+use Rattle.lease_world.specs.judge.Seen.{Seen, SeenFile, SeenCache, SeenClient, Holders, joined, touched, touched_by_others, is_good_client, write_in, file_in, client_in, holders_in}
+use Rattle.lease_world.specs.judge.Tables.{HasClient, ChangesClient, HasSameClients, HasFile, HasSameFiles, is_started_in, belief_in}
 
 -- one client has a new value, and the files are as they were
 abbrev pub PutsClient : ℕ → SeenClient → Seen → Seen → Type 0
 PutsClient client seen old new = HasClient old.clients new.clients client seen × HasSameFiles old.files new.files
+
+abbrev pub KeepsHolders : Seen → Seen → Type 0
+KeepsHolders old new = new.holders ≡ old.holders
 
 -- one client changes in this way, and the files are as they were
 abbrev pub ChangesOne : (SeenClient → SeenClient → Type 0) → ℕ → Seen → Seen → Type 0
@@ -23,7 +27,8 @@ ChangesOne Changes client old new =
 
 -- one file has a new value, and the clients are as they were
 abbrev pub PutsFile : ℕ → SeenFile → Seen → Seen → Type 0
-PutsFile file seen old new = HasFile old.files new.files file seen × HasSameClients old.clients new.clients
+PutsFile file seen old new =
+    HasFile old.files new.files file seen × HasSameClients old.clients new.clients × KeepsHolders old new
 
 abbrev pub IsSafe : Verdict → Type 0 → Type 0
 IsSafe verdict Goes = (verdict ≡ Verdict.Safe) × Goes
@@ -33,15 +38,28 @@ StartAdds place file bytes old new verdict = MatchBool (is_started_in old.files 
     (verdict ≡ Verdict.Malformed place)
     (IsSafe verdict (PutsFile file (record (file_in old.files file) { start = Some bytes }) old new))
 
+-- a client with these beliefs becomes a good one
+abbrev pub Enters : ℕ → List SeenCache → List Holders → List Holders → Verdict → Type 0
+Enters place caches old new verdict = (rivalled : Bool) × MatchBool rivalled
+    ((verdict ≡ Verdict.Unsafe place Rule.OneWriteCache) × HasConflict caches old)
+    (IsSafe verdict (HasNoConflict caches old × HasEntered caches old new))
+
 abbrev pub JoinedAdds : ℕ → ℕ → Seen → Seen → Verdict → Type 0
-JoinedAdds place client old new verdict = PutsClient client (joined (client_in old.clients client)) old new
-    × ((rivalled : Bool) × MatchBool rivalled
-    ((verdict ≡ Verdict.Unsafe place Rule.OneWriteCache) × HasRivalSomewhere new.clients client)
-    (IsSafe verdict (HasRivalNowhere new.clients client)))
+JoinedAdds place client old new verdict = (client < 256)
+    × PutsClient client (joined (client_in old.clients client)) old new
+    × MatchBool (is_newcomer (client_in old.clients client) (client_in new.clients client))
+    (Enters place (client_in new.clients client).caches old.holders new.holders verdict)
+    (IsSafe verdict (KeepsHolders old new))
+
+-- a client is no holder any more
+abbrev pub LetsGo : ℕ → Seen → Seen → Type 0
+LetsGo client old new = (new ≡ record old { holders = new.holders })
+    × Leaves (client_in old.clients client) old.holders new.holders
 
 abbrev pub LeavingAdds : ℕ → Seen → Seen → Verdict → Type 0
 LeavingAdds client old new verdict =
-    IsSafe verdict (PutsClient client (record (client_in old.clients client) { served = false }) old new)
+    IsSafe verdict (PutsClient client (record (client_in old.clients client) { served = false }) old new
+    × Leaves (client_in old.clients client) old.holders new.holders)
 
 abbrev pub ExpiredAdds : ℕ → ℕ → ℕ → Seen → Seen → Verdict → Type 0
 ExpiredAdds place client file old new verdict = MatchBool (is_started_in old.files file)
@@ -50,15 +68,17 @@ ExpiredAdds place client file old new verdict = MatchBool (is_started_in old.fil
 
 abbrev pub StrayedAdds : ℕ → Seen → Seen → Verdict → Type 0
 StrayedAdds client old new verdict =
-    IsSafe verdict (PutsClient client (record (client_in old.clients client) { strayed = true }) old new)
+    IsSafe verdict (PutsClient client (record (client_in old.clients client) { strayed = true }) old new
+    × Leaves (client_in old.clients client) old.holders new.holders)
 
 abbrev pub SentAdds : ℕ → ℕ → Seen → Seen → Verdict → Type 0
 SentAdds place client old new verdict = IsSafe verdict (PutsClient client
-    (record (client_in old.clients client) { sent = (client_in old.clients client).sent ++ place ∷ [] }) old new)
+    (record (client_in old.clients client) { sent = (client_in old.clients client).sent ++ place ∷ [] }) old new
+    × KeepsHolders old new)
 
 abbrev pub TookAdds : ℕ → ℕ → Seen → Seen → Verdict → Type 0
 TookAdds place client old new verdict = MatchBool (can_take (client_in old.clients client))
-    (IsSafe verdict (PutsClient client (after_taking (client_in old.clients client)) old new))
+    (IsSafe verdict (PutsClient client (after_taking (client_in old.clients client)) old new × KeepsHolders old new))
     (verdict ≡ Verdict.Malformed place)
 
 abbrev pub OpenedAdds : ℕ → ℕ → ℕ → Seen → Seen → Verdict → Type 0
@@ -83,7 +103,7 @@ ChangedAdds place file client number patch old new verdict =
     × HasFile old.files new.files file (record (file_in old.files file) {
       changes = (file_in old.files file).changes ++ record { place = place; patch = patch } ∷ [];
       touches = touched (file_in old.files file).touches client place;
-    }))))
+    }) × KeepsHolders old new)))
     (verdict ≡ Verdict.Malformed place)
 
 abbrev pub WroteAdds : ℕ → ℕ → ℕ → ℕ → Patch → Bool → Seen → Seen → Verdict → Type 0
@@ -96,7 +116,7 @@ WroteAdds place client file number patch buffered old new verdict =
       buffered = buffered;
       patch = patch;
       accepted = false;
-    })) client old new))
+    })) client old new × KeepsHolders old new))
     (verdict ≡ Verdict.Malformed place)
 
 abbrev pub is_done : Settlement → Bool
@@ -111,14 +131,19 @@ is_false client number outcome old = is_done outcome && not (client_in old.clien
 abbrev pub SettledAdds : ℕ → ℕ → ℕ → Settlement → Seen → Seen → Verdict → Type 0
 SettledAdds place client number outcome old new verdict = MatchBool (is_false client number outcome old)
     (verdict ≡ Verdict.Unsafe place Rule.NoFalseDone)
-    (IsSafe verdict (ChangesOne (Settles number) client old new))
+    (IsSafe verdict (ChangesOne (Settles number) client old new × KeepsHolders old new))
+
+-- a good client that believes this of the file conflicts with another
+abbrev pub is_rival : ℕ → ℕ → State → Seen → Bool
+is_rival client file state old = is_good_client (client_in old.clients client)
+    && conflicts_with state (without_holder (belief_in old.clients client file) (holders_in old.holders file))
 
 abbrev pub BelievesAdds : ℕ → ℕ → ℕ → State → Seen → Seen → Verdict → Type 0
 BelievesAdds place client file state old new verdict = MatchBool (is_started_in old.files file)
-    (ChangesOne (Believes file state) client old new
-    × ((rivalled : Bool) × MatchBool rivalled
-    ((verdict ≡ Verdict.Unsafe place Rule.OneWriteCache) × HasRivalAt new.clients client file)
-    (IsSafe verdict (HasNoRivalAt new.clients client file))))
+    (MatchBool (is_rival client file state old)
+    (verdict ≡ Verdict.Unsafe place Rule.OneWriteCache)
+    (IsSafe verdict (ChangesOne (Believes file state) client old new
+    × Moves (client_in old.clients client) file state old.holders new.holders)))
     (verdict ≡ Verdict.Malformed place)
 
 -- the client sees these bytes or doesn't
@@ -126,6 +151,7 @@ abbrev pub ShowsAt : ℕ → ℕ → ℕ → List ℕ → Seen → Seen → Verd
 ShowsAt place client file bytes old new verdict None = verdict ≡ Verdict.Unsafe place Rule.FreshCachedReads
 ShowsAt place client file bytes old new verdict (Some taken) = (same : Bool)
     × ChangesOne (λ before after. Sees file (file_in old.files file) taken bytes before after same) client old new
+    × KeepsHolders old new
     × MatchBool same (verdict ≡ Verdict.Safe) (verdict ≡ Verdict.Unsafe place Rule.FreshCachedReads)
 
 abbrev pub CachedReadAdds : ℕ → ℕ → ℕ → List ℕ → Seen → Seen → Verdict → Type 0

@@ -1,13 +1,15 @@
 -- When what a judge keeps is what a record says.
-use Rattle.std.specs.Prelude.{◌≡◌, ⊤, ℕ, ◌≤◌, true, false, Option, Some, None, List, [], ◌∷◌, length, take, drop, filter, is_some, unwrap_or}
+use Rattle.std.specs.Prelude.{◌≡◌, ⊤, ℕ, zero, suc, ◌+◌, ◌≤◌, Bool, true, false, Option, Some, None, List, [], ◌∷◌, length, take, drop, filter, is_some, unwrap_or, if◌then◌else◌}
 use Rattle.std.specs.Option.{option_map}
 use Rattle.lease_state.specs.Content.{patches}
+use Rattle.lease_state.specs.State.{State, nothing_cached}
+use Rattle.lease_model.specs.values.LeaseStates.{holds_any}
 use Rattle.lease_model.specs.records.Facts.{Fact}
-use Rattle.lease_model.specs.records.Past.{is_started, start_of, has_joined, is_served, has_strayed, sendings, takings, last_sending, is_settled, believed}
+use Rattle.lease_model.specs.records.Past.{is_started, start_of, has_joined, is_served, has_strayed, is_good, sendings, takings, last_sending, is_settled, believed}
 use Rattle.lease_model.specs.records.Safe.{EachFact, WellFormed, OneWriteCache}
 use Rattle.lease_world.specs.judge.Before.{before, patches_of, patches_waiting}
 use Rattle.lease_world.specs.judge.Clients.{taken_of}
-use Rattle.lease_world.specs.judge.Seen.{Seen, SeenFile, SeenCache, SeenClient, Snapshot, file_in, client_in, cache_in, touched_by_others, write_in, has_settled}
+use Rattle.lease_world.specs.judge.Seen.{Seen, SeenFile, SeenCache, SeenClient, Snapshot, Holders, file_in, client_in, cache_in, holders_in, touched_by_others, write_in, has_settled}
 use Rattle.lease_world.specs.judge.Told.{placed_changes, last_touch, write_of, pending, place_of, sent_places, is_unsettled}
 
 pub record KnowsFile (file : ℕ) (seen : SeenFile) (past : List Fact) : Type 0 where
@@ -57,10 +59,29 @@ IsView cache (Some base) (Some view) =
 abbrev pub HasContents : SeenFile → ℕ → SeenCache → Type 0
 HasContents file taken cache = IsBase file taken cache.base × IsView cache cache.base cache.view
 
+-- what the client, if it is good, believes of the file; a client that isn't good holds nothing
+unfoldable pub held : ℕ → List Fact → ℕ → State
+held file past client = if is_good client past then believed client file past else nothing_cached
+
+-- how many numbers below the last one pass
+unfoldable pub how_many : (ℕ → Bool) → ℕ → ℕ
+how_many test zero = 0
+how_many test (suc n) = (if test n then 1 else 0) + how_many test n
+
+pub record IsCounted (held : ℕ → State) (holders : Holders) : Type 0 where
+  pub any : holders.any ≡ how_many (λ client. holds_any (held client)) 256
+  pub writing : holders.writing ≡ how_many (λ client. (held client).write) 256
+
+-- the holders of each file, and that clients have numbers of 8 bits
+pub record KnowsHolders (holders : List Holders) (past : List Fact) : Type 0 where
+  pub few : (client : ℕ) → 256 ≤ client → is_good client past ≡ false
+  pub counted : (file : ℕ) → IsCounted (held file past) (holders_in holders file)
+
 pub record Knows (seen : Seen) (past : List Fact) : Type 0 where
   pub files : (file : ℕ) → KnowsFile file (file_in seen.files file) past
   pub clients : (client : ℕ) → KnowsClient client (client_in seen.clients client) past
   pub contents : (client file : ℕ) → HasContents (file_in seen.files file) (client_in seen.clients client).taken
       (cache_in (client_in seen.clients client).caches file)
+  pub holders : KnowsHolders seen.holders past
   pub well_formed : EachFact WellFormed past
   pub one_write_cache : OneWriteCache past

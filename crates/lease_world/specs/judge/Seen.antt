@@ -65,9 +65,15 @@ pub record SeenClient : Type 0 where
   pub settled : List ℕ
   pub caches : List SeenCache
 
+-- How many good clients believe that they may cache something of a file, and how many of these that they may cache writes.
+pub record Holders : Type 0 where
+  pub any : ℕ
+  pub writing : ℕ
+
 pub record Seen : Type 0 where
   pub files : List SeenFile
   pub clients : List SeenClient
+  pub holders : List Holders
 
 -- ---- what nothing is known of
 
@@ -93,6 +99,9 @@ unseen_client = record {
   caches = [];
 }
 
+abbrev pub unheld : Holders
+unheld = record { any = 0; writing = 0 }
+
 -- ---- what is in the place of a number
 
 abbrev pub file_in : List SeenFile → ℕ → SeenFile
@@ -103,6 +112,9 @@ client_in clients n = unwrap_or (slice_get clients n) unseen_client
 
 abbrev pub cache_in : List SeenCache → ℕ → SeenCache
 cache_in caches n = unwrap_or (slice_get caches n) unseen_cache
+
+abbrev pub holders_in : List Holders → ℕ → Holders
+holders_in holders n = unwrap_or (slice_get holders n) unheld
 
 -- ---- what is asked of it
 

@@ -1,7 +1,7 @@
 -- Clients and files by their numbers, and what one fact changes of them.
-use Rattle.std.specs.Prelude.{◌≡◌, ◌≢◌, ℕ, Bool, true, false, List, if◌then◌else◌, ◌==◌, ◌&&◌, is_some}
+use Rattle.std.specs.Prelude.{◌≡◌, ◌≢◌, ℕ, Bool, List, if◌then◌else◌, ◌==◌, is_some}
 use Rattle.lease_state.specs.State.{State}
-use Rattle.lease_world.specs.judge.Seen.{SeenFile, SeenClient, file_in, client_in, cache_in, is_good_client, is_conflict}
+use Rattle.lease_world.specs.judge.Seen.{SeenFile, SeenClient, file_in, client_in, cache_in}
 
 -- the client has a new value
 abbrev pub HasClient : List SeenClient → List SeenClient → ℕ → SeenClient → Type 0
@@ -26,31 +26,3 @@ is_started_in files file = is_some (file_in files file).start
 
 abbrev pub belief_in : List SeenClient → ℕ → ℕ → State
 belief_in clients client file = (cache_in (client_in clients client).caches file).belief
-
--- the other is a good client, and believes of the file what goes ill with what this one believes
-abbrev pub is_rival : List SeenClient → ℕ → ℕ → ℕ → Bool
-is_rival clients client file other = is_good_client (client_in clients other)
-    && is_conflict (belief_in clients client file) (belief_in clients other file)
-
-abbrev pub HasRival : List SeenClient → ℕ → ℕ → Type 0
-HasRival clients client file = (other : ℕ) × (other ≢ client) × (is_rival clients client file other ≡ true)
-
-abbrev pub HasNoRival : List SeenClient → ℕ → ℕ → Type 0
-HasNoRival clients client file = (other : ℕ) → other ≢ client → is_rival clients client file other ≡ false
-
--- the client is good, and has a rival on the file
-abbrev pub HasRivalAt : List SeenClient → ℕ → ℕ → Type 0
-HasRivalAt clients client file = (is_good_client (client_in clients client) ≡ true) × HasRival clients client file
-
-abbrev pub HasNoRivalAt : List SeenClient → ℕ → ℕ → Type 0
-HasNoRivalAt clients client file =
-    is_good_client (client_in clients client) ≡ true → HasNoRival clients client file
-
--- the client is good, and has a rival on a file
-abbrev pub HasRivalSomewhere : List SeenClient → ℕ → Type 0
-HasRivalSomewhere clients client =
-    (is_good_client (client_in clients client) ≡ true) × ((file : ℕ) × HasRival clients client file)
-
-abbrev pub HasRivalNowhere : List SeenClient → ℕ → Type 0
-HasRivalNowhere clients client =
-    is_good_client (client_in clients client) ≡ true → (file : ℕ) → HasNoRival clients client file

@@ -237,18 +237,18 @@ impl ClientSeen {
         put_settled(&mut self.settled, number)
     }
 
-    /// How many numbers of files there are below which all are of which something is kept.
-    pub fn files(&self) -> usize
-        ensures { result ≡ length self.now.caches }
+    /// What is kept of its files, by their numbers.
+    pub fn caches(&self) -> &[CacheSeen]
+        ensures { result.now ≡ self.now.caches }
     {
-        self.caches.len()
+        self.caches.as_slice()
     }
 
     /// What the client believes of a file's lease.
-    pub fn belief(&self, file: usize) -> LeaseState
-        ensures { state_of result ≡ (cache_in self.now.caches file).belief }
+    pub fn belief(&self, file: FileNo) -> LeaseState
+        ensures { state_of result ≡ (cache_in self.now.caches file.0).belief }
     {
-        match self.caches.get(file) {
+        match self.caches.get(usize::from(file.0)) {
             Some(cache) => cache.belief(),
             None => LeaseState::NONE,
         }

@@ -1,9 +1,10 @@
-ghost use Rattle.std.specs.Prelude.{◌≡◌, ◌++◌, ◌<◌, ℕ, [], ◌∷◌, true, false, is_some, OnOk, IfOk, MatchBool, vec_len, length};
+ghost use Rattle.std.specs.Prelude.{◌≡◌, ◌++◌, ◌<◌, ℕ, [], ◌∷◌, true, false, is_some, OnOk, IfOk, vec_len, length};
 ghost use Rattle.lease_state.specs.State.{state_of};
 ghost use Rattle.lease_world.specs.judge.Clients.{can_take, after_taking, is_buffered_before, is_accepted_write, Accepts, Writes, Settles, Believes, Sees};
-ghost use Rattle.lease_world.specs.judge.Seen.{joined, is_good_client, write_in, client_in, is_conflict};
-ghost use Rattle.lease_world.specs.judge.Tables.{belief_in, is_rival, HasClient, ChangesClient, HasSameClients, HasRival, HasNoRival, HasRivalAt, HasNoRivalAt, HasRivalSomewhere, HasRivalNowhere};
+ghost use Rattle.lease_world.specs.judge.Seen.{joined, is_good_client, write_in, client_in};
+ghost use Rattle.lease_world.specs.judge.Tables.{belief_in, HasClient, ChangesClient, HasSameClients};
 
+use crate::judging::cache::CacheSeen;
 use crate::judging::client::{ClientSeen, WriteSeen};
 use crate::judging::file::FileSeen;
 use lease_state::{Bytes, ClientNo, FileNo, LeaseState, Memory, Patch};
@@ -223,72 +224,23 @@ impl Clients {
     }
 
     /// What the client believes of a file's lease.
-    fn belief(&self, client: usize, file: usize) -> LeaseState
-        ensures { state_of result ≡ belief_in self.now client file }
+    pub fn belief(&self, client: ClientNo, file: FileNo) -> LeaseState
+        ensures { state_of result ≡ belief_in self.now client.0 file.0 }
     {
-        match self.seen.get(client) {
+        match self.seen.get(usize::from(client.0)) {
             Some(seen) => seen.belief(file),
             None => LeaseState::NONE,
         }
     }
 
-    // Whether another client that is good believes of the file what goes ill with what this one believes.
-    fn has_rival(&self, client: ClientNo, file: usize) -> bool
-        ensures { MatchBool result (HasRival self.now client.0 file) (HasNoRival self.now client.0 file) }
+    /// What is kept of the client's files, by their numbers.
+    pub fn caches(&self, client: ClientNo) -> &[CacheSeen]
+        ensures { result.now ≡ (client_in self.now client.0).caches }
     {
-        let client = usize::from(client.0);
-        for other in 0..self.seen.len() {
-            if other != client && self.is_rival(client, file, other) {
-                return true;
-            }
+        match self.seen.get(usize::from(client.0)) {
+            Some(seen) => seen.caches(),
+            None => &[],
         }
-        false
-    }
-
-    /// Whether the client is good and has a rival on the file.
-    pub fn has_rival_at(&self, client: ClientNo, file: FileNo) -> bool
-        ensures { MatchBool result (HasRivalAt self.now client.0 file.0) (HasNoRivalAt self.now client.0 file.0) }
-    {
-        self.is_good(client) && self.has_rival(client, usize::from(file.0))
-    }
-
-    /// Whether the client is good and has a rival on some file.
-    pub fn has_rival_somewhere(&self, client: ClientNo) -> bool
-        ensures { MatchBool result (HasRivalSomewhere self.now client.0) (HasRivalNowhere self.now client.0) }
-    {
-        let Some(seen) = self.seen.get(usize::from(client.0)) else {
-            return false;
-        };
-        if !seen.is_good() {
-            return false;
-        }
-        for file in 0..seen.files() {
-            if self.has_rival(client, file) {
-                return true;
-            }
-        }
-        false
-    }
-
-    // Whether the other is good and believes of the file what goes ill with what this one believes.
-    fn is_rival(&self, client: usize, file: usize, other: usize) -> bool
-        ensures { result ≡ is_rival self.now client file other }
-    {
-        match self.seen.get(other) {
-            Some(seen) => seen.is_good() && conflicts(self.belief(client, file), seen.belief(file)),
-            None => false,
-        }
-    }
-}
-
-// Whether the two may not be believed of one file by two clients.
-fn conflicts(one: LeaseState, other: LeaseState) -> bool
-    ensures { result ≡ is_conflict (state_of one) (state_of other) }
-{
-    if one.caches_writes() {
-        !other.is_none()
-    } else {
-        other.caches_writes() && !one.is_none()
     }
 }
 

@@ -3,11 +3,12 @@ ghost use Rattle.lease_state.specs.State.{state_of};
 ghost use Rattle.lease_client.specs.Answers.{settlement_of};
 ghost use Rattle.lease_model.specs.values.Patches.{is_within_limit};
 ghost use Rattle.lease_facts.specs.Facts.{fact_of};
-ghost use Rattle.lease_world.specs.judge.Added.{StartAdds, JoinedAdds, LeavingAdds, ExpiredAdds, StrayedAdds, SentAdds, TookAdds, OpenedAdds, ChangedAdds, WroteAdds, SettledAdds, BelievesAdds, CachedReadAdds, Adds};
+ghost use Rattle.lease_world.specs.judge.Added.{StartAdds, JoinedAdds, LeavingAdds, ExpiredAdds, StrayedAdds, SentAdds, TookAdds, OpenedAdds, ChangedAdds, WroteAdds, SettledAdds, BelievesAdds, CachedReadAdds, LetsGo, Adds};
 
 use crate::judging::client::WriteSeen;
 use crate::judging::clients::Clients;
 use crate::judging::files::Files;
+use crate::judging::holders::FileHolders;
 use crate::verdict::{Rule, Verdict};
 use lease_client::Settlement;
 use lease_facts::Fact;
@@ -20,6 +21,7 @@ use std::marker::Model;
 pub struct Known {
     files: Files,
     clients: Clients,
+    holders: FileHolders,
 }
 
 impl Model for Known {
@@ -27,17 +29,22 @@ impl Model for Known {
 
     ghost Value = { seen.Seen };
 
-    ghost view = { λ known. record { files = known.files; clients = known.clients } };
+    ghost view = { λ known. record {
+      files = known.files;
+      clients = known.clients;
+      holders = known.holders;
+    } };
 }
 
 impl Known {
     /// Before any fact. Allocates nothing.
     pub fn new(alloc: Global) -> Known
-        ensures { result ≡ record { files = []; clients = [] } }
+        ensures { result ≡ record { files = []; clients = []; holders = [] } }
     {
         Known {
             files: Files::new(alloc),
             clients: Clients::new(alloc),
+            holders: FileHolders::new(alloc),
         }
     }
 
@@ -85,8 +92,12 @@ impl Known {
     fn join(&mut self, place: u64, client: ClientNo) -> Result<Verdict, Memory>
         ensures { IfOk result (λ verdict. JoinedAdds place client.0 self.old self.new verdict) }
     {
+        let was_good = self.clients.is_good(client);
         self.clients.join(client)?;
-        if self.clients.has_rival_somewhere(client) {
+        if was_good || !self.clients.is_good(client) {
+            return Ok(Verdict::Safe);
+        }
+        if self.holders.enter(self.clients.caches(client))? {
             return Ok(Verdict::Unsafe {
                 place,
                 rule: Rule::OneWriteCache,
@@ -98,6 +109,7 @@ impl Known {
     fn leave(&mut self, client: ClientNo) -> Result<Verdict, Memory>
         ensures { IfOk result (λ verdict. LeavingAdds client.0 self.old self.new verdict) }
     {
+        self.let_go(client);
         self.clients.leave(client)?;
         Ok(Verdict::Safe)
     }
@@ -114,8 +126,18 @@ impl Known {
     fn stray(&mut self, client: ClientNo) -> Result<Verdict, Memory>
         ensures { IfOk result (λ verdict. StrayedAdds client.0 self.old self.new verdict) }
     {
+        self.let_go(client);
         self.clients.stray(client)?;
         Ok(Verdict::Safe)
+    }
+
+    // The client, if it is good, is no holder any more.
+    fn let_go(&mut self, client: ClientNo)
+        ensures { LetsGo client.0 self.old self.new }
+    {
+        if self.clients.is_good(client) {
+            self.holders.leave(self.clients.caches(client));
+        }
     }
 
     fn send(&mut self, place: u64, client: ClientNo) -> Result<Verdict, Memory>
@@ -236,13 +258,16 @@ impl Known {
         if !self.files.is_started(file) {
             return Ok(Verdict::Malformed { place });
         }
-        self.clients.believe(client, file, state)?;
-        if self.clients.has_rival_at(client, file) {
-            return Ok(Verdict::Unsafe {
-                place,
-                rule: Rule::OneWriteCache,
-            });
+        if self.clients.is_good(client) {
+            let before = self.clients.belief(client, file);
+            if self.holders.change(file, before, state)? {
+                return Ok(Verdict::Unsafe {
+                    place,
+                    rule: Rule::OneWriteCache,
+                });
+            }
         }
+        self.clients.believe(client, file, state)?;
         Ok(Verdict::Safe)
     }
 

@@ -1,7 +1,16 @@
-use Rattle.std.proofs.Common.{refl, true}
+use Rattle.std.proofs.Common.{[], ◌∷◌, true, refl, sym, subst}
 use Rattle.std.proofs.iter.runs.Made.{run, to_end}
+use Rattle.std.proofs.lemmas.List.{map-append}
+use Rattle.lease_facts.specs.Facts.{fact_of}
+use Rattle.lease_world.specs.judge.Judged.{HasJudged}
 use Rattle.lease_world.proofs.records.Telling.{told_on}
 use Rattle.lease_world.proofs.whole.judge_each.Goals as goal
+
+pub loop-fact-preserved : goal.loop-fact-preserved
+loop-fact-preserved g c =
+    subst (λ facts. HasJudged c.in_ok-judge.judge facts)
+    (sym (map-append (λ fact. fact_of fact.now) c.loop-fact.yielded (c.in-Some.fact ∷ [])))
+    (c.in_ok-judge.ensures _ c.loop-fact.invariant)
 
 pub returns : goal.returns
 returns g c = (

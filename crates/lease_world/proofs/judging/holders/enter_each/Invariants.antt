@@ -1,0 +1,11 @@
+use Rattle.std.proofs.Common.{◌≡◌, ℕ, ◌<◌, ◌≤◌}
+use Rattle.lease_world.specs.judge.Holders.{with_holder}
+use Rattle.lease_world.specs.judge.Seen.{cache_in, holders_in}
+use Rattle.lease_world.proofs.judging.holders.enter_each.Given as goal
+
+abbrev pub invariant-loop-file : goal.invariant-loop-file
+invariant-loop-file l = record {
+  done : (f : ℕ) → f < l.file
+      → holders_in l.seen f ≡ with_holder (cache_in l.caches f).belief (holders_in l.fn.seen f);
+  rest : (f : ℕ) → l.file ≤ f → holders_in l.seen f ≡ holders_in l.fn.seen f;
+}
