@@ -1,3 +1,4 @@
+pub mod Numbered
 pub mod Places
 pub mod records
 pub mod worlds

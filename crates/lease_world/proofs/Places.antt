@@ -1,6 +1,8 @@
 -- Lists by numbers, where a number past the end has a value of its own.
 use Rattle.std.proofs.Common.{◌≡◌, ℕ, ◌<◌, ◌≤◌, zero, suc, List, [], ◌∷◌, ◌++◌, length, get_or, cond, nat_eq, refl, arith}
 use Rattle.std.specs.List.{slice_get, slice_set}
+use Rattle.std.specs.Ordering.{is_eq, nat_cmp}
+use Rattle.std.proofs.lemmas.Bool.Decides.{nat_tests}
 use Rattle.std.specs.Prelude.{unwrap_or, if◌then◌else◌, ◌==◌}
 
 -- what was read from its place is what is in it
@@ -42,3 +44,7 @@ past_the_end other [] zero past = refl
 past_the_end other [] (suc n) past = refl
 past_the_end other (one ∷ xs) zero past = absurd (omega arith)
 past_the_end other (one ∷ xs) (suc n) past = past_the_end other xs n (omega arith)
+
+-- what an ordered map or set has after one value was put at a key
+pub value_ordered : {X : Type 0} (n k : ℕ) (x y : X) → cond (is_eq (nat_cmp k n)) x y ≡ (if n == k then x else y)
+value_ordered n k x y = grind (arith, nat_tests)

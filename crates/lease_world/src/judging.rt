@@ -21,7 +21,9 @@ mod file;
 mod files;
 mod holders;
 mod known;
+mod numbers;
 mod snapshot;
+mod writes;
 
 pub use snapshot::apply;
 

@@ -11,8 +11,9 @@ use Rattle.lease_world.specs.Verdicts.{verdict_of}
 use Rattle.lease_world.specs.declared.verdict.Verdict.{Verdict}
 use Rattle.lease_world.specs.judge.Judged.{Judging, is_safe, Steps, HasJudged, JudgesOneMore}
 use Rattle.lease_world.specs.judge.Knows.{KnowsFile, KnowsCache, KnowsClient, HasContents, KnowsHolders, Knows, held, how_many}
-use Rattle.lease_world.specs.judge.Seen.{unseen_file, unseen_cache, unseen_client, unheld, file_in, client_in, cache_in}
+use Rattle.lease_world.specs.judge.Seen.{unseen_file, unseen_cache, unseen_client, unheld, is_among, has_settled, file_in, client_in, cache_in}
 use Rattle.lease_world.specs.judge.Told.{placed_changes, last_touch, write_of, pending}
+use Rattle.lease_world.proofs.Numbered.{nothing_written}
 use Rattle.lease_world.proofs.Places.{past_the_end}
 use Rattle.lease_world.proofs.records.Adding.{Judges, judged}
 use Rattle.lease_world.proofs.records.Flaws.{verdict-more}
@@ -32,6 +33,10 @@ cache_unseen : (client file : ℕ) → KnowsCache client file unseen_cache []
 unfolding believed pending
 cache_unseen client file = record { belief = refl; waiting = refl; fresh = λ e. refl }
 
+nothing_settled : (number : ℕ) → has_settled unseen_client number ≡ false
+unfolding is_among
+nothing_settled number = refl
+
 client_unseen : (client : ℕ) → KnowsClient client unseen_client []
 unfolding has_joined is_served has_strayed sendings takings last_sending is_settled write_of
 client_unseen client = record {
@@ -42,8 +47,8 @@ client_unseen client = record {
   sent = refl;
   taken = refl;
   rising = omega arith;
-  settled = λ n. refl;
-  writes = λ n. refl;
+  settled = nothing_settled;
+  writes = nothing_written;
   caches = λ f. rw (past_the_end unseen_cache [] f (omega arith)) (cache_unseen client f);
 }
 

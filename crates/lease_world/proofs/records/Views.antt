@@ -9,7 +9,7 @@ use Rattle.lease_state.proofs.PatchLemmas.{patches-append}
 use Rattle.lease_world.specs.judge.Before.{before, patches_of, patches_waiting}
 use Rattle.lease_world.specs.judge.Caches.{is_open, looked_through, moved, first_of, based_on, based_at, with_writes, anew, viewed_by, viewed, brought_up}
 use Rattle.lease_world.specs.judge.Knows.{IsBase, IsView, HasContents}
-use Rattle.lease_world.specs.judge.Seen.{Change, Waiting, Snapshot, SeenFile, SeenCache}
+use Rattle.lease_world.specs.judge.Seen.{Numbers, Change, Waiting, Snapshot, SeenFile, SeenCache}
 
 -- ---- changes before places
 
@@ -232,7 +232,7 @@ viewed-up base cache e is =
     subst (λ (b : Option Snapshot). IsUp base cache (viewed_by cache cache.view b)) (sym e) (view-up base cache cache.view is)
 
 -- a cache that is brought up to a place
-pub record IsBroughtUp (file : SeenFile) (place : ℕ) (settled : List ℕ) (old new : SeenCache) : Type 0 where
+pub record IsBroughtUp (file : SeenFile) (place : ℕ) (settled : Numbers) (old new : SeenCache) : Type 0 where
   pub view : Snapshot
   pub view_is : new.view ≡ Some view
   pub bytes : view.bytes ≡ patches (content_before file place) (patches_waiting (looked_through settled old).waiting)
@@ -265,7 +265,7 @@ contents-from file place base cache view b v is_base is_view = (
       (subst (λ (o : Option Snapshot). IsView cache (Some base) o) (sym v) is_view),
 )
 
-pub brings-up : (file : SeenFile) (taken place : ℕ) (settled : List ℕ) (cache : SeenCache) → taken ≤ place
+pub brings-up : (file : SeenFile) (taken place : ℕ) (settled : Numbers) (cache : SeenCache) → taken ≤ place
     → is_some file.start ≡ true → HasContents file taken cache
     → IsBroughtUp file place settled cache (brought_up file place settled cache)
 brings-up file taken place settled cache le started h =

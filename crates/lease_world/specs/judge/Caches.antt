@@ -1,15 +1,14 @@
 -- How what is kept of a client and a file is brought up to a place.
 use Rattle.std.specs.Prelude.{◌≡◌, ℕ, ◌+◌, Bool, false, not, Option, Some, None, List, [], if◌then◌else◌, ◌==◌, filter, unwrap_or, length, drop, bytes_eq}
-use Rattle.std.specs.List.{list_any}
 use Rattle.lease_state.specs.Content.{patches}
 use Rattle.lease_world.specs.judge.Before.{before, patches_of, patches_waiting}
-use Rattle.lease_world.specs.judge.Seen.{Change, Waiting, Snapshot, SeenFile, SeenCache}
+use Rattle.lease_world.specs.judge.Seen.{Change, Waiting, Numbers, Snapshot, SeenFile, SeenCache, is_among}
 
-abbrev pub is_open : List ℕ → Waiting → Bool
-is_open settled write = not (list_any (λ n. write.number == n) settled)
+abbrev pub is_open : Numbers → Waiting → Bool
+is_open settled write = not (is_among write.number settled)
 
 -- without the writes that are settled, where there may be some
-abbrev pub looked_through : List ℕ → SeenCache → SeenCache
+abbrev pub looked_through : Numbers → SeenCache → SeenCache
 looked_through settled cache =
     if cache.stale then record cache { waiting = filter (is_open settled) cache.waiting; view = None; stale = false }
     else cache
@@ -63,9 +62,9 @@ abbrev pub is_seen : List ℕ → Option Snapshot → Bool
 is_seen bytes (Some view) = bytes_eq bytes view.bytes
 is_seen bytes None = false
 
-abbrev pub brought_up : SeenFile → ℕ → List ℕ → SeenCache → SeenCache
+abbrev pub brought_up : SeenFile → ℕ → Numbers → SeenCache → SeenCache
 brought_up file place settled cache = viewed (based_at file place (looked_through settled cache))
 
-abbrev pub IsShown : SeenFile → ℕ → List ℕ → List ℕ → SeenCache → SeenCache → Bool → Type 0
+abbrev pub IsShown : SeenFile → ℕ → Numbers → List ℕ → SeenCache → SeenCache → Bool → Type 0
 IsShown file place settled bytes old new same =
     (new ≡ brought_up file place settled old) × (same ≡ is_seen bytes new.view)

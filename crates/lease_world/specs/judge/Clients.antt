@@ -5,7 +5,7 @@ use Rattle.lease_state.specs.declared.patch.Patch.{Patch}
 use Rattle.lease_model.specs.values.Lists.{is_empty}
 use Rattle.lease_state.specs.State.{State}
 use Rattle.lease_world.specs.judge.Caches.{brought_up, is_seen}
-use Rattle.lease_world.specs.judge.Seen.{SeenFile, SeenWrite, SeenCache, SeenClient, cache_in, write_at, write_in, has_settled, accepted_as}
+use Rattle.lease_world.specs.judge.Seen.{SeenFile, SeenWrite, SeenWrites, SeenCache, SeenClient, cache_in, write_by, write_at, write_in, has_settled, accepted_as}
 
 -- there is a message that was sent since it joined and not taken
 abbrev pub can_take : SeenClient → Bool
@@ -31,14 +31,18 @@ is_accepted_write (Some write) = write.accepted
 is_accepted_write None = false
 
 -- writes by their numbers, one of which has a new value
-abbrev pub HasWrites : List (ℕ × SeenWrite) → List (ℕ × SeenWrite) → ℕ → Option SeenWrite → Type 0
+abbrev pub HasWrites : SeenWrites → SeenWrites → ℕ → Option SeenWrite → Type 0
 HasWrites old new number write = (n : ℕ) → write_at n new ≡ (if n == number then write else write_at n old)
+
+-- the same of a map
+abbrev pub HasWritesBy : List (ℕ × SeenWrite) → List (ℕ × SeenWrite) → ℕ → Option SeenWrite → Type 0
+HasWritesBy old new number write = (n : ℕ) → write_by n new ≡ (if n == number then write else write_by n old)
 
 -- all but the writes stay
 abbrev pub KeepsAllButWrites : SeenClient → SeenClient → Type 0
 KeepsAllButWrites old new = new ≡ record old { writes = new.writes }
 
-abbrev pub AcceptsIn : ℕ → ℕ → Patch → List (ℕ × SeenWrite) → List (ℕ × SeenWrite) → Type 0
+abbrev pub AcceptsIn : ℕ → ℕ → Patch → SeenWrites → SeenWrites → Type 0
 AcceptsIn file number patch old new =
     HasWrites old new number (option_map (accepted_as file patch) (write_at number old))
 

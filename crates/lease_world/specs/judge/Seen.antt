@@ -1,7 +1,9 @@
 -- What a judge keeps, as plain data. Places in a record count facts from 1; 0 is no place.
-use Rattle.std.specs.Prelude.{ℕ, Bool, true, false, not, Option, None, List, [], if◌then◌else◌, ◌==◌, ◌&&◌, unwrap_or, slice_get}
+use Rattle.std.specs.Prelude.{ℕ, ◌-◌, Bool, true, false, not, Option, None, List, [], if◌then◌else◌, ◌==◌, ◌&&◌, ◌||◌, nat_lt, nat_le, length, get_or, unwrap_or, slice_get}
 use Rattle.std.specs.List.{list_any}
+use Rattle.std.specs.BTreeMap.{is_at}
 use Rattle.std.specs.Map.{lookup}
+use Rattle.std.specs.Ordering.{nat_cmp}
 use Rattle.lease_state.specs.State.{State, nothing_cached}
 use Rattle.lease_state.specs.declared.patch.Patch.{Patch}
 use Rattle.lease_model.specs.values.LeaseStates.{holds_any}
@@ -32,6 +34,16 @@ pub record SeenWrite : Type 0 where
   pub patch : Patch
   pub accepted : Bool
 
+-- the writes of a client by their numbers: those whose numbers came one after another, from 1 on, and the rest
+pub record SeenWrites : Type 0 where
+  pub first : List SeenWrite
+  pub rest : List (ℕ × SeenWrite)
+
+-- a set of numbers: whether each number from 0 on is in it, and the rest
+pub record Numbers : Type 0 where
+  pub first : List Bool
+  pub rest : List ℕ
+
 -- a write that may be unanswered
 pub record Waiting : Type 0 where
   pub number : ℕ
@@ -61,8 +73,8 @@ pub record SeenClient : Type 0 where
   pub sent : List ℕ
   pub taken : ℕ
   pub has_taken : Bool
-  pub writes : List (ℕ × SeenWrite)
-  pub settled : List ℕ
+  pub writes : SeenWrites
+  pub settled : Numbers
   pub caches : List SeenCache
 
 -- How many good clients believe that they may cache something of a file, and how many of these that they may cache writes.
@@ -86,6 +98,12 @@ unseen_file = record { start = None; changes = []; touches = untouched }
 abbrev pub unseen_cache : SeenCache
 unseen_cache = record { belief = nothing_cached; waiting = []; stale = false; base = None; view = None }
 
+abbrev pub no_writes : SeenWrites
+no_writes = record { first = []; rest = [] }
+
+abbrev pub no_numbers : Numbers
+no_numbers = record { first = []; rest = [] }
+
 abbrev pub unseen_client : SeenClient
 unseen_client = record {
   joined = false;
@@ -94,8 +112,8 @@ unseen_client = record {
   sent = [];
   taken = 0;
   has_taken = false;
-  writes = [];
-  settled = [];
+  writes = no_writes;
+  settled = no_numbers;
   caches = [];
 }
 
@@ -129,14 +147,29 @@ is_good_client client = not client.strayed && client.served
 abbrev pub is_conflict : State → State → Bool
 is_conflict one other = (if one.write then holds_any other else other.write && holds_any one)
 
-abbrev pub write_at : ℕ → List (ℕ × SeenWrite) → Option SeenWrite
-write_at number writes = lookup (λ n. number == n) writes
+-- the write of this number in a map
+abbrev pub write_by : ℕ → List (ℕ × SeenWrite) → Option SeenWrite
+write_by number writes = lookup (is_at (nat_cmp number)) writes
+
+abbrev pub is_first : ℕ → SeenWrites → Bool
+is_first number writes = nat_lt 0 number && nat_le number (length writes.first)
+
+unfoldable pub write_at : ℕ → SeenWrites → Option SeenWrite
+write_at number writes =
+    if is_first number writes then slice_get writes.first (number - 1) else write_by number writes.rest
 
 abbrev pub write_in : SeenClient → ℕ → Option SeenWrite
 write_in client number = write_at number client.writes
 
+-- the number is in a set
+abbrev pub is_by : ℕ → List ℕ → Bool
+is_by number numbers = list_any (is_at (nat_cmp number)) numbers
+
+unfoldable pub is_among : ℕ → Numbers → Bool
+is_among number numbers = get_or numbers.first number false || is_by number numbers.rest
+
 abbrev pub has_settled : SeenClient → ℕ → Bool
-has_settled client number = list_any (λ n. number == n) client.settled
+has_settled client number = is_among number client.settled
 
 -- ---- how facts change it
 

@@ -1,14 +1,13 @@
-ghost use Rattle.std.specs.Prelude.{◌≡◌, ◌++◌, [], ◌∷◌, Some, None, true, false, not, filter, OnOk, IfOk, bytes_eq, length};
-ghost use Rattle.std.specs.List.{list_any};
+ghost use Rattle.std.specs.Prelude.{◌≡◌, ◌++◌, [], ◌∷◌, Some, None, true, false, filter, OnOk, IfOk};
 ghost use Rattle.lease_state.specs.State.{state_of};
 ghost use Rattle.lease_world.specs.judge.Seen.{unseen_cache};
 ghost use Rattle.lease_world.specs.judge.Caches.{looked_through, based_at, viewed, is_open, IsShown};
 
 use crate::judging::file::FileSeen;
+use crate::judging::numbers::Numbers;
 use crate::judging::snapshot::Snapshot;
 use lease_state::{Bytes, LeaseState, Memory, Patch};
 use std::alloc::Global;
-use std::collections::HashSet;
 use std::marker::Model;
 
 /// A write that may be unanswered.
@@ -113,10 +112,10 @@ impl CacheSeen {
         &mut self,
         file: &FileSeen,
         place: u64,
-        settled: &HashSet<u64>,
+        settled: &Numbers,
         bytes: &Bytes,
     ) -> Result<bool, Memory>
-        ensures { IfOk result (λ same. IsShown file.now place settled.now.keys bytes.now self.old self.new same) }
+        ensures { IfOk result (λ same. IsShown file.now place settled.now bytes.now self.old self.new same) }
     {
         self.look_through(settled);
         self.rebase(file, place)?;
@@ -128,8 +127,8 @@ impl CacheSeen {
     }
 
     // Forgets the writes that are settled, and what was seen with them.
-    fn look_through(&mut self, settled: &HashSet<u64>)
-        ensures { self.new ≡ looked_through settled.now.keys self.old }
+    fn look_through(&mut self, settled: &Numbers)
+        ensures { self.new ≡ looked_through settled.now self.old }
     {
         if self.stale {
             keep_open(&mut self.waiting, settled);
@@ -173,8 +172,8 @@ impl CacheSeen {
 }
 
 // Keeps the writes that aren't settled.
-fn keep_open(waiting: &mut Vec<Waiting>, settled: &HashSet<u64>)
-    ensures { waiting.new.items ≡ filter (is_open settled.now.keys) waiting.old.items }
+fn keep_open(waiting: &mut Vec<Waiting>, settled: &Numbers)
+    ensures { waiting.new.items ≡ filter (is_open settled.now) waiting.old.items }
 {
-    waiting.retain(|write| !settled.contains(&write.number));
+    waiting.retain(|write| !settled.contains(write.number));
 }

@@ -1,51 +1,15 @@
-ghost use Rattle.std.specs.Prelude.{◌≡◌, ◌++◌, ◌<◌, [], ◌∷◌, true, false, ℕ, Some, None, ◌&&◌, ◌==◌, not, OnOk, IfOk, nat_eq, length, is_some, bytes_eq, vec_len};
-ghost use Rattle.std.specs.List.{list_any, slice_set};
-ghost use Rattle.std.specs.Map.{lookup};
+ghost use Rattle.std.specs.Prelude.{◌≡◌, ◌++◌, ◌<◌, [], ◌∷◌, true, false, ℕ, Some, None, ◌&&◌, ◌==◌, not, OnOk, IfOk, is_some, vec_len};
 ghost use Rattle.lease_state.specs.State.{state_of};
-ghost use Rattle.lease_world.specs.judge.Seen.{unseen_client, joined, is_good_client, cache_in, write_at, write_in};
+ghost use Rattle.lease_world.specs.judge.Seen.{unseen_client, joined, is_good_client, cache_in, is_among, write_at, write_in};
 
 use crate::judging::cache::CacheSeen;
 use crate::judging::file::FileSeen;
+use crate::judging::numbers::Numbers;
+use crate::judging::writes::{WriteSeen, WritesSeen};
 use lease_state::{Bytes, FileNo, LeaseState, Memory, Patch};
 use std::alloc::Global;
-use std::collections::{HashMap, HashSet, VecDeque};
+use std::collections::VecDeque;
 use std::marker::Model;
-
-/// A write that was given to a client: its file, its place in the record, whether it was buffered, its patch, and whether the
-/// file was changed by it since.
-#[derive(Debug, Drop)]
-pub struct WriteSeen {
-    pub file: FileNo,
-    pub place: u64,
-    pub buffered: bool,
-    pub patch: Patch,
-    pub accepted: bool,
-}
-
-impl Model for WriteSeen {
-    ghost use Rattle.lease_world.specs.judge.Seen as seen;
-
-    ghost Value = { seen.SeenWrite };
-
-    ghost view = { λ write. record {
-      file = write.file.0;
-      place = write.place;
-      buffered = write.buffered;
-      patch = write.patch;
-      accepted = write.accepted;
-    } };
-}
-
-impl WriteSeen {
-    /// A file is changed by a write of this number: it is this one where file and patch are the same.
-    fn accept(&mut self, file: FileNo, patch: &Patch)
-        ensures { self.new ≡ accepted_as file.0 patch.now self.old }
-    {
-        if self.file == file && self.patch == *patch {
-            self.accepted = true;
-        }
-    }
-}
 
 /// What a judge keeps of a client.
 #[derive(Debug, Drop)]
@@ -60,10 +24,9 @@ pub struct ClientSeen {
     taken: u64,
     /// It took a message since it joined.
     has_taken: bool,
-    /// By their numbers.
-    writes: HashMap<u64, WriteSeen>,
+    writes: WritesSeen,
     /// The numbers of writes that were settled.
-    settled: HashSet<u64>,
+    settled: Numbers,
     /// By the numbers of files.
     caches: Vec<CacheSeen>,
 }
@@ -80,8 +43,8 @@ impl Model for ClientSeen {
       sent = client.sent.items;
       taken = client.taken;
       has_taken = client.has_taken;
-      writes = client.writes.entries;
-      settled = client.settled.keys;
+      writes = client.writes;
+      settled = client.settled;
       caches = client.caches.items;
     } };
 }
@@ -98,8 +61,8 @@ impl ClientSeen {
             sent: VecDeque::new(alloc),
             taken: 0,
             has_taken: false,
-            writes: HashMap::new(alloc),
-            settled: HashSet::new(alloc),
+            writes: WritesSeen::new(alloc),
+            settled: Numbers::new(alloc),
             caches: Vec::new(alloc),
         }
     }
@@ -183,14 +146,14 @@ impl ClientSeen {
     pub fn has_number(&self, number: u64) -> bool
         ensures { result ≡ is_some (write_in self.now number) }
     {
-        self.writes.contains_key(&number)
+        self.writes.get(number).is_some()
     }
 
     /// Whether the client's buffered write of this number, on this file, stands before the place.
     pub fn has_buffered(&self, file: FileNo, number: u64, place: u64) -> bool
         ensures { result ≡ is_buffered_before file.0 place (write_in self.now number) }
     {
-        match self.writes.get(&number) {
+        match self.writes.get(number) {
             Some(write) => write.buffered && write.file == file && write.place < place,
             None => false,
         }
@@ -200,7 +163,7 @@ impl ClientSeen {
     pub fn is_accepted(&self, number: u64) -> bool
         ensures { result ≡ is_accepted_write (write_in self.now number) }
     {
-        match self.writes.get(&number) {
+        match self.writes.get(number) {
             Some(write) => write.accepted,
             None => false,
         }
@@ -210,7 +173,7 @@ impl ClientSeen {
     pub fn accept(&mut self, file: FileNo, number: u64, patch: &Patch)
         ensures { Accepts file.0 number patch.now self.old self.new }
     {
-        accept_in(&mut self.writes, file, number, patch);
+        self.writes.accept(file, number, patch);
     }
 
     /// The client is given a write at this place.
@@ -222,7 +185,7 @@ impl ClientSeen {
         ensures { OnOk result (Writes number write self.old self.new) }
     {
         write_in_cache(&mut self.caches, &self.settled, number, &write)?;
-        put_write(&mut self.writes, number, write)
+        self.writes.insert(number, write)
     }
 
     /// The client learns what became of its write of this number.
@@ -234,7 +197,7 @@ impl ClientSeen {
         ensures { OnOk result (Settles number self.old self.new) }
     {
         settle_in_cache(&mut self.caches, &self.writes, number)?;
-        put_settled(&mut self.settled, number)
+        self.settled.insert(number)
     }
 
     /// What is kept of its files, by their numbers.
@@ -301,14 +264,14 @@ fn reach(caches: &mut Vec<CacheSeen>, file: FileNo) -> Result<(), Memory>
 // A write that isn't settled already is kept with its file.
 fn write_in_cache(
     caches: &mut Vec<CacheSeen>,
-    settled: &HashSet<u64>,
+    settled: &Numbers,
     number: u64,
     write: &WriteSeen,
 ) -> Result<(), Memory>
-    ensures { OnOk result (WritesCache (list_any (λ n. number == n) settled.now.keys) number write.now
+    ensures { OnOk result (WritesCache (is_among number settled.now) number write.now
         caches.old.items caches.new.items) }
 {
-    if settled.contains(&number) {
+    if settled.contains(number) {
         return Ok(());
     }
     let file = write.file;
@@ -317,40 +280,21 @@ fn write_in_cache(
     cache.write(number, write.patch.try_copy()?)
 }
 
-fn put_write(
-    writes: &mut HashMap<u64, WriteSeen>,
-    number: u64,
-    write: WriteSeen,
-) -> Result<(), Memory>
-    ensures { OnOk result (HasWrites writes.old.entries writes.new.entries number (Some write)) }
-{
-    writes.insert(number, write)?;
-    Ok(())
-}
-
 // The write of this number, if there is one, is settled on its file.
 fn settle_in_cache(
     caches: &mut Vec<CacheSeen>,
-    writes: &HashMap<u64, WriteSeen>,
+    writes: &WritesSeen,
     number: u64,
 ) -> Result<(), Memory>
-    ensures { OnOk result (SettlesCache (write_at number writes.now.entries) caches.old.items caches.new.items) }
+    ensures { OnOk result (SettlesCache (write_at number writes.now) caches.old.items caches.new.items) }
 {
-    let file = match writes.get(&number) {
+    let file = match writes.get(number) {
         Some(write) => write.file,
         None => return Ok(()),
     };
     reach(caches, file)?;
     let cache = &mut caches[usize::from(file.0)];
     cache.settle();
-    Ok(())
-}
-
-fn put_settled(settled: &mut HashSet<u64>, number: u64) -> Result<(), Memory>
-    ensures { OnOk result ((n : ℕ) → list_any (λ k. n == k) settled.new.keys
-        ≡ (if n == number then true else list_any (λ k. n == k) settled.old.keys)) }
-{
-    settled.insert(number)?;
     Ok(())
 }
 
@@ -368,15 +312,4 @@ fn believe_in_cache(
     Ok(())
 }
 
-// A file is changed by the write of this number.
-fn accept_in(writes: &mut HashMap<u64, WriteSeen>, file: FileNo, number: u64, patch: &Patch)
-    ensures { AcceptsIn file.0 number patch.now writes.old.entries writes.new.entries }
-{
-    if let Some(write) = writes.get_mut(&number) {
-        write.accept(file, patch);
-    }
-}
-
-ghost use Rattle.std.specs.Prelude.{if◌then◌else◌};
-ghost use Rattle.lease_world.specs.judge.Seen.{accepted_as};
-ghost use Rattle.lease_world.specs.judge.Clients.{taken_of, TakesOne, is_buffered_before, is_accepted_write, Accepts, AcceptsIn, Writes, Settles, Believes, Sees, HasCache, HasWrites, WritesCache, SettlesCache, with_belief};
+ghost use Rattle.lease_world.specs.judge.Clients.{taken_of, TakesOne, is_buffered_before, is_accepted_write, Accepts, Writes, Settles, Believes, Sees, HasCache, WritesCache, SettlesCache, with_belief};

@@ -1,12 +1,13 @@
-ghost use Rattle.std.specs.Prelude.{◌≡◌, ◌++◌, ◌<◌, ℕ, [], ◌∷◌, true, false, is_some, OnOk, IfOk, vec_len, length};
+ghost use Rattle.std.specs.Prelude.{◌≡◌, ◌++◌, ◌<◌, [], ◌∷◌, true, false, is_some, OnOk, IfOk, vec_len, length};
 ghost use Rattle.lease_state.specs.State.{state_of};
 ghost use Rattle.lease_world.specs.judge.Clients.{can_take, after_taking, is_buffered_before, is_accepted_write, Accepts, Writes, Settles, Believes, Sees};
 ghost use Rattle.lease_world.specs.judge.Seen.{joined, is_good_client, write_in, client_in};
 ghost use Rattle.lease_world.specs.judge.Tables.{belief_in, HasClient, ChangesClient, HasSameClients};
 
 use crate::judging::cache::CacheSeen;
-use crate::judging::client::{ClientSeen, WriteSeen};
+use crate::judging::client::ClientSeen;
 use crate::judging::file::FileSeen;
+use crate::judging::writes::WriteSeen;
 use lease_state::{Bytes, ClientNo, FileNo, LeaseState, Memory, Patch};
 use std::alloc::Global;
 use std::marker::Model;

@@ -5,10 +5,10 @@ ghost use Rattle.lease_model.specs.values.Patches.{is_within_limit};
 ghost use Rattle.lease_facts.specs.Facts.{fact_of};
 ghost use Rattle.lease_world.specs.judge.Added.{StartAdds, JoinedAdds, LeavingAdds, ExpiredAdds, StrayedAdds, SentAdds, TookAdds, OpenedAdds, ChangedAdds, WroteAdds, SettledAdds, BelievesAdds, CachedReadAdds, LetsGo, Adds};
 
-use crate::judging::client::WriteSeen;
 use crate::judging::clients::Clients;
 use crate::judging::files::Files;
 use crate::judging::holders::FileHolders;
+use crate::judging::writes::WriteSeen;
 use crate::verdict::{Rule, Verdict};
 use lease_client::Settlement;
 use lease_facts::Fact;

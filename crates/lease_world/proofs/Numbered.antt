@@ -1,0 +1,102 @@
+-- Writes by their numbers.
+use Rattle.std.proofs.Common.{◌≡◌, ℕ, ◌+◌, ◌-◌, ◌<◌, ◌≤◌, zero, suc, Bool, true, false, List, [], ◌∷◌, ◌++◌, Some, None, length, get_or, refl, sym, ap, ◌∙◌, arith}
+use Rattle.std.specs.List.{slice_get, slice_set}
+use Rattle.std.specs.Option.{option_map}
+use Rattle.std.specs.Prelude.{if◌then◌else◌, ◌==◌, ◌&&◌, nat_lt, nat_le}
+use Rattle.std.proofs.lemmas.List.{length-append}
+use Rattle.std.proofs.lemmas.Option.{slice_get-get_or}
+use Rattle.lease_world.specs.judge.Clients.{HasWrites}
+use Rattle.lease_world.specs.judge.Seen.{SeenWrite, SeenClient, unseen_client, no_writes, client_in, write_in, is_first, write_at, write_by}
+use Rattle.lease_world.proofs.Places.{past_the_end}
+
+-- ---- lists
+
+length-put : {X : Type 0} (xs : List X) (k : ℕ) (x : X) → length (slice_set xs k x) ≡ length xs
+length-put [] k x = refl
+length-put (y ∷ xs) zero x = refl
+length-put (y ∷ xs) (suc k) x = let e = length-put xs k x in omega (arith, e)
+
+suc_same : {X : Type 0} (n k : ℕ) (x y z : X) → z ≡ (if n == k then x else y) → z ≡ (if suc n == suc k then x else y)
+suc_same n k x y z e = grind arith
+
+get-put : {X : Type 0} (xs : List X) (k : ℕ) (x : X) (n : ℕ) → k < length xs
+    → slice_get (slice_set xs k x) n ≡ (if n == k then Some x else slice_get xs n)
+get-put [] k x n inside = absurd (omega arith)
+get-put (y ∷ xs) zero x zero inside = refl
+get-put (y ∷ xs) zero x (suc n) inside = grind arith
+get-put (y ∷ xs) (suc k) x zero inside = grind arith
+get-put (y ∷ xs) (suc k) x (suc n) inside = suc_same n k (Some x) (slice_get xs n) _ (get-put xs k x n (omega arith))
+
+get-push : {X : Type 0} (xs : List X) (x : X) (n : ℕ)
+    → slice_get (xs ++ x ∷ []) n ≡ (if n == length xs then Some x else slice_get xs n)
+get-push [] x zero = refl
+get-push [] x (suc n) = grind arith
+get-push (y ∷ xs) x zero = grind arith
+get-push (y ∷ xs) x (suc n) = suc_same n (length xs) (Some x) (slice_get xs n) _ (get-push xs x n)
+
+-- ---- writes
+
+-- numbers from 1 on, and places from 0 on
+at_number : {X : Type 0} (n number count : ℕ) (a b c : X) → (nat_lt 0 number && nat_le number count) ≡ true
+    → (if nat_lt 0 n && nat_le n count then (if n - 1 == number - 1 then a else b) else c)
+    ≡ (if n == number then a else (if nat_lt 0 n && nat_le n count then b else c))
+at_number n number count a b c within = grind arith
+
+at_next : {X : Type 0} (n number count : ℕ) (a b c : X) → number ≡ count + 1
+    → (if nat_lt 0 n && nat_le n number then (if n - 1 == count then a else b) else c)
+    ≡ (if n == number then a else (if nat_lt 0 n && nat_le n count then b else c))
+at_next n number count a b c next = grind arith
+
+place_within : (number count : ℕ) → (nat_lt 0 number && nat_le number count) ≡ true → number - 1 < count
+place_within number count e = grind arith
+
+pub write-put : (first : List SeenWrite) (rest : List (ℕ × SeenWrite)) (number : ℕ) (write : SeenWrite)
+    → is_first number (record { first = first; rest = rest }) ≡ true
+    → HasWrites (record { first = first; rest = rest })
+    (record { first = slice_set first (number - 1) write; rest = rest }) number (Some write)
+unfolding write_at
+write-put first rest number write within n =
+    rw (length-put first (number - 1) write, get-put first (number - 1) write (n - 1) (place_within number (length first) within))
+    (at_number n number (length first) (Some write) (slice_get first (n - 1)) (write_by n rest) within)
+
+one_longer : (first : List SeenWrite) (write : SeenWrite) (number : ℕ) → number ≡ length first + 1
+    → length (first ++ write ∷ []) ≡ number
+one_longer first write number next = let e = length-append first (write ∷ []) in omega (arith, e, next)
+
+pub write-push : (first : List SeenWrite) (rest : List (ℕ × SeenWrite)) (number : ℕ) (write : SeenWrite)
+    → number ≡ length first + 1
+    → HasWrites (record { first = first; rest = rest })
+    (record { first = first ++ write ∷ []; rest = rest }) number (Some write)
+unfolding write_at
+write-push first rest number write next n =
+    rw (one_longer first write number next, get-push first write (n - 1))
+    (at_next n number (length first) (Some write) (slice_get first (n - 1)) (write_by n rest) next)
+
+-- the write of a number is changed where it stands
+pub write-change : (first : List SeenWrite) (rest : List (ℕ × SeenWrite)) (number : ℕ) (write : SeenWrite)
+    (change : SeenWrite → SeenWrite) → is_first number (record { first = first; rest = rest }) ≡ true
+    → write ≡ get_or first (number - 1) write
+    → HasWrites (record { first = first; rest = rest })
+    (record { first = slice_set first (number - 1) (change write); rest = rest }) number
+    (option_map change (write_at number (record { first = first; rest = rest })))
+unfolding write_at
+write-change first rest number write change within is n = rw there (write-put first rest number (change write) within n)
+  where
+    there : write_at number (record { first = first; rest = rest }) ≡ Some write
+    there = rw within (slice_get-get_or first (number - 1) write (place_within number (length first) within) ∙ ap Some (sym is))
+
+pub nothing_written : (number : ℕ) → write_at number no_writes ≡ None
+unfolding write_at
+nothing_written number = go (is_first number no_writes) refl
+  where
+    none_first : (n : ℕ) → (nat_lt 0 n && nat_le n 0) ≡ true → ⊥
+    none_first n e = grind arith
+
+    go : (b : Bool) → is_first number no_writes ≡ b → write_at number no_writes ≡ None
+    go true e = absurd (none_first number e)
+    go false e = rw e refl
+
+-- a client past the end has no writes
+pub none_past_the_end : (clients : List SeenClient) (client number : ℕ) → length clients ≤ client
+    → write_in (client_in clients client) number ≡ None
+none_past_the_end clients client number past = rw (past_the_end unseen_client clients client past) (nothing_written number)

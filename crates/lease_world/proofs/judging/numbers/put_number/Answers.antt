@@ -1,0 +1,5 @@
+use Rattle.lease_world.proofs.Places.{value_ordered}
+use Rattle.lease_world.proofs.judging.numbers.put_number.Goals as goal
+
+pub returns : goal.returns
+returns c = λ n. rw (c.in_ok-insert.ensures.updates.0 n) (value_ordered n c.args.number _ _)
