@@ -3,21 +3,13 @@ use Rattle.std.proofs.Common.{◌≡◌, ℕ, ◌+◌, ◌-◌, ◌<◌, ◌≤�
 use Rattle.std.specs.List.{slice_get, slice_set}
 use Rattle.std.specs.Option.{option_map}
 use Rattle.std.specs.Prelude.{if◌then◌else◌, ◌==◌, ◌&&◌, nat_lt, nat_le}
-use Rattle.std.proofs.lemmas.List.{length-append}
+use Rattle.std.proofs.lemmas.List.{length-append, length-set}
 use Rattle.std.proofs.lemmas.Option.{slice_get-get_or}
 use Rattle.lease_world.specs.judge.Clients.{HasWrites}
 use Rattle.lease_world.specs.judge.Seen.{SeenWrite, SeenClient, unseen_client, no_writes, client_in, write_in, is_first, write_at, write_by}
-use Rattle.lease_world.proofs.Places.{past_the_end}
+use Rattle.lease_world.proofs.Places.{suc_same, past_the_end}
 
 -- ---- lists
-
-length-put : {X : Type 0} (xs : List X) (k : ℕ) (x : X) → length (slice_set xs k x) ≡ length xs
-length-put [] k x = refl
-length-put (y ∷ xs) zero x = refl
-length-put (y ∷ xs) (suc k) x = let e = length-put xs k x in omega (arith, e)
-
-suc_same : {X : Type 0} (n k : ℕ) (x y z : X) → z ≡ (if n == k then x else y) → z ≡ (if suc n == suc k then x else y)
-suc_same n k x y z e = grind arith
 
 get-put : {X : Type 0} (xs : List X) (k : ℕ) (x : X) (n : ℕ) → k < length xs
     → slice_get (slice_set xs k x) n ≡ (if n == k then Some x else slice_get xs n)
@@ -56,7 +48,7 @@ pub write-put : (first : List SeenWrite) (rest : List (ℕ × SeenWrite)) (numbe
     (record { first = slice_set first (number - 1) write; rest = rest }) number (Some write)
 unfolding write_at
 write-put first rest number write within n =
-    rw (length-put first (number - 1) write, get-put first (number - 1) write (n - 1) (place_within number (length first) within))
+    rw (length-set first (number - 1) write, get-put first (number - 1) write (n - 1) (place_within number (length first) within))
     (at_number n number (length first) (Some write) (slice_get first (n - 1)) (write_by n rest) within)
 
 one_longer : (first : List SeenWrite) (write : SeenWrite) (number : ℕ) → number ≡ length first + 1

@@ -1,5 +1,5 @@
 -- Lists by numbers, where a number past the end has a value of its own.
-use Rattle.std.proofs.Common.{◌≡◌, ℕ, ◌<◌, ◌≤◌, zero, suc, List, [], ◌∷◌, ◌++◌, length, get_or, cond, nat_eq, refl, arith}
+use Rattle.std.proofs.Common.{◌≡◌, ℕ, ◌<◌, ◌≤◌, zero, suc, List, [], ◌∷◌, ◌++◌, length, get_or, cond, refl, arith}
 use Rattle.std.specs.List.{slice_get, slice_set}
 use Rattle.std.specs.Ordering.{is_eq, nat_cmp}
 use Rattle.std.proofs.lemmas.Bool.Decides.{nat_tests}
@@ -20,7 +20,8 @@ one_more other [] (suc n) = refl
 one_more other (one ∷ xs) zero = refl
 one_more other (one ∷ xs) (suc n) = one_more other xs n
 
-suc_same : {X : Type 0} (n k : ℕ) (x y z : X) → z ≡ (if n == k then x else y) → z ≡ (if suc n == suc k then x else y)
+-- the same of the numbers one higher
+pub suc_same : {X : Type 0} (n k : ℕ) (x y z : X) → z ≡ (if n == k then x else y) → z ≡ (if suc n == suc k then x else y)
 suc_same n k x y z e = grind arith
 
 -- a value that is put into a place stands there, and the others stay
@@ -33,10 +34,6 @@ value_put other (one ∷ xs) (suc k) x zero inside = grind arith
 value_put other (one ∷ xs) (suc k) x (suc n) inside =
     suc_same n k x (unwrap_or (slice_get xs n) other) _ (value_put other xs k x n (omega arith))
 
--- what a map or a set has after one value was put at a key
-pub value_at : {X : Type 0} (n k : ℕ) (x y : X) → cond (nat_eq k n) x y ≡ (if n == k then x else y)
-value_at n k x y = grind arith
-
 -- past the end is what other numbers have
 pub past_the_end : {X : Type 0} (other : X) (xs : List X) (n : ℕ) → length xs ≤ n
     → unwrap_or (slice_get xs n) other ≡ other
@@ -45,6 +42,6 @@ past_the_end other [] (suc n) past = refl
 past_the_end other (one ∷ xs) zero past = absurd (omega arith)
 past_the_end other (one ∷ xs) (suc n) past = past_the_end other xs n (omega arith)
 
--- what an ordered map or set has after one value was put at a key
-pub value_ordered : {X : Type 0} (n k : ℕ) (x y : X) → cond (is_eq (nat_cmp k n)) x y ≡ (if n == k then x else y)
-value_ordered n k x y = grind (arith, nat_tests)
+-- what a map or a set has after one value was put at a key
+pub value_at : {X : Type 0} (n k : ℕ) (x y : X) → cond (is_eq (nat_cmp k n)) x y ≡ (if n == k then x else y)
+value_at n k x y = grind (arith, nat_tests)

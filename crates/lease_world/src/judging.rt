@@ -29,9 +29,9 @@ pub use snapshot::apply;
 
 /// Judges a record (profile), of any origin, in one pass: it is given fact after fact, and can give
 /// a verdict on the facts so far at any time. For each file it keeps the bytes with which it was
-/// started and its changes, for each client its beliefs, its writes, the numbers that were settled
-/// and the messages on their way, and for each client and file that the client read from its cache
-/// the bytes that it saw.
+/// started, its changes and how many good clients may cache something of it, for each client its
+/// beliefs, its writes, the numbers that were settled and the messages on their way, and for each
+/// client and file that the client read from its cache the bytes that it saw.
 #[derive(Debug, Drop)]
 pub struct Judge {
     verdict: Verdict,

@@ -234,8 +234,8 @@ expired_judged place client file old new v past k adds = match_bool (is_started_
     })
     (client_expires client file (client_in old.clients client) past (k.clients client))
     (λ f. k.contents client f)
-    (left_holders client (Fact.Expired client file) old new past refl (expired_bad client file past) (expired_good client file past)
-    k is.1.1))
+    (left_holders client (Fact.Expired client file) old new past refl (expired_bad client file past)
+    (expired_good client file past) k is.1.1))
     (λ off e. malformed_judged place (Fact.Expired client file) past new v e (sym (started_told old file past k) ∙ off))
 
 sent_judged : (place client : ℕ) (old new : Seen) (v : Verdict) (past : List Fact) → Knows old past → place ≡ length past + 1
@@ -323,7 +323,8 @@ joined_judged place client old new v past k adds =
     (holds_client old new client past adds.1.1 others (λ f. rw now (k.contents client f)) k) holders k in
     match_bool (is_newcomer was is) adds.2
     (λ on more.
-    let parts : (is_good_client was ≡ false) × (is_good_client is ≡ true) = newcomer (is_good_client was) (is_good_client is) on in
+    let parts : (is_good_client was ≡ false) × (is_good_client is ≡ true) =
+    newcomer (is_good_client was) (is_good_client is) on in
     let bad : is_good client past ≡ false = sym told ∙ parts.0 in
     let good : is_good client (fact ∷ past) ≡ true = sym told_now ∙ parts.1 in
     let belief : (f : ℕ) → (cache_in is.caches f).belief ≡ believed client f past = λ f. ((clients client).caches f).belief in
@@ -345,7 +346,8 @@ joined_judged place client old new v past k adds =
     (λ c ne. joined_good client c past ne) in
     safe h.0
     (one-after past (fact ∷ past) client k.one_write_cache (λ o ne. goods o) (λ o f ne. refl)
-    (λ g f o ne good_too. none-conflicts past client o f k.one_write_cache ne (sym (goods client) ∙ g) (sym (goods o) ∙ good_too)))
+    (λ g f o ne good_too. none-conflicts past client o f k.one_write_cache ne (sym (goods client) ∙ g)
+    (sym (goods o) ∙ good_too)))
     (holders-same past (fact ∷ past) old.holders new.holders h.1 goods (λ c f. refl) k.holders))
   where
     newcomer : (a b : Bool) → (if a then false else b) ≡ true → (a ≡ false) × (b ≡ true)

@@ -178,7 +178,8 @@ pub enter-free : (file : ℕ) (state : State) (holders : List Holders) (past : L
     → is_conflict state (believed other file past) ≡ false
 enter-free file state holders past other e k good =
     free-held file state past other good
-    (conflict-none (held file past) state (holders_in holders file) (k.counted file) e other (within-few holders past other k good))
+    (conflict-none (held file past) state (holders_in holders file) (k.counted file) e other
+    (within-few holders past other k good))
 
 -- ---- a good client believes something else
 
@@ -200,7 +201,8 @@ counted-but : (client file : ℕ) (belief : State) (holders : List Holders) (pas
 counted-but client file belief holders past good is k =
     rw (is, ← held-good client file past good)
     (counted-without (held file past) (but client (held file past)) client (holders_in holders file)
-    (within-few holders past client k good) (but-other client (held file past)) (but-here client (held file past)) (k.counted file))
+    (within-few holders past client k good) (but-other client (held file past)) (but-here client (held file past))
+    (k.counted file))
 
 pub believe-rival : (client file : ℕ) (belief state : State) (holders : List Holders) (past : List Fact)
     → is_good client past ≡ true → belief ≡ believed client file past

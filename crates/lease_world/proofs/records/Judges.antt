@@ -72,10 +72,17 @@ holders_unseen : KnowsHolders [] []
 unfolding held is_good is_served has_strayed
 holders_unseen = record {
   few = λ c big. nobody_good c;
-  counted = λ f. rw (past_the_end unheld [] f (omega arith)) (record { any = sym (nothing_many 256); writing = sym (nothing_many 256) });
+  counted = λ f. rw (past_the_end unheld [] f (omega arith)) (record {
+    any = sym (nothing_many 256);
+    writing = sym (nothing_many 256);
+  });
 }
 
-pub nothing_judged : HasJudged (record { verdict = Verdict.Safe; count = 0; known = record { files = []; clients = []; holders = [] } }) []
+pub nothing_judged : HasJudged (record {
+  verdict = Verdict.Safe;
+  count = 0;
+  known = record { files = []; clients = []; holders = [] };
+}) []
 unfolding verdict_from
 nothing_judged = record {
   verdict = refl;

@@ -94,6 +94,7 @@ impl Known {
     {
         let was_good = self.clients.is_good(client);
         self.clients.join(client)?;
+        // What a client believes counts once, and nothing that a strayed one believes does.
         if was_good || !self.clients.is_good(client) {
             return Ok(Verdict::Safe);
         }

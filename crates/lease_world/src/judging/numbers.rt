@@ -6,8 +6,8 @@ use std::alloc::Global;
 use std::collections::BTreeSet;
 use std::marker::Model;
 
-// How far past the numbers of the list another one may be and still stand in it.
-const GAP: u64 = 64;
+// Fewer numbers than this may be left out before one that still stands in the list.
+const GAP: usize = 64;
 
 /// A set of numbers of writes. Those of a client machine have 1, 2, 3 and so on; whoever writes a record may choose any.
 #[derive(Debug, Drop)]
@@ -61,7 +61,7 @@ impl Numbers {
         let count = self.first.len();
         if place < count {
             self.first[place] = true;
-        } else if place - count < GAP as usize {
+        } else if place - count < GAP {
             self.first.resize(place, false)?;
             self.first.push(true)?;
         } else {

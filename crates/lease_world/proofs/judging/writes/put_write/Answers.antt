@@ -1,5 +1,5 @@
-use Rattle.lease_world.proofs.Places.{value_ordered}
+use Rattle.lease_world.proofs.Places.{value_at}
 use Rattle.lease_world.proofs.judging.writes.put_write.Goals as goal
 
 pub returns : goal.returns
-returns c = λ n. rw (c.in_ok-insert.ensures.updates.0 n) (value_ordered n c.args.number _ _)
+returns c = λ n. rw (c.in_ok-insert.ensures.updates.0 n) (value_at n c.args.number _ _)
