@@ -4,8 +4,8 @@ from __future__ import annotations
 import argparse
 from typing import Callable, Optional
 
-from drive.connections import Place
 from drive.faults import Usage
+from drive.place import Place
 from drive.program import OWN
 from drive.runs import Runner
 from drive.servers import NamedServer, PrivateServer, Server

@@ -11,6 +11,7 @@ from impacket.smb3 import SMB3, SessionError  # type: ignore[import]
 
 from drive.faults import DriveFault
 from drive.messages import Close, Create, Read, Reply, ReplyKind, Request, Write, created, failed
+from drive.place import Place
 from drive.schedules import digits
 
 STATUS_SUCCESS = 0
@@ -29,17 +30,6 @@ SHARES = {"-": 0, "r": 1, "w": 2, "rw": 3}
 def told(fault: Exception) -> str:
     """What a fault says, as far as it fits a line."""
     return (str(fault).splitlines() or [type(fault).__name__])[0][:120]
-
-
-@dataclass(frozen=True)
-class Place:
-    """Where a server is, and who asks."""
-
-    host: str
-    port: int
-    share: str
-    user: str
-    password: str
 
 
 @dataclass(frozen=True)

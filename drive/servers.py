@@ -12,8 +12,9 @@ import uuid
 from typing import Dict, List, Optional, Protocol, Set
 
 from drive.clock import Clocks, library
-from drive.connections import Place, password_hash
+from drive.connections import password_hash
 from drive.faults import DriveFault, Undrivable
+from drive.place import Place
 
 SMBD = "/usr/sbin/smbd"
 SHARE = "share"

@@ -1,41 +1,50 @@
-"""NTLM within SPNEGO, as far as a server needs it: a user that was given, and guests. The messages are impacket's."""
+"""NTLM within SPNEGO, as far as a server needs it: guests, and a user whose password somebody else proves."""
 from __future__ import annotations
 
 import os
-from typing import Optional, Tuple
+import struct
+from typing import Optional, Protocol
 
-from impacket import ntlm  # type: ignore[import]
-from impacket.smbserver import computeNTLMv2  # type: ignore[import]
-from impacket.spnego import SPNEGO_NegTokenInit, SPNEGO_NegTokenResp, TypesMech  # type: ignore[import]
-
+from drive.headers import Unreadable
+from serve import spnego
 from serve.names import now
 from serve.statuses import Refused, Status
 
 NAME = "LEASECHECK"
-MECHANISM = TypesMech["NTLMSSP - Microsoft NTLM Security Support Provider"]
-BEGIN, RESPONSE = 0x60, 0xA1
-ACCEPTED, INCOMPLETE = b"\x00", b"\x01"
-KEPT = (ntlm.NTLMSSP_NEGOTIATE_56 | ntlm.NTLMSSP_NEGOTIATE_128 | ntlm.NTLMSSP_NEGOTIATE_KEY_EXCH
-        | ntlm.NTLMSSP_NEGOTIATE_EXTENDED_SESSIONSECURITY | ntlm.NTLMSSP_NEGOTIATE_UNICODE | ntlm.NTLM_NEGOTIATE_OEM
-        | ntlm.NTLMSSP_NEGOTIATE_SIGN | ntlm.NTLMSSP_NEGOTIATE_ALWAYS_SIGN | ntlm.NTLMSSP_NEGOTIATE_SEAL)
-ADDED = (ntlm.NTLMSSP_NEGOTIATE_VERSION | ntlm.NTLMSSP_NEGOTIATE_TARGET_INFO | ntlm.NTLMSSP_TARGET_TYPE_SERVER
-         | ntlm.NTLMSSP_NEGOTIATE_NTLM | ntlm.NTLMSSP_REQUEST_TARGET)
+SIGNATURE = b"NTLMSSP\0"
+NEGOTIATE, CHALLENGE, AUTHENTICATE = 1, 2, 3
+# The fixed parts of messages, without the version (MS-NLMP 2.2.1): of a client's as far as they have to be there.
+NEGOTIATE_SIZE, AUTHENTICATE_SIZE = 32, 64
+USER_PLACE, AUTHENTICATE_FLAGS = 36, 60
+HEAD = struct.Struct("<8sLHHLL8s8xHHL8s")
+VERSION = bytes((6, 1, 0, 0, 0, 0, 0, 15))
+# Flags (2.2.2.5)
+UNICODE, OEM, REQUEST_TARGET, SIGN, SEAL, PLAIN = 0x1, 0x2, 0x4, 0x10, 0x20, 0x200
+ALWAYS_SIGN, IS_SERVER, EXTENDED_SECURITY, TARGET_INFO = 0x8000, 0x20000, 0x80000, 0x800000
+HAS_VERSION, LONG_KEY, KEY_EXCHANGE, SHORT_KEY = 0x2000000, 0x20000000, 0x40000000, 0x80000000
+KEPT = SHORT_KEY | LONG_KEY | KEY_EXCHANGE | EXTENDED_SECURITY | UNICODE | OEM | SIGN | ALWAYS_SIGN | SEAL
+ADDED = HAS_VERSION | TARGET_INFO | IS_SERVER | PLAIN | REQUEST_TARGET
+# What the server says of itself (2.2.2.1)
+END, COMPUTER, DOMAIN, DNS_COMPUTER, DNS_DOMAIN, TIME = 0, 1, 2, 3, 4, 7
 
 
-def negotiate_token() -> bytes:
-    token = SPNEGO_NegTokenInit()
-    token["MechTypes"] = [MECHANISM]
-    return bytes(token.getData())
+class Prover(Protocol):
+    """The user that isn't a guest."""
+
+    @property
+    def name(self) -> str:
+        ...
+
+    def key(self, negotiate: bytes, challenge: bytes, authenticate: bytes) -> Optional[bytes]:
+        """The key of the session, by the three messages; none where they don't prove the password."""
 
 
 class Exchange:
     """The messages of one authentication. `key` is that of a session that is signed; a guest has none."""
 
-    def __init__(self, user: Optional[Tuple[str, str]]) -> None:
+    def __init__(self, user: Optional[Prover]) -> None:
         self._user = user
-        self._challenge = os.urandom(8)
-        self._first: Optional[ntlm.NTLMAuthNegotiate] = None
-        self._second: Optional[ntlm.NTLMAuthChallenge] = None
+        self._negotiate = self._challenge = b""
         self.key: Optional[bytes] = None
         self.is_over = False
 
@@ -43,76 +52,50 @@ class Exchange:
         """The server's next message."""
         try:
             return self._goes(token)
-        except Refused:
-            raise
-        except Exception:  # impacket raises bare ones at bytes that it can't read
+        except Unreadable:
             raise Refused(Status.INVALID_PARAMETER) from None
 
     def _goes(self, token: bytes) -> bytes:
-        is_wrapped = token[:1] != b"N"
-        message = _unwrapped(token)
-        if not message.startswith(b"NTLMSSP\0"):
-            return _wrapped(b"", b"\x03", True)
+        is_wrapped = token[:1] != SIGNATURE[:1]
+        message = spnego.unwrapped(token) if is_wrapped else token
+        if not message.startswith(SIGNATURE):
+            return spnego.wrapped(b"", spnego.REQUEST_MIC, True)
         kind = int.from_bytes(message[8:12], "little")
-        if kind == 1:
-            answer = self._challenged(message)
-            return _wrapped(answer, INCOMPLETE, True) if is_wrapped else answer
-        if kind != 3 or self._second is None:
+        if kind == NEGOTIATE:
+            self._negotiate, self._challenge = message, challenge(message, os.urandom(8))
+            return spnego.wrapped(self._challenge, spnego.INCOMPLETE, True) if is_wrapped else self._challenge
+        if kind != AUTHENTICATE or not self._challenge:
             raise Refused(Status.INVALID_PARAMETER)
         self._authenticate(message)
         self.is_over = True
-        return _wrapped(b"", ACCEPTED, False) if is_wrapped else b""
-
-    def _challenged(self, message: bytes) -> bytes:
-        self._first = ntlm.NTLMAuthNegotiate()
-        self._first.fromString(message)
-        name = NAME.encode("utf-16le")
-        pairs = ntlm.AV_PAIRS()
-        for pair in (ntlm.NTLMSSP_AV_HOSTNAME, ntlm.NTLMSSP_AV_DNS_HOSTNAME, ntlm.NTLMSSP_AV_DOMAINNAME,
-                     ntlm.NTLMSSP_AV_DNS_DOMAINNAME):
-            pairs[pair] = name
-        pairs[ntlm.NTLMSSP_AV_TIME] = now().to_bytes(8, "little")
-        told = self._second = ntlm.NTLMAuthChallenge()
-        told["flags"] = self._first["flags"] & KEPT | ADDED
-        told["domain_len"] = told["domain_max_len"] = len(name)
-        told["domain_offset"] = 56
-        told["challenge"] = self._challenge
-        told["domain_name"] = name
-        told["TargetInfoFields_len"] = told["TargetInfoFields_max_len"] = len(pairs.getData())
-        told["TargetInfoFields"] = pairs
-        told["TargetInfoFields_offset"] = 56 + len(name)
-        told["Version"] = b"\x06\x01\x00\x00\x00\x00\x00\x0f"
-        told["VersionLen"] = 8
-        return bytes(told.getData())
+        return spnego.wrapped(b"", spnego.ACCEPTED, False) if is_wrapped else b""
 
     def _authenticate(self, message: bytes) -> None:
-        told = ntlm.NTLMAuthChallengeResponse()
-        told.fromString(message)
-        name = told["user_name"].decode("utf-16le", errors="replace")
-        if self._user is None or name.lower() != self._user[0].lower():
+        name = user_name(message)
+        if self._user is None or name.lower() != self._user.name.lower():
             return
-        status, key = computeNTLMv2(name, ntlm.compute_lmhash(self._user[1]), ntlm.compute_nthash(self._user[1]),
-                                    self._challenge, told, self._second, self._first)
-        if status:
+        self.key = self._user.key(self._negotiate, self._challenge, message)
+        if self.key is None:
             raise Refused(Status.LOGON_FAILURE)
-        self.key = bytes(key[:16])
 
 
-def _unwrapped(token: bytes) -> bytes:
-    if token[:1] == bytes([BEGIN]):
-        begun = SPNEGO_NegTokenInit(token)
-        is_ours = begun["MechTypes"][0] == MECHANISM
-        return bytes(begun["MechToken"]) if is_ours and "MechToken" in begun.fields else b""
-    if token[:1] == bytes([RESPONSE]):
-        return bytes(SPNEGO_NegTokenResp(token)["ResponseToken"])
-    return token
+def challenge(negotiate: bytes, nonce: bytes) -> bytes:
+    """The answer to a NEGOTIATE_MESSAGE (2.2.1.1): a CHALLENGE_MESSAGE (2.2.1.2)."""
+    if len(negotiate) < NEGOTIATE_SIZE:
+        raise Unreadable
+    flags = int.from_bytes(negotiate[12:16], "little")
+    name = NAME.encode("utf-16le")
+    pairs = [(it, name) for it in (COMPUTER, DNS_COMPUTER, DOMAIN, DNS_DOMAIN)]
+    pairs += [(TIME, now().to_bytes(8, "little")), (END, b"")]
+    target = b"".join(struct.pack("<HH", kind, len(value)) + value for kind, value in pairs)
+    head = HEAD.pack(SIGNATURE, CHALLENGE, len(name), len(name), HEAD.size, flags & KEPT | ADDED, nonce, len(target), len(target),
+                     HEAD.size + len(name), VERSION)
+    return head + name + target
 
 
-def _wrapped(message: bytes, state: bytes, names_mechanism: bool) -> bytes:
-    token = SPNEGO_NegTokenResp()
-    token["NegState"] = state
-    if names_mechanism:
-        token["SupportedMech"] = MECHANISM
-    if message:
-        token["ResponseToken"] = message
-    return bytes(token.getData())
+def user_name(authenticate: bytes) -> str:
+    """The UserName of an AUTHENTICATE_MESSAGE (2.2.1.3)."""
+    if len(authenticate) < AUTHENTICATE_SIZE:
+        raise Unreadable
+    length, _, start = struct.unpack_from("<HHL", authenticate, USER_PLACE)
+    return authenticate[start:start + length].decode("utf-16le", errors="replace")

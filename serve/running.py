@@ -17,6 +17,7 @@ from serve.control import Control
 from serve.listening import Listening, listening
 from serve.loop import Loop
 from serve.names import FORBIDDEN, MOST, Names
+from serve.ntlm import Prover
 from serve.recording import Record
 from serve.server import Server, Settings
 
@@ -37,7 +38,8 @@ def parser() -> argparse.ArgumentParser:
     made.add_argument("--address", default="127.0.0.1", metavar="A", help="where to listen (127.0.0.1)")
     made.add_argument("--folder", metavar="DIR", help="the share begins with the files of this folder, which stay as they are")
     made.add_argument("--record", metavar="FILE", help="write the record there, and have it judged at the end")
-    made.add_argument("--user", metavar="USER%PASSWORD", help="a user whose sessions are signed; all others are guests")
+    made.add_argument("--user", metavar="USER%PASSWORD",
+                      help="a user whose sessions are signed, which needs impacket; all others are guests")
     made.add_argument("--break-timer", type=float, default=35.0, metavar="S", help="seconds that a break is waited for (35)")
     made.add_argument("--durable-timer", type=float, default=960.0, metavar="S",
                       help="seconds that a durable open is kept without a connection (960)")
@@ -49,20 +51,27 @@ def parser() -> argparse.ArgumentParser:
     return made
 
 
+def prover_of(user: Optional[str]) -> Optional[Prover]:
+    if user is None:
+        return None
+    name, percent, password = user.partition("%")
+    if not name or not percent:
+        raise Usage("--user is USER%PASSWORD")
+    try:
+        from serve.proving import User
+    except ImportError:
+        raise DriveFault("--user needs impacket, which can't be imported (drive/setup installs it); guests don't need it") from None
+    return User(name, password)
+
+
 def settings_of(arguments: argparse.Namespace) -> Settings:
-    user: Optional[Tuple[str, str]] = None
-    if arguments.user is not None:
-        name, percent, password = arguments.user.partition("%")
-        if not name or not percent:
-            raise Usage("--user is USER%PASSWORD")
-        user = (name, password)
     if not 0 <= arguments.port <= 65535:
         raise Usage("--port is from 0 to 65535")
     if not arguments.share or FORBIDDEN & set(arguments.share) or "\\" in arguments.share:
         raise Usage("--share is a name")
     if not 0 < arguments.break_timer < 1e9 or not 0 < arguments.durable_timer < 1e9:
         raise Usage("timers are more than 0 seconds")
-    return Settings(arguments.share, user, arguments.break_timer, arguments.durable_timer, arguments.apart)
+    return Settings(arguments.share, prover_of(arguments.user), arguments.break_timer, arguments.durable_timer, arguments.apart)
 
 
 def files_in(folder: Optional[str]) -> Tuple[List[str], Dict[str, bytes]]:

@@ -8,10 +8,10 @@ import socket
 import subprocess
 import tempfile
 import uuid
-from typing import IO, List, Optional
+from typing import IO, List, Optional, Sequence
 
-from drive.connections import Place
 from drive.faults import DriveFault
+from drive.place import Place
 from drive.program import TOP
 
 SHARE = "share"
@@ -22,11 +22,11 @@ class ServedServer:
     """Started on a free port of loopback, and ended with its verdict where it has a record."""
 
     def __init__(self, program: str, record: Optional[str] = None, words: Optional[List[str]] = None,
-                 user: str = "guest", password: str = "guest") -> None:
+                 user: str = "guest", password: str = "guest", interpreter: Sequence[str] = ()) -> None:
         self._control, theirs = socket.socketpair()
         self._control.settimeout(PATIENCE)
         recording = ["--record", record] if record else []
-        command = [os.path.join(TOP, "serve", "run"), "--port", "0", "--share", SHARE, "--control", str(theirs.fileno()),
+        command = [*interpreter, os.path.join(TOP, "serve", "run"), "--port", "0", "--share", SHARE, "--control", str(theirs.fileno()),
                    "--leasecheck", program, *recording, *(words or [])]
         self._errors = tempfile.TemporaryFile("w+", encoding="utf-8", errors="replace")
         try:

@@ -5,7 +5,7 @@ import logging
 import os
 import uuid
 from dataclasses import dataclass
-from typing import Callable, Dict, List, Optional, Tuple
+from typing import Callable, Dict, List, Optional
 
 from drive.headers import Command
 from drive.machine import Speaker
@@ -21,6 +21,7 @@ from serve.leases import Leases, acknowledgment
 from serve.listing import Listing
 from serve.loop import Loop
 from serve.names import Names, now
+from serve.ntlm import Prover
 from serve.opens import OWN_FILE_IDS, Holder, LeaseSeen, Open
 from serve.packets import Answer
 from serve.probes import Probes
@@ -35,7 +36,7 @@ LOG = logging.getLogger("serve")
 @dataclass(frozen=True)
 class Settings:
     share: str
-    user: Optional[Tuple[str, str]] = None
+    user: Optional[Prover] = None
     break_timer: float = 35.0
     durable_timer: float = 960.0
     # whether an open without a lease, beside a lease of its client, is a client of the machine by itself

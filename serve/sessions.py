@@ -8,8 +8,9 @@ from typing import TYPE_CHECKING, Dict, Optional
 from drive.headers import HEADER, tree_path
 from serve.core import Doing
 from serve.names import now
-from serve.ntlm import Exchange, negotiate_token
+from serve.ntlm import Exchange
 from serve.packets import Answer
+from serve.spnego import offered
 from serve.statuses import Refused, Status
 
 if TYPE_CHECKING:
@@ -45,7 +46,7 @@ class Session:
 
 
 def negotiated(server: "Server", dialect: int) -> Answer:
-    token = negotiate_token()
+    token = offered()
     fixed = struct.pack("<HHHH16sLLLLQQHHL", 65, SIGNING_ENABLED, dialect, 0, server.guid, LEASING | LARGE_MTU, LARGEST, LARGEST,
                         LARGEST, now(), 0, HEADER + 64, len(token), 0)
     return Answer(Status.SUCCESS, fixed + token)

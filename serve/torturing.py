@@ -4,7 +4,6 @@ from __future__ import annotations
 import argparse
 import re
 import subprocess
-
 import time
 from concurrent.futures import ThreadPoolExecutor
 from contextlib import closing
@@ -13,11 +12,10 @@ from enum import Enum
 from typing import Callable, List, Protocol, Sequence
 
 from drive.clock import library
-from drive.connections import Place
 from drive.ending import NOT_DRIVEN, SAFE, ended
 from drive.faults import DriveFault, Usage
+from drive.place import Place
 from drive.program import OWN
-from drive.servers import PrivateServer
 from serve.served import ServedServer
 
 SUITES = ("smb2.lease", "smb2.durable-open", "smb2.durable-open-disconnect")
@@ -110,6 +108,14 @@ def _last_word(told: str) -> str:
     return " ".join((lines or told.splitlines() or ["nothing"])[-1].split())
 
 
+def private_server() -> Target:
+    try:
+        from drive.servers import PrivateServer
+    except ImportError:
+        raise DriveFault("--smbd needs impacket, which can't be imported (drive/setup installs it)") from None
+    return PrivateServer()
+
+
 def main(arguments: argparse.Namespace) -> int:
     known = tests()
     unknown = [name for name in arguments.name if name not in known]
@@ -118,7 +124,7 @@ def main(arguments: argparse.Namespace) -> int:
 
     def server(name: str) -> Target:
         if arguments.smbd:
-            return PrivateServer()
+            return private_server()
         record = f"{arguments.record}{name}" if arguments.record else None
         return ServedServer(arguments.leasecheck, record, ["--apart"] if arguments.apart else [])
     if arguments.smbd:

@@ -2,20 +2,15 @@
 from __future__ import annotations
 
 import struct
-from typing import Callable, Dict, Tuple
+from typing import Dict
 
 import bodies
 from damage import Victim
-from drive.connections import Place
 from drive.contexts import parts
 from drive.faults import DriveFault
+from drive.place import Place
 
-Case = Tuple[str, Callable[[], str]]
 PENDING = 0x103
-
-
-def differs(got: object, expected: object) -> str:
-    return "" if got == expected else f"got {str(got)[:400]}, not {str(expected)[:400]}"
 
 
 class Asker:

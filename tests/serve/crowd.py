@@ -7,10 +7,11 @@ import time
 import uuid
 from typing import List
 
-from drive.connections import NOTIFICATION_ID, PATIENCE, STATUS_PENDING, Connection, FileId, Place, reply_of
+from drive.connections import NOTIFICATION_ID, PATIENCE, STATUS_PENDING, Connection, FileId, reply_of
 from drive.contexts import written
 from drive.faults import DriveFault
 from drive.messages import Acknowledgment, Close, Create, Read, Reply, Request, Write
+from drive.place import Place
 
 
 class Member:

@@ -11,8 +11,9 @@ from typing import List, Optional
 
 import bodies
 from bodies import Body
-from drive.connections import Connection, Place
+from drive.connections import Connection
 from drive.faults import DriveFault
+from drive.place import Place
 
 PATIENCE = 20.0
 BRIEFLY = 0.002

@@ -11,10 +11,11 @@ from functools import partial
 from typing import List, Tuple
 
 import bodies
-from asking import Asker, Case, differs, status
-from drive.connections import Connection, Place
+from asking import Asker, status
+from drive.connections import Connection
 from drive.faults import DriveFault
 from drive.program import TOP
+from expecting import Case, differs
 from serve.served import ServedServer
 
 RUN = f"{TOP}/serve/run"

@@ -9,11 +9,12 @@ from functools import partial
 from typing import List, Optional, Tuple, Union
 
 import bodies
-from asking import Asker, Case, differs, kind, opened, status, wire
+from asking import Asker, kind, opened, status, wire
 from drive.connections import LIMIT, Connection, FileId, reply_of
 from drive.faults import DriveFault
 from drive.headers import Command
 from drive.messages import Create, Read, Write
+from expecting import Case, differs
 from serve.served import ServedServer
 from serve.wishes import DELETE_ON_CLOSE
 

@@ -8,8 +8,9 @@ from functools import partial
 from typing import Callable, List
 
 import bodies
-from asking import Asker, Case, contexts_of, differs, kind, status
+from asking import Asker, contexts_of, kind, status
 from drive.headers import RELATED, Command
+from expecting import Case, differs
 from serve.packets import Credits, Frames, Unreadable, parted
 from serve.served import ServedServer
 

@@ -7,8 +7,9 @@ from functools import partial
 from typing import List
 
 import bodies
-from asking import PENDING, Asker, Case, differs, kind, opened, status
+from asking import PENDING, Asker, kind, opened, status
 from drive.headers import Command
+from expecting import Case, differs
 from serve.served import ServedServer
 from serve.wishes import CREATE, DELETE_ON_CLOSE, OPEN, OVERWRITE, OVERWRITE_IF
 

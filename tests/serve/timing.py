@@ -8,12 +8,13 @@ from functools import partial
 from typing import List, Tuple
 
 import bodies
-from asking import PENDING, Asker, Case, differs, kind, opened, status
+from asking import PENDING, Asker, kind, opened, status
 from drive.connections import Connection, FileId, Message, reply_of
 from drive.contexts import written
 from drive.faults import DriveFault
 from drive.headers import ASYNC, Command
 from drive.messages import Create
+from expecting import Case, differs
 from serve.served import ServedServer
 
 KEY = b"k" * 16

@@ -1,0 +1,83 @@
+"""The tokens of SPNEGO that NTLM is wrapped in (RFC 4178, 4.2; RFC 2743, 3.1), in DER."""
+from __future__ import annotations
+
+from typing import Iterator, Tuple
+
+from drive.headers import Unreadable
+
+IDENTIFIER, OCTETS, ENUMERATED, SEQUENCE = 0x06, 0x04, 0x0A, 0x30
+INITIAL = 0x60
+# NegTokenInit and NegTokenResp are choices [0] and [1]; the fields of each are numbered likewise.
+FIELD = 0xA0
+RESPONSE = FIELD + 1
+SPNEGO = bytes((0x2B, 6, 1, 5, 5, 2))
+NTLM = bytes((0x2B, 6, 1, 4, 1, 0x82, 0x37, 2, 2, 10))
+ACCEPTED, INCOMPLETE, REQUEST_MIC = 0, 1, 3
+MECHANISMS = STATE = 0
+SUPPORTED = 1
+TOKEN = 2
+
+
+def element(tag: int, content: bytes) -> bytes:
+    length = len(content)
+    if length < 0x80:
+        return bytes((tag, length)) + content
+    digits = length.to_bytes((length.bit_length() + 7) // 8, "big")
+    return bytes((tag, 0x80 | len(digits))) + digits + content
+
+
+def elements(data: bytes) -> Iterator[Tuple[int, bytes]]:
+    """The tags and contents of elements that follow one another. What isn't whole is Unreadable."""
+    while data:
+        if len(data) < 2:
+            raise Unreadable
+        start, length = 2, data[1]
+        if length & 0x80:
+            start += length & 0x7F
+            if not 2 < start <= min(6, len(data)):
+                raise Unreadable
+            length = int.from_bytes(data[2:start], "big")
+        if start + length > len(data):
+            raise Unreadable
+        yield data[0], data[start:start + length]
+        data = data[start + length:]
+
+
+def inside(data: bytes, tag: int) -> bytes:
+    """The content of the first element, which has this tag."""
+    for found, content in elements(data):
+        if found == tag:
+            return content
+        break
+    raise Unreadable
+
+
+def offered() -> bytes:
+    """The server's first token, in its answer to NEGOTIATE: NTLM is the only mechanism."""
+    mechanisms = element(FIELD + MECHANISMS, element(SEQUENCE, element(IDENTIFIER, NTLM)))
+    return element(INITIAL, element(IDENTIFIER, SPNEGO) + element(FIELD, element(SEQUENCE, mechanisms)))
+
+
+def unwrapped(token: bytes) -> bytes:
+    """The message in a client's token; nothing where there is none, or where the client would rather have another mechanism."""
+    if token[:1] == bytes((INITIAL,)):
+        parts = dict(elements(inside(token, INITIAL)))
+        if parts.get(IDENTIFIER) != SPNEGO or FIELD not in parts:
+            raise Unreadable
+        fields = dict(elements(inside(parts[FIELD], SEQUENCE)))
+        if inside(inside(fields.get(FIELD + MECHANISMS, b""), SEQUENCE), IDENTIFIER) != NTLM:
+            return b""
+    elif token[:1] == bytes((RESPONSE,)):
+        fields = dict(elements(inside(inside(token, RESPONSE), SEQUENCE)))
+    else:
+        return b""
+    return inside(fields[FIELD + TOKEN], OCTETS) if FIELD + TOKEN in fields else b""
+
+
+def wrapped(message: bytes, state: int, names_mechanism: bool) -> bytes:
+    fields = element(FIELD + STATE, element(ENUMERATED, bytes((state,))))
+    if names_mechanism:
+        fields += element(FIELD + SUPPORTED, element(IDENTIFIER, NTLM))
+    if message:
+        fields += element(FIELD + TOKEN, element(OCTETS, message))
+    return element(RESPONSE, element(SEQUENCE, fields))
