@@ -19,6 +19,8 @@ class Delivery:
     # its place among those of its connection
     index: int
     sent: int
+    # its packet, as remarks name it
+    packet: str
     latest: Optional[int] = None
     # where it is told as taken
     taken: Optional[int] = None

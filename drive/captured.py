@@ -135,7 +135,7 @@ def _taken(connection: Connection) -> List[Fact]:
         if place is not None:
             latest = place if latest is None else min(place, latest)
         if latest is not None and connection.client:
-            told = f"what packet {delivery.sent // 2} brought, by then"
+            told = f"{delivery.packet}: what it brought, taken by then"
             facts.append(Fact(max(latest, delivery.sent), 4, f"took {connection.client.number}", told))
     return facts[::-1]
 

@@ -115,7 +115,7 @@ class Connection:
         return self.deliveries[count - 1].sent if count else 0
 
     def delivers(self, packet: Packet, position: int, latest: Optional[int]) -> Delivery:
-        delivery = Delivery(len(self.deliveries), position, latest)
+        delivery = Delivery(len(self.deliveries), position, packet.told, latest)
         self.deliveries.append(delivery)
         self.ends.append(max(packet.end, self.ends[-1] if self.ends else 0))
         return delivery
