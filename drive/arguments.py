@@ -11,6 +11,9 @@ from drive.runs import Runner
 from drive.servers import NamedServer, PrivateServer, Server
 from serve.served import DrivenServer
 
+# Seconds that a server's own timer of a break is waited for.
+BREAK_TIME = 40.0
+
 
 def server_arguments(parser: argparse.ArgumentParser) -> None:
     parser.add_argument("--smbd", action="store_true", help="a private smbd, started afresh for each schedule and ended")
@@ -18,7 +21,7 @@ def server_arguments(parser: argparse.ArgumentParser) -> None:
     parser.add_argument("--server", metavar="HOST:PORT", help="a server that is there, in place of a private one")
     parser.add_argument("--share", metavar="NAME", help="its share")
     parser.add_argument("--user", metavar="USER%PASSWORD", help="who asks it")
-    parser.add_argument("--break-time", metavar="SECONDS", type=float, default=40.0,
+    parser.add_argument("--break-time", metavar="SECONDS", type=float,
                         help="how long `expire` waits for a break timer of a server that was named (40)")
     parser.add_argument("--smbd-log", metavar="FILE", help="keep the log of the private smbd there, at level 10")
     parser.add_argument("--leasecheck", metavar="PATH", default=OWN, help="the program leasecheck")
@@ -33,6 +36,8 @@ def runner_of(arguments: argparse.Namespace) -> Runner:
 def _server_maker(arguments: argparse.Namespace) -> Callable[[], Server]:
     if [arguments.smbd, arguments.served, bool(arguments.server)].count(True) != 1:
         raise Usage("one of --smbd, --served and --server is needed, and one alone")
+    if not arguments.server and any(it is not None for it in (arguments.share, arguments.user, arguments.break_time)):
+        raise Usage("--share, --user and --break-time are of a server that --server names")
     if arguments.smbd:
         return lambda: PrivateServer(arguments.smbd_log)
     if arguments.smbd_log:
@@ -40,7 +45,10 @@ def _server_maker(arguments: argparse.Namespace) -> Callable[[], Server]:
     if arguments.served:
         return lambda: DrivenServer(arguments.leasecheck)
     place = _place(arguments.server, arguments.share, arguments.user)
-    return lambda: NamedServer(place, arguments.break_time)
+    break_time = BREAK_TIME if arguments.break_time is None else arguments.break_time
+    if not 0 <= break_time < 1e9:
+        raise Usage("--break-time is a number of seconds")
+    return lambda: NamedServer(place, break_time)
 
 
 def _place(server: str, share: Optional[str], user: Optional[str]) -> Place:

@@ -76,7 +76,8 @@ def _facts(arguments: argparse.Namespace, schedule: Schedule) -> "tuple[List[str
     if not arguments.record:
         outcome = runner_of(arguments).run(schedule)
         return outcome.record.facts(), outcome.counts
-    if arguments.smbd or arguments.served or arguments.server:
+    of_a_run = (arguments.server, arguments.share, arguments.user, arguments.break_time, arguments.smbd_log)
+    if arguments.smbd or arguments.served or any(it is not None for it in of_a_run):
         raise Usage("--record is of a run that was driven already")
     try:
         with open(arguments.record, encoding="utf-8", errors="replace") as stream:

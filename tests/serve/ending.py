@@ -40,19 +40,20 @@ done
 """
 
 
-def told(words: List[str], ends: int, begins: str) -> str:
-    ran = subprocess.run([RUN, *words], capture_output=True, text=True, timeout=60, check=False, stdin=subprocess.DEVNULL)
+def told(program: str, words: List[str], ends: int, begins: str) -> str:
+    ran = subprocess.run([RUN, "--leasecheck", program, *words], stdin=subprocess.DEVNULL, capture_output=True, text=True,
+                         timeout=60, check=False)
     is_one = begins == "usage: " or ran.stderr.count("\n") == 1
     well = ran.returncode == ends and ran.stderr.startswith(begins) and not ran.stdout and is_one
     return "" if well else f"status {ran.returncode}, {ran.stdout[:200]!r}, {ran.stderr[:300]!r}"
 
 
-def taken_port() -> str:
+def taken_port(program: str) -> str:
     with socket.socket() as one:
         one.bind(("127.0.0.1", 0))
         one.listen()
         port = str(one.getsockname()[1])
-        return told(["--port", port, "--share", "s"], 1, f"serve/run: 127.0.0.1, port {port}")
+        return told(program, ["--port", port, "--share", "s"], 1, f"serve/run: 127.0.0.1, port {port}")
 
 
 def want_of_memory() -> str:
@@ -115,7 +116,8 @@ def folder_served(program: str) -> str:
 
 
 def cases(program: str) -> List[Case]:
-    found: List[Case] = [(" ".join(["serve/run", *words]), partial(told, words, ends, begins)) for words, ends, begins in REFUSED]
-    return [*found, ("serve/run: a port that is taken", taken_port), ("serve/run: want of memory", want_of_memory),
-            ("serve/run: a signal", partial(by_signal, program)), ("serve/run: a folder", partial(folder_served, program)),
-            ("serve/run: a machine that is wrong", partial(wrong_machine, program))]
+    found: List[Case] = [(" ".join(["serve/run", *words]), partial(told, program, words, ends, begins))
+                         for words, ends, begins in REFUSED]
+    return [*found, ("serve/run: a port that is taken", partial(taken_port, program)),
+            ("serve/run: want of memory", want_of_memory), ("serve/run: a signal", partial(by_signal, program)),
+            ("serve/run: a folder", partial(folder_served, program)), ("serve/run: a machine that is wrong", partial(wrong_machine, program))]
