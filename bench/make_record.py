@@ -3,6 +3,11 @@
 file, is granted all and buffers a write; another opens it too, the break is told, the write is sent and accepted, and both lose what they have."""
 import sys
 
+if sys.argv[1:] == ['--help']:
+    print(f'usage: bench/make_record.py COUNT FILE\n\n{__doc__}')
+    sys.exit(0)
+if len(sys.argv) != 3 or not sys.argv[1].isdecimal():
+    sys.exit('usage: bench/make_record.py COUNT FILE')
 count, path = int(sys.argv[1]), sys.argv[2]
 lines = [f'start {file} 616263' for file in range(1, 9)] + [f'joined {client}' for client in range(1, 9)]
 numbers = [0] * 9

@@ -3,6 +3,11 @@
 into its cache and reads from it; another opens the file too, and the first gives up what it caches and both close."""
 import sys
 
+if sys.argv[1:] == ['--help']:
+    print(f'usage: bench/make_schedule.py COUNT FILE\n\n{__doc__}')
+    sys.exit(0)
+if len(sys.argv) != 3 or not sys.argv[1].isdecimal():
+    sys.exit('usage: bench/make_schedule.py COUNT FILE')
 count, path = int(sys.argv[1]), sys.argv[2]
 lines = ['file 616263'] * 8 + [f'client 000000000000000000000000000000{client:02x}' for client in range(1, 9)]
 events = [f'connect {client}' for client in range(1, 9)]
