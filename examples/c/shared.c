@@ -140,11 +140,11 @@ static void happen(const char *word, const char *rest) {
 int main(int argc, char **argv) {
     char line[256], word[16], rest[128];
     FILE *text = argc == 2 ? fopen(argv[1], "r") : NULL;
-    while (text && fgets(line, sizeof line, text))
+    if (!text) return fputs("usage: shared FILE (a schedule that can be read)\n", stderr), 2;
+    while (fgets(line, sizeof line, text))
         if (line[0] != '#' && sscanf(line, "%15s %127s", word, rest) == 2)
             happen(word, rest);
-    smblease_client_free(&client[1]);
-    smblease_client_free(&client[2]);
+    for (unsigned c = 1; c <= 2; c++) smblease_client_free(&client[c]);
     smblease_server_free(&server);
-    return text ? fclose(text) : 1;
+    return fclose(text);
 }
