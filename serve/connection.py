@@ -5,13 +5,13 @@ import logging
 import socket
 from typing import TYPE_CHECKING, Callable, Dict, List, Optional
 
-from drive.headers import ASYNC, FROM_SERVER, Command
+from drive.headers import ASYNC, FROM_SERVER, Command, Unreadable
 from drive.headers import UNASKED as NOTIFICATION
 from serve.asked import WITHOUT_SESSION, WITHOUT_TREE, Asked
 from serve.core import Doing, Task
 from serve.loop import WRITE
 from serve.opens import Holder
-from serve.packets import Answer, Credits, Frames, Request, Response, Unreadable, framed, parted, signed
+from serve.packets import Answer, Credits, Frames, Request, Response, framed, parted, signed
 from serve.sessions import ANY_DIALECT, Session, negotiated
 from serve.statuses import Refused, Status
 

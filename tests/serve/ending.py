@@ -120,4 +120,5 @@ def cases(program: str) -> List[Case]:
                          for words, ends, begins in REFUSED]
     return [*found, ("serve/run: a port that is taken", partial(taken_port, program)),
             ("serve/run: want of memory", want_of_memory), ("serve/run: a signal", partial(by_signal, program)),
-            ("serve/run: a folder", partial(folder_served, program)), ("serve/run: a machine that is wrong", partial(wrong_machine, program))]
+            ("serve/run: a folder", partial(folder_served, program)),
+            ("serve/run: a machine that is wrong", partial(wrong_machine, program))]

@@ -9,9 +9,9 @@ from typing import Callable, List
 
 import bodies
 from asking import Asker, contexts_of, kind, status
-from drive.headers import RELATED, Command
+from drive.headers import RELATED, Command, Unreadable
 from expecting import Case, differs
-from serve.packets import Credits, Frames, Unreadable, parted
+from serve.packets import Credits, Frames, parted
 from serve.served import ServedServer
 
 FILE_CLOSED = 0xC0000128

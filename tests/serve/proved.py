@@ -46,10 +46,15 @@ def both_ends(program: str) -> List[Case]:
     def read(name: str) -> Schedule:
         with open(f"{SCHEDULES}/{name}", encoding="utf-8") as text:
             return read_schedule(text.read())
-    cases: List[Case] = [(f"both ends {name}", lambda name=name: same(read(name))) for name in sorted(os.listdir(SCHEDULES))]
+
+    def played(name: str) -> str:
+        return same(read(name))
+
+    def astray(number: int) -> str:
+        return same(strayed(program, number))
+    cases: List[Case] = [(f"both ends {name}", partial(played, name)) for name in sorted(os.listdir(SCHEDULES))]
     cases += [(f"both ends, random {number}", partial(drawn, number)) for number in range(RANDOM)]
-    return cases + [(f"both ends, strays {number}", lambda number=number: same(strayed(program, number)))
-                    for number in range(STRAYS)]
+    return cases + [(f"both ends, strays {number}", partial(astray, number)) for number in range(STRAYS)]
 
 
 def hostile(program: str) -> List[Case]:

@@ -45,14 +45,15 @@ def made() -> str:
 def taken() -> str:
     """Messages of tokens, one with ContextFlags before its message, one with a MIC after it, one for another mechanism."""
     texts = [random.Random(it).randbytes(it) for it in LENGTHS]
-    got = [spnego.unwrapped(make(it)) for it in texts for make in (lambda it: initial([spnego.NTLM, KERBEROS], it), response)]
+    got = [spnego.unwrapped(it) for text in texts for it in (initial([spnego.NTLM, KERBEROS], text), response(text))]
     flags = spnego.element(0xA1, b"\x03\x02\x01\x06")
     fields = spnego.element(0xA0, spnego.element(0x30, spnego.element(6, spnego.NTLM))) + flags + spnego.element(
         0xA2, spnego.element(4, b"one"))
     token = spnego.element(0x60, spnego.element(6, spnego.SPNEGO) + spnego.element(0xA0, spnego.element(0x30, fields)))
     ended = spnego.element(0xA2, spnego.element(4, b"two")) + spnego.element(0xA3, spnego.element(4, bytes(16)))
     got += [spnego.unwrapped(it) for it in (token, spnego.element(0xA1, spnego.element(0x30, ended)),
-                                            initial([KERBEROS, spnego.NTLM], b"three"), initial([spnego.NTLM], b""), b"", b"four")]
+                                            initial([KERBEROS, spnego.NTLM], b"three"), initial([spnego.NTLM], b""), b"",
+                                            b"four")]
     return differs(got, [it for text in texts for it in (text, text)] + [b"one", b"two", b"", b"", b"", b""])
 
 
@@ -72,8 +73,8 @@ def challenged() -> str:
     got = [told["flags"], told["challenge"], told["reserved"], told["domain_name"], told["Version"], told["domain_max_len"],
            told["TargetInfoFields_max_len"], [pairs[it] for it in (1, 2, 3, 4)], pairs[7][0], bytes(told.getData()),
            int.from_bytes(ntlm.challenge(negotiate(0), NONCE)[20:24], "little")]
-    expected = [0xE28A8237, NONCE, bytes(8), name, ntlm.VERSION, len(name), len(told["TargetInfoFields"]), [(len(name), name)] * 4, 8,
-                data, 0x02820204]
+    expected = [0xE28A8237, NONCE, bytes(8), name, ntlm.VERSION, len(name), len(told["TargetInfoFields"]),
+                [(len(name), name)] * 4, 8, data, 0x02820204]
     return differs(got, expected)
 
 
