@@ -46,16 +46,16 @@ def alone(program: str, user: str, words: List[str], interpreter: Sequence[str] 
         data = random.Random(1).randbytes(300000)
         with open(f"{folder}/given", "wb") as given:
             given.write(data)
-        told = client(server, f"put {folder}/given a.dat; put {folder}/given a.dat; get a.dat {folder}/got; mkdir d; ls; "
+        asking = client(server, f"put {folder}/given a.dat; put {folder}/given a.dat; get a.dat {folder}/got; mkdir d; ls; "
                               f"rename a.dat d\\b.dat; cd d; ls; del b.dat; ls", user)
-        text, _ = told.communicate(timeout=60)
+        text, _ = asking.communicate(timeout=60)
         with open(f"{folder}/got", "rb") as got:
             same = got.read() == data
         server.close()
         listed = [word for word in ("a.dat ", "  d  ", "b.dat ") if word not in text]
         last = text.rpartition("b.dat")[2]
-        return differs((told.returncode, same, listed, last.count("  ."), server.verdict, server.status, server.complaints),
-                       (0, True, [], 2, "safe", 0, "")) and f"{text[-600:]} {(told.returncode, same, listed, last)}"
+        return differs((asking.returncode, same, listed, last.count("  ."), server.verdict, server.status, server.complaints),
+                       (0, True, [], 2, "safe", 0, "")) and f"{text[-600:]} {(asking.returncode, same, listed, last)}"
 
 
 def two(program: str) -> str:

@@ -66,14 +66,15 @@ def negotiate(flags: int) -> bytes:
 def challenged() -> str:
     """A CHALLENGE_MESSAGE as impacket reads it, and as it writes it again."""
     data = ntlm.challenge(negotiate(0xFDFFFFFF), NONCE)
-    told = theirs.NTLMAuthChallenge()
-    told.fromString(data)
-    pairs = theirs.AV_PAIRS(told["TargetInfoFields"])
+    message = theirs.NTLMAuthChallenge()
+    message.fromString(data)
+    pairs = theirs.AV_PAIRS(message["TargetInfoFields"])
     name = ntlm.NAME.encode("utf-16le")
-    got = [told["flags"], told["challenge"], told["reserved"], told["domain_name"], told["Version"], told["domain_max_len"],
-           told["TargetInfoFields_max_len"], [pairs[it] for it in (1, 2, 3, 4)], pairs[7][0], bytes(told.getData()),
+    got = [message["flags"], message["challenge"], message["reserved"], message["domain_name"], message["Version"],
+           message["domain_max_len"], message["TargetInfoFields_max_len"],
+           [pairs[it] for it in (1, 2, 3, 4)], pairs[7][0], bytes(message.getData()),
            int.from_bytes(ntlm.challenge(negotiate(0), NONCE)[20:24], "little")]
-    expected = [0xE28A8237, NONCE, bytes(8), name, ntlm.VERSION, len(name), len(told["TargetInfoFields"]),
+    expected = [0xE28A8237, NONCE, bytes(8), name, ntlm.VERSION, len(name), len(message["TargetInfoFields"]),
                 [(len(name), name)] * 4, 8, data, 0x02820204]
     return differs(got, expected)
 
