@@ -1,5 +1,6 @@
 -- A file with the unanswered writes.
-use Rattle.std.proofs.Common.{◌≡◌, ℕ, List, [], ◌∷◌, ◌++◌, refl}
+use Rattle.std.proofs.Common.{◌≡◌, ◌∙◌, ℕ, ◌-◌, List, [], ◌∷◌, ◌++◌, refl, sym, ap, arith, length, length-drop, take, drop}
+use Rattle.std.proofs.lemmas.List.{take_all, take-append-drop}
 use Rattle.lease_state.specs.Content.{patch, patches}
 use Rattle.lease_model.specs.client.State.{Pending, patches_of}
 
@@ -8,3 +9,12 @@ pub patched_on : (base : List ℕ) (sent unsent : List Pending)
     → patches base (patches_of (sent ++ unsent)) ≡ patches (patches base (patches_of sent)) (patches_of unsent)
 patched_on base [] unsent = refl
 patched_on base (write ∷ sent) unsent = patched_on (patch base write.patch) sent unsent
+
+-- the first of the writes, and then the rest
+pub patched_rest : (base : List ℕ) (writes : List Pending) (k n : ℕ) → n ≡ length writes - k
+    → patches (patches base (patches_of (take k writes))) (patches_of (take n (drop k writes))) ≡ patches base (patches_of writes)
+patched_rest base writes k n rest =
+    ap (λ (ws : List Pending). patches (patches base (patches_of (take k writes))) (patches_of ws))
+    (take_all n (drop k writes) (omega (arith, rest, length-drop {A = Pending})))
+    ∙ (sym (patched_on base (take k writes) (drop k writes))
+    ∙ ap (λ (ws : List Pending). patches base (patches_of ws)) (take-append-drop k writes))

@@ -7,6 +7,7 @@ pub mod Commanded
 pub mod Connected
 pub mod Created
 pub mod Entries
+pub mod Files
 pub mod Handles
 pub mod Known
 pub mod Links

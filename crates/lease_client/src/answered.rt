@@ -9,8 +9,8 @@ use crate::command::Answer;
 use crate::entry::{Entry, Live, Pending, Phase};
 use crate::note::{Note, Settlement};
 use crate::turn::{Given, Turn};
-use crate::writes::{apply, push_settled, view};
-use lease_state::{Bytes, FileId, Memory, Patch, Status};
+use crate::writes::{push_settled, view};
+use lease_state::{Bytes, FileId, Memory, Status};
 
 impl Entry {
     /// Whether the entry is live under the FileId, and a Read of it isn't answered.
@@ -156,24 +156,12 @@ ghost use Rattle.lease_state.specs.Content.{patch};
 ghost use Rattle.lease_model.specs.client.State.{live_entry};
 ghost use Rattle.lease_model.specs.client.Taken.{is_file_closed};
 
-// The bytes with a patch.
-fn patched(base: Bytes, change: &Patch) -> Result<Bytes, Memory>
-    ensures { IfOk result (λ bytes. bytes ≡ patch base change.now) }
-{
-    let mut bytes = base.into_vec();
-    apply(&mut bytes, change)?;
-    Ok(Bytes::new(bytes))
-}
-
 impl Live {
     // A base, if there is one, has the write from now on.
     fn put_write(&mut self, write: &Pending) -> Result<(), Memory>
         ensures { OnOk result (self.new ≡ record self.old { base = rules.base_with (Some write.now) self.old.base }) }
     {
-        if let Some(base) = self.base.take() {
-            self.base = Some(patched(base, &write.patch)?);
-        }
-        Ok(())
+        self.file.change(&write.patch)
     }
 
     // The bytes become the base under R; the application sees its own unanswered writes in them.
@@ -182,7 +170,7 @@ impl Live {
         ensures { OnOk result (turned_to (live_entry self.new sent.now) given.new
             ≡ turn_written (rules.read_turn self.old sent.now bytes)) }
     {
-        let seen = view(&bytes, sent, &self.unsent)?;
+        let seen = view(&bytes, sent, self.file.unsent())?;
         self.reads = self.reads.saturating_sub(1);
         self.learn(bytes);
         given.begin(Answer::Bytes(seen, false));
@@ -196,7 +184,7 @@ impl Live {
         } }
     {
         if self.belief.caches_reads() {
-            self.base = Some(bytes);
+            self.file.learn(bytes);
         }
     }
 
@@ -251,7 +239,7 @@ impl Live {
             (map note_of notes.items) status)) }
     {
         let mut notes = notes;
-        push_settled(&mut notes, Settlement::Failed, &self.unsent)?;
+        push_settled(&mut notes, Settlement::Failed, self.file.unsent())?;
         let phase = match self.handles.asking() {
             Some(asked) => Phase::Opening {
                 access: asked.access,

@@ -66,11 +66,8 @@ impl Live {
         ensures { IfOk result (λ turn. turn ≡ turn_written (closing_turn self sent.items (answer_of answer))) }
     {
         let alloc = *sent.allocator();
-        let Live {
-            file_id,
-            mut unsent,
-            ..
-        } = self;
+        let Live { file_id, file, .. } = self;
+        let mut unsent = file.into_unsent();
         let mut requests = Vec::new(alloc);
         requests::push_writes(&mut requests, file_id, &unsent)?;
         requests.push(requests::close(file_id))?;
@@ -128,9 +125,8 @@ impl Live {
         ensures requests { OnOk result (requests.new.items
             ≡ requests.old.items ++ map request_written (write_requests self.old.file_id self.old.unsent)) }
     {
-        requests::push_writes(requests, self.file_id, &self.unsent)?;
-        sent.append(&mut self.unsent)?;
-        Ok(())
+        requests::push_writes(requests, self.file_id, self.file.unsent())?;
+        self.file.send(sent)
     }
 
     /// The belief is this one; without reads the base is dropped.
@@ -142,7 +138,7 @@ impl Live {
     {
         self.belief = new;
         if !new.caches_reads() {
-            self.base = None;
+            self.file.forget();
         }
     }
 }

@@ -10,9 +10,9 @@ use crate::entry::{Entry, Live, Pending, Phase};
 use crate::handles::Handles;
 use crate::note::Note;
 use crate::requests::Terms;
+use crate::shared_bytes::SharedBytes;
 use crate::turn::{Given, Turn};
-use crate::writes::view;
-use lease_state::{Bytes, FILE_LIMIT, FileNo, LeaseKey, Memory, Patch, Request};
+use lease_state::{FILE_LIMIT, FileNo, LeaseKey, Memory, Patch, Request};
 
 impl Entry {
     /// A command on the entry's file, whose key this is. A Write takes the next number of the client.
@@ -241,8 +241,8 @@ impl Live {
         if !self.belief.caches_reads() {
             return self.send_read(given);
         }
-        match &self.base {
-            Some(base) => cached(file, view(base, sent, &self.unsent)?, given),
+        match self.file.view(sent) {
+            Some(seen) => cached(file, seen?, given),
             None => self.send_read(given),
         }
     }
@@ -339,12 +339,11 @@ impl Live {
         given.begin(Answer::Done);
         let copy = patch.try_copy()?;
         given.notes.push(Note::Wrote(file, number, copy, true))?;
-        self.unsent.push(Pending {
+        self.file.buffer(Pending {
             number,
             patch,
             buffered: true,
-        })?;
-        Ok(())
+        })
     }
 
     #[tactic(auto, unfolding(crate::specs::Commanded::through_turn))]
@@ -384,7 +383,7 @@ impl Live {
             ≡ turn_written (rules.flush_turn self.old sent.old.items)) }
         ensures refused { rules.is_refused (rules.flush_turn self.old sent.old.items).answer ≡ true → IsOk result }
     {
-        let answer = if self.unsent.is_empty() {
+        let answer = if self.file.unsent().is_empty() {
             Answer::Done
         } else {
             Answer::Waiting
@@ -401,15 +400,15 @@ ghost use Rattle.lease_model.specs.client.State.{live_entry, Pending};
 ghost use Rattle.lease_model.specs.client.Commands as model;
 
 // The file as the application sees it, from the cache: it is answered and noted.
-fn cached(file: FileNo, seen: Bytes, given: &mut Given) -> Result<(), Memory>
+fn cached(file: FileNo, seen: SharedBytes, given: &mut Given) -> Result<(), Memory>
     ensures { OnOk result (given.new ≡ record {
       answer = model.Answer.Bytes seen true;
       requests = [];
       notes = model.Note.CachedRead file.0 seen ∷ [];
     }) }
 {
-    let copy = seen.try_copy()?;
-    given.begin(Answer::Bytes(seen, true));
-    given.notes.push(Note::CachedRead(file, copy))?;
+    let copy = seen.try_copy(*given.notes.allocator())?;
+    given.begin(Answer::Bytes(copy, true));
+    given.notes.push(Note::CachedRead(file, seen))?;
     Ok(())
 }

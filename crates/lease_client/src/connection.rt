@@ -136,9 +136,10 @@ impl Live {
             durable,
             belief,
             handles,
-            mut unsent,
+            file,
             ..
         } = self;
+        let mut unsent = file.into_unsent();
         let mut unanswered = sent;
         unanswered.append(&mut unsent)?;
         if !durable {

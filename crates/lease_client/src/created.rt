@@ -9,6 +9,7 @@ ghost use Rattle.lease_client.specs.Turns.{turned_to, turn_written};
 
 use crate::command::Answer;
 use crate::entry::{Asked, Entry, Live, Parted, Pending, Phase};
+use crate::file::File;
 use crate::handles::Handles;
 use crate::note::Settlement;
 use crate::requests;
@@ -139,8 +140,7 @@ fn opened(
         belief,
         handles: Handles::of(1),
         reads: 0,
-        base: None,
-        unsent: Vec::new(*sent.allocator()),
+        file: File::unknown(Vec::new(*sent.allocator())),
     };
     Turn::still(Entry::live(live, sent), Answer::Done)
 }
@@ -168,8 +168,7 @@ impl Parted {
             belief,
             handles: Handles::of(self.handles),
             reads: 0,
-            base: None,
-            unsent,
+            file: File::unknown(unsent),
         };
         Ok(Turn {
             entry: Entry::live(live, sent),
@@ -240,8 +239,8 @@ impl Live {
         requests.push(requests::close(live.file_id))?;
         let mut notes = Vec::new(alloc);
         if !belief.caches_writes() {
-            push_settled(&mut notes, Settlement::Failed, &live.unsent)?;
-            live.unsent.clear();
+            push_settled(&mut notes, Settlement::Failed, live.file.unsent())?;
+            live.file.give_up_unsent();
         }
         live.file_id = file_id;
         live.access = asked.access;

@@ -2,8 +2,9 @@ ghost use Rattle.std.specs.Prelude.{◌≡◌, []};
 ghost use Rattle.lease_state.specs.State.{state_of};
 ghost use Rattle.lease_model.specs.client.State.{closed_entry, live_entry, belief_of};
 
+use crate::file::File;
 use crate::handles::Handles;
-use lease_state::{Access, Bytes, FileId, LeaseState, Patch, Share};
+use lease_state::{Access, FileId, LeaseState, Patch, Share};
 use std::alloc::Global;
 use std::marker::Model;
 use std::mem;
@@ -54,10 +55,8 @@ pub struct Live {
     pub handles: Handles,
     /// How many Reads aren't answered.
     pub reads: u32,
-    /// The file as last known.
-    pub base: Option<Bytes>,
-    /// The buffered writes that aren't sent, in order.
-    pub unsent: Vec<Pending>,
+    /// The file as last known, and the buffered writes that aren't sent.
+    pub file: File,
 }
 
 impl Model for Live {
@@ -74,8 +73,8 @@ impl Model for Live {
       belief = state_of live.belief;
       handles = live.handles.count;
       reads = live.reads;
-      base = live.base;
-      unsent = live.unsent.items;
+      base = live.file.base;
+      unsent = live.file.unsent;
       asking = live.handles.asking;
     } };
 }

@@ -1,4 +1,5 @@
-use lease_state::{Bytes, FileNo, LeaseState, Patch};
+use crate::shared_bytes::SharedBytes;
+use lease_state::{FileNo, LeaseState, Patch};
 
 /// What became of a write (profile).
 #[derive(Clone, Copy, Debug, PartialEq, Eq, Hash)]
@@ -23,5 +24,5 @@ pub enum Note {
     /// The client's belief of the file's lease became this state.
     Believes(FileNo, LeaseState),
     /// The file was read from the cache as these bytes.
-    CachedRead(FileNo, Bytes),
+    CachedRead(FileNo, SharedBytes),
 }

@@ -218,9 +218,10 @@ impl Live {
         let alloc = *sent.allocator();
         let Live {
             file_id,
-            mut unsent,
+            file: known,
             ..
         } = self;
+        let mut unsent = known.into_unsent();
         let mut requests = Vec::new(alloc);
         requests::push_writes(&mut requests, file_id, &unsent)?;
         requests.push(requests::close(file_id))?;

@@ -60,14 +60,31 @@ fn write_over(items: &mut [u8], offset: usize, bytes: &[u8])
     items[offset..offset + bytes.len()].copy_from_slice(bytes);
 }
 
-// Puts the patches of the writes onto a file's bytes, in order.
-fn apply_all(bytes: &mut Vec<u8>, writes: &[Pending]) -> Result<(), Memory>
+/// Puts the patches of the writes onto a file's bytes, in order.
+///
+/// # Errors
+///
+/// `Memory` where the file grows and there is none left.
+pub fn apply_all(bytes: &mut Vec<u8>, writes: &[Pending]) -> Result<(), Memory>
     ensures { OnOk result (bytes.new.items ≡ patches bytes.old.items (patches_of writes.now)) }
 {
     for write in writes {
         apply(bytes, &write.patch)?;
     }
     Ok(())
+}
+
+/// The bytes with a patch.
+///
+/// # Errors
+///
+/// `Memory` where the file grows and there is none left.
+pub fn patched(base: Bytes, change: &Patch) -> Result<Bytes, Memory>
+    ensures { IfOk result (λ bytes. bytes ≡ patch base change.now) }
+{
+    let mut bytes = base.into_vec();
+    apply(&mut bytes, change)?;
+    Ok(Bytes::new(bytes))
 }
 
 /// The file with the unanswered writes, in memory of its own.

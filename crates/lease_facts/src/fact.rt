@@ -1,4 +1,4 @@
-use lease_client::Settlement;
+use lease_client::{Settlement, SharedBytes};
 use lease_state::{Bytes, ClientNo, FileNo, LeaseState, Patch};
 
 /// What happened (profile). A list of facts, in order, is a record; it names no table, no queue and
@@ -28,7 +28,7 @@ pub enum Fact {
     /// The client's belief of the file's lease became this state.
     Believes(ClientNo, FileNo, LeaseState),
     /// The client read the file from its cache as these bytes.
-    CachedRead(ClientNo, FileNo, Bytes),
+    CachedRead(ClientNo, FileNo, SharedBytes),
     /// A request was sent in the client's name that its machine didn't make.
     Strayed(ClientNo),
 }

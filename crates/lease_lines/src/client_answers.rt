@@ -93,7 +93,7 @@ fn push_bytes(
     ensures { OnOk result (string_bytes text.new
         ≡ string_bytes text.old ++ answer_words None (model.Answer.Bytes bytes.now cached)) }
 {
-    let digits = digits_of(alloc, bytes)?;
+    let digits = digits_of(alloc, bytes.as_slice())?;
     let source = if cached { "cached" } else { "served" };
     write!(text, "bytes {digits} {source}")
 }

@@ -230,7 +230,7 @@ fn push_created(
     ensures { OnOk result (string_bytes text.new
         ≡ string_bytes text.old ++ reply_words (reply.Created file fid contexts.now)) }
 {
-    let digits = digits_of(alloc, contexts)?;
+    let digits = digits_of(alloc, contexts.as_slice())?;
     let (file, fid) = (file.0, fid.0);
     write!(text, "created {file} {fid} {digits}")
 }
@@ -243,7 +243,7 @@ fn push_read_done(
 ) -> Result<(), AllocError>
     ensures { OnOk result (string_bytes text.new ≡ string_bytes text.old ++ reply_words (reply.ReadDone fid bytes.now)) }
 {
-    let digits = digits_of(alloc, bytes)?;
+    let digits = digits_of(alloc, bytes.as_slice())?;
     let fid = fid.0;
     write!(text, "readdone {fid} {digits}")
 }

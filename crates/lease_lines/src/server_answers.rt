@@ -1,14 +1,13 @@
-ghost use Rattle.std.specs.Prelude.{◌≡◌, ◌++◌, IfOk, OnOk};
+ghost use Rattle.std.specs.Prelude.{◌≡◌, ◌++◌, OnOk};
 ghost use Rattle.std.specs.List.{flat_map};
 ghost use Rattle.std.specs.Option.{option_map};
 ghost use Rattle.std.specs.String.{string_bytes};
 ghost use Rattle.share_server.specs.declared.out.Out.TheVariants as out;
-ghost use Rattle.lease_texts.specs.Records.{digits_word};
 ghost use Rattle.lease_lines.specs.ServerAnswers.{out_line, answer, done_word, yes_word, fid_words, bytes_words};
 
 use crate::replies::push_reply;
 use lease_state::{ClientNo, FileId, FileNo, Patch, Reply};
-use lease_texts::push_patch;
+use lease_texts::{digits_of, push_patch};
 use share_server::Out;
 use std::alloc::{AllocError, Global};
 
@@ -97,17 +96,6 @@ pub fn push_fid(text: &mut String, kept: Option<FileId>) -> Result<(), AllocErro
             writeln!(text, "answer fid {fid}")
         }
         None => text.push_str("answer none\n"),
-    }
-}
-
-// The digits of bytes, or a hyphen where there are none.
-fn digits_of(alloc: Global, bytes: &[u8]) -> Result<String, AllocError>
-    ensures { IfOk result (λ text. string_bytes text ≡ digits_word bytes.now) }
-{
-    if bytes.is_empty() {
-        String::from_str(alloc, "-")
-    } else {
-        hex::encode(alloc, bytes)
     }
 }
 

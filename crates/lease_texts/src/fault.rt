@@ -1,5 +1,6 @@
 ghost use Rattle.std.specs.Prelude.{◌≡◌};
 
+use lease_state::Memory;
 use std::alloc::{AllocError, AllocFailed};
 
 /// Why a line of a schedule or of a record gives nothing.
@@ -38,4 +39,14 @@ pub enum TextFault {
     Line(u64),
     /// There was no memory for what it holds.
     Memory,
+}
+
+impl From<Memory> for LineFault {
+    ghost use Rattle.lease_texts.specs.declared.fault.LineFault.TheVariants as fault;
+
+    ghost from_gives = { λ _ e. e ≡ fault.Memory };
+
+    fn from(_error: Memory) -> LineFault {
+        LineFault::Memory
+    }
 }

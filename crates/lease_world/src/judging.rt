@@ -1,4 +1,4 @@
-ghost use Rattle.std.specs.Prelude.{◌≡◌, ◌↔◌, List, [], IfOk};
+ghost use Rattle.std.specs.Prelude.{◌≡◌, ◌↔◌, List, [], IfOk, OnOk};
 ghost use Rattle.lease_model.specs.records.Facts as model;
 ghost use Rattle.lease_model.specs.records.Safe.{Safe};
 ghost use Rattle.lease_model.specs.records.Verdict.{verdict};
@@ -64,7 +64,7 @@ impl Judge {
         }
     }
 
-    /// Takes the next fact of the record.
+    /// The judge after the next fact of the record.
     ///
     /// # Errors
     ///
@@ -72,25 +72,31 @@ impl Judge {
     pub fn take(self, fact: &Fact) -> Result<Judge, Memory>
         ensures { IfOk result (λ judge. JudgesOneMore self (fact_of fact.now) judge) }
     {
+        let mut judge = self;
+        judge.add(fact)?;
+        Ok(judge)
+    }
+
+    /// Takes the next fact of the record, in place.
+    ///
+    /// # Errors
+    ///
+    /// Those of `take`; what the judge knows then is no longer said.
+    pub fn add(&mut self, fact: &Fact) -> Result<(), Memory>
+        ensures { OnOk result (JudgesOneMore self.old (fact_of fact.now) self.new) }
+    {
         let Judge {
             verdict,
             count,
-            mut known,
+            known,
         } = self;
-        if verdict != Verdict::Safe {
-            return Ok(Judge {
-                verdict,
-                count,
-                known,
-            });
+        if *verdict != Verdict::Safe {
+            return Ok(());
         }
         let place = count.checked_add(1).ok_or(Memory)?;
-        let verdict = known.add(place, fact)?;
-        Ok(Judge {
-            verdict,
-            count: place,
-            known,
-        })
+        *verdict = known.add(place, fact)?;
+        *count = place;
+        Ok(())
     }
 
     /// The verdict on the record of the facts so far: `Safe` exactly where that record is safe, and else the first bad place,

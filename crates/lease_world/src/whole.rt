@@ -30,7 +30,7 @@ pub fn judge_each<'a, I: Iterator<Item = &'a Fact>>(
 {
     let mut judge = Judge::new(alloc);
     for fact in facts {
-        judge = judge.take(fact)?;
+        judge.add(fact)?;
     }
     Ok(judge.verdict())
 }

@@ -55,6 +55,11 @@ Judges (Some text) answer = JudgesText text answer
 
 -- ---- lines
 
+-- what a call gives that changes a value in its place
+abbrev pub changed_to : {S T E : Type 0} → S → Result T E → Result S E
+changed_to state (Ok done) = Ok state
+changed_to state (Err e) = Err e
+
 -- The lines were read: the judge was given their facts, and what follows is read after them.
 pub record HasRead (progress : Progress) (lines : List (List ℕ)) : Type 0 where
   pub facts : List Fact

@@ -14,6 +14,8 @@ pub mod Drawing
 pub mod Printed
 pub mod Remarks
 pub mod Refusals
+pub mod Recording
+pub mod Made
 pub mod Conversing
 pub mod CommandLine
 pub mod Running

@@ -5,7 +5,7 @@ ghost use Rattle.lease_facts.specs.Facts.{fact_of};
 ghost use Rattle.lease_facts.specs.declared.fact.Fact.{Fact};
 ghost use Rattle.lease_world.specs.judge.Judged.{HasJudged};
 ghost use Rattle.lease_texts.specs.Pieces.{lines_of};
-ghost use Rattle.leasecheck.specs.Judging.{HasRead, HasReadText, TakesLine, ReadsMore, ReadsBlock, JudgesText, Judges};
+ghost use Rattle.leasecheck.specs.Judging.{changed_to, HasRead, HasReadText, TakesLine, ReadsMore, ReadsBlock, JudgesText, Judges};
 ghost use Rattle.leasecheck.specs.Replayed.{verdict_line, status_of};
 
 use crate::failure::Failure;
@@ -36,23 +36,20 @@ impl Progress {
         }
     }
 
-    fn take_line(self, alloc: Global, line: &[u8]) -> Result<Progress, Refusal>
-        ensures { (lines : List (List ℕ)) → HasRead self lines → ReadsMore lines (line.now ∷ []) result }
+    // Takes a line, in place.
+    fn take_line(&mut self, alloc: Global, line: &[u8]) -> Result<(), Refusal>
+        ensures { (lines : List (List ℕ)) → HasRead self.old lines
+            → ReadsMore lines (line.now ∷ []) (changed_to self.new result) }
     {
-        let Progress { judge, number } = self;
-        if number == u64::MAX {
+        if self.number == u64::MAX {
             return Err(Refusal {
                 failure: Failure::Lines,
                 second: None,
             });
         }
-        match take_fact(alloc, judge, line, number) {
-            Ok(judge) => Ok(Progress {
-                judge,
-                number: number + 1,
-            }),
-            Err(refusal) => Err(refusal),
-        }
+        take_fact(alloc, &mut self.judge, line, self.number)?;
+        self.number += 1;
+        Ok(())
     }
 
     // Takes all lines of a text.
@@ -63,10 +60,7 @@ impl Progress {
         let mut rest = text;
         while !rest.is_empty() {
             let (line, behind) = first_line(rest);
-            match progress.take_line(alloc, line) {
-                Ok(next) => progress = next,
-                Err(refusal) => return Err(refusal),
-            }
+            progress.take_line(alloc, line)?;
             rest = behind;
         }
         Ok(progress)
@@ -130,15 +124,19 @@ impl Progress {
     }
 }
 
-// The judge after the line of this number.
-fn take_fact(alloc: Global, judge: Judge, line: &[u8], number: u64) -> Result<Judge, Refusal>
-    ensures { (facts : List Fact) → HasJudged judge (map fact_of facts) → TakesLine facts line.now number result }
+// The judge takes the line of this number.
+fn take_fact(alloc: Global, judge: &mut Judge, line: &[u8], number: u64) -> Result<(), Refusal>
+    ensures { (facts : List Fact) → HasJudged judge.old (map fact_of facts)
+        → TakesLine facts line.now number (changed_to judge.new result) }
 {
     if is_passed_over(line) {
-        return Ok(judge);
+        return Ok(());
     }
     match read_fact(alloc, line) {
-        Ok(fact) => Ok(judge.take(&fact)?),
+        Ok(fact) => {
+            judge.add(&fact)?;
+            Ok(())
+        }
         Err(LineFault::Refused) => Err(Refusal::of_fact(alloc, number, line)),
         Err(LineFault::Memory) => Err(Refusal {
             failure: Failure::Memory,

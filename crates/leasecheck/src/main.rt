@@ -22,6 +22,7 @@ mod hexadecimal;
 mod judging;
 mod messages;
 mod printing;
+mod recording;
 mod refusal;
 mod remarks;
 mod replaying;

@@ -1,7 +1,7 @@
 ghost use Rattle.std.specs.Prelude.{◌≡◌, ◌++◌, IfOk, OnOk, drop};
 ghost use Rattle.std.specs.String.{string_bytes};
 ghost use Rattle.lease_texts.specs.Records.{fact_line};
-ghost use Rattle.leasecheck.specs.Messages.{message_line, message_before, messages_behind, record_with_messages};
+ghost use Rattle.leasecheck.specs.Messages.{message_line, message_before, messages_behind};
 
 use lease_facts::Fact;
 use lease_lines::push_reply;
@@ -48,19 +48,19 @@ fn push_message_of<'a>(
     }
 }
 
-/// The lines of a record, and before each fact that speaks of a message a comment line with what is in it.
-pub fn push_with_messages(
+/// The lines of a fact: before its own, where it speaks of a message, a comment line with what is in the first of these.
+/// Those after it are given.
+pub fn push_lines_of<'a>(
     alloc: Global,
     text: &mut String,
-    facts: &[Fact],
-    messages: &[Reply],
-) -> Result<(), AllocError>
-    ensures { OnOk result (string_bytes text.new ≡ string_bytes text.old ++ record_with_messages facts.now messages.now) }
+    fact: &Fact,
+    messages: &'a [Reply],
+) -> Result<&'a [Reply], AllocError>
+    ensures lines { OnOk result (string_bytes text.new
+        ≡ string_bytes text.old ++ (message_before fact.now messages.now ++ fact_line fact.now)) }
+    ensures behind { IfOk result (λ behind. behind.now ≡ messages_behind fact.now messages.now) }
 {
-    let mut left = messages;
-    for fact in facts {
-        left = push_message_of(alloc, text, fact, left)?;
-        push_fact(alloc, text, fact)?;
-    }
-    Ok(())
+    let behind = push_message_of(alloc, text, fact, messages)?;
+    push_fact(alloc, text, fact)?;
+    Ok(behind)
 }

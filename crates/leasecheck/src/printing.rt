@@ -2,6 +2,8 @@ ghost use Rattle.std.specs.Prelude.{◌≡◌, ◌≢◌, ◌≤◌, ◌⊎◌, 
 ghost use Rattle.std.specs.String.{string_bytes};
 ghost use Rattle.std.specs.Io.KnownBytes.{Appends, Keeps};
 ghost use Rattle.leasecheck.specs.Printed.{IsTextOf, Prints};
+ghost use Rattle.leasecheck.specs.Made.{text_made, status_made};
+ghost use Rattle.leasecheck.specs.Recording.{recorded_text, IsUnwritten};
 ghost use Rattle.lease_world.specs.declared.verdict.Verdict.{Verdict};
 ghost use Rattle.leasecheck.specs.Replayed.{Replays, verdict_line, status_of};
 ghost use Rattle.leasecheck.specs.Drawing.{Draws};
@@ -21,6 +23,7 @@ use crate::explaining::explain_text;
 use crate::failure::Failure;
 use crate::hexadecimal;
 use crate::judging::{judge_text, push_verdict, status_of};
+use crate::recording::{Record, write_record};
 use crate::refusal::Refusal;
 use crate::replaying::replay;
 use crate::tasks::{Kind, Task, Telling, VERSION};
@@ -38,6 +41,14 @@ const LINE: usize = 80;
 struct Printed {
     text: String,
     status: u8,
+}
+
+// What a task has made before anything is written.
+#[derive(Drop)]
+enum Made {
+    Text(Printed),
+    /// Its text is made as it is written.
+    Record(Record),
 }
 
 fn done(text: String) -> Printed
@@ -66,9 +77,9 @@ fn judged<I: Read>(alloc: Global, input: &mut I) -> Result<Printed, Refusal>
     }
 }
 
-fn replayed<I: Read>(alloc: Global, telling: Telling, input: &mut I) -> Result<Printed, Refusal>
-    ensures printed { IfOk result (λ printed. (printed.status ≡ 0)
-        × IfSome (I.remaining input.old) (λ schedule. Replays telling schedule (string_bytes printed.text))) }
+fn replayed<I: Read>(alloc: Global, telling: Telling, input: &mut I) -> Result<Record, Refusal>
+    ensures printed { IfOk result (λ record. (status_of record.verdict ≡ 0)
+        × IfSome (I.remaining input.old) (λ schedule. Replays telling schedule (recorded_text record))) }
     ensures refused { MatchResult result (λ _. known_refusal (I.remaining input.old) ≡ None)
         (λ refusal. MayEndReplay (I.remaining input.old) refusal.failure) }
     ensures said { IfErr result (λ refusal. Says refusal (IsFileRemark schedule_remark (I.remaining input.old))) }
@@ -78,10 +89,7 @@ fn replayed<I: Read>(alloc: Global, telling: Telling, input: &mut I) -> Result<P
         return Err(Refusal::bare(Failure::File));
     };
     match replay(alloc, telling, bytes.as_slice()) {
-        Ok((text, verdict)) => Ok(Printed {
-            text,
-            status: status_of(&verdict),
-        }),
+        Ok(record) => Ok(record),
         Err(refusal) => Err(refusal),
     }
 }
@@ -157,19 +165,19 @@ fn shown(alloc: Global, kind: Kind, argument: &str) -> Result<Printed, Refusal>
 }
 
 // All that the task prints.
-fn text_of<I: Read>(alloc: Global, task: &Task, input: &mut I) -> Result<Printed, Refusal>
-    ensures text { IfOk result (λ printed. IsTextOf task.now (I.remaining input.old) (string_bytes printed.text) printed.status) }
+fn make<I: Read>(alloc: Global, task: &Task, input: &mut I) -> Result<Made, Refusal>
+    ensures text { IfOk result (λ made. IsTextOf task.now (I.remaining input.old) (text_made made) (status_made made)) }
     ensures refused { AnswersOrRefuses task.now (I.remaining input.old) result }
     ensures said { SaysOf task.now (I.remaining input.old) result }
 {
     match task {
-        Task::Ack(argument) => acknowledged(alloc, argument.as_str()),
-        Task::Show(kind, argument) => shown(alloc, *kind, argument.as_str()),
-        Task::Replay(_, telling) => replayed(alloc, *telling, input),
-        Task::Judge(_) => judged(alloc, input),
-        Task::Explain(_) => explained(alloc, input),
-        Task::Draw(_) => drawn(alloc, input),
-        Task::Version => Ok(done(String::from_str(alloc, VERSION)?)),
+        Task::Ack(argument) => Ok(Made::Text(acknowledged(alloc, argument.as_str())?)),
+        Task::Show(kind, argument) => Ok(Made::Text(shown(alloc, *kind, argument.as_str())?)),
+        Task::Replay(_, telling) => Ok(Made::Record(replayed(alloc, *telling, input)?)),
+        Task::Judge(_) => Ok(Made::Text(judged(alloc, input)?)),
+        Task::Explain(_) => Ok(Made::Text(explained(alloc, input)?)),
+        Task::Draw(_) => Ok(Made::Text(drawn(alloc, input)?)),
+        Task::Version => Ok(Made::Text(done(String::from_str(alloc, VERSION)?))),
     }
 }
 
@@ -189,7 +197,7 @@ fn put_some<W: Write>(text: &[u8], out: &mut W) -> Result<usize, Failure>
 }
 
 // Writes all of a text, or a beginning of it where a write fails.
-fn put<W: Write>(text: &[u8], out: &mut W) -> Result<(), Failure>
+pub(crate) fn put<W: Write>(text: &[u8], out: &mut W) -> Result<(), Failure>
     ensures put { Puts (W.contents out.old) (W.contents out.new) text.now result }
     ensures failed { IfErr result (λ failure. failure ≡ Failure.Output) }
 {
@@ -215,7 +223,25 @@ pub(crate) fn print_text<O: Write>(text: &str, out: &mut O) -> Result<(), Failur
     Ok(())
 }
 
-// Makes the task's whole text, and writes it after that.
+// Writes what a task has made, and gives the exit status.
+fn print_made<O: Write>(alloc: Global, made: &Made, out: &mut O) -> Result<u8, Failure>
+    ensures written { IfOk result (λ status. (status ≡ status_made made.now)
+        × Appends (O.contents out.old) (O.contents out.new) (text_made made.now)) }
+    ensures failed { IfErr result (λ failure. IsUnwritten failure (O.contents out.old) (O.contents out.new) (text_made made.now)) }
+{
+    match made {
+        Made::Text(printed) => {
+            print_text(printed.text.as_str(), out)?;
+            Ok(printed.status)
+        }
+        Made::Record(record) => {
+            write_record(alloc, record, out)?;
+            Ok(status_of(&record.verdict))
+        }
+    }
+}
+
+// Makes all that the task prints, and writes it after that.
 fn print_task<I: Read, O: Write>(
     alloc: Global,
     task: &Task,
@@ -227,9 +253,9 @@ fn print_task<I: Read, O: Write>(
     ensures refused { IfErr result (λ refusal. EndsWith task.now (I.remaining input.old) (O.contents out.old) (O.contents out.new) refusal.failure) }
     ensures said { SaysOf task.now (I.remaining input.old) result }
 {
-    let printed = text_of(alloc, task, input)?;
-    print_text(printed.text.as_str(), out)?;
-    Ok(printed.status)
+    let made = make(alloc, task, input)?;
+    let status = print_made(alloc, &made, out)?;
+    Ok(status)
 }
 
 fn line_of(failure: Failure) -> Option<ArrayString<LINE>>
@@ -272,7 +298,8 @@ fn tell_refusal<F: Write>(refusal: &Refusal, faults: &mut F) -> Result<(), Failu
 /// Does a task, and returns the exit status: 0 where it was done, 1 where its input is refused,
 /// where memory ran out or where a write to `out` failed, 3 where the record of a judge is unsafe.
 ///
-/// The whole text is made before anything is written to `out`; on a refusal nothing is, and
+/// The whole text is made before anything is written to `out`, but for a record of more than a block, of which all facts are
+/// there and judged, but whose text is made as it is written. On a refusal nothing is written, and
 /// `faults` gets the line of the failure and mostly a second one, which says more of it, or a beginning of this where a write
 /// there fails, which changes no status. `input` has the bytes of the task's file, none for a task without one.
 pub fn perform<I: Read, O: Write, F: Write>(

@@ -6,7 +6,7 @@ ghost use Rattle.reason_texts.specs.FactWords.{shown_bytes, shown_patch, changed
 
 use lease_client::Settlement;
 use lease_facts::Fact;
-use lease_state::{Bytes, Patch};
+use lease_state::Patch;
 use lease_texts::{digits_of, state_letters};
 use std::alloc::{AllocError, Global};
 
@@ -29,16 +29,15 @@ ghost use Rattle.std.specs.Prelude.{◌≤◌, length, take};
 
 /// Adds bytes as digits: at most 64 of them, and then how many there are.
 #[tactic(auto, unfolding(crate::specs::FactWords::shown_bytes))]
-pub fn push_bytes(alloc: Global, text: &mut String, bytes: &Bytes) -> Result<(), AllocError>
+pub fn push_bytes(alloc: Global, text: &mut String, bytes: &[u8]) -> Result<(), AllocError>
     ensures { OnOk result (string_bytes text.new ≡ string_bytes text.old ++ shown_bytes bytes.now) }
 {
-    let items = bytes.as_slice();
-    let count = items.len();
+    let count = bytes.len();
     if count <= 64 {
         let digits = digits_of(alloc, bytes)?;
         return text.push_str(digits.as_str());
     }
-    let digits = hex::encode(alloc, first_shown(items))?;
+    let digits = hex::encode(alloc, first_shown(bytes))?;
     write!(text, "{digits}... ({count} bytes)")
 }
 
@@ -46,7 +45,7 @@ pub fn push_bytes(alloc: Global, text: &mut String, bytes: &Bytes) -> Result<(),
 fn push_patch(alloc: Global, text: &mut String, patch: &Patch) -> Result<(), AllocError>
     ensures { OnOk result (string_bytes text.new ≡ string_bytes text.old ++ shown_patch patch.now) }
 {
-    push_bytes(alloc, text, &patch.bytes)?;
+    push_bytes(alloc, text, patch.bytes.as_slice())?;
     let offset = patch.offset;
     write!(text, " at {offset}")
 }
@@ -108,7 +107,7 @@ pub fn push_fact_words(alloc: Global, text: &mut String, fact: &Fact) -> Result<
     match fact {
         Fact::Start(file, bytes) => {
             push_started(text, file.0)?;
-            push_bytes(alloc, text, bytes)
+            push_bytes(alloc, text, bytes.as_slice())
         }
         Fact::Joined(client) => {
             let client = client.0;
@@ -159,7 +158,7 @@ pub fn push_fact_words(alloc: Global, text: &mut String, fact: &Fact) -> Result<
         }
         Fact::CachedRead(client, file, bytes) => {
             push_read(text, client.0, file.0)?;
-            push_bytes(alloc, text, bytes)
+            push_bytes(alloc, text, bytes.as_slice())
         }
         Fact::Strayed(client) => {
             let client = client.0;

@@ -109,7 +109,7 @@ fn push_expected(
     ensures { OnOk result (string_bytes text.new ≡ string_bytes text.old ++ expected_lines placed.now expected.now) }
 {
     push_words(text, "it should read ")?;
-    push_bytes(alloc, text, &expected.bytes)?;
+    push_bytes(alloc, text, expected.bytes.as_slice())?;
     push_words(text, "\n")?;
     push_place(
         alloc,

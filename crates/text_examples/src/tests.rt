@@ -1,4 +1,4 @@
-use lease_client::{Command, Settlement};
+use lease_client::{Command, Settlement, SharedBytes};
 use lease_state::{Access, Bytes, ClientNo, FileId, FileNo, LeaseState, Patch, Request, Share};
 use lease_texts::{
     Complaint, LineFault, fact_complaint, part_complaint, push_complaint, push_event, push_fact,
@@ -49,8 +49,8 @@ fn facts(alloc: Global) -> Result<Vec<Fact>, Fail> {
     for bits in 0..8u32 {
         all.push(Fact::Believes(last, file, LeaseState::from_wire(bits)))?;
     }
-    all.push(Fact::CachedRead(first, file, bytes(alloc, b"Z")?))?;
-    all.push(Fact::CachedRead(first, file, bytes(alloc, b"")?))?;
+    all.push(Fact::CachedRead(first, file, SharedBytes::new(bytes(alloc, b"Z")?)?))?;
+    all.push(Fact::CachedRead(first, file, SharedBytes::new(bytes(alloc, b"")?)?))?;
     all.push(Fact::Strayed(last))?;
     Ok(all)
 }

@@ -79,7 +79,7 @@ fn fact_is_typed(fact: &Fact)
         Fact::CachedRead(client, file, bytes) => {
             client_is_typed(*client);
             file_is_typed(*file);
-            bytes_are_typed(bytes);
+            are_bytes(bytes.as_slice());
         }
     }
 }

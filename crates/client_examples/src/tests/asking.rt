@@ -1,7 +1,8 @@
 // Asking for more under one key.
 use crate::tests::setting::{
-    FILE, after, answers, asked, believes, bytes, connected, create, create_failed, created,
-    created_in_break, open, opened, opened_as, read, read_done, refuses, told, write, write_failed,
+    FILE, after, answers, asked, believes, bytes, cached_read, connected, create, create_failed,
+    created, created_in_break, open, opened, opened_as, read, read_done, refuses, told, write,
+    write_failed,
 };
 use lease_client::{Answer, Client, Command, Note, Refusal, Settlement};
 use lease_state::{Access, FileId, LeaseState, Request, Share, Status};
@@ -39,7 +40,7 @@ fn refuses_while_it_asks(rt: HostRuntime) -> Result<(), Fail> {
     let client = refuses(asking(alloc)?, same, Refusal::Busy)?;
     let client = refuses(client, Command::Close { file: FILE }, Refusal::Busy)?;
     answers(alloc, Answer::Bytes(bytes(alloc, b"abc")?, true))
-        .notes(Note::CachedRead(FILE, bytes(alloc, b"abc")?))?
+        .notes(cached_read(alloc, b"abc")?)?
         .app(client, read())?;
     Ok(())
 }
@@ -62,7 +63,7 @@ fn is_granted_more(rt: HostRuntime) -> Result<(), Fail> {
         .take(asking(alloc)?, created(alloc, 2, 7)?)?;
     let client = after(client, write(alloc, 0, b"X")?)?;
     answers(alloc, Answer::Bytes(bytes(alloc, b"Xbc")?, true))
-        .notes(Note::CachedRead(FILE, bytes(alloc, b"Xbc")?))?
+        .notes(cached_read(alloc, b"Xbc")?)?
         .app(client, read())?;
     Ok(())
 }

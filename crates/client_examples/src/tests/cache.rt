@@ -1,7 +1,8 @@
 // One file's life: opened, written and read under RWH, broken and closed.
 use crate::tests::setting::{
-    FILE, ack, after, answers, asked, believes, break_to, bytes, connected, create, created,
-    open_all, opened, patch, read, read_done, read_request, told, write, write_done, write_request,
+    FILE, ack, after, answers, asked, believes, break_to, bytes, cached_read, connected, create,
+    created, open_all, opened, patch, read, read_done, read_request, told, write, write_done,
+    write_request,
 };
 use lease_client::{Answer, Command, Note, Refusal, Settlement};
 use lease_state::{Access, FileId, LeaseState, Request, Share};
@@ -46,7 +47,7 @@ fn reads_its_own_writes(rt: HostRuntime) -> Result<(), Fail> {
         read_done(alloc, 1, b"abc")?,
     )?;
     answers(alloc, Answer::Bytes(bytes(alloc, b"Xbc\0Y")?, true))
-        .notes(Note::CachedRead(FILE, bytes(alloc, b"Xbc\0Y")?))?
+        .notes(cached_read(alloc, b"Xbc\0Y")?)?
         .app(client, read())?;
     Ok(())
 }
@@ -80,7 +81,7 @@ fn a_done_write_stays_in_the_base(rt: HostRuntime) -> Result<(), Fail> {
         .app(client, write(alloc, 1, b"Y")?)?;
     let client = told(client, write_done(1, 1))?;
     answers(alloc, Answer::Bytes(bytes(alloc, b"aYc")?, true))
-        .notes(Note::CachedRead(FILE, bytes(alloc, b"aYc")?))?
+        .notes(cached_read(alloc, b"aYc")?)?
         .app(client, read())?;
     Ok(())
 }

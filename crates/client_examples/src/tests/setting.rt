@@ -1,6 +1,6 @@
 // What the tests have in common: a client with this ClientGuid and one file, whose opens get
 // FileIds from 1 on, and the bytes of replies.
-use lease_client::{Answer, Client, Command, Note, Refusal, Step};
+use lease_client::{Answer, Client, Command, Note, Refusal, SharedBytes, Step};
 use lease_state::{
     Access, Bytes, FileId, FileNo, LeaseState, Patch, Reply, Request, Share, Status,
 };
@@ -18,6 +18,10 @@ pub const KEY: [u8; 16] = [
 
 pub fn bytes(alloc: Global, items: &[u8]) -> Result<Bytes, Fail> {
     Ok(Bytes::new(Vec::from_slice(alloc, items)?))
+}
+
+pub fn cached_read(alloc: Global, seen: &[u8]) -> Result<Note, Fail> {
+    Ok(Note::CachedRead(FILE, SharedBytes::new(bytes(alloc, seen)?)?))
 }
 
 pub fn open(file: u8, access: Access, share: Share, want: u32, durable: bool) -> Command {

@@ -5,7 +5,7 @@ ghost use Rattle.lease_texts.specs.Records.{way_in, outcome_in, start_in, change
 
 use crate::fault::LineFault;
 use crate::fields::{Fields, is, read_patch};
-use lease_client::Settlement;
+use lease_client::{Settlement, SharedBytes};
 use lease_facts::Fact;
 use std::alloc::Global;
 
@@ -105,7 +105,8 @@ fn read_cached_read(alloc: Global, fields: &mut Fields) -> Result<Fact, LineFaul
 {
     let client = fields.client()?;
     let file = fields.file()?;
-    Ok(Fact::CachedRead(client, file, fields.bytes(alloc)?))
+    let bytes = SharedBytes::new(fields.bytes(alloc)?)?;
+    Ok(Fact::CachedRead(client, file, bytes))
 }
 
 // The fact of a kind, by the fields after the one that names it.

@@ -4,19 +4,19 @@ ghost use Rattle.lease_facts.specs.declared.fact.Fact.TheVariants as fact;
 ghost use Rattle.lease_texts.specs.Records.{digits_word, outcome_word, patch_words, pair_words, read_words, fact_line};
 
 use crate::words::state_letters;
-use lease_client::Settlement;
+use lease_client::{Settlement, SharedBytes};
 use lease_facts::Fact;
-use lease_state::{Bytes, ClientNo, FileNo, Patch};
+use lease_state::{ClientNo, FileNo, Patch};
 use std::alloc::{AllocError, Global};
 
 /// The digits of bytes, or a hyphen where there are none.
-pub fn digits_of(alloc: Global, bytes: &Bytes) -> Result<String, AllocError>
+pub fn digits_of(alloc: Global, bytes: &[u8]) -> Result<String, AllocError>
     ensures { IfOk result (λ text. string_bytes text ≡ digits_word bytes.now) }
 {
     if bytes.is_empty() {
         String::from_str(alloc, "-")
     } else {
-        hex::encode(alloc, bytes.as_slice())
+        hex::encode(alloc, bytes)
     }
 }
 
@@ -35,7 +35,7 @@ fn outcome_word(outcome: Settlement) -> &'static str
 pub fn push_patch(alloc: Global, text: &mut String, patch: &Patch) -> Result<(), AllocError>
     ensures { OnOk result (string_bytes text.new ≡ string_bytes text.old ++ patch_words patch.now) }
 {
-    let digits = digits_of(alloc, &patch.bytes)?;
+    let digits = digits_of(alloc, patch.bytes.as_slice())?;
     let offset = patch.offset;
     write!(text, "{offset} {digits}")
 }
@@ -79,7 +79,7 @@ fn push_wrote(
 }
 
 // The digits of bytes.
-fn push_bytes(alloc: Global, text: &mut String, bytes: &Bytes) -> Result<(), AllocError>
+fn push_bytes(alloc: Global, text: &mut String, bytes: &[u8]) -> Result<(), AllocError>
     ensures { OnOk result (string_bytes text.new ≡ string_bytes text.old ++ digits_word bytes.now) }
 {
     let digits = digits_of(alloc, bytes)?;
@@ -108,12 +108,12 @@ fn push_cached_read(
     text: &mut String,
     client: ClientNo,
     file: FileNo,
-    bytes: &Bytes,
+    bytes: &SharedBytes,
 ) -> Result<(), AllocError>
     ensures { OnOk result (string_bytes text.new ≡ string_bytes text.old ++ fact_line (fact.CachedRead client file bytes.now)) }
 {
     push_read(text, client.0, file.0)?;
-    push_bytes(alloc, text, bytes)?;
+    push_bytes(alloc, text, bytes.as_slice())?;
     text.push_str("\n")
 }
 
@@ -123,7 +123,7 @@ pub fn push_fact(alloc: Global, text: &mut String, fact: &Fact) -> Result<(), Al
 {
     match fact {
         Fact::Start(file, bytes) => {
-            let digits = digits_of(alloc, bytes)?;
+            let digits = digits_of(alloc, bytes.as_slice())?;
             let file = file.0;
             writeln!(text, "start {file} {digits}")
         }

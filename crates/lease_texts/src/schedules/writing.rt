@@ -129,7 +129,7 @@ fn push_create(
     ensures { OnOk result (string_bytes text.new
         ≡ string_bytes text.old ++ request_words (request.Create file access share contexts.now)) }
 {
-    let digits = digits_of(alloc, contexts)?;
+    let digits = digits_of(alloc, contexts.as_slice())?;
     let (file, access, share) = (file.0, access_word(access), share_word(share));
     write!(text, "create {file} {access} {share} {digits}")
 }

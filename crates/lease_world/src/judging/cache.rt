@@ -6,7 +6,7 @@ ghost use Rattle.lease_world.specs.judge.Caches.{looked_through, based_at, viewe
 use crate::judging::file::FileSeen;
 use crate::judging::numbers::Numbers;
 use crate::judging::snapshot::Snapshot;
-use lease_state::{Bytes, LeaseState, Memory, Patch};
+use lease_state::{LeaseState, Memory, Patch};
 use std::alloc::Global;
 use std::marker::Model;
 
@@ -113,7 +113,7 @@ impl CacheSeen {
         file: &FileSeen,
         place: u64,
         settled: &Numbers,
-        bytes: &Bytes,
+        bytes: &[u8],
     ) -> Result<bool, Memory>
         ensures { IfOk result (λ same. IsShown file.now place settled.now bytes.now self.old self.new same) }
     {

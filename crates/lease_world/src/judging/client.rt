@@ -6,7 +6,7 @@ use crate::judging::cache::CacheSeen;
 use crate::judging::file::FileSeen;
 use crate::judging::numbers::Numbers;
 use crate::judging::writes::{WriteSeen, WritesSeen};
-use lease_state::{Bytes, FileNo, LeaseState, Memory, Patch};
+use lease_state::{FileNo, LeaseState, Memory, Patch};
 use std::alloc::Global;
 use std::collections::VecDeque;
 use std::marker::Model;
@@ -239,7 +239,7 @@ impl ClientSeen {
         number: FileNo,
         file: &FileSeen,
         place: u64,
-        bytes: &Bytes,
+        bytes: &[u8],
     ) -> Result<bool, Memory>
         ensures { IfOk result (λ same. Sees number.0 file.now place bytes.now self.old self.new same) }
     {

@@ -8,7 +8,7 @@ use crate::judging::cache::CacheSeen;
 use crate::judging::client::ClientSeen;
 use crate::judging::file::FileSeen;
 use crate::judging::writes::WriteSeen;
-use lease_state::{Bytes, ClientNo, FileNo, LeaseState, Memory, Patch};
+use lease_state::{ClientNo, FileNo, LeaseState, Memory, Patch};
 use std::alloc::Global;
 use std::marker::Model;
 
@@ -214,7 +214,7 @@ impl Clients {
         number: FileNo,
         file: &FileSeen,
         place: u64,
-        bytes: &Bytes,
+        bytes: &[u8],
     ) -> Result<bool, Memory>
         ensures { IfOk result (λ same. ChangesClient
             (λ old new. Sees number.0 file.now place bytes.now old new same) client.0 self.old self.new) }

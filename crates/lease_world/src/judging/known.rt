@@ -74,7 +74,9 @@ impl Known {
                 place, *client, *number, *outcome,
             ),
             Fact::Believes(client, file, state) => self.believe(place, *client, *file, *state),
-            Fact::CachedRead(client, file, bytes) => self.read(place, *client, *file, bytes),
+            Fact::CachedRead(client, file, bytes) => {
+                self.read(place, *client, *file, bytes.as_slice())
+            }
             Fact::Strayed(client) => self.stray(*client),
         }
     }
@@ -277,7 +279,7 @@ impl Known {
         place: u64,
         client: ClientNo,
         file: FileNo,
-        bytes: &Bytes,
+        bytes: &[u8],
     ) -> Result<Verdict, Memory>
         ensures { IfOk result (λ verdict.
             CachedReadAdds place client.0 file.0 bytes.now self.old self.new verdict) }

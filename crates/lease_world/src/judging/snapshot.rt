@@ -57,10 +57,10 @@ impl Snapshot {
     }
 
     /// Whether these are the bytes.
-    pub fn shows(&self, bytes: &Bytes) -> bool
+    pub fn shows(&self, bytes: &[u8]) -> bool
         ensures { result ≡ bytes_eq bytes.now self.now.bytes }
     {
-        bytes.as_slice() == self.bytes.as_slice()
+        bytes == self.bytes.as_slice()
     }
 
     /// With the patches of the changes that follow, as long as they stand before the place.

@@ -1,6 +1,6 @@
 //! Words for records in tests.
 
-use lease_client::Settlement;
+use lease_client::{Settlement, SharedBytes};
 use lease_state::{Bytes, ClientNo, FileNo, LeaseState, Memory, Patch};
 use lease_world::Fact;
 use std::alloc::Global;
@@ -105,7 +105,8 @@ pub fn believes(client: u8, file: u8, state: u32) -> Result<Fact, Memory> {
 }
 
 pub fn read(alloc: Global, client: u8, file: u8, seen: &[u8]) -> Result<Fact, Memory> {
-    Ok(Fact::CachedRead(ClientNo(client), FileNo(file), bytes(alloc, seen)?))
+    let seen = SharedBytes::new(bytes(alloc, seen)?)?;
+    Ok(Fact::CachedRead(ClientNo(client), FileNo(file), seen))
 }
 
 pub fn strayed(client: u8) -> Result<Fact, Memory> {

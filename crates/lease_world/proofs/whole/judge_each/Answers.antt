@@ -10,7 +10,7 @@ pub loop-fact-preserved : goal.loop-fact-preserved
 loop-fact-preserved g c =
     subst (λ facts. HasJudged c.in_ok-judge.judge facts)
     (sym (map-append (λ fact. fact_of fact.now) c.loop-fact.yielded (c.in-Some.fact ∷ [])))
-    (c.in_ok-judge.ensures _ c.loop-fact.invariant)
+    (c.in_ok-add.ensures _ c.loop-fact.invariant)
 
 pub returns : goal.returns
 returns g c = (

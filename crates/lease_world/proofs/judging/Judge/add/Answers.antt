@@ -1,6 +1,6 @@
 use Rattle.std.proofs.Common.{rules}
 use Rattle.lease_world.proofs.records.Judges.{stepped}
-use Rattle.lease_world.proofs.judging.Judge.take.Goals as goal
+use Rattle.lease_world.proofs.judging.Judge.add.Goals as goal
 
 pub returns-then-ne : goal.returns-then-ne
 returns-then-ne c = stepped _ _ _ (search rules)

@@ -1,0 +1,92 @@
+ghost use Rattle.std.specs.Prelude.{◌≡◌, ◌↔◌, IfOk, nat_eq};
+ghost use Rattle.std.specs.Cmp.{partial_equiv_from_equiv};
+ghost use Rattle.std.specs.Cmp.Lexicographic.{pointwise, nat_list_eq_equiv};
+
+use bytes::Bytes as Shared;
+use lease_state::{Bytes, Memory};
+use std::alloc::Global;
+use std::convert::AsSlice;
+use std::marker::Model;
+
+/// Bytes that never change and that several values may hold together, as what a client's cache shows
+/// and the note of a read from it. Contracts see the list of them.
+#[derive(Debug, Drop)]
+pub struct SharedBytes {
+    bytes: Shared,
+}
+
+impl Model for SharedBytes {
+    ghost use Rattle.std.specs.Prelude.{ℕ, List};
+
+    ghost Value = { List ℕ };
+
+    ghost view = { λ shared. shared.bytes };
+}
+
+impl SharedBytes {
+    /// These bytes, which stay where they are.
+    ///
+    /// # Errors
+    ///
+    /// `Memory` where there is none left for the count of those that hold them.
+    pub fn new(bytes: Bytes) -> Result<SharedBytes, Memory>
+        ensures { IfOk result (λ shared. shared ≡ bytes) }
+    {
+        match Shared::from_vec(bytes.into_vec()) {
+            Ok(bytes) => Ok(SharedBytes { bytes }),
+            Err(_) => Err(Memory),
+        }
+    }
+
+    /// The same bytes for one more that holds them. None of them is copied.
+    ///
+    /// # Errors
+    ///
+    /// `Memory` where there is none left.
+    pub fn share(&self) -> Result<SharedBytes, Memory>
+        ensures { IfOk result (λ shared. shared ≡ self.now) }
+    {
+        let bytes = self.bytes.clone()?;
+        Ok(SharedBytes { bytes })
+    }
+
+    /// The bytes, in order.
+    pub fn as_slice(&self) -> &[u8]
+        ensures { result.now ≡ self.now }
+    {
+        self.bytes.as_slice()
+    }
+
+    /// Equal bytes in memory of their own.
+    ///
+    /// # Errors
+    ///
+    /// `Memory` where there is none left for them.
+    pub fn try_copy(&self, alloc: Global) -> Result<Bytes, Memory>
+        ensures { IfOk result (λ copy. copy ≡ self.now) }
+    {
+        Ok(Bytes::new(Vec::from_slice(alloc, self.as_slice())?))
+    }
+}
+
+impl AsSlice<u8> for SharedBytes {
+    ghost items = { λ shared. shared };
+
+    fn as_slice(&self) -> &[u8] {
+        self.bytes.as_slice()
+    }
+}
+
+impl PartialEq for SharedBytes {
+    ghost eq = { pointwise nat_eq };
+
+    ghost laws = { partial_equiv_from_equiv nat_list_eq_equiv };
+
+    fn eq(&self, other: &SharedBytes) -> bool {
+        self.bytes == other.bytes
+    }
+}
+
+impl Eq for SharedBytes {
+    ghost laws = { nat_list_eq_equiv };
+}

@@ -1,0 +1,145 @@
+-- Records that are written as they are made.
+use Rattle.std.proofs.Common.{◌≡◌, inl, inr, refl, ℕ, ◌++◌, List, [], ◌∷◌, Bool, true, false, Option, Some, None, sym, ap, ◌∙◌, subst, append_assoc}
+use Rattle.std.proofs.lemmas.List.{append-nil}
+use Rattle.std.specs.List.{flat_map}
+use Rattle.std.specs.Io.KnownBytes.{Appends, Keeps}
+use Rattle.std.specs.String.{string_bytes}
+use Rattle.lease_facts.specs.declared.fact.Fact.{Fact}
+use Rattle.lease_facts.specs.declared.fact.Fact.TheVariants as fact
+use Rattle.lease_state.specs.declared.reply.Reply.{Reply}
+use Rattle.lease_texts.specs.Records.{fact_line, record_text}
+use Rattle.leasecheck.proofs.Puts.{appends_more}
+use Rattle.leasecheck.specs.Messages.{message_before, messages_behind, record_with_messages}
+use Rattle.leasecheck.specs.Printed.{IsTextOf}
+use Rattle.leasecheck.specs.Recording.{HasGathered, IsUnwritten, not_made}
+use Rattle.leasecheck.specs.Refusals.{Begins, EndsWith, MayEnd, refusal_of}
+use Rattle.leasecheck.specs.declared.failure.Failure.{Failure}
+use Rattle.leasecheck.specs.declared.failure.Failure.TheVariants as failure
+use Rattle.leasecheck.specs.declared.recording.Gathered.{Gathered}
+use Rattle.leasecheck.specs.declared.tasks.Task.{Task}
+use Rattle.leasecheck.specs.declared.tasks.Task.TheVariants as task
+
+-- ---- what is written
+
+appends_nothing : (known : Option (List ℕ)) → Appends known known []
+appends_nothing None = tt
+appends_nothing (Some bytes) = sym (append-nil bytes)
+
+keeps_if_nothing : (old new : Option (List ℕ)) (part : List ℕ) → Appends old new part → part ≡ [] → Keeps old new
+keeps_if_nothing None new part had none = tt
+keeps_if_nothing (Some xs) None part had none = absurd had
+keeps_if_nothing (Some xs) (Some ys) part had none = had ∙ (ap (λ t. xs ++ t) none ∙ append-nil xs)
+
+-- ---- what has gathered
+
+pub nothing_gathered : (known : Option (List ℕ)) (gathered : Gathered) → string_bytes gathered.text ≡ [] → HasGathered known known gathered []
+nothing_gathered known gathered none = record {
+  part = [];
+  written = appends_nothing known;
+  gathers = sym none;
+  begins = λ no. refl;
+}
+
+pub gathered_more : (first current : Option (List ℕ)) (old new : Gathered) (told more : List ℕ) → HasGathered first current old told
+    → string_bytes new.text ≡ string_bytes old.text ++ more → new.begun ≡ old.begun → HasGathered first current new (told ++ more)
+gathered_more first current old new told more has text begun = record {
+  part = has.part;
+  written = has.written;
+  gathers = ap (λ t. t ++ more) has.gathers
+      ∙ (append_assoc has.part (string_bytes old.text) more ∙ ap (λ t. has.part ++ t) (sym text));
+  begins = λ no. has.begins (sym begun ∙ no);
+}
+
+pub wrote_block : (first old new : Option (List ℕ)) (before after : Gathered) (told : List ℕ) → HasGathered first old before told
+    → Appends old new (string_bytes before.text) → string_bytes after.text ≡ [] → after.begun ≡ true → HasGathered first new after told
+wrote_block first old new before after told has wrote none begun = record {
+  part = has.part ++ string_bytes before.text;
+  written = appends_more first old new has.part (string_bytes before.text) has.written wrote;
+  gathers = has.gathers ∙ (sym (append-nil (has.part ++ string_bytes before.text))
+      ∙ ap (λ t. (has.part ++ string_bytes before.text) ++ t) (sym none));
+  begins = λ no. absurd (let both : true ≡ false = sym begun ∙ no in cc);
+}
+
+-- ---- what is not written
+
+not_made_by : (begun : Bool) (failed : Failure) (first current : Option (List ℕ)) (part rest whole : List ℕ) → failed ≡ not_made begun
+    → whole ≡ part ++ rest → Appends first current part → (begun ≡ false → part ≡ []) → IsUnwritten failed first current whole
+not_made_by true failed first current part rest whole is cut had begins = inl (is, (part, rest, cut, had))
+not_made_by false failed first current part rest whole is cut had begins =
+    inr (is, keeps_if_nothing first current part had (begins refl))
+
+-- there was no memory for what follows
+pub unmade : (first current : Option (List ℕ)) (gathered : Gathered) (told rest whole : List ℕ) (failed : Failure)
+    → HasGathered first current gathered told → failed ≡ not_made gathered.begun → told ++ rest ≡ whole
+    → IsUnwritten failed first current whole
+unmade first current gathered told rest whole failed has is cut =
+    not_made_by gathered.begun failed first current has.part (string_bytes gathered.text ++ rest) whole is
+    (sym cut ∙ (ap (λ t. t ++ rest) has.gathers ∙ append_assoc has.part (string_bytes gathered.text) rest)) has.written has.begins
+
+-- what has gathered was not written
+pub unwritten : (first current new : Option (List ℕ)) (gathered : Gathered) (told rest whole : List ℕ) (failed : Failure)
+    → HasGathered first current gathered told → failed ≡ failure.Output → Begins current new (string_bytes gathered.text)
+    → told ++ rest ≡ whole → IsUnwritten failed first new whole
+unwritten first current new gathered told rest whole failed has is (part, left, cut, had) whole-is =
+    let all : told ≡ (has.part ++ part) ++ left =
+    has.gathers ∙ (ap (λ t. has.part ++ t) cut ∙ sym (append_assoc has.part part left)) in
+    inl (
+      is,
+      (
+        has.part ++ part,
+        left ++ rest,
+        sym whole-is ∙ (ap (λ t. t ++ rest) all ∙ append_assoc (has.part ++ part) left rest),
+        appends_more first current new has.part part has.written had,
+      ),
+    )
+
+-- what has gathered is written, and with it all that is told
+pub all_written : (first current new : Option (List ℕ)) (gathered : Gathered) (told : List ℕ) → HasGathered first current gathered told
+    → Appends current new (string_bytes gathered.text) → Appends first new told
+all_written first current new gathered told has wrote =
+    subst (λ t. Appends first new t) (sym has.gathers)
+    (appends_more first current new has.part (string_bytes gathered.text) has.written wrote)
+
+-- ---- how a task ends
+
+lacks_memory : (asked : Task) (file : Option (List ℕ)) (failed : Failure) → failed ≡ failure.Memory → MayEnd asked file failed
+lacks_memory (task.Ack argument) file failed is = inl is
+lacks_memory (task.Show kind argument) file failed is = inl is
+lacks_memory (task.Replay path telling) file failed is = inl is
+lacks_memory (task.Judge path) file failed is = inl is
+lacks_memory (task.Explain path) file failed is = inl is
+lacks_memory (task.Draw path) file failed is = inl is
+lacks_memory task.Version file failed is = inl is
+
+pub ends_unwritten : (asked : Task) (file old new : Option (List ℕ)) (failed : Failure) (text : List ℕ) (status : ℕ)
+    → refusal_of asked file ≡ None → IsTextOf asked file text status → IsUnwritten failed old new text → EndsWith asked file old new failed
+ends_unwritten asked file old new failed text status accepted prints (inl (is, begins)) =
+    inl (is, accepted, text, status, prints, begins)
+ends_unwritten asked file old new failed text status accepted prints (inr (is, keeps)) = inr (keeps, lacks_memory asked file failed is)
+
+-- ---- records that are told without messages
+
+no_message : (one : Fact) → (message_before one [] ≡ []) × (messages_behind one [] ≡ [])
+unfolding message_before messages_behind
+no_message (fact.Start file bytes) = (refl, refl)
+no_message (fact.Joined client) = (refl, refl)
+no_message (fact.Dropped client) = (refl, refl)
+no_message (fact.Expired client file) = (refl, refl)
+no_message (fact.Sent client) = (refl, refl)
+no_message (fact.Took client) = (refl, refl)
+no_message (fact.Opened file client) = (refl, refl)
+no_message (fact.Changed file client number patch) = (refl, refl)
+no_message (fact.Wrote client file number patch buffered) = (refl, refl)
+no_message (fact.Settled client number outcome) = (refl, refl)
+no_message (fact.Believes client file state) = (refl, refl)
+no_message (fact.CachedRead client file bytes) = (refl, refl)
+no_message (fact.Strayed client) = (refl, refl)
+
+pub told_alone : (facts : List Fact) → record_with_messages facts [] ≡ record_text facts
+unfolding record_with_messages
+told_alone [] = refl
+told_alone (one ∷ facts) =
+    let none = no_message one in
+    ap (λ t. t ++ (fact_line one ++ record_with_messages facts (messages_behind one []))) none.0
+    ∙ (ap (λ (rest : List Reply). fact_line one ++ record_with_messages facts rest) none.1
+    ∙ ap (λ t. fact_line one ++ t) (told_alone facts))

@@ -1,0 +1,17 @@
+-- What a task has made before anything is written.
+use Rattle.std.specs.Prelude.{ℕ, List}
+use Rattle.std.specs.String.{string_bytes}
+use Rattle.leasecheck.specs.Recording.{recorded_text}
+use Rattle.leasecheck.specs.Replayed.{status_of}
+use Rattle.leasecheck.specs.declared.printing.Made.{Made}
+use Rattle.leasecheck.specs.declared.printing.Made.TheVariants.{Text, Record}
+
+-- its text
+abbrev pub text_made : Made → List ℕ
+text_made (Text printed) = string_bytes printed.text
+text_made (Record record) = recorded_text record
+
+-- the exit status
+abbrev pub status_made : Made → ℕ
+status_made (Text printed) = printed.status
+status_made (Record record) = status_of record.verdict

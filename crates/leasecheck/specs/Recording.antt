@@ -1,0 +1,31 @@
+-- A record whose text is written as it is made.
+use Rattle.std.specs.Prelude.{◌≡◌, ◌⊎◌, ◌++◌, ℕ, Bool, true, false, if◌then◌else◌, List, [], codes, Option}
+use Rattle.std.specs.Io.KnownBytes.{Appends, Keeps}
+use Rattle.std.specs.String.{string_bytes}
+use Rattle.leasecheck.specs.Messages.{record_with_messages}
+use Rattle.leasecheck.specs.Refusals.{Begins}
+use Rattle.leasecheck.specs.Replayed.{verdict_line}
+use Rattle.leasecheck.specs.declared.failure.Failure.{Failure}
+use Rattle.leasecheck.specs.declared.failure.Failure.TheVariants as failure
+use Rattle.leasecheck.specs.declared.recording.Gathered.{Gathered}
+use Rattle.leasecheck.specs.declared.recording.Record.{Record}
+
+-- the lines of the facts, each after the message that it speaks of, and a comment line with the verdict
+abbrev pub recorded_text : Record → List ℕ
+recorded_text record = record_with_messages record.facts.items record.messages.items ++ (codes "# " ++ verdict_line record.verdict)
+
+-- why a text is not made for want of memory: where some of it is written, its writing has failed
+abbrev pub not_made : Bool → Failure
+not_made begun = if begun then failure.Output else failure.Memory
+
+-- a text is not written whole: there was no memory, and nothing was written, or the writing failed
+abbrev pub IsUnwritten : Failure → Option (List ℕ) → Option (List ℕ) → List ℕ → Type 0
+IsUnwritten failure old new text =
+    ((failure ≡ failure.Output) × Begins old new text) ⊎ ((failure ≡ failure.Memory) × Keeps old new)
+
+-- of a text that is told so far a beginning is written, and the rest has gathered
+pub record HasGathered (first current : Option (List ℕ)) (gathered : Gathered) (told : List ℕ) : Type 0 where
+  pub part : List ℕ
+  pub written : Appends first current part
+  pub gathers : told ≡ part ++ string_bytes gathered.text
+  pub begins : gathered.begun ≡ false → part ≡ []

@@ -1,0 +1,154 @@
+ghost use Rattle.std.specs.Prelude.{◌≡◌, ◌++◌, ℕ, List, [], codes, false, OnOk, IfOk, IfErr, MatchResult};
+ghost use Rattle.std.specs.Io.KnownBytes.{Appends};
+ghost use Rattle.std.specs.String.{string_bytes};
+ghost use Rattle.lease_texts.specs.Records.{fact_line};
+ghost use Rattle.leasecheck.specs.Messages.{message_before, messages_behind, record_with_messages};
+ghost use Rattle.leasecheck.specs.Recording.{recorded_text, not_made, IsUnwritten, HasGathered};
+ghost use Rattle.leasecheck.specs.Refusals.{Begins};
+ghost use Rattle.leasecheck.specs.Replayed.{verdict_line};
+
+use crate::failure::Failure;
+use crate::judging::push_verdict;
+use crate::messages::push_lines_of;
+use crate::printing::{print_text, put};
+use lease_facts::Fact;
+use lease_state::Reply;
+use lease_world::Verdict;
+use std::alloc::{AllocError, Global};
+use std::io::Write;
+
+// How many bytes of a record's text gather before they are written.
+const BLOCK: usize = 65_536;
+
+/// A record, the messages that are told with it, if any are, and the verdict on it.
+#[derive(Drop)]
+pub struct Record {
+    pub facts: Vec<Fact>,
+    pub messages: Vec<Reply>,
+    pub verdict: Verdict,
+}
+
+// What isn't written yet of a text that is told, and whether some of it is.
+#[derive(Drop)]
+struct Gathered {
+    text: String,
+    begun: bool,
+}
+
+// Why a text isn't made for want of memory.
+fn not_made(begun: bool) -> Failure
+    ensures { result ≡ not_made begun }
+{
+    if begun {
+        Failure::Output
+    } else {
+        Failure::Memory
+    }
+}
+
+// The verdict on a record after its text, and a sign that it is none of the facts.
+fn push_end(text: &mut String, verdict: &Verdict) -> Result<(), AllocError>
+    ensures { OnOk result (string_bytes text.new ≡ string_bytes text.old ++ (codes "# " ++ verdict_line verdict.now)) }
+{
+    text.push_str("# ")?;
+    push_verdict(text, verdict)
+}
+
+impl Gathered {
+    fn new(alloc: Global) -> Gathered
+        ensures text { string_bytes result.text ≡ [] }
+        ensures begun { result.begun ≡ false }
+    {
+        Gathered {
+            text: String::new(alloc),
+            begun: false,
+        }
+    }
+
+    // The lines of a fact, with its message if it speaks of one of these; those after it are given.
+    fn push<'a>(
+        &mut self,
+        alloc: Global,
+        fact: &Fact,
+        messages: &'a [Reply],
+    ) -> Result<&'a [Reply], Failure>
+        ensures lines { OnOk result (string_bytes self.new.text
+            ≡ string_bytes self.old.text ++ (message_before fact.now messages.now ++ fact_line fact.now)) }
+        ensures begun { self.new.begun ≡ self.old.begun }
+        ensures behind { IfOk result (λ behind. behind.now ≡ messages_behind fact.now messages.now) }
+        ensures failed { IfErr result (λ failure. failure ≡ not_made self.old.begun) }
+    {
+        match push_lines_of(alloc, &mut self.text, fact, messages) {
+            Ok(behind) => Ok(behind),
+            Err(_) => Err(not_made(self.begun)),
+        }
+    }
+
+    // The line of the verdict.
+    fn push_end(&mut self, verdict: &Verdict) -> Result<(), Failure>
+        ensures line { OnOk result (string_bytes self.new.text
+            ≡ string_bytes self.old.text ++ (codes "# " ++ verdict_line verdict.now)) }
+        ensures begun { self.new.begun ≡ self.old.begun }
+        ensures failed { IfErr result (λ failure. failure ≡ not_made self.old.begun) }
+    {
+        match push_end(&mut self.text, verdict) {
+            Ok(()) => Ok(()),
+            Err(_) => Err(not_made(self.begun)),
+        }
+    }
+
+    // Writes what has gathered, where that fills a block.
+    fn write_block<O: Write>(&mut self, out: &mut O) -> Result<(), Failure>
+        ensures written { (first : Option (List ℕ)) (told : List ℕ) → HasGathered first (O.contents out.old) self.old told
+            → OnOk result (HasGathered first (O.contents out.new) self.new told) }
+        ensures failed { IfErr result (λ failure. failure ≡ Failure.Output
+            × Begins (O.contents out.old) (O.contents out.new) (string_bytes self.old.text)) }
+    {
+        if self.text.len() < BLOCK {
+            return Ok(());
+        }
+        put(self.text.as_bytes(), out)?;
+        self.text.clear();
+        self.begun = true;
+        Ok(())
+    }
+}
+
+// Writes the lines of the facts but for what has gathered last.
+fn write_facts<O: Write>(
+    alloc: Global,
+    record: &Record,
+    gathered: &mut Gathered,
+    out: &mut O,
+) -> Result<(), Failure>
+    requires { HasGathered (O.contents out.old) (O.contents out.old) gathered.old [] }
+    ensures { MatchResult result
+        (λ _. HasGathered (O.contents out.old) (O.contents out.new) gathered.new
+            (record_with_messages record.now.facts.items record.now.messages.items))
+        (λ failure. (rest : List ℕ) → IsUnwritten failure (O.contents out.old) (O.contents out.new)
+            (record_with_messages record.now.facts.items record.now.messages.items ++ rest)) }
+{
+    let mut left = record.messages.as_slice();
+    for fact in record.facts.as_slice() {
+        left = gathered.push(alloc, fact, left)?;
+        gathered.write_block(out)?;
+    }
+    Ok(())
+}
+
+/// Writes the text of a record, as long as it may be, in blocks.
+///
+/// # Errors
+///
+/// `Memory` where there is none left before anything is written, and `Output` where a write fails, or there is no memory
+/// left for what follows.
+pub fn write_record<O: Write>(alloc: Global, record: &Record, out: &mut O) -> Result<(), Failure>
+    ensures written { OnOk result (Appends (O.contents out.old) (O.contents out.new) (recorded_text record.now)) }
+    ensures failed { IfErr result (λ failure.
+        IsUnwritten failure (O.contents out.old) (O.contents out.new) (recorded_text record.now)) }
+{
+    let mut gathered = Gathered::new(alloc);
+    write_facts(alloc, record, &mut gathered, out)?;
+    gathered.push_end(&record.verdict)?;
+    print_text(gathered.text.as_str(), out)
+}
