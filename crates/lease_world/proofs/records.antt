@@ -3,6 +3,7 @@ pub mod Caches
 pub mod Clients
 pub mod Contents
 pub mod Counts
+pub mod Covered
 pub mod Files
 pub mod Flaws
 pub mod Holding

@@ -2,6 +2,7 @@ pub mod Added
 pub mod Before
 pub mod Caches
 pub mod Clients
+pub mod Covers
 pub mod Holders
 pub mod Judged
 pub mod Knows

@@ -17,6 +17,7 @@ use std::marker::Model;
 mod cache;
 mod client;
 mod clients;
+mod covers;
 mod file;
 mod files;
 mod holders;
@@ -31,7 +32,7 @@ pub use snapshot::apply;
 /// a verdict on the facts so far at any time. For each file it keeps the bytes with which it was
 /// started, its changes and how many good clients may cache something of it, for each client its
 /// beliefs, its writes, the numbers that were settled and the messages on their way, and for each
-/// client and file that the client read from its cache the bytes that it saw.
+/// client and file that the client read from its cache the file as it stood and the writes over it.
 #[derive(Debug, Drop)]
 pub struct Judge {
     verdict: Verdict,

@@ -13,8 +13,7 @@ use Rattle.lease_world.specs.Verdicts.{verdict_of}
 use Rattle.lease_world.specs.declared.verdict.Rule.{Rule}
 use Rattle.lease_world.specs.declared.verdict.Verdict.{Verdict}
 use Rattle.lease_world.specs.judge.Added.{PutsClient, StartAdds, JoinedAdds, LeavingAdds, ExpiredAdds, StrayedAdds, SentAdds, TookAdds, OpenedAdds, ChangedAdds, WroteAdds, SettledAdds, BelievesAdds, CachedReadAdds, ShowsAt, Adds, is_late, is_false, is_rival}
-use Rattle.lease_world.specs.judge.Caches.{brought_up}
-use Rattle.lease_world.specs.judge.Clients.{can_take, took_from, after_taking, taken_of, Accepts, Writes, WritesCache, Settles, SettlesCache, Believes, Sees, with_write, with_settled, with_belief}
+use Rattle.lease_world.specs.judge.Clients.{can_take, took_from, after_taking, taken_of, Accepts, Writes, WritesCache, Settles, Believes, Sees, with_write, with_belief}
 use Rattle.lease_world.specs.judge.Holders.{is_newcomer, Leaves}
 use Rattle.lease_world.specs.judge.Judged.{is_safe}
 use Rattle.lease_world.specs.judge.Knows.{KnowsFile, KnowsClient, HasContents, RisesTo, KnowsHolders, Knows}
@@ -514,19 +513,10 @@ false_told client number Settlement.Failed old past k = refl
 false_told client number Settlement.Unknown old past k = refl
 false_told client number Settlement.Lost old past k = refl
 
-marked_held : (files : ℕ → SeenFile) (seen now : SeenClient) (write : Option SeenWrite)
-    → SettlesCache write seen.caches now.caches
-    → ((f : ℕ) → HasContents (files f) seen.taken (cache_in seen.caches f))
-    → (f : ℕ) → HasContents (files f) seen.taken (cache_in now.caches f)
-marked_held files seen now None is held = λ f. rw (is f) (held f)
-marked_held files seen now (Some write) is held =
-    contents-each files seen.taken write.file seen.caches now.caches (with_settled (cache_in seen.caches write.file)) is
-    (held write.file) held
-
 settled_held : (files : ℕ → SeenFile) (seen now : SeenClient) (number : ℕ) → Settles number seen now
     → ((f : ℕ) → HasContents (files f) seen.taken (cache_in seen.caches f))
     → (f : ℕ) → HasContents (files f) now.taken (cache_in now.caches f)
-settled_held files seen now number is held f = rw is.0 (marked_held files seen now (write_in seen number) is.2 held f)
+settled_held files seen now number is held f = rw is.0 (held f)
 
 settled_judged : (place client number : ℕ) (outcome : Settlement) (old new : Seen) (v : Verdict) (past : List Fact) → Knows old past
     → SettledAdds place client number outcome old new v → Judges place (Fact.Settled client number outcome) past new v
@@ -541,7 +531,7 @@ settled_judged place client number outcome old new v past k adds =
     (record { formed = refl; one = one; stale = refl; late = refl; done = sym told ∙ off })
     (same_files old new fact past is.1.0.1 (λ f. refl) k)
     (one_client old new client fact past is.1.0.0.1 (λ c ne. is_apart c client ne)
-    (client_settles client number outcome (client_in old.clients client) (client_in new.clients client) past k.well_formed
+    (client_settles client number outcome (client_in old.clients client) (client_in new.clients client) past
     is.1.0.0.0 (k.clients client)) k)
     (holds_client old new client past is.1.0.1 is.1.0.0.1
     (settled_held (file_in old.files) (client_in old.clients client) (client_in new.clients client) number is.1.0.0.0
@@ -656,7 +646,7 @@ read_held : (files : ℕ → SeenFile) (taken file : ℕ) (bytes : List ℕ) (se
     → (f : ℕ) → HasContents (files f) now.taken (cache_in now.caches f)
 read_held files taken file bytes seen now same is started some held f =
     rw is.0 (contents-each files seen.taken file seen.caches now.caches
-    (brought_up (files file) taken seen.settled (cache_in seen.caches file)) is.1
+    (cache_in now.caches file) is.1
     (contents-read taken bytes file seen now (files file) same (held file) started some is) held f)
 
 shown_judged : (place client file : ℕ) (bytes : List ℕ) (old new : Seen) (v : Verdict) (past : List Fact) (taken : Option ℕ) → Knows old past
@@ -682,7 +672,7 @@ shown_judged place client file bytes old new v past (Some taken) k started good 
     (same_files old new fact past shows.1.1 (λ f. refl) k)
     (one_client old new client fact past shows.1.0.1 (λ c ne. refl)
     (client_reads client file taken bytes (client_in old.clients client) (client_in new.clients client) (file_in old.files file) shows.0
-    past (k.clients client) (k.contents client file) started some shows.1.0.0) k)
+    past (k.clients client) shows.1.0.0) k)
     (holds_client old new client past shows.1.1 shows.1.0.1
     (read_held (file_in old.files) taken file bytes (client_in old.clients client) (client_in new.clients client) shows.0 shows.1.0.0
     started some (k.contents client)) k)

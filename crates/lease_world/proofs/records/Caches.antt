@@ -1,10 +1,11 @@
 -- What is kept of a client and a file, over one fact more.
-use Rattle.std.proofs.Common.{◌≡◌, ℕ, Bool, List, [], ◌∷◌, refl, sym, ap, ◌∙◌}
+use Rattle.std.proofs.Common.{◌≡◌, ℕ, Bool, List, [], ◌∷◌, ◌++◌, refl, sym, ap, ◌∙◌}
 use Rattle.std.specs.Prelude.{filter, not}
 use Rattle.lease_model.specs.records.Facts.{Fact}
 use Rattle.lease_model.specs.records.Past.{is_settled, believed}
 use Rattle.lease_world.specs.judge.Knows.{KnowsCache}
-use Rattle.lease_world.specs.judge.Seen.{SeenCache}
+use Rattle.lease_world.specs.judge.Covers.{layers_at, stack_in}
+use Rattle.lease_world.specs.judge.Seen.{SeenCache, Waiting}
 use Rattle.lease_world.specs.judge.Told.{pending, is_unsettled}
 
 -- tests that agree pass the same elements
@@ -28,11 +29,11 @@ pub cache_over : (client file : ℕ) (cache : SeenCache) (past next : List Fact)
     → ((n : ℕ) → is_settled client n next ≡ is_settled client n past)
     → pending client file past next ≡ pending client file past past
     → KnowsCache client file cache past → KnowsCache client file cache next
-cache_over client file cache past next b s p k =
-    let same : filter (is_unsettled client next) cache.waiting ≡ filter (is_unsettled client past) cache.waiting =
-    filter-agree (is_unsettled client next) (is_unsettled client past) cache.waiting (λ w. ap not (s w.number)) in
-    record {
-      belief = k.belief ∙ sym b;
-      waiting = same ∙ (k.waiting ∙ (sym p ∙ sym (pending-agree client file next past next s)));
-      fresh = λ e. same ∙ k.fresh e;
-    }
+cache_over client file cache past next b s p k = record {
+  belief = k.belief ∙ sym b;
+  covers = λ position.
+      filter-agree (is_unsettled client next) (is_unsettled client past)
+      (layers_at position cache.fresh ++ stack_in cache.covers position) (λ l. ap not (s l.number))
+      ∙ (k.covers position
+      ∙ ap (λ (ws : List Waiting). layers_at position ws) (sym p ∙ sym (pending-agree client file next past next s)));
+}

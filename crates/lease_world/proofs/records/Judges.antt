@@ -31,7 +31,7 @@ file_unseen file = record { started = refl; start = refl; changes = refl; touche
 
 cache_unseen : (client file : ℕ) → KnowsCache client file unseen_cache []
 unfolding believed pending
-cache_unseen client file = record { belief = refl; waiting = refl; fresh = λ e. refl }
+cache_unseen client file = record { belief = refl; covers = λ position. refl }
 
 nothing_settled : (number : ℕ) → has_settled unseen_client number ≡ false
 unfolding is_among
@@ -57,7 +57,7 @@ unfolding believed
 nobody_yet file client other ne good writes good_too = refl
 
 contents_unseen : (c f : ℕ) → HasContents (file_in [] f) (client_in [] c).taken (cache_in (client_in [] c).caches f)
-contents_unseen c f = (tt, tt)
+contents_unseen c f = tt
 
 nobody_good : (client : ℕ) → is_good client [] ≡ false
 unfolding is_good is_served has_strayed

@@ -4,10 +4,10 @@ use Rattle.std.specs.Prelude.{◌==◌, if◌then◌else◌, is_some, unwrap_or,
 use Rattle.std.proofs.lemmas.List.{take-append-le, length-append}
 use Rattle.lease_state.specs.Content.{patches}
 use Rattle.lease_state.specs.declared.patch.Patch.{Patch}
-use Rattle.lease_world.specs.judge.Before.{before, patches_of, patches_waiting}
+use Rattle.lease_world.specs.judge.Before.{before, patches_of}
 use Rattle.lease_world.specs.judge.Clients.{HasCache, with_write}
-use Rattle.lease_world.specs.judge.Knows.{IsBase, IsView, HasContents}
-use Rattle.lease_world.specs.judge.Seen.{Change, Waiting, Snapshot, SeenFile, SeenCache, Touches, cache_in}
+use Rattle.lease_world.specs.judge.Knows.{IsBase, HasContents}
+use Rattle.lease_world.specs.judge.Seen.{Change, Snapshot, SeenFile, SeenCache, Touches, cache_in}
 use Rattle.lease_world.proofs.records.Contents.{before-push}
 
 -- ---- a later place
@@ -35,24 +35,13 @@ base-later file taken later (Some base) le is =
 
 pub contents-later : (file : SeenFile) (taken later : ℕ) (cache : SeenCache) → taken ≤ later → HasContents file taken cache
     → HasContents file later cache
-contents-later file taken later cache le h = (base-later file taken later cache.base le h.0, h.1)
+contents-later file taken later cache le h = base-later file taken later cache.base le h
 
 -- ---- a write more
 
-view-push : (cache : SeenCache) (write : Waiting) (base view : Option Snapshot) → IsView cache base view
-    → IsView (record cache { waiting = cache.waiting ++ write ∷ [] }) base view
-view-push cache write base None is = tt
-view-push cache write None (Some view) is = is
-view-push cache write (Some base) (Some view) is = (
-  is.0 ∙ ap (λ (ws : List Waiting). patches base.bytes (patches_waiting ws))
-      (sym (take-append-le view.applied cache.waiting (write ∷ []) is.1)),
-  let e = length-append cache.waiting (write ∷ []) in omega (arith, is.1, e),
-)
-
 pub contents-write : (file : SeenFile) (taken number : ℕ) (patch : Patch) (cache : SeenCache) → HasContents file taken cache
     → HasContents file taken (with_write number patch cache)
-contents-write file taken number patch cache h =
-    (h.0, view-push cache (record { number = number; patch = patch }) cache.base cache.view h.1)
+contents-write file taken number patch cache h = h
 
 -- ---- one cache of a client
 
@@ -94,7 +83,7 @@ base-change file touches change taken (Some base) le is =
 pub contents-change : (file : SeenFile) (touches : Touches) (change : Change) (taken : ℕ) (cache : SeenCache) → taken ≤ change.place
     → HasContents file taken cache
     → HasContents (record file { changes = file.changes ++ change ∷ []; touches = touches }) taken cache
-contents-change file touches change taken cache le h = (base-change file touches change taken cache.base le h.0, h.1)
+contents-change file touches change taken cache le h = base-change file touches change taken cache.base le h
 
 -- ---- a file is started
 
@@ -105,4 +94,4 @@ base-none file bytes taken (Some base) off is = let e : false ≡ true = sym off
 
 pub contents-start : (file : SeenFile) (bytes : List ℕ) (taken : ℕ) (cache : SeenCache) → is_some file.start ≡ false
     → HasContents file taken cache → HasContents (record file { start = Some bytes }) taken cache
-contents-start file bytes taken cache off h = (base-none file bytes taken cache.base off h.0, h.1)
+contents-start file bytes taken cache off h = base-none file bytes taken cache.base off h

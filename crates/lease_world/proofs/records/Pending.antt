@@ -10,6 +10,7 @@ use Rattle.lease_model.specs.client.Commands.{Settlement}
 use Rattle.lease_model.specs.records.Facts.{Fact}
 use Rattle.lease_model.specs.records.Past.{is_settled}
 use Rattle.lease_model.specs.records.Safe.{EachFact, WellFormed}
+use Rattle.lease_world.specs.declared.judging.covers.Layer.{Layer}
 use Rattle.lease_world.specs.judge.Seen.{SeenWrite, Waiting, accepted_as}
 use Rattle.lease_world.specs.judge.Told.{pending, write_of, is_unsettled}
 use Rattle.lease_world.proofs.records.Writes.{new_where_same, accepted_file}
@@ -51,13 +52,13 @@ same_client : (client : ℕ) (b : Bool) → (client == client && b) ≡ b
 same_client client b = rw (self client) refl
 
 -- what is unsettled once this number is settled too
-pub unsettled-more : (client number : ℕ) (outcome : Settlement) (past : List Fact) (write : Waiting)
-    → is_unsettled client (Fact.Settled client number outcome ∷ past) write
-    ≡ (is_other number write && is_unsettled client past write)
+pub unsettled-more : (client number : ℕ) (outcome : Settlement) (past : List Fact) (layer : Layer)
+    → is_unsettled client (Fact.Settled client number outcome ∷ past) layer
+    ≡ (not (number == layer.number) && is_unsettled client past layer)
 unfolding is_settled
-unsettled-more client number outcome past write =
-    rw (same_client client (number == write.number))
-    (not_or (number == write.number) (is_settled client write.number past))
+unsettled-more client number outcome past layer =
+    rw (same_client client (number == layer.number))
+    (not_or (number == layer.number) (is_settled client layer.number past))
 
 with_or_without : (number : ℕ) (keep same : Bool) (xs ys : List Waiting) (write : Waiting) → (number == write.number) ≡ same
     → xs ≡ filter (is_other number) ys
@@ -89,66 +90,3 @@ pending-settled client file number outcome whole (Fact.Wrote writer other used p
     (pending client file (Fact.Settled client number outcome ∷ whole) past) (pending client file whole past)
     (record { number = used; patch = patch }) refl (pending-settled client file number outcome whole past))
 pending-settled client file number outcome whole (_ ∷ past) = pending-settled client file number outcome whole past
-
--- ---- a number that no write on the file has
-
--- the write is on the file
-abbrev pub is_on : ℕ → Option SeenWrite → Bool
-is_on file (Some write) = write.file == file
-is_on file None = false
-
-apart-push : (number : ℕ) (keep : Bool) (xs : List Waiting) (write : Waiting) → (keep ≡ true → (number == write.number) ≡ false)
-    → filter (is_other number) xs ≡ xs
-    → filter (is_other number) (if keep then xs ++ write ∷ [] else xs) ≡ (if keep then xs ++ write ∷ [] else xs)
-apart-push number true xs write other e =
-    filter-append (is_other number) xs (write ∷ []) ∙ (rw (e, other refl) refl)
-apart-push number false xs write other e = e
-
-on_new : (same : Bool) (file : ℕ) (write : SeenWrite) (old : Option SeenWrite) → (same ≡ true → old ≡ None)
-    → is_on file (if same then Some write else old) ≡ false → is_on file old ≡ false
-on_new true file write old new e = ap (is_on file) (new refl)
-on_new false file write old new e = e
-
-other_number : (writer client used number other file : ℕ) (settled : Bool) (write : SeenWrite) (old : Option SeenWrite)
-    → write.file ≡ other
-    → is_on file (if writer == client && used == number then Some write else old) ≡ false
-    → (writer == client && other == file && not settled) ≡ true → (number == used) ≡ false
-other_number writer client used number other file settled write old w off keep =
-    elim (cases_Bool (writer == client && used == number)) [
-      | inl same ↦ absurd (clash (writer == client && used == number) file write old same (rw w (on_file (writer == client) (other == file) settled keep)) off)
-      | inr apart ↦ apart_so (writer == client) (other == file) settled used number keep apart
-    ]
-  where
-    on_file : (a b c : Bool) → (a && b && not c) ≡ true → b ≡ true
-    on_file a b c e = grind arith
-
-    clash : (same : Bool) (file : ℕ) (write : SeenWrite) (old : Option SeenWrite) → same ≡ true → (write.file == file) ≡ true
-        → is_on file (if same then Some write else old) ≡ false → ⊥
-    clash true file write old s e off = let c : ⊥ = cc in absurd c
-    clash false file write old s e off = let c : ⊥ = cc in absurd c
-
-    apart_so : (a b c : Bool) (used number : ℕ) → (a && b && not c) ≡ true → (a && used == number) ≡ false → (number == used) ≡ false
-    apart_so a b c used number keep apart = grind arith
-
-on_map : (same : Bool) (file other : ℕ) (patch : Patch) (old : Option SeenWrite)
-    → is_on file (if same then option_map (accepted_as other patch) old else old) ≡ false → is_on file old ≡ false
-on_map true file other patch None e = refl
-on_map true file other patch (Some w) e = rw (accepted_file other patch w) at e
-on_map false file other patch old e = e
-
-pub pending-apart : (client file number : ℕ) (whole past : List Fact) → EachFact WellFormed past
-    → is_on file (write_of client number past) ≡ false
-    → filter (is_other number) (pending client file whole past) ≡ pending client file whole past
-unfolding pending write_of
-pending-apart client file number whole [] w off = refl
-pending-apart client file number whole (Fact.Wrote writer other used patch buffered ∷ past) w off =
-    apart-push number (writer == client && other == file && not (is_settled client used whole))
-    (pending client file whole past) (record { number = used; patch = patch })
-    (other_number writer client used number other file (is_settled client used whole) _ (write_of client number past) refl off)
-    (pending-apart client file number whole past w.1
-    (on_new (writer == client && used == number) file _ (write_of client number past)
-    (new_where_same writer client used number other patch buffered past w.0) off))
-pending-apart client file number whole (Fact.Changed other writer used patch ∷ past) w off =
-    pending-apart client file number whole past w.1
-    (on_map (writer == client && used == number) file other patch (write_of client number past) off)
-pending-apart client file number whole (_ ∷ past) w off = pending-apart client file number whole past w.1 off

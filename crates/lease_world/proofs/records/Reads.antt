@@ -1,24 +1,28 @@
 -- A client's cached read.
-use Rattle.std.proofs.Common.{◌≡◌, ℕ, ◌≤◌, Bool, true, false, List, ◌∷◌, Option, Some, None, length, refl, sym, ap, subst, ◌∙◌, arith}
+use Rattle.std.proofs.Common.{◌≡◌, ℕ, ◌≤◌, Bool, true, false, List, ◌∷◌, ◌++◌, Option, Some, None, length, refl, sym, ap, subst, ◌∙◌, arith}
 use Rattle.std.specs.Prelude.{◌&&◌, not, if◌then◌else◌, is_some, filter, bytes_eq}
 use Rattle.std.specs.Option.{option_map}
+use Rattle.std.proofs.lemmas.List.Elements.{filter-append}
 use Rattle.lease_state.specs.Content.{patches}
 use Rattle.lease_state.specs.declared.patch.Patch.{Patch}
 use Rattle.lease_model.specs.records.Facts.{Fact}
 use Rattle.lease_model.specs.records.Past.{is_good, last_sending, content_at, unanswered, start_of, has_joined, is_served, has_strayed, sendings, takings, is_settled, believed}
 use Rattle.lease_model.specs.records.Verdict.{is_stale_read}
 use Rattle.lease_world.specs.judge.Before.{before, patches_of, patches_waiting}
-use Rattle.lease_world.specs.judge.Caches.{is_open, looked_through, brought_up, is_seen}
+use Rattle.lease_world.specs.declared.judging.covers.Layer.{Layer}
+use Rattle.lease_world.specs.judge.Caches.{base_at, IsCovered, IsShown}
 use Rattle.lease_world.specs.judge.Clients.{Sees, taken_of}
-use Rattle.lease_world.specs.judge.Knows.{KnowsFile, KnowsCache, KnowsClient, HasContents}
-use Rattle.lease_world.specs.judge.Seen.{Change, Waiting, Snapshot, SeenFile, SeenCache, SeenClient, cache_in, is_good_client}
+use Rattle.lease_world.specs.judge.Covers.{layers_at, stack_in}
+use Rattle.lease_world.specs.judge.Knows.{KnowsFile, KnowsCache, KnowsClient, IsBase, HasContents}
+use Rattle.lease_world.specs.judge.Seen.{Change, Snapshot, SeenFile, SeenCache, SeenClient, cache_in, is_open, is_good_client}
 use Rattle.lease_world.specs.judge.Told.{placed_changes, pending, place_of, is_unsettled, write_of}
 use Rattle.lease_world.proofs.records.Caches.{filter-agree, cache_over}
 use Rattle.lease_world.proofs.records.Contents.{changes-told, unsettled-told, before-told}
+use Rattle.lease_world.proofs.records.Covered.{CoversWith, shown_patched}
 use Rattle.lease_world.proofs.records.Others.{client_over}
 use Rattle.lease_world.proofs.records.Pending.{filter-and}
 use Rattle.lease_world.proofs.records.Sendings.{PartOf, last-part}
-use Rattle.lease_world.proofs.records.Views.{IsBroughtUp, brings-up, content_before}
+use Rattle.lease_world.proofs.records.Views.{brought_bytes, brought_base, content_before}
 use Rattle.lease_world.proofs.records.Written.{each_cache}
 
 -- ---- the content
@@ -36,62 +40,69 @@ content-told file seen past place k part =
 
 -- ---- the writes
 
+open-told : (client : ℕ) (seen : SeenClient) (past : List Fact) (layers : List Layer) → KnowsClient client seen past
+    → filter (is_open seen.settled) layers ≡ filter (is_unsettled client past) layers
+open-told client seen past layers k =
+    filter-agree (is_open seen.settled) (is_unsettled client past) layers (λ l. ap not (k.settled l.number))
+
 same_twice : (b : Bool) → b ≡ (b && b)
 same_twice true = refl
 same_twice false = refl
 
-open-told : (client : ℕ) (seen : SeenClient) (past : List Fact) (ws : List Waiting) → KnowsClient client seen past
-    → filter (is_open seen.settled) ws ≡ filter (is_unsettled client past) ws
-open-told client seen past ws k =
-    filter-agree (is_open seen.settled) (is_unsettled client past) ws (λ w. ap not (k.settled w.number))
+-- what is laid first and what was there already are open as they were together
+open_both : (is_open : Layer → Bool) (first rest : List Layer)
+    → filter is_open (filter is_open first ++ rest) ≡ filter is_open (first ++ rest)
+open_both is_open first rest =
+    filter-append is_open (filter is_open first) rest
+    ∙ (ap (λ (ls : List Layer). ls ++ filter is_open rest)
+    (sym (filter-and is_open is_open is_open first (λ l. same_twice (is_open l))))
+    ∙ sym (filter-append is_open first rest))
 
-abbrev looked : Bool → List Waiting → SeenCache → SeenCache
-looked b waiting cache = if b then record cache { waiting = waiting; view = None; stale = false } else cache
-
-looked-waiting : (client file : ℕ) (b : Bool) (cache : SeenCache) (past : List Fact) (ws : List Waiting) → cache.stale ≡ b
-    → ws ≡ filter (is_unsettled client past) cache.waiting → KnowsCache client file cache past
-    → (looked b ws cache).waiting ≡ pending client file past past
-looked-waiting client file true cache past ws e is k = is ∙ k.waiting
-looked-waiting client file false cache past ws e is k = sym (k.fresh e) ∙ k.waiting
-
-looked-filter : (client file : ℕ) (b : Bool) (cache : SeenCache) (past : List Fact) (ws : List Waiting) → cache.stale ≡ b
-    → ws ≡ filter (is_unsettled client past) cache.waiting → KnowsCache client file cache past
-    → filter (is_unsettled client past) (looked b ws cache).waiting ≡ (looked b ws cache).waiting
-looked-filter client file true cache past ws e is k =
-    rw is (sym (filter-and (is_unsettled client past) (is_unsettled client past) (is_unsettled client past) cache.waiting
-    (λ w. same_twice (is_unsettled client past w))))
-looked-filter client file false cache past ws e is k = k.fresh e
+-- the writes that are unanswered cover the file
+covers_pending : (client file : ℕ) (seen : SeenClient) (old now : SeenCache) (past : List Fact)
+    → IsCovered seen.settled old now → KnowsClient client seen past → KnowsCache client file old past
+    → CoversWith (is_open seen.settled) now.covers (pending client file past past)
+covers_pending client file seen old now past is all k = record {
+  tops = λ position. (is.open position).0;
+  open = λ position.
+      (is.open position).1
+      ∙ (open_both (is_open seen.settled) (layers_at position old.fresh) (stack_in old.covers position)
+      ∙ (open-told client seen past (layers_at position old.fresh ++ stack_in old.covers position) all ∙ k.covers position));
+  ends = is.ends;
+}
 
 -- ---- a cache that was brought up
 
-brought-known : (client file : ℕ) (seen : SeenClient) (f : SeenFile) (taken : ℕ) (cache now : SeenCache) (past : List Fact)
-    → IsBroughtUp f taken seen.settled cache now → KnowsClient client seen past → KnowsCache client file cache past
-    → KnowsCache client file now past
-brought-known client file seen f taken cache now past up all k =
-    let ws : List Waiting = filter (is_open seen.settled) cache.waiting in
-    let is : ws ≡ filter (is_unsettled client past) cache.waiting = open-told client seen past cache.waiting all in
-    let still : filter (is_unsettled client past) now.waiting ≡ now.waiting =
-    rw up.waiting (looked-filter client file cache.stale cache past ws refl is k) in
+rebased : (client file : ℕ) (cache : SeenCache) (base : Option Snapshot) (past : List Fact) → KnowsCache client file cache past
+    → KnowsCache client file (record cache { base = base }) past
+rebased client file cache base past k = record { belief = k.belief; covers = k.covers }
+
+brought-known : (client file place : ℕ) (bytes : List ℕ) (seen : SeenClient) (f : SeenFile) (cache now : SeenCache) (same : Bool)
+    (past : List Fact) → IsShown f place seen.settled bytes cache now same → KnowsClient client seen past
+    → KnowsCache client file cache past → KnowsCache client file now past
+brought-known client file place bytes seen f cache now same past is all k =
+    let covers = covers_pending client file seen (record cache { base = now.base }) now past is.covered all
+    (rebased client file cache now.base past k) in
     record {
-      belief = up.belief ∙ k.belief;
-      waiting = still ∙ (up.waiting ∙ looked-waiting client file cache.stale cache past ws refl is k);
-      fresh = λ e. still;
+      belief = ap (λ (c : SeenCache). c.belief) is.covered.rest ∙ k.belief;
+      covers = λ position.
+          ap (λ (c : SeenCache). filter (is_unsettled client past) (layers_at position c.fresh ++ stack_in now.covers position)) is.covered.rest
+          ∙ (sym (open-told client seen past (stack_in now.covers position) all) ∙ covers.open position);
     }
 
--- what is seen is the content at the sending place with the unanswered writes
-seen-bytes : (client file : ℕ) (seen : SeenClient) (f : SeenFile) (taken : ℕ) (cache now : SeenCache) (past place : List Fact)
-    → (up : IsBroughtUp f taken seen.settled cache now) → KnowsClient client seen past → KnowsCache client file cache past
-    → KnowsFile file f past → PartOf past place → place_of place ≡ taken
-    → up.view.bytes ≡ patches (content_at file past place) (unanswered client file past)
-seen-bytes client file seen f taken cache now past place up all k kf part at =
-    let ws : List Waiting = filter (is_open seen.settled) cache.waiting in
-    let is : ws ≡ filter (is_unsettled client past) cache.waiting = open-told client seen past cache.waiting all in
-    up.bytes
-    ∙ (ap (λ (bytes : List ℕ). patches bytes (patches_waiting (looked_through seen.settled cache).waiting))
-    (ap (λ (n : ℕ). content_before f n) (sym at) ∙ content-told file f past place kf part)
-    ∙ ap (λ (ps : List Patch). patches (content_at file past place) ps)
-    (ap (λ (xs : List Waiting). patches_waiting xs) (looked-waiting client file cache.stale cache past ws refl is k)
-    ∙ sym (unsettled-told client file past past)))
+-- whether these bytes are seen is whether they are the content at the sending place with the unanswered writes
+seen-same : (client file taken : ℕ) (bytes : List ℕ) (seen : SeenClient) (f : SeenFile) (cache now : SeenCache) (same : Bool)
+    (past place : List Fact) → IsShown f taken seen.settled bytes cache now same → KnowsClient client seen past
+    → KnowsCache client file cache past → KnowsFile file f past → PartOf past place → place_of place ≡ taken
+    → (base_at f taken cache.base).bytes ≡ content_before f taken
+    → same ≡ bytes_eq bytes (patches (content_at file past place) (unanswered client file past))
+seen-same client file taken bytes seen f cache now same past place is all k kf part at based =
+    let covers = covers_pending client file seen (record cache { base = now.base }) now past is.covered all
+    (rebased client file cache now.base past k) in
+    shown_patched (is_open seen.settled) (base_at f taken cache.base).bytes bytes now.covers (pending client file past past) same covers is.shown
+    ∙ (ap (λ (b : List ℕ). bytes_eq bytes (patches b (patches_waiting (pending client file past past))))
+    (based ∙ (ap (λ (n : ℕ). content_before f n) (sym at) ∙ content-told file f past place kf part))
+    ∙ ap (λ (ps : List Patch). bytes_eq bytes (patches (content_at file past place) ps)) (sym (unsettled-told client file past past)))
 
 -- ---- the place
 
@@ -126,9 +137,6 @@ pub read-of-strayed : (client file : ℕ) (bytes : List ℕ) (seen : SeenClient)
 unfolding is_stale_read
 read-of-strayed client file bytes seen past k bad = rw (sym (good_told client seen past k) ∙ bad) refl
 
-seen-some : (bytes : List ℕ) (view : Option Snapshot) (one : Snapshot) → view ≡ Some one → is_seen bytes view ≡ bytes_eq bytes one.bytes
-seen-some bytes view one e = rw e refl
-
 -- a cached read of a good client that took a message is stale exactly where other bytes are seen
 pub read-of-good : (client file taken : ℕ) (bytes : List ℕ) (seen now : SeenClient) (f : SeenFile) (same : Bool) (past : List Fact)
     → KnowsClient client seen past → KnowsFile file f past → HasContents f seen.taken (cache_in seen.caches file)
@@ -140,12 +148,11 @@ read-of-good client file taken bytes seen now f same past k kf held started good
     let at : (place : List Fact) × (last_sending client past ≡ Some place) × (place_of place ≡ taken) =
     some_sent (last_sending client past) taken (sym k.taken ∙ some) in
     let value : seen.taken ≡ taken = taken_value seen.has_taken seen.taken taken some in
-    let up : IsBroughtUp f taken seen.settled (cache_in seen.caches file) (brought_up f taken seen.settled (cache_in seen.caches file)) =
-    brings-up f seen.taken taken seen.settled (cache_in seen.caches file) (omega (arith, value)) started held in
-    let is : up.view.bytes ≡ patches (content_at file past at.0) (unanswered client file past) =
-    seen-bytes client file seen f taken (cache_in seen.caches file) (brought_up f taken seen.settled (cache_in seen.caches file)) past at.0
-    up k (k.caches file) kf (last-part client past at.0 at.1) at.2 in
-    rw (sym (good_told client seen past k) ∙ good, at.1, sees.2 ∙ seen-some bytes _ up.view up.view_is, is) refl
+    let is : same ≡ bytes_eq bytes (patches (content_at file past at.0) (unanswered client file past)) =
+    seen-same client file taken bytes seen f (cache_in seen.caches file) (cache_in now.caches file) same past at.0 sees.2 k (k.caches file)
+    kf (last-part client past at.0 at.1) at.2
+    (brought_bytes f seen.taken taken (cache_in seen.caches file).base (omega (arith, value)) started held) in
+    rw (sym (good_told client seen past k) ∙ good, at.1, is) refl
 
 -- ---- the client afterwards
 
@@ -153,31 +160,26 @@ longer : (fact : Fact) (past : List Fact) → length past ≤ length (fact ∷ p
 longer fact past = omega arith
 
 pub client_reads : (client file taken : ℕ) (bytes : List ℕ) (seen now : SeenClient) (f : SeenFile) (same : Bool) (past : List Fact)
-    → KnowsClient client seen past → HasContents f seen.taken (cache_in seen.caches file)
-    → is_some f.start ≡ true → taken_of seen ≡ Some taken → Sees file f taken bytes seen now same
+    → KnowsClient client seen past → Sees file f taken bytes seen now same
     → KnowsClient client now (Fact.CachedRead client file bytes ∷ past)
 unfolding has_joined is_served has_strayed sendings takings is_settled write_of believed pending
-client_reads client file taken bytes seen now f same past k held started some sees =
-    let value : seen.taken ≡ taken = taken_value seen.has_taken seen.taken taken some in
-    let up : IsBroughtUp f taken seen.settled (cache_in seen.caches file) (brought_up f taken seen.settled (cache_in seen.caches file)) =
-    brings-up f seen.taken taken seen.settled (cache_in seen.caches file) (omega (arith, value)) started held in
+client_reads client file taken bytes seen now f same past k sees =
     let next : List Fact = Fact.CachedRead client file bytes ∷ past in
     rw sees.0 (client_over client seen (record seen { caches = now.caches }) past next
     (longer (Fact.CachedRead client file bytes) past) refl refl refl refl refl
     k.joined k.served k.strayed k.settled k.writes
-    (each_cache client file seen.caches now.caches past next (brought_up f taken seen.settled (cache_in seen.caches file)) sees.1
-    (cache_over client file (brought_up f taken seen.settled (cache_in seen.caches file)) past next refl (λ n. refl) refl
-    (brought-known client file seen f taken (cache_in seen.caches file) (brought_up f taken seen.settled (cache_in seen.caches file))
-    past up k (k.caches file)))
+    (each_cache client file seen.caches now.caches past next (cache_in now.caches file) sees.1
+    (cache_over client file (cache_in now.caches file) past next refl (λ n. refl) refl
+    (brought-known client file taken bytes seen f (cache_in seen.caches file) (cache_in now.caches file) same past sees.2 k (k.caches file)))
     (λ g e. cache_over client g (cache_in seen.caches g) past next refl (λ n. refl) refl (k.caches g)))
     k)
 
 pub contents-read : (taken : ℕ) (bytes : List ℕ) (file : ℕ) (seen now : SeenClient) (f : SeenFile) (same : Bool)
     → HasContents f seen.taken (cache_in seen.caches file) → is_some f.start ≡ true → taken_of seen ≡ Some taken
     → Sees file f taken bytes seen now same
-    → HasContents f seen.taken (brought_up f taken seen.settled (cache_in seen.caches file))
+    → HasContents f seen.taken (cache_in now.caches file)
 contents-read taken bytes file seen now f same held started some sees =
     let value : seen.taken ≡ taken = taken_value seen.has_taken seen.taken taken some in
-    let up : IsBroughtUp f taken seen.settled (cache_in seen.caches file) (brought_up f taken seen.settled (cache_in seen.caches file)) =
-    brings-up f seen.taken taken seen.settled (cache_in seen.caches file) (omega (arith, value)) started held in
-    subst (λ (n : ℕ). HasContents f n (brought_up f taken seen.settled (cache_in seen.caches file))) (sym value) up.contents
+    subst (λ (b : Option Snapshot). IsBase f seen.taken b) (sym sees.2.based)
+    (subst (λ (n : ℕ). IsBase f n (Some (base_at f taken (cache_in seen.caches file).base))) (sym value)
+    (brought_base f seen.taken taken (cache_in seen.caches file).base (omega (arith, value)) started held))

@@ -2,20 +2,23 @@
 use Rattle.std.proofs.Common.{◌≡◌, ℕ, ◌+◌, ◌≤◌, Bool, true, false, List, [], ◌∷◌, ◌++◌, Option, Some, None, length, refl, sym, ap, ◌∙◌, arith}
 use Rattle.std.specs.Prelude.{◌==◌, ◌&&◌, ◌||◌, not, if◌then◌else◌, filter}
 use Rattle.std.specs.Option.{option_map}
+use Rattle.std.proofs.lemmas.List.{append_assoc}
 use Rattle.std.proofs.lemmas.List.Elements.{filter-append}
 use Rattle.lease_state.specs.State.{State}
 use Rattle.lease_state.specs.declared.patch.Patch.{Patch}
 use Rattle.lease_model.specs.client.Commands.{Settlement}
 use Rattle.lease_model.specs.records.Facts.{Fact}
 use Rattle.lease_model.specs.records.Past.{has_joined, is_served, has_strayed, sendings, takings, is_settled, believed}
-use Rattle.lease_model.specs.records.Safe.{EachFact, WellFormed}
-use Rattle.lease_world.specs.judge.Clients.{Writes, WritesCache, Settles, SettlesCache, Believes, Accepts, HasCache, with_write, with_settled, with_belief}
+use Rattle.lease_world.specs.judge.Clients.{Writes, WritesCache, Settles, Believes, Accepts, HasCache, with_write, with_belief}
+use Rattle.lease_world.specs.declared.judging.covers.Layer.{Layer}
+use Rattle.lease_world.specs.judge.Covers.{layer_of, layers_at, stack_in}
 use Rattle.lease_world.specs.judge.Knows.{KnowsCache, KnowsClient}
 use Rattle.lease_world.specs.judge.Seen.{SeenClient, SeenCache, SeenWrite, Waiting, cache_in, write_in, has_settled, accepted_as}
 use Rattle.lease_world.specs.judge.Told.{write_of, pending, is_unsettled}
 use Rattle.lease_world.proofs.records.Caches.{cache_over, filter-agree, pending-agree}
 use Rattle.lease_world.proofs.records.Others.{client_over}
-use Rattle.lease_world.proofs.records.Pending.{self, is_other, is_on, filter-and, unsettled-more, pending-settled, pending-apart}
+use Rattle.lease_world.proofs.records.Covered.{layers_kept, layers_push}
+use Rattle.lease_world.proofs.records.Pending.{self, filter-and, unsettled-more, pending-settled}
 
 longer : (fact : Fact) (past : List Fact) → length past ≤ length (fact ∷ past)
 longer fact past = omega arith
@@ -48,8 +51,7 @@ client_believes client file state seen now past is k =
     (with_belief state (cache_in seen.caches file)) is.1
     (record {
       belief = rw (self client, self file) refl;
-      waiting = (k.caches file).waiting ∙ refl;
-      fresh = (k.caches file).fresh;
+      covers = (k.caches file).covers;
     })
     (λ g e. cache_over client g (cache_in seen.caches g) past (Fact.Believes client file state ∷ past)
     (other_file (client == client) g e) (λ n. refl) refl (k.caches g)))
@@ -103,82 +105,36 @@ settled_number client number n b c e = rw (self client, e) (turned number n c)
     turned : (number n : ℕ) (c : Bool) → (if n == number then true else c) ≡ ((true && number == n) || c)
     turned number n c = grind arith
 
--- what is known of a cache once one more number is settled, but for the mark
-settled_waiting : (client file number : ℕ) (outcome : Settlement) (cache : SeenCache) (past : List Fact)
-    → KnowsCache client file cache past
-    → filter (is_unsettled client (Fact.Settled client number outcome ∷ past)) cache.waiting
-    ≡ pending client file (Fact.Settled client number outcome ∷ past) (Fact.Settled client number outcome ∷ past)
-unfolding pending
-settled_waiting client file number outcome cache past k =
-    filter-and (is_other number) (is_unsettled client past) (is_unsettled client (Fact.Settled client number outcome ∷ past))
-    cache.waiting (unsettled-more client number outcome past)
-    ∙ (ap (λ (ws : List Waiting). filter (is_other number) ws) k.waiting
-    ∙ sym (pending-settled client file number outcome past past))
-
--- a cache without a write of that number stays as it is
-settled_apart : (client file number : ℕ) (outcome : Settlement) (cache : SeenCache) (past : List Fact) → EachFact WellFormed past
-    → is_on file (write_of client number past) ≡ false → KnowsCache client file cache past
-    → KnowsCache client file cache (Fact.Settled client number outcome ∷ past)
+-- what is known of a cache once one more number is settled
+settled_cache : (client file number : ℕ) (outcome : Settlement) (cache : SeenCache) (past : List Fact)
+    → KnowsCache client file cache past → KnowsCache client file cache (Fact.Settled client number outcome ∷ past)
 unfolding believed pending
-settled_apart client file number outcome cache past formed off k = record {
+settled_cache client file number outcome cache past k = record {
   belief = k.belief;
-  waiting = settled_waiting client file number outcome cache past k;
-  fresh = λ e.
-      settled_waiting client file number outcome cache past k
-      ∙ (pending-settled client file number outcome past past
-      ∙ (pending-apart client file number past past formed off
-      ∙ (sym k.waiting ∙ k.fresh e)));
+  covers = λ position.
+      filter-and (λ (l : Layer). not (number == l.number)) (is_unsettled client past)
+      (is_unsettled client (Fact.Settled client number outcome ∷ past))
+      (layers_at position cache.fresh ++ stack_in cache.covers position) (unsettled-more client number outcome past)
+      ∙ (ap (λ (ls : List Layer). filter (λ l. not (number == l.number)) ls) (k.covers position)
+      ∙ (sym (layers_kept position (λ n. not (number == n)) (pending client file past past))
+      ∙ ap (λ (ws : List Waiting). layers_at position ws) (sym (pending-settled client file number outcome past past))));
 }
 
-settled_marked : (client file number : ℕ) (outcome : Settlement) (cache : SeenCache) (past : List Fact)
-    → KnowsCache client file cache past
-    → KnowsCache client file (with_settled cache) (Fact.Settled client number outcome ∷ past)
-unfolding believed
-settled_marked client file number outcome cache past k = record {
-  belief = k.belief;
-  waiting = settled_waiting client file number outcome cache past k;
-  fresh = λ e. let c : ⊥ = cc in absurd c;
-}
-
-apart_file : (file other : ℕ) → (file == other) ≡ false → (other == file) ≡ false
-apart_file file other e = grind arith
-
-settled_caches : (client number : ℕ) (outcome : Settlement) (old new : List SeenCache) (write : Option SeenWrite) (past : List Fact)
-    → EachFact WellFormed past → write_of client number past ≡ write → SettlesCache write old new
-    → ((f : ℕ) → KnowsCache client f (cache_in old f) past)
-    → (f : ℕ) → KnowsCache client f (cache_in new f) (Fact.Settled client number outcome ∷ past)
-settled_caches client number outcome old new None past formed e is k = λ f.
-    rw (is f) (settled_apart client f number outcome (cache_in old f) past formed (ap (is_on f) e) (k f))
-settled_caches client number outcome old new (Some write) past formed e is k =
-    each_cache client write.file old new past (Fact.Settled client number outcome ∷ past) (with_settled (cache_in old write.file)) is
-    (settled_marked client write.file number outcome (cache_in old write.file) past (k write.file))
-    (λ f apart. settled_apart client f number outcome (cache_in old f) past formed
-    (ap (is_on f) e ∙ apart_file f write.file apart) (k f))
-
-pub client_settles : (client number : ℕ) (outcome : Settlement) (seen now : SeenClient) (past : List Fact) → EachFact WellFormed past
+pub client_settles : (client number : ℕ) (outcome : Settlement) (seen now : SeenClient) (past : List Fact)
     → Settles number seen now → KnowsClient client seen past
     → KnowsClient client now (Fact.Settled client number outcome ∷ past)
 unfolding has_joined is_served has_strayed sendings takings is_settled write_of
-client_settles client number outcome seen now past formed is k =
-    rw is.0 (client_over client seen (record seen { settled = now.settled; caches = now.caches }) past
+client_settles client number outcome seen now past is k =
+    rw is.0 (client_over client seen (record seen { settled = now.settled }) past
     (Fact.Settled client number outcome ∷ past)
     (longer (Fact.Settled client number outcome) past) refl refl refl refl refl
     k.joined k.served k.strayed
     (λ n. is.1 n ∙ settled_number client number n (has_settled seen n) (is_settled client n past) (k.settled n))
     k.writes
-    (settled_caches client number outcome seen.caches now.caches (write_in seen number) past formed (sym (k.writes number)) is.2
-    k.caches)
+    (λ f. settled_cache client f number outcome (cache_in seen.caches f) past (k.caches f))
     k)
 
 -- ---- a write is given
-
-pushed : (client file number : ℕ) (patch : Patch) (cache : SeenCache) (past next : List Fact)
-    → is_settled client number next ≡ false → ((n : ℕ) → is_settled client n next ≡ is_settled client n past)
-    → filter (is_unsettled client next) (cache.waiting ++ record { number = number; patch = patch } ∷ [])
-    ≡ filter (is_unsettled client past) cache.waiting ++ record { number = number; patch = patch } ∷ []
-pushed client file number patch cache past next open_one same =
-    filter-append (is_unsettled client next) cache.waiting (record { number = number; patch = patch } ∷ [])
-    ∙ (rw (open_one, filter-agree (is_unsettled client next) (is_unsettled client past) cache.waiting (λ w. ap not (same w.number))) refl)
 
 kept_pending : (client file number : ℕ) (patch : Patch) (buffered : Bool) (past : List Fact) → is_settled client number past ≡ false
     → pending client file (Fact.Wrote client file number patch buffered ∷ past) (Fact.Wrote client file number patch buffered ∷ past)
@@ -206,16 +162,26 @@ unfolding believed is_settled
 with_one_write client file number patch buffered cache past off k =
     let next : List Fact = Fact.Wrote client file number patch buffered ∷ past in
     let one : Waiting = record { number = number; patch = patch } in
-    let push : filter (is_unsettled client next) (cache.waiting ++ one ∷ []) ≡ filter (is_unsettled client past) cache.waiting ++ one ∷ [] =
-    pushed client file number patch cache past next off (λ n. refl) in
     record {
       belief = k.belief;
-      waiting = push
-          ∙ (ap (λ (ws : List Waiting). ws ++ one ∷ [])
-          (k.waiting ∙ pending-agree client file past next past (λ n. refl))
-          ∙ sym (kept_pending client file number patch buffered past off));
-      fresh = λ e. push ∙ ap (λ (ws : List Waiting). ws ++ one ∷ []) (k.fresh e);
+      covers = λ position.
+          ap (λ (ls : List Layer). filter (is_unsettled client next) ls)
+          (ap (λ (ls : List Layer). ls ++ stack_in cache.covers position) (layers_push position cache.fresh one)
+          ∙ append_assoc (layer_of position one) (layers_at position cache.fresh) (stack_in cache.covers position))
+          ∙ (filter-append (is_unsettled client next) (layer_of position one)
+          (layers_at position cache.fresh ++ stack_in cache.covers position)
+          ∙ (ap (λ (ls : List Layer). ls ++ filter (is_unsettled client next) (layers_at position cache.fresh ++ stack_in cache.covers position))
+          (one_open (is_unsettled client next) _ _ (ap not off))
+          ∙ (ap (λ (ls : List Layer). layer_of position one ++ ls)
+          (k.covers position ∙ ap (λ (ws : List Waiting). layers_at position ws) (pending-agree client file past next past (λ n. refl)))
+          ∙ (sym (layers_push position (pending client file next past) one)
+          ∙ ap (λ (ws : List Waiting). layers_at position ws) (sym (kept_pending client file number patch buffered past off))))));
     }
+  where
+    one_open : (test : Layer → Bool) (b : Bool) (layer : Layer) → test layer ≡ true
+        → filter test (if b then layer ∷ [] else []) ≡ (if b then layer ∷ [] else [])
+    one_open test true layer e = rw e refl
+    one_open test false layer e = refl
 
 -- the cache of another file, or of a number that was settled already
 without_write : (client file other number : ℕ) (patch : Patch) (buffered : Bool) (cache : SeenCache) (past : List Fact)

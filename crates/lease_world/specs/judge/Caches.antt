@@ -1,17 +1,11 @@
 -- How what is kept of a client and a file is brought up to a place.
-use Rattle.std.specs.Prelude.{◌≡◌, ℕ, ◌+◌, Bool, false, not, Option, Some, None, List, [], if◌then◌else◌, ◌==◌, filter, unwrap_or, length, drop, bytes_eq}
+use Rattle.std.specs.Prelude.{◌≡◌, ⊤, ℕ, ◌+◌, Bool, true, false, Option, Some, None, List, [], ◌++◌, unwrap_or, length, drop, filter, MatchBool}
 use Rattle.lease_state.specs.Content.{patches}
-use Rattle.lease_world.specs.judge.Before.{before, patches_of, patches_waiting}
-use Rattle.lease_world.specs.judge.Seen.{Change, Waiting, Numbers, Snapshot, SeenFile, SeenCache, is_among}
+use Rattle.lease_world.specs.judge.Before.{before, patches_of}
+use Rattle.lease_world.specs.judge.Covers.{layers_at, stack_in, IsUncovered, EndsCovered, Shows}
+use Rattle.lease_world.specs.judge.Seen.{Change, Numbers, Snapshot, SeenFile, SeenCache, is_open}
 
-abbrev pub is_open : Numbers → Waiting → Bool
-is_open settled write = not (is_among write.number settled)
-
--- without the writes that are settled, where there may be some
-abbrev pub looked_through : Numbers → SeenCache → SeenCache
-looked_through settled cache =
-    if cache.stale then record cache { waiting = filter (is_open settled) cache.waiting; view = None; stale = false }
-    else cache
+-- ---- the file
 
 -- the file with the changes that follow, up to the place
 abbrev pub moved : List Change → ℕ → Snapshot → Snapshot
@@ -23,48 +17,28 @@ moved changes place base = record {
 abbrev pub first_of : SeenFile → Snapshot
 first_of file = record { bytes = unwrap_or file.start []; applied = 0 }
 
--- a base that is put in, and a view that stays where the base stood there before
-abbrev pub with_base : Snapshot → ℕ → SeenCache → SeenCache
-with_base base applied cache = record cache {
-  base = Some base;
-  view = if base.applied == applied then cache.view else None;
-}
-
-abbrev pub based_from : List Change → ℕ → SeenCache → Snapshot → SeenCache
-based_from changes place cache base = with_base (moved changes place base) base.applied cache
-
-abbrev pub based_on : SeenFile → ℕ → SeenCache → Option Snapshot → SeenCache
-based_on file place cache (Some base) = based_from file.changes place cache base
-based_on file place cache None = based_from file.changes place (record cache { view = None }) (first_of file)
+-- the file at the place
+abbrev pub base_at : SeenFile → ℕ → Option Snapshot → Snapshot
+base_at file place base = moved file.changes place (unwrap_or base (first_of file))
 
 abbrev pub based_at : SeenFile → ℕ → SeenCache → SeenCache
-based_at file place cache = based_on file place cache cache.base
+based_at file place cache = record cache { base = Some (base_at file place cache.base) }
 
--- with all writes that follow
-abbrev pub with_writes : List Waiting → Snapshot → Snapshot
-with_writes writes view = record {
-  bytes = patches view.bytes (patches_waiting (drop view.applied writes));
-  applied = view.applied + length (drop view.applied writes);
-}
+-- ---- the writes over it
 
-abbrev pub anew : Snapshot → Snapshot
-anew base = record { bytes = base.bytes; applied = 0 }
+-- The fresh writes that aren't settled cover the file, on top of the earlier ones; settled writes that came to lie on top are gone.
+pub record IsCovered (settled : Numbers) (old new : SeenCache) : Type 0 where
+  pub rest : new ≡ record old { fresh = []; covers = new.covers }
+  pub open : (position : ℕ) → IsUncovered (is_open settled)
+      (filter (is_open settled) (layers_at position old.fresh) ++ stack_in old.covers position) (stack_in new.covers position)
+  pub ends : EndsCovered new.covers
 
-abbrev pub viewed_by : SeenCache → Option Snapshot → Option Snapshot → SeenCache
-viewed_by cache (Some view) base = record cache { view = Some (with_writes cache.waiting view) }
-viewed_by cache None (Some base) = record cache { view = Some (with_writes cache.waiting (anew base)) }
-viewed_by cache None None = cache
+-- ---- a read
 
-abbrev pub viewed : SeenCache → SeenCache
-viewed cache = viewed_by cache cache.view cache.base
-
-abbrev pub is_seen : List ℕ → Option Snapshot → Bool
-is_seen bytes (Some view) = bytes_eq bytes view.bytes
-is_seen bytes None = false
-
-abbrev pub brought_up : SeenFile → ℕ → Numbers → SeenCache → SeenCache
-brought_up file place settled cache = viewed (based_at file place (looked_through settled cache))
-
-abbrev pub IsShown : SeenFile → ℕ → Numbers → List ℕ → SeenCache → SeenCache → Bool → Type 0
-IsShown file place settled bytes old new same =
-    (new ≡ brought_up file place settled old) × (same ≡ is_seen bytes new.view)
+-- The writes cover the file, which stands at the place; and the bytes are those that are seen, or not.
+pub record IsShown (file : SeenFile) (place : ℕ) (settled : Numbers) (bytes : List ℕ) (old new : SeenCache) (same : Bool)
+    : Type 0 where
+  pub covered : IsCovered settled (record old { base = new.base }) new
+  pub based : new.base ≡ Some (base_at file place old.base)
+  pub shown : MatchBool same (Shows (base_at file place old.base).bytes new.covers bytes)
+      (Shows (base_at file place old.base).bytes new.covers bytes → ⊥)

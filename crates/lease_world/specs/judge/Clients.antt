@@ -4,7 +4,7 @@ use Rattle.std.specs.Option.{option_map}
 use Rattle.lease_state.specs.declared.patch.Patch.{Patch}
 use Rattle.lease_model.specs.values.Lists.{is_empty}
 use Rattle.lease_state.specs.State.{State}
-use Rattle.lease_world.specs.judge.Caches.{brought_up, is_seen}
+use Rattle.lease_world.specs.judge.Caches.{IsShown}
 use Rattle.lease_world.specs.judge.Seen.{SeenFile, SeenWrite, SeenWrites, SeenCache, SeenClient, cache_in, write_by, write_at, write_in, has_settled, accepted_as}
 
 -- there is a message that was sent since it joined and not taken
@@ -59,10 +59,7 @@ HasSameCaches old new = (n : ℕ) → cache_in new n ≡ cache_in old n
 
 abbrev pub with_write : ℕ → Patch → SeenCache → SeenCache
 with_write number patch cache =
-    record cache { waiting = cache.waiting ++ record { number = number; patch = patch } ∷ [] }
-
-abbrev pub with_settled : SeenCache → SeenCache
-with_settled cache = record cache { stale = true }
+    record cache { fresh = cache.fresh ++ record { number = number; patch = patch } ∷ [] }
 
 abbrev pub with_belief : State → SeenCache → SeenCache
 with_belief state cache = record cache { belief = state }
@@ -78,24 +75,19 @@ Writes number write old new = (new ≡ record old { writes = new.writes; caches 
     × HasWrites old.writes new.writes number (Some write)
     × WritesCache (has_settled old number) number write old.caches new.caches
 
-abbrev pub SettlesCache : Option SeenWrite → List SeenCache → List SeenCache → Type 0
-SettlesCache None old new = HasSameCaches old new
-SettlesCache (Some write) old new = HasCache old new write.file (with_settled (cache_in old write.file))
-
 abbrev pub Settles : ℕ → SeenClient → SeenClient → Type 0
-Settles number old new = (new ≡ record old { settled = new.settled; caches = new.caches })
+Settles number old new = (new ≡ record old { settled = new.settled })
     × ((n : ℕ) → has_settled new n ≡ (if n == number then true else has_settled old n))
-    × SettlesCache (write_in old number) old.caches new.caches
 
 abbrev pub Believes : ℕ → State → SeenClient → SeenClient → Type 0
 Believes file state old new = (new ≡ record old { caches = new.caches })
     × HasCache old.caches new.caches file (with_belief state (cache_in old.caches file))
 
--- the cache is brought up to the place, and shows these bytes or doesn't
+-- the cache of a file is brought up to the place, and shows these bytes or doesn't
 abbrev pub Sees : ℕ → SeenFile → ℕ → List ℕ → SeenClient → SeenClient → Bool → Type 0
 Sees number file place bytes old new same = (new ≡ record old { caches = new.caches })
-    × HasCache old.caches new.caches number (brought_up file place old.settled (cache_in old.caches number))
-    × (same ≡ is_seen bytes (brought_up file place old.settled (cache_in old.caches number)).view)
+    × HasCache old.caches new.caches number (cache_in new.caches number)
+    × IsShown file place old.settled bytes (cache_in old.caches number) (cache_in new.caches number) same
 
 -- the sending place of the message that it took last since it joined
 abbrev pub taken_of : SeenClient → Option ℕ

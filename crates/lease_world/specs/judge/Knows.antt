@@ -7,8 +7,9 @@ use Rattle.lease_model.specs.values.LeaseStates.{holds_any}
 use Rattle.lease_model.specs.records.Facts.{Fact}
 use Rattle.lease_model.specs.records.Past.{is_started, start_of, has_joined, is_served, has_strayed, is_good, sendings, takings, last_sending, is_settled, believed}
 use Rattle.lease_model.specs.records.Safe.{EachFact, WellFormed, OneWriteCache}
-use Rattle.lease_world.specs.judge.Before.{before, patches_of, patches_waiting}
+use Rattle.lease_world.specs.judge.Before.{before, patches_of}
 use Rattle.lease_world.specs.judge.Clients.{taken_of}
+use Rattle.lease_world.specs.judge.Covers.{layers_at, stack_in}
 use Rattle.lease_world.specs.judge.Seen.{Seen, SeenFile, SeenCache, SeenClient, Snapshot, Holders, file_in, client_in, cache_in, holders_in, touched_by_others, write_in, has_settled}
 use Rattle.lease_world.specs.judge.Told.{placed_changes, last_touch, write_of, pending, place_of, sent_places, is_unsettled}
 
@@ -18,11 +19,11 @@ pub record KnowsFile (file : ℕ) (seen : SeenFile) (past : List Fact) : Type 0 
   pub changes : seen.changes ≡ placed_changes file past
   pub touches : (client : ℕ) → touched_by_others client seen.touches ≡ last_touch client file past
 
--- Some writes that are settled may be kept, but only where the list is marked.
+-- Of the writes that are kept, those that aren't settled cover a position as the record's do.
 pub record KnowsCache (client : ℕ) (file : ℕ) (cache : SeenCache) (past : List Fact) : Type 0 where
   pub belief : cache.belief ≡ believed client file past
-  pub waiting : filter (is_unsettled client past) cache.waiting ≡ pending client file past past
-  pub fresh : cache.stale ≡ false → filter (is_unsettled client past) cache.waiting ≡ cache.waiting
+  pub covers : (position : ℕ) → filter (is_unsettled client past) (layers_at position cache.fresh ++ stack_in cache.covers position)
+      ≡ layers_at position (pending client file past past)
 
 -- numbers from the first one on that don't fall, up to the last one
 abbrev pub RisesTo : ℕ → List ℕ → ℕ → Type 0
@@ -48,16 +49,9 @@ IsBase file taken (Some base) = (is_some file.start ≡ true)
     × (base.bytes ≡ patches (unwrap_or file.start []) (patches_of (take base.applied file.changes)))
     × (base.applied ≤ length (before taken file.changes))
 
--- the base with the first of the writes
-abbrev pub IsView : SeenCache → Option Snapshot → Option Snapshot → Type 0
-IsView cache base None = ⊤
-IsView cache None (Some view) = ⊥
-IsView cache (Some base) (Some view) =
-    (view.bytes ≡ patches base.bytes (patches_waiting (take view.applied cache.waiting)))
-    × (view.applied ≤ length cache.waiting)
-
+-- what is kept of the file for a client
 abbrev pub HasContents : SeenFile → ℕ → SeenCache → Type 0
-HasContents file taken cache = IsBase file taken cache.base × IsView cache cache.base cache.view
+HasContents file taken cache = IsBase file taken cache.base
 
 -- what the client, if it is good, believes of the file; a client that isn't good holds nothing
 unfoldable pub held : ℕ → List Fact → ℕ → State

@@ -7,6 +7,7 @@ use Rattle.std.specs.Ordering.{nat_cmp}
 use Rattle.lease_state.specs.State.{State, nothing_cached}
 use Rattle.lease_state.specs.declared.patch.Patch.{Patch}
 use Rattle.lease_model.specs.values.LeaseStates.{holds_any}
+use Rattle.lease_world.specs.declared.judging.covers.Layer.{Layer}
 use Rattle.lease_model.specs.values.Patches.{same_patch}
 
 -- a change of a file
@@ -54,15 +55,14 @@ pub record Snapshot : Type 0 where
   pub bytes : List ℕ
   pub applied : ℕ
 
--- What is kept of a client and a file: the belief; the writes that may be unanswered, and whether one of them was settled
--- since they were looked through; the file at the sending place of a message that the client took; and that with the
--- unanswered writes.
+-- What is kept of a client and a file: the belief; the writes since a read was looked at last; by the positions of the file the
+-- earlier writes that cover them, the last one first, without some that are settled; and the file at the sending place of a message
+-- that the client took.
 pub record SeenCache : Type 0 where
   pub belief : State
-  pub waiting : List Waiting
-  pub stale : Bool
+  pub fresh : List Waiting
+  pub covers : List (List Layer)
   pub base : Option Snapshot
-  pub view : Option Snapshot
 
 -- What is kept of a client. `sent` are the places of the messages that were sent since it joined and not taken, `taken` is
 -- that of the last one taken, and `has_taken` tells whether it took one since it joined.
@@ -96,7 +96,7 @@ abbrev pub unseen_file : SeenFile
 unseen_file = record { start = None; changes = []; touches = untouched }
 
 abbrev pub unseen_cache : SeenCache
-unseen_cache = record { belief = nothing_cached; waiting = []; stale = false; base = None; view = None }
+unseen_cache = record { belief = nothing_cached; fresh = []; covers = []; base = None }
 
 abbrev pub no_writes : SeenWrites
 no_writes = record { first = []; rest = [] }
@@ -167,6 +167,10 @@ is_by number numbers = list_any (is_at (nat_cmp number)) numbers
 
 unfoldable pub is_among : ℕ → Numbers → Bool
 is_among number numbers = get_or numbers.first number false || is_by number numbers.rest
+
+-- a write that isn't settled
+abbrev pub is_open : Numbers → Layer → Bool
+is_open settled layer = not (is_among layer.number settled)
 
 abbrev pub has_settled : SeenClient → ℕ → Bool
 has_settled client number = is_among number client.settled

@@ -3,6 +3,7 @@ use Rattle.std.specs.Prelude.{ℕ, ◌+◌, Bool, false, not, Option, Some, None
 use Rattle.std.specs.Option.{option_map}
 use Rattle.lease_model.specs.records.Facts.{Fact}
 use Rattle.lease_model.specs.records.Past.{sendings, is_settled}
+use Rattle.lease_world.specs.declared.judging.covers.Layer.{Layer}
 use Rattle.lease_world.specs.judge.Seen.{Change, Waiting, SeenWrite, accepted_as}
 
 -- a file's changes, in order
@@ -55,5 +56,5 @@ place_of past = length past + 1
 abbrev pub sent_places : ℕ → List Fact → List ℕ
 sent_places client past = map place_of (sendings client past)
 
-abbrev pub is_unsettled : ℕ → List Fact → Waiting → Bool
-is_unsettled client past write = not (is_settled client write.number past)
+abbrev pub is_unsettled : ℕ → List Fact → Layer → Bool
+is_unsettled client past layer = not (is_settled client layer.number past)

@@ -1,8 +1,10 @@
-ghost use Rattle.std.specs.Prelude.{◌≡◌, ◌++◌, [], ◌∷◌, Some, None, true, false, filter, OnOk, IfOk};
+ghost use Rattle.std.specs.Prelude.{◌≡◌, ◌++◌, [], ◌∷◌, ℕ, filter, OnOk, IfOk};
 ghost use Rattle.lease_state.specs.State.{state_of};
-ghost use Rattle.lease_world.specs.judge.Seen.{unseen_cache};
-ghost use Rattle.lease_world.specs.judge.Caches.{looked_through, based_at, viewed, is_open, IsShown};
+ghost use Rattle.lease_world.specs.judge.Seen.{unseen_cache, is_open};
+ghost use Rattle.lease_world.specs.judge.Covers.{layers_at, stack_in};
+ghost use Rattle.lease_world.specs.judge.Caches.{based_at, IsCovered, IsShown};
 
+use crate::judging::covers::Covers;
 use crate::judging::file::FileSeen;
 use crate::judging::numbers::Numbers;
 use crate::judging::snapshot::Snapshot;
@@ -26,17 +28,15 @@ impl Model for Waiting {
 }
 
 /// What a judge keeps of a client and a file. The file as it stood at a sending place is moved forward by the changes in
-/// between; what the client sees, that with its unanswered writes, is kept until one of these is settled or the file is
-/// moved.
+/// between. The client's writes cover positions of it once a read of the client is looked at.
 #[derive(Debug, Drop)]
 pub struct CacheSeen {
     belief: LeaseState,
-    /// The client's writes on the file, in order, without some that are settled.
-    waiting: Vec<Waiting>,
-    /// One of these was settled since they were looked through.
-    stale: bool,
+    /// The client's writes on the file since a read was looked at last, in order.
+    fresh: Vec<Waiting>,
+    /// The earlier ones, without some that are settled.
+    covers: Covers,
     base: Option<Snapshot>,
-    view: Option<Snapshot>,
 }
 
 impl Model for CacheSeen {
@@ -47,10 +47,9 @@ impl Model for CacheSeen {
 
     ghost view = { λ cache. record {
       belief = state_of cache.belief;
-      waiting = cache.waiting.items;
-      stale = cache.stale;
+      fresh = cache.fresh.items;
+      covers = cache.covers;
       base = cache.base;
-      view = cache.view;
     } };
 }
 
@@ -61,10 +60,9 @@ impl CacheSeen {
     {
         CacheSeen {
             belief: LeaseState::NONE,
-            waiting: Vec::new(alloc),
-            stale: false,
+            fresh: Vec::new(alloc),
+            covers: Covers::new(alloc),
             base: None,
-            view: None,
         }
     }
 
@@ -89,18 +87,11 @@ impl CacheSeen {
     /// `Memory` where there is none left for the list of writes.
     pub fn write(&mut self, number: u64, patch: Patch) -> Result<(), Memory>
         ensures { OnOk result (self.new ≡ record self.old {
-          waiting = self.old.waiting ++ record { number = number; patch = patch } ∷ [];
+          fresh = self.old.fresh ++ record { number = number; patch = patch } ∷ [];
         }) }
     {
-        self.waiting.push(Waiting { number, patch })?;
+        self.fresh.push(Waiting { number, patch })?;
         Ok(())
-    }
-
-    /// A write of the client on the file was settled.
-    pub fn settle(&mut self)
-        ensures { self.new ≡ record self.old { stale = true } }
-    {
-        self.stale = true;
     }
 
     /// Whether the client sees these bytes: the file as it stood before the place, with the client's unanswered writes.
@@ -117,63 +108,46 @@ impl CacheSeen {
     ) -> Result<bool, Memory>
         ensures { IfOk result (λ same. IsShown file.now place settled.now bytes.now self.old self.new same) }
     {
-        self.look_through(settled);
+        self.cover(settled)?;
         self.rebase(file, place)?;
-        self.see()?;
-        match &self.view {
-            Some(view) => Ok(view.shows(bytes)),
+        match &self.base {
+            Some(base) => Ok(self.covers.shows(base.bytes(), bytes)),
             None => Ok(false),
         }
     }
 
-    // Forgets the writes that are settled, and what was seen with them.
-    fn look_through(&mut self, settled: &Numbers)
-        ensures { self.new ≡ looked_through settled.now self.old }
+    // The client's writes that aren't settled cover the file, the last on top.
+    fn cover(&mut self, settled: &Numbers) -> Result<(), Memory>
+        ensures { OnOk result (IsCovered settled.now self.old self.new) }
     {
-        if self.stale {
-            keep_open(&mut self.waiting, settled);
-            self.view = None;
-            self.stale = false;
-        }
+        lay_open(&mut self.covers, &self.fresh, settled)?;
+        self.fresh.clear();
+        self.covers.uncover(settled);
+        Ok(())
     }
 
-    // Moves the file forward to the place; what was seen before is forgotten where that changes it.
+    // Moves the file forward to the place.
     fn rebase(&mut self, file: &FileSeen, place: u64) -> Result<(), Memory>
         ensures { OnOk result (self.new ≡ based_at file.now place self.old) }
     {
         let base = match self.base.take() {
             Some(base) => base,
-            None => {
-                self.view = None;
-                file.first(*self.waiting.allocator())?
-            }
+            None => file.first(*self.fresh.allocator())?,
         };
-        let applied = base.applied();
-        let base = base.moved(file.changes(), place)?;
-        if base.applied() != applied {
-            self.view = None;
-        }
-        self.base = Some(base);
-        Ok(())
-    }
-
-    // Brings what the client sees up to its last write.
-    fn see(&mut self) -> Result<(), Memory>
-        ensures { OnOk result (self.new ≡ viewed self.old) }
-    {
-        let view = match (self.view.take(), &self.base) {
-            (Some(view), _) => view,
-            (None, Some(base)) => base.anew()?,
-            (None, None) => return Ok(()),
-        };
-        self.view = Some(view.with_writes(&self.waiting)?);
+        self.base = Some(base.moved(file.changes(), place)?);
         Ok(())
     }
 }
 
-// Keeps the writes that aren't settled.
-fn keep_open(waiting: &mut Vec<Waiting>, settled: &Numbers)
-    ensures { waiting.new.items ≡ filter (is_open settled.now) waiting.old.items }
+// The writes that aren't settled cover the file, in order.
+fn lay_open(covers: &mut Covers, fresh: &[Waiting], settled: &Numbers) -> Result<(), Memory>
+    ensures { OnOk result ((position : ℕ) → stack_in covers.new position
+        ≡ filter (is_open settled.now) (layers_at position fresh.now) ++ stack_in covers.old position) }
 {
-    waiting.retain(|write| !settled.contains(write.number));
+    for write in fresh {
+        if !settled.contains(write.number) {
+            covers.lay(write.number, &write.patch)?;
+        }
+    }
+    Ok(())
 }

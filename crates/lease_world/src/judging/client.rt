@@ -196,7 +196,6 @@ impl ClientSeen {
     pub fn settle(&mut self, number: u64) -> Result<(), Memory>
         ensures { OnOk result (Settles number self.old self.new) }
     {
-        settle_in_cache(&mut self.caches, &self.writes, number)?;
         self.settled.insert(number)
     }
 
@@ -280,24 +279,6 @@ fn write_in_cache(
     cache.write(number, write.patch.try_copy()?)
 }
 
-// The write of this number, if there is one, is settled on its file.
-fn settle_in_cache(
-    caches: &mut Vec<CacheSeen>,
-    writes: &WritesSeen,
-    number: u64,
-) -> Result<(), Memory>
-    ensures { OnOk result (SettlesCache (write_at number writes.now) caches.old.items caches.new.items) }
-{
-    let file = match writes.get(number) {
-        Some(write) => write.file,
-        None => return Ok(()),
-    };
-    reach(caches, file)?;
-    let cache = &mut caches[usize::from(file.0)];
-    cache.settle();
-    Ok(())
-}
-
 fn believe_in_cache(
     caches: &mut Vec<CacheSeen>,
     file: FileNo,
@@ -312,4 +293,4 @@ fn believe_in_cache(
     Ok(())
 }
 
-ghost use Rattle.lease_world.specs.judge.Clients.{taken_of, TakesOne, is_buffered_before, is_accepted_write, Accepts, Writes, Settles, Believes, Sees, HasCache, WritesCache, SettlesCache, with_belief};
+ghost use Rattle.lease_world.specs.judge.Clients.{taken_of, TakesOne, is_buffered_before, is_accepted_write, Accepts, Writes, Settles, Believes, Sees, HasCache, WritesCache, with_belief};

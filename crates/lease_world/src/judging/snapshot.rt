@@ -1,8 +1,7 @@
 ghost use Rattle.std.specs.Prelude.{◌≡◌, ◌+◌, ◌≤◌, IfOk, OnOk, length, take, drop, ◌++◌};
 ghost use Rattle.lease_state.specs.Content.{patch, patches};
-ghost use Rattle.lease_world.specs.judge.Before.{before, patches_of, patches_waiting};
+ghost use Rattle.lease_world.specs.judge.Before.{before, patches_of};
 
-use crate::judging::cache::Waiting;
 use crate::judging::file::Change;
 use lease_state::{Bytes, Memory, Patch};
 use std::marker::Model;
@@ -37,30 +36,11 @@ impl Snapshot {
         })
     }
 
-    /// The same bytes, with no patch, in memory of their own.
-    ///
-    /// # Errors
-    ///
-    /// `Memory` where there is none left.
-    pub fn anew(&self) -> Result<Snapshot, Memory>
-        ensures { IfOk result (λ snapshot. snapshot ≡ record { bytes = self.now.bytes; applied = 0 }) }
+    /// The bytes, with the patches.
+    pub fn bytes(&self) -> &[u8]
+        ensures { result.now ≡ self.now.bytes }
     {
-        let bytes = Vec::from_slice(*self.bytes.allocator(), self.bytes.as_slice())?;
-        Ok(Snapshot { bytes, applied: 0 })
-    }
-
-    /// How many patches were put onto the bytes.
-    pub fn applied(&self) -> usize
-        ensures { result ≡ self.now.applied }
-    {
-        self.applied
-    }
-
-    /// Whether these are the bytes.
-    pub fn shows(&self, bytes: &[u8]) -> bool
-        ensures { result ≡ bytes_eq bytes.now self.now.bytes }
-    {
-        bytes == self.bytes.as_slice()
+        self.bytes.as_slice()
     }
 
     /// With the patches of the changes that follow, as long as they stand before the place.
@@ -88,32 +68,7 @@ impl Snapshot {
         }
         Ok(Snapshot { bytes, applied })
     }
-
-    /// With the patches of all writes that follow.
-    ///
-    /// # Errors
-    ///
-    /// `Memory` where the bytes grow and there is none left.
-    pub fn with_writes(self, writes: &[Waiting]) -> Result<Snapshot, Memory>
-        ensures { IfOk result (λ snapshot. snapshot ≡ record {
-          bytes = patches self.bytes (patches_waiting (drop self.applied writes.now));
-          applied = self.applied + length (drop self.applied writes.now);
-        }) }
-    {
-        let Snapshot {
-            mut bytes,
-            mut applied,
-        } = self;
-        while applied < writes.len() {
-            let write = &writes[applied];
-            apply(&mut bytes, &write.patch)?;
-            applied += 1;
-        }
-        Ok(Snapshot { bytes, applied })
-    }
 }
-
-ghost use Rattle.std.specs.Prelude.{bytes_eq};
 
 /// Puts a patch onto a file's bytes.
 ///

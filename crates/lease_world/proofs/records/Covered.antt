@@ -1,0 +1,238 @@
+-- Writes by the positions that they cover, and the bytes that they make.
+use Rattle.std.proofs.Common.{◌≡◌, ◌≢◌, ◌≤◌, ◌<◌, ℕ, zero, suc, ◌+◌, ◌-◌, max, Bool, true, false, cond, List, [], ◌∷◌, ◌++◌, length, refl, sym, ap, subst, ◌∙◌, arith, inl, inr}
+use Rattle.std.specs.Prelude.{◌==◌, ◌&&◌, not, if◌then◌else◌, nat_le, nat_lt, filter, slice_index, bytes_eq, MatchBool}
+use Rattle.std.proofs.lemmas.Bool.{cases_Bool, cases_lt}
+use Rattle.std.proofs.lemmas.Grind.{same_number_lists}
+use Rattle.std.proofs.lemmas.List.{append_assoc, append-nil}
+use Rattle.std.proofs.lemmas.List.Elements.{filter-append}
+use Rattle.std.proofs.lemmas.Slice.Eq.{bytes_eq-Decides}
+use Rattle.std.proofs.Math.ListN.{get_or}
+use Rattle.lease_state.specs.Content.{patch, patches, end_of}
+use Rattle.lease_state.specs.declared.patch.Patch.{Patch}
+use Rattle.lease_state.proofs.ContentLemmas.{length-written, get_or-written}
+use Rattle.lease_world.specs.declared.judging.covers.Layer.{Layer}
+use Rattle.lease_world.specs.judge.Before.{patches_waiting}
+use Rattle.lease_world.specs.judge.Covers.{layer_of, layers_at, stack_in, seen_byte, Shows, IsOpenOnTop, IsUncovered, EndsCovered}
+use Rattle.lease_world.specs.judge.Seen.{Waiting}
+
+-- ---- layers of several writes
+
+pub layers_push : (position : ℕ) (writes : List Waiting) (write : Waiting)
+    → layers_at position (writes ++ write ∷ []) ≡ layer_of position write ++ layers_at position writes
+layers_push position [] write = sym (append-nil (layer_of position write))
+layers_push position (first ∷ writes) write =
+    ap (λ (ls : List Layer). ls ++ layer_of position first) (layers_push position writes write)
+    ∙ append_assoc (layer_of position write) (layers_at position writes) (layer_of position first)
+
+one_layer : (test : Layer → Bool) (covers passes : Bool) (layer : Layer) → test layer ≡ passes
+    → filter test (if covers then layer ∷ [] else []) ≡ (if passes then (if covers then layer ∷ [] else []) else [])
+one_layer test true true layer e = rw e refl
+one_layer test true false layer e = rw e refl
+one_layer test false true layer e = refl
+one_layer test false false layer e = refl
+
+layers_if : (position : ℕ) (passes : Bool) (write : Waiting) (writes : List Waiting)
+    → layers_at position (cond passes (write ∷ writes) writes)
+    ≡ layers_at position writes ++ (if passes then layer_of position write else [])
+layers_if position true write writes = refl
+layers_if position false write writes = sym (append-nil (layers_at position writes))
+
+-- writes that are kept by their numbers have the layers that are kept so
+pub layers_kept : (position : ℕ) (test : ℕ → Bool) (writes : List Waiting)
+    → layers_at position (filter (λ write. test write.number) writes) ≡ filter (λ layer. test layer.number) (layers_at position writes)
+layers_kept position test [] = refl
+layers_kept position test (write ∷ writes) =
+    layers_if position (test write.number) write (filter (λ w. test w.number) writes)
+    ∙ (ap (λ (ls : List Layer). ls ++ (if test write.number then layer_of position write else [])) (layers_kept position test writes)
+    ∙ (ap (λ (ls : List Layer). filter (λ layer. test layer.number) (layers_at position writes) ++ ls)
+    (sym (one_layer (λ layer. test layer.number) (nat_le write.patch.offset position && nat_lt position (end_of write.patch))
+    (test write.number) (record { number = write.number; byte = slice_index write.patch.bytes (position - write.patch.offset) }) refl))
+    ∙ sym (filter-append (λ layer. test layer.number) (layers_at position writes) (layer_of position write))))
+
+-- ---- the byte at a position
+
+patched_byte_by : (base : List ℕ) (o : ℕ) (d : List ℕ) (position : ℕ) (write : Waiting) → write.patch.offset ≡ o → write.patch.bytes ≡ d
+    → get_or (patch base write.patch) position 0 ≡ seen_byte base (layer_of position write) position
+patched_byte_by base o [] position write offset bytes =
+    rw (bytes, offset) (
+      let none : (nat_le o position && nat_lt position (o + 0)) ≡ false = grind arith in
+      rw none refl)
+patched_byte_by base o (b ∷ d) position write offset bytes =
+    rw (bytes, offset) (get_or-written base o (b ∷ d) position
+    ∙ by_cover (nat_le o position && nat_lt position (o + length (b ∷ d))))
+  where
+    by_cover : (c : Bool) → (if c then slice_index (b ∷ d) (position - o) else slice_index base position)
+        ≡ seen_byte base (if c then record { number = write.number; byte = slice_index (b ∷ d) (position - o) } ∷ [] else []) position
+    by_cover true = refl
+    by_cover false = refl
+
+patched_byte : (base : List ℕ) (position : ℕ) (write : Waiting)
+    → get_or (patch base write.patch) position 0 ≡ seen_byte base (layer_of position write) position
+patched_byte base position write = patched_byte_by base write.patch.offset write.patch.bytes position write refl refl
+
+seen_under : (base other : List ℕ) (position : ℕ) (layers more : List Layer) → get_or other position 0 ≡ seen_byte base more position
+    → seen_byte other layers position ≡ seen_byte base (layers ++ more) position
+seen_under base other position [] more e = e
+seen_under base other position (layer ∷ layers) more e = refl
+
+-- a byte of a patched file is that of the last write that covers the position
+pub patched_at : (base : List ℕ) (position : ℕ) (writes : List Waiting)
+    → get_or (patches base (patches_waiting writes)) position 0 ≡ seen_byte base (layers_at position writes) position
+patched_at base position [] = refl
+patched_at base position (write ∷ writes) =
+    patched_at (patch base write.patch) position writes
+    ∙ seen_under base (patch base write.patch) position (layers_at position writes) (layer_of position write)
+    (patched_byte base position write)
+
+-- ---- the length
+
+length_patch_by : (base : List ℕ) (one : Patch) (o : ℕ) (d : List ℕ) → one.offset ≡ o → one.bytes ≡ d
+    → (length base ≤ length (patch base one)) × (0 < length d → length (patch base one) ≡ max (length base) (o + length d))
+    × (length d ≡ 0 → length (patch base one) ≡ length base)
+length_patch_by base one o [] offset bytes = rw bytes (omega arith, λ some. absurd (omega (arith, some)), λ none. refl)
+length_patch_by base one o (b ∷ d) offset bytes =
+    let long = length-written base o (b ∷ d) in
+    rw (bytes, offset) (omega (arith, long), λ some. long, λ none. absurd (omega (arith, none)))
+
+-- a position past the end of the patched file is covered by no byte of the patch
+uncovered_by : (base : List ℕ) (write : Waiting) (position : ℕ) → length (patch base write.patch) ≤ position
+    → layer_of position write ≡ []
+uncovered_by base write position past =
+    let long = length_patch_by base write.patch write.patch.offset write.patch.bytes refl refl in
+    let outside : (nat_le write.patch.offset position && nat_lt position (end_of write.patch)) ≡ false =
+    elim (cases_lt 0 (length write.patch.bytes)) [
+      | inl some ↦ let is = long.1.0 some in grind (arith, is, past)
+      | inr none ↦ grind (arith, none)
+    ] in
+    rw outside refl
+
+-- patches make no file shorter
+pub patched_longer : (base : List ℕ) (writes : List Waiting) → length base ≤ length (patches base (patches_waiting writes))
+patched_longer base [] = omega arith
+patched_longer base (write ∷ writes) =
+    let one = (length_patch_by base write.patch write.patch.offset write.patch.bytes refl refl).0 in
+    let rest = patched_longer (patch base write.patch) writes in
+    omega (arith, one, rest)
+
+pub none_past : (base : List ℕ) (writes : List Waiting) (position : ℕ) → length (patches base (patches_waiting writes)) ≤ position
+    → layers_at position writes ≡ []
+none_past base [] position past = refl
+none_past base (write ∷ writes) position past =
+    let rest = patched_longer (patch base write.patch) writes in
+    rw (
+      none_past (patch base write.patch) writes position past,
+      uncovered_by base write position (omega (arith, rest, past)),
+    )
+    refl
+
+append_none : (first second : List Layer) → first ++ second ≡ [] → (first ≡ []) × (second ≡ [])
+append_none [] second e = (refl, e)
+append_none (layer ∷ first) second e = let c : ⊥ = cc in absurd c
+
+covered_last : (write : Waiting) (position : ℕ) → write.patch.offset ≤ position → position < end_of write.patch
+    → layer_of position write ≢ []
+covered_last write position from below none =
+    let inside : (nat_le write.patch.offset position && nat_lt position (end_of write.patch)) ≡ true = grind (arith, from, below) in
+    let some = rw inside at none in
+    let c : ⊥ = cc in absurd c
+
+patch_within : (base : List ℕ) (write : Waiting) (size : ℕ) → length base ≤ size
+    → ((position : ℕ) → size ≤ position → layer_of position write ≡ []) → length (patch base write.patch) ≤ size
+patch_within base write size fits none =
+    let long = length_patch_by base write.patch write.patch.offset write.patch.bytes refl refl in
+    elim (cases_lt 0 (length write.patch.bytes)) [
+      | inl some ↦
+          let is = long.1.0 some in
+          elim (cases_lt size (end_of write.patch)) [
+            | inl past ↦ absurd (covered_last write (end_of write.patch - 1) (omega (arith, some)) (omega (arith, some))
+                (none (end_of write.patch - 1) (omega (arith, past))))
+            | inr within ↦ omega (arith, is, fits, within)
+          ]
+      | inr empty ↦ let is = long.1.1 (omega (arith, empty)) in omega (arith, is, fits)
+    ]
+
+-- a patched file ends where its base and its layers do
+pub patched_within : (base : List ℕ) (writes : List Waiting) (size : ℕ) → length base ≤ size
+    → ((position : ℕ) → size ≤ position → layers_at position writes ≡ []) → length (patches base (patches_waiting writes)) ≤ size
+patched_within base [] size fits none = fits
+patched_within base (write ∷ writes) size fits none =
+    patched_within (patch base write.patch) writes size
+    (patch_within base write size fits (λ position past. (append_none (layers_at position writes) (layer_of position write) (none position past)).1))
+    (λ position past. (append_none (layers_at position writes) (layer_of position write) (none position past)).0)
+
+-- ---- stacks whose topmost layers are open
+
+seen_open : (is_open : Layer → Bool) (base : List ℕ) (position : ℕ) (stack : List Layer) → IsOpenOnTop is_open stack
+    → seen_byte base stack position ≡ seen_byte base (filter is_open stack) position
+seen_open is_open base position [] top = refl
+seen_open is_open base position (layer ∷ stack) top = rw top refl
+
+none_open : (is_open : Layer → Bool) (stack : List Layer) → IsOpenOnTop is_open stack → filter is_open stack ≡ [] → stack ≡ []
+none_open is_open [] top none = refl
+none_open is_open (layer ∷ stack) top none = let some = rw top at none in let c : ⊥ = cc in absurd c
+
+-- what covers the positions are these writes, as far as they are open
+pub record CoversWith (is_open : Layer → Bool) (stacks : List (List Layer)) (writes : List Waiting) : Type 0 where
+  pub tops : (position : ℕ) → IsOpenOnTop is_open (stack_in stacks position)
+  pub open : (position : ℕ) → filter is_open (stack_in stacks position) ≡ layers_at position writes
+  pub ends : EndsCovered stacks
+
+past_stacks : (stacks : List (List Layer)) (position : ℕ) → length stacks ≤ position → stack_in stacks position ≡ []
+past_stacks [] position past = refl
+past_stacks (stack ∷ stacks) zero past = absurd (omega (arith, past))
+past_stacks (stack ∷ stacks) (suc position) past = past_stacks stacks position (omega (arith, past))
+
+stacks_within : (is_open : Layer → Bool) (base : List ℕ) (stacks : List (List Layer)) (writes : List Waiting)
+    → CoversWith is_open stacks writes → length stacks ≤ length (patches base (patches_waiting writes))
+stacks_within is_open base stacks writes is = elim is.ends [
+  | inl none ↦ omega (arith, none)
+  | inr some ↦
+      elim (cases_lt (length stacks - 1) (length (patches base (patches_waiting writes)))) [
+        | inl inside ↦ omega (arith, inside)
+        | inr past ↦
+            absurd (some (none_open is_open (stack_in stacks (length stacks - 1)) (is.tops (length stacks - 1))
+            (is.open (length stacks - 1) ∙ none_past base writes (length stacks - 1) past)))
+      ]
+]
+
+patched_length : (is_open : Layer → Bool) (base : List ℕ) (stacks : List (List Layer)) (writes : List Waiting)
+    → CoversWith is_open stacks writes → length (patches base (patches_waiting writes)) ≡ max (length base) (length stacks)
+patched_length is_open base stacks writes is =
+    let low = patched_longer base writes in
+    let covered = stacks_within is_open base stacks writes is in
+    let high = patched_within base writes (max (length base) (length stacks)) (omega arith)
+    (λ position past. sym (is.open position) ∙ ap (λ (s : List Layer). filter is_open s) (past_stacks stacks position (omega (arith, past)))) in
+    omega (arith, low, covered, high)
+
+patched_seen : (is_open : Layer → Bool) (base : List ℕ) (stacks : List (List Layer)) (writes : List Waiting) → CoversWith is_open stacks writes
+    → (position : ℕ) → get_or (patches base (patches_waiting writes)) position 0 ≡ seen_byte base (stack_in stacks position) position
+patched_seen is_open base stacks writes is position =
+    patched_at base position writes
+    ∙ sym (seen_open is_open base position (stack_in stacks position) (is.tops position)
+    ∙ ap (λ (s : List Layer). seen_byte base s position) (is.open position))
+
+shows_patched : (is_open : Layer → Bool) (base bytes : List ℕ) (stacks : List (List Layer)) (writes : List Waiting)
+    → CoversWith is_open stacks writes → Shows base stacks bytes → bytes ≡ patches base (patches_waiting writes)
+shows_patched is_open base bytes stacks writes is shows =
+    same_number_lists bytes (patches base (patches_waiting writes)) (shows.long ∙ sym (patched_length is_open base stacks writes is))
+    (λ position within. shows.each position within ∙ sym (patched_seen is_open base stacks writes is position))
+
+patched_shows : (is_open : Layer → Bool) (base bytes : List ℕ) (stacks : List (List Layer)) (writes : List Waiting)
+    → CoversWith is_open stacks writes → bytes ≡ patches base (patches_waiting writes) → Shows base stacks bytes
+patched_shows is_open base bytes stacks writes is same = record {
+  long = ap length same ∙ patched_length is_open base stacks writes is;
+  each = λ position within. ap (λ (b : List ℕ). get_or b position 0) same ∙ patched_seen is_open base stacks writes is position;
+}
+
+-- whether bytes are shown is whether they are those of the patched file
+pub shown_patched : (is_open : Layer → Bool) (base bytes : List ℕ) (stacks : List (List Layer)) (writes : List Waiting) (same : Bool)
+    → CoversWith is_open stacks writes → MatchBool same (Shows base stacks bytes) (Shows base stacks bytes → ⊥)
+    → same ≡ bytes_eq bytes (patches base (patches_waiting writes))
+shown_patched is_open base bytes stacks writes true is shows =
+    sym ((bytes_eq-Decides bytes (patches base (patches_waiting writes))).1 (shows_patched is_open base bytes stacks writes is shows))
+shown_patched is_open base bytes stacks writes false is shows =
+    elim (cases_Bool (bytes_eq bytes (patches base (patches_waiting writes)))) [
+      | inl same ↦ absurd (shows (patched_shows is_open base bytes stacks writes is
+          ((bytes_eq-Decides bytes (patches base (patches_waiting writes))).0 same)))
+      | inr other ↦ sym other
+    ]
