@@ -1,18 +1,17 @@
 -- Writes by the positions that they cover, and the bytes that they make.
-use Rattle.std.proofs.Common.{◌≡◌, ◌≢◌, ◌≤◌, ◌<◌, ℕ, zero, suc, ◌+◌, ◌-◌, max, Bool, true, false, cond, List, [], ◌∷◌, ◌++◌, length, refl, sym, ap, subst, ◌∙◌, arith, inl, inr}
+use Rattle.std.proofs.Common.{◌≡◌, ◌≢◌, ◌≤◌, ◌<◌, ℕ, zero, suc, ◌+◌, ◌-◌, max, Bool, true, false, cond, List, [], ◌∷◌, ◌++◌, length, take, drop, length-drop, min, add-one, get_or, refl, sym, ap, subst, ◌∙◌, arith, inl, inr}
 use Rattle.std.specs.Prelude.{◌==◌, ◌&&◌, not, if◌then◌else◌, nat_le, nat_lt, filter, slice_index, bytes_eq, MatchBool}
 use Rattle.std.proofs.lemmas.Bool.{cases_Bool, cases_lt}
 use Rattle.std.proofs.lemmas.Grind.{same_number_lists}
-use Rattle.std.proofs.lemmas.List.{append_assoc, append-nil}
+use Rattle.std.proofs.lemmas.List.{append_assoc, append-nil, take_all, get_or-drop}
 use Rattle.std.proofs.lemmas.List.Elements.{filter-append}
 use Rattle.std.proofs.lemmas.Slice.Eq.{bytes_eq-Decides}
-use Rattle.std.proofs.Math.ListN.{get_or}
 use Rattle.lease_state.specs.Content.{patch, patches, end_of}
 use Rattle.lease_state.specs.declared.patch.Patch.{Patch}
 use Rattle.lease_state.proofs.ContentLemmas.{length-written, get_or-written}
 use Rattle.lease_world.specs.declared.judging.covers.Layer.{Layer}
 use Rattle.lease_world.specs.judge.Before.{patches_waiting}
-use Rattle.lease_world.specs.judge.Covers.{layer_of, layers_at, stack_in, seen_byte, Shows, IsOpenOnTop, IsUncovered, EndsCovered}
+use Rattle.lease_world.specs.judge.Covers.{layer_of, layers_at, stack_in, seen_byte, Shows, ShowsCovered, IsOpenOnTop, IsUncovered, EndsCovered}
 use Rattle.lease_world.specs.judge.Seen.{Waiting}
 
 -- ---- layers of several writes
@@ -101,7 +100,7 @@ uncovered_by base write position past =
     let long = length_patch_by base write.patch write.patch.offset write.patch.bytes refl refl in
     let outside : (nat_le write.patch.offset position && nat_lt position (end_of write.patch)) ≡ false =
     elim (cases_lt 0 (length write.patch.bytes)) [
-      | inl some ↦ let is = long.1.0 some in grind (arith, is, past)
+      | inl some ↦ let is = long.1 some in grind (arith, is, past)
       | inr none ↦ grind (arith, none)
     ] in
     rw outside refl
@@ -142,13 +141,13 @@ patch_within base write size fits none =
     let long = length_patch_by base write.patch write.patch.offset write.patch.bytes refl refl in
     elim (cases_lt 0 (length write.patch.bytes)) [
       | inl some ↦
-          let is = long.1.0 some in
+          let is = long.1 some in
           elim (cases_lt size (end_of write.patch)) [
             | inl past ↦ absurd (covered_last write (end_of write.patch - 1) (omega (arith, some)) (omega (arith, some))
                 (none (end_of write.patch - 1) (omega (arith, past))))
             | inr within ↦ omega (arith, is, fits, within)
           ]
-      | inr empty ↦ let is = long.1.1 (omega (arith, empty)) in omega (arith, is, fits)
+      | inr empty ↦ let is = long.2 (omega (arith, empty)) in omega (arith, is, fits)
     ]
 
 -- a patched file ends where its base and its layers do
@@ -174,7 +173,7 @@ none_open is_open (layer ∷ stack) top none = let some = rw top at none in let 
 -- what covers the positions are these writes, as far as they are open
 pub record CoversWith (is_open : Layer → Bool) (stacks : List (List Layer)) (writes : List Waiting) : Type 0 where
   pub tops : (position : ℕ) → IsOpenOnTop is_open (stack_in stacks position)
-  pub open : (position : ℕ) → filter is_open (stack_in stacks position) ≡ layers_at position writes
+  pub left : (position : ℕ) → filter is_open (stack_in stacks position) ≡ layers_at position writes
   pub ends : EndsCovered stacks
 
 past_stacks : (stacks : List (List Layer)) (position : ℕ) → length stacks ≤ position → stack_in stacks position ≡ []
@@ -191,7 +190,7 @@ stacks_within is_open base stacks writes is = elim is.ends [
         | inl inside ↦ omega (arith, inside)
         | inr past ↦
             absurd (some (none_open is_open (stack_in stacks (length stacks - 1)) (is.tops (length stacks - 1))
-            (is.open (length stacks - 1) ∙ none_past base writes (length stacks - 1) past)))
+            (is.left (length stacks - 1) ∙ none_past base writes (length stacks - 1) past)))
       ]
 ]
 
@@ -201,7 +200,7 @@ patched_length is_open base stacks writes is =
     let low = patched_longer base writes in
     let covered = stacks_within is_open base stacks writes is in
     let high = patched_within base writes (max (length base) (length stacks)) (omega arith)
-    (λ position past. sym (is.open position) ∙ ap (λ (s : List Layer). filter is_open s) (past_stacks stacks position (omega (arith, past)))) in
+    (λ position past. sym (is.left position) ∙ ap (λ (s : List Layer). filter is_open s) (past_stacks stacks position (omega (arith, past)))) in
     omega (arith, low, covered, high)
 
 patched_seen : (is_open : Layer → Bool) (base : List ℕ) (stacks : List (List Layer)) (writes : List Waiting) → CoversWith is_open stacks writes
@@ -209,7 +208,7 @@ patched_seen : (is_open : Layer → Bool) (base : List ℕ) (stacks : List (List
 patched_seen is_open base stacks writes is position =
     patched_at base position writes
     ∙ sym (seen_open is_open base position (stack_in stacks position) (is.tops position)
-    ∙ ap (λ (s : List Layer). seen_byte base s position) (is.open position))
+    ∙ ap (λ (s : List Layer). seen_byte base s position) (is.left position))
 
 shows_patched : (is_open : Layer → Bool) (base bytes : List ℕ) (stacks : List (List Layer)) (writes : List Waiting)
     → CoversWith is_open stacks writes → Shows base stacks bytes → bytes ≡ patches base (patches_waiting writes)
@@ -236,3 +235,124 @@ shown_patched is_open base bytes stacks writes false is shows =
           ((bytes_eq-Decides bytes (patches base (patches_waiting writes))).0 same)))
       | inr other ↦ sym other
     ]
+
+-- ---- a write is laid
+
+-- one byte more of a write covers its position
+pub lays_one : (offset place position number : ℕ) (bytes : List ℕ) (layer : Layer) (first old new : List Layer)
+    → layer ≡ record { number = number; byte = slice_index bytes place }
+    → new ≡ (if position == offset + place then layer ∷ old else old)
+    → old ≡ (if nat_le offset position && nat_lt position (offset + place)
+    then record { number = number; byte = slice_index bytes (position - offset) } ∷ [] else []) ++ first
+    → new ≡ (if nat_le offset position && nat_lt position (offset + (place + 1))
+    then record { number = number; byte = slice_index bytes (position - offset) } ∷ [] else []) ++ first
+lays_one offset place position number bytes layer first old new is put so_far =
+    elim (cases_Bool (position == offset + place)) [
+      | inl here ↦
+          let at : position ≡ offset + place = grind (arith, here) in
+          let before : (nat_le offset position && nat_lt position (offset + place)) ≡ false = grind (arith, at) in
+          let now : (nat_le offset position && nat_lt position (offset + (place + 1))) ≡ true = grind (arith, at) in
+          let index : position - offset ≡ place = omega (arith, at) in
+          put ∙ (rw (here, now, index) (ap (λ (l : Layer). l ∷ old) is
+          ∙ ap (λ (ls : List Layer). record { number = number; byte = slice_index bytes place } ∷ ls) (so_far ∙ rw before refl)))
+      | inr other ↦
+          let same : (nat_le offset position && nat_lt position (offset + (place + 1)))
+              ≡ (nat_le offset position && nat_lt position (offset + place)) = grind (arith, other) in
+          put ∙ (rw (other, same) so_far)
+    ]
+
+take_more : (writes : List Waiting) (n : ℕ) (write : Waiting) → n < length writes → write ≡ get_or writes n write
+    → take (suc n) writes ≡ take n writes ++ write ∷ []
+take_more [] n write inside is = absurd (omega (arith, inside))
+take_more (first ∷ writes) zero write inside is = ap (λ (w : Waiting). w ∷ []) (sym is)
+take_more (first ∷ writes) (suc n) write inside is =
+    ap (λ (ws : List Waiting). first ∷ ws) (take_more writes n write (omega (arith, inside)) is)
+
+filter_one : (test : Layer → Bool) (covers : Bool) (layer : Layer) (passes : Bool) → test layer ≡ passes
+    → filter test (if covers then layer ∷ [] else []) ≡ (if passes then (if covers then layer ∷ [] else []) else [])
+filter_one test covers layer passes e = one_layer test covers passes layer e
+
+layers_next : (test : ℕ → Bool) (position n : ℕ) (writes : List Waiting) (write : Waiting) (passes : Bool) → n < length writes
+    → write ≡ get_or writes n write → test write.number ≡ passes
+    → filter (λ layer. test layer.number) (layers_at position (take (n + 1) writes))
+    ≡ (if passes then layer_of position write else []) ++ filter (λ layer. test layer.number) (layers_at position (take n writes))
+layers_next test position n writes write passes inside is e =
+    ap (λ (ws : List Waiting). filter (λ layer. test layer.number) (layers_at position ws)) 
+    (ap (λ (k : ℕ). take k writes) (add-one n) ∙ take_more writes n write inside is)
+    ∙ (ap (λ (ls : List Layer). filter (λ layer. test layer.number) ls) (layers_push position (take n writes) write)
+    ∙ (filter-append (λ layer. test layer.number) (layer_of position write) (layers_at position (take n writes))
+    ∙ ap (λ (ls : List Layer). ls ++ filter (λ layer. test layer.number) (layers_at position (take n writes)))
+    (filter_one (λ layer. test layer.number) (nat_le write.patch.offset position && nat_lt position (end_of write.patch)) _ passes e)))
+
+-- the next write is laid where its number passes, and else left out
+pub lays_next : (test : ℕ → Bool) (position n : ℕ) (writes : List Waiting) (write : Waiting) (first old new : List Layer) → n < length writes
+    → write ≡ get_or writes n write → test write.number ≡ true → new ≡ layer_of position write ++ old
+    → old ≡ filter (λ layer. test layer.number) (layers_at position (take n writes)) ++ first
+    → new ≡ filter (λ layer. test layer.number) (layers_at position (take (n + 1) writes)) ++ first
+lays_next test position n writes write first old new inside is e put so_far =
+    put ∙ (ap (λ (ls : List Layer). layer_of position write ++ ls) so_far
+    ∙ (sym (append_assoc (layer_of position write) (filter (λ layer. test layer.number) (layers_at position (take n writes))) first)
+    ∙ ap (λ (ls : List Layer). ls ++ first) (sym (layers_next test position n writes write true inside is e))))
+
+pub leaves_next : (test : ℕ → Bool) (position n : ℕ) (writes : List Waiting) (write : Waiting) (first old : List Layer) → n < length writes
+    → write ≡ get_or writes n write → test write.number ≡ false
+    → old ≡ filter (λ layer. test layer.number) (layers_at position (take n writes)) ++ first
+    → old ≡ filter (λ layer. test layer.number) (layers_at position (take (n + 1) writes)) ++ first
+leaves_next test position n writes write first old inside is e so_far =
+    so_far ∙ ap (λ (ls : List Layer). ls ++ first) (sym (layers_next test position n writes write false inside is e))
+
+-- ---- bytes that are compared
+
+-- what is compared past the covered positions decides the rest
+pub shows_rest : (base bytes : List ℕ) (stacks : List (List Layer)) (at k : ℕ) (same : Bool)
+    → length bytes ≡ max (length base) (length stacks) → ShowsCovered base stacks bytes → at ≡ length stacks
+    → k ≡ min at (length base)
+    → same ≡ bytes_eq (take (length bytes - at) (drop at bytes)) (take (length base - k) (drop k base))
+    → MatchBool same (Shows base stacks bytes) (Shows base stacks bytes → ⊥)
+shows_rest base bytes stacks at k same long covered at-is k-min is =
+    decided same (is
+    ∙ (ap (λ (xs : List ℕ). bytes_eq xs (take (length base - k) (drop k base)))
+    (take_all (length bytes - at) (drop at bytes) (omega (arith, length-drop {A = ℕ})) ∙ ap (λ (d : ℕ). drop d bytes) at-is)
+    ∙ ap (λ (ys : List ℕ). bytes_eq (drop (length stacks) bytes) ys)
+    (take_all (length base - k) (drop k base) (omega (arith, length-drop {A = ℕ})))))
+  where
+    k-is : k ≡ min (length stacks) (length base)
+    k-is = k-min ∙ ap (λ (d : ℕ). min d (length base)) at-is
+
+    behind : drop (length stacks) bytes ≡ drop k base → Shows base stacks bytes
+    behind equal = record {
+      long = long;
+      each = λ position within. elim (cases_lt position (length stacks)) [
+        | inl below ↦ covered position below
+        | inr past ↦
+            let at : length stacks + (position - length stacks) ≡ position = omega (arith, past) in
+            let k-at : k ≡ length stacks = omega (arith, k-is, long, within, past) in
+            let k-place : k + (position - length stacks) ≡ position = omega (arith, past, k-at) in
+            ap (λ (i : ℕ). get_or bytes i 0) (sym at)
+            ∙ (sym (get_or-drop (length stacks) bytes (position - length stacks) 0)
+            ∙ (ap (λ (xs : List ℕ). get_or xs (position - length stacks) 0) equal
+            ∙ (get_or-drop k base (position - length stacks) 0
+            ∙ (ap (λ (i : ℕ). get_or base i 0) k-place
+            ∙ ap (λ (s : List Layer). seen_byte base s position) (sym (past_stacks stacks position past))))))
+      ];
+    }
+
+    equal : Shows base stacks bytes → drop (length stacks) bytes ≡ drop k base
+    equal shows =
+        same_number_lists (drop (length stacks) bytes) (drop k base) (omega (arith, long, k-is, length-drop {A = ℕ}))
+        (λ i within.
+        let inside : length stacks + i < length bytes = omega (arith, within, length-drop {A = ℕ}) in
+        let k-at : k ≡ length stacks = omega (arith, k-is, long, inside) in
+        get_or-drop (length stacks) bytes i 0
+        ∙ (shows.each (length stacks + i) inside
+        ∙ (ap (λ (s : List Layer). seen_byte base s (length stacks + i)) (past_stacks stacks (length stacks + i) (omega arith))
+        ∙ (ap (λ (j : ℕ). get_or base (j + i) 0) (sym k-at) ∙ sym (get_or-drop k base i 0)))))
+
+    decided : (b : Bool) → b ≡ bytes_eq (drop (length stacks) bytes) (drop k base)
+        → MatchBool b (Shows base stacks bytes) (Shows base stacks bytes → ⊥)
+    decided true e = behind ((bytes_eq-Decides (drop (length stacks) bytes) (drop k base)).0 (sym e))
+    decided false e = λ shows.
+        let on : bytes_eq (drop (length stacks) bytes) (drop k base) ≡ true =
+        (bytes_eq-Decides (drop (length stacks) bytes) (drop k base)).1 (equal shows) in
+        let c : ⊥ = cc in absurd c
+

@@ -63,9 +63,9 @@ covers_pending : (client file : ℕ) (seen : SeenClient) (old now : SeenCache) (
     → IsCovered seen.settled old now → KnowsClient client seen past → KnowsCache client file old past
     → CoversWith (is_open seen.settled) now.covers (pending client file past past)
 covers_pending client file seen old now past is all k = record {
-  tops = λ position. (is.open position).0;
-  open = λ position.
-      (is.open position).1
+  tops = λ position. (is.uncovered position).0;
+  left = λ position.
+      (is.uncovered position).1
       ∙ (open_both (is_open seen.settled) (layers_at position old.fresh) (stack_in old.covers position)
       ∙ (open-told client seen past (layers_at position old.fresh ++ stack_in old.covers position) all ∙ k.covers position));
   ends = is.ends;
@@ -87,7 +87,7 @@ brought-known client file place bytes seen f cache now same past is all k =
       belief = ap (λ (c : SeenCache). c.belief) is.covered.rest ∙ k.belief;
       covers = λ position.
           ap (λ (c : SeenCache). filter (is_unsettled client past) (layers_at position c.fresh ++ stack_in now.covers position)) is.covered.rest
-          ∙ (sym (open-told client seen past (stack_in now.covers position) all) ∙ covers.open position);
+          ∙ (sym (open-told client seen past (stack_in now.covers position) all) ∙ covers.left position);
     }
 
 -- whether these bytes are seen is whether they are the content at the sending place with the unanswered writes

@@ -29,7 +29,7 @@ based_at file place cache = record cache { base = Some (base_at file place cache
 -- The fresh writes that aren't settled cover the file, on top of the earlier ones; settled writes that came to lie on top are gone.
 pub record IsCovered (settled : Numbers) (old new : SeenCache) : Type 0 where
   pub rest : new ≡ record old { fresh = []; covers = new.covers }
-  pub open : (position : ℕ) → IsUncovered (is_open settled)
+  pub uncovered : (position : ℕ) → IsUncovered (is_open settled)
       (filter (is_open settled) (layers_at position old.fresh) ++ stack_in old.covers position) (stack_in new.covers position)
   pub ends : EndsCovered new.covers
 

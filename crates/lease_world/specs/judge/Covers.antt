@@ -61,14 +61,16 @@ EndsCovered stacks = (length stacks ≡ 0) ⊎ (stack_in stacks (length stacks -
 
 -- ---- covers that are linked
 
+-- a cover's layer, and what lies under it
+abbrev pub layers_of : (ℕ → List Layer) → Option Cover → List Layer
+layers_of under None = []
+layers_of under (Some cover) = cover.layer ∷ under cover.below
+
 -- the layers from a cover down, of which there are no more than the fuel; covers count from 1, and 0 is none
 unfoldable pub layers_from : ℕ → List Cover → ℕ → List Layer
-layers_of_cover : ℕ → List Cover → Option Cover → List Layer
 layers_from zero covers place = []
 layers_from (suc fuel) covers zero = []
-layers_from (suc fuel) covers (suc place) = layers_of_cover fuel covers (slice_get covers place)
-layers_of_cover fuel covers None = []
-layers_of_cover fuel covers (Some cover) = cover.layer ∷ layers_from fuel covers cover.below
+layers_from (suc fuel) covers (suc place) = layers_of (layers_from fuel covers) (slice_get covers place)
 
 -- each cover lies on one that came before it
 abbrev pub AreLinked : List Cover → Type 0

@@ -1,5 +1,6 @@
-ghost use Rattle.std.specs.Prelude.{◌≡◌, ◌≢◌, ◌<◌, ◌≤◌, ◌++◌, [], ◌∷◌, ℕ, List, Bool, filter, length, vec_len, OnOk, MatchBool, ⊥};
-ghost use Rattle.lease_world.specs.judge.Covers.{layer_of, stack_in, seen_byte, Shows, ShowsCovered, HasLayer, IsUncovered, EndsCovered, AreLinked, layers_under};
+ghost use Rattle.std.specs.Prelude.{◌≡◌, ◌≢◌, ◌⊎◌, ◌<◌, ◌≤◌, ◌-◌, ◌++◌, [], ℕ, List, get_or, length, map, slice_index, vec_len, OnOk, MatchBool};
+ghost use Rattle.lease_world.specs.declared.judging.covers.Cover.{Cover};
+ghost use Rattle.lease_world.specs.judge.Covers.{layer_of, stack_in, seen_byte, Shows, ShowsCovered, HasLayer, IsUncovered, EndsCovered, AreLinked, AreTops, layers_under};
 ghost use Rattle.lease_world.specs.judge.Seen.{is_open};
 
 use crate::judging::numbers::Numbers;
@@ -60,26 +61,18 @@ impl Covers {
         self.tops.len()
     }
 
-    // The positions up to this one have a place.
-    fn reach(&mut self, position: usize) -> Result<(), Memory>
-        ensures there { OnOk result (position < length self.new) }
-        ensures same { (n : ℕ) → stack_in self.new n ≡ stack_in self.old n }
-    {
-        while self.tops.len() <= position {
-            self.tops.push(0)?;
-        }
-        Ok(())
-    }
-
     // A layer covers the position, on top of those that do.
     fn cover(&mut self, position: usize, layer: Layer) -> Result<(), Memory>
         ensures { OnOk result (HasLayer position layer self.old self.new) }
     {
-        self.reach(position)?;
+        reach(&mut self.tops, position)?;
         let below = self.tops[position];
-        let count = u32::try_from(self.covers.len() + 1).map_err(|_| Memory)?;
+        let count = self.covers.len();
+        if count >= u32::MAX as usize {
+            return Err(Memory);
+        }
         self.covers.push(Cover { layer, below })?;
-        self.tops[position] = count;
+        self.tops[position] = count as u32 + 1;
         Ok(())
     }
 
@@ -105,29 +98,11 @@ impl Covers {
 
     /// Settled writes are taken off where they lie on top, and positions at the end that nothing covers.
     pub fn uncover(&mut self, settled: &Numbers)
-        ensures open { (position : ℕ) → IsUncovered (is_open settled.now) (stack_in self.old position) (stack_in self.new position) }
+        ensures uncovered { (position : ℕ) → IsUncovered (is_open settled.now) (stack_in self.old position) (stack_in self.new position) }
         ensures ends { EndsCovered self.new }
     {
-        self.uncover_each(settled);
-        self.trim();
-    }
-
-    fn uncover_each(&mut self, settled: &Numbers)
-        ensures { (position : ℕ) → IsUncovered (is_open settled.now) (stack_in self.old position) (stack_in self.new position) }
-    {
-        for position in 0..self.tops.len() {
-            self.tops[position] = uncovered(&self.covers, self.tops[position], settled);
-        }
-    }
-
-    // Positions at the end that nothing covers are dropped.
-    fn trim(&mut self)
-        ensures same { (position : ℕ) → stack_in self.new position ≡ stack_in self.old position }
-        ensures ends { EndsCovered self.new }
-    {
-        while let Some(0) = self.tops.last() {
-            self.tops.pop();
-        }
+        uncover_each(&self.covers, &mut self.tops, settled);
+        self.tops.truncate(covered(&self.tops));
         if self.tops.is_empty() {
             self.covers.clear();
         }
@@ -138,9 +113,11 @@ impl Covers {
         requires { position < length self.now }
         ensures { result ≡ seen_byte base.now (stack_in self.now position) position }
     {
-        match self.tops[position] {
-            0 => base.get(position).copied().unwrap_or(0),
-            top => self.covers[top as usize - 1].layer.byte,
+        let top = self.tops[position];
+        if top == 0 {
+            byte_or_zero(base, position)
+        } else {
+            self.covers[top as usize - 1].layer.byte
         }
     }
 
@@ -161,7 +138,7 @@ impl Covers {
     pub fn shows(&self, base: &[u8], bytes: &[u8]) -> bool
         ensures { MatchBool result (Shows base.now self.now bytes.now) (Shows base.now self.now bytes.now → ⊥) }
     {
-        let covered = self.tops.len();
+        let covered = self.len();
         if bytes.len() != base.len().max(covered) {
             return false;
         }
@@ -172,12 +149,36 @@ impl Covers {
     }
 }
 
+fn byte_or_zero(bytes: &[u8], position: usize) -> u8
+    ensures { result ≡ slice_index bytes.now position }
+{
+    if position < bytes.len() {
+        bytes[position]
+    } else {
+        0
+    }
+}
+
+// The positions up to this one have a place.
+#[tactic(auto, using(crate::proofs::Linked::stack_more, crate::proofs::Linked::tops_more))]
+fn reach(tops: &mut Vec<u32>, position: usize) -> Result<(), Memory>
+    ensures there { OnOk result (position < vec_len tops.new) }
+    ensures stacks { (covers : List Cover) (n : ℕ) → stack_in (map (layers_under covers) tops.new.items) n
+        ≡ stack_in (map (layers_under covers) tops.old.items) n }
+    ensures tops { (covers : List Cover) → AreTops covers tops.old.items → AreTops covers tops.new.items }
+{
+    while tops.len() <= position {
+        tops.push(0)?;
+    }
+    Ok(())
+}
+
 // The topmost cover of those from this one down whose write isn't settled, or 0.
 fn uncovered(covers: &[Cover], top: u32, settled: &Numbers) -> u32
     requires linked { AreLinked covers.now }
     requires inside { top ≤ length covers.now }
     ensures inside { result ≤ length covers.now }
-    ensures open { IsUncovered (is_open settled.now) (layers_under covers.now top) (layers_under covers.now result) }
+    ensures uncovered { IsUncovered (is_open settled.now) (layers_under covers.now top) (layers_under covers.now result) }
 {
     let mut top = top;
     while top > 0 {
@@ -188,4 +189,33 @@ fn uncovered(covers: &[Cover], top: u32, settled: &Numbers) -> u32
         top = cover.below;
     }
     top
+}
+
+// At each position the settled writes that lie on top are taken off.
+fn uncover_each(covers: &[Cover], tops: &mut Vec<u32>, settled: &Numbers)
+    requires linked { AreLinked covers.now }
+    requires tops { AreTops covers.now tops.old.items }
+    ensures tops { AreTops covers.now tops.new.items }
+    ensures uncovered { (n : ℕ) → IsUncovered (is_open settled.now) (stack_in (map (layers_under covers.now) tops.old.items) n)
+        (stack_in (map (layers_under covers.now) tops.new.items) n) }
+{
+    for position in 0..tops.len() {
+        tops[position] = uncovered(covers, tops[position], settled);
+    }
+}
+
+// How far positions are covered.
+fn covered(tops: &[u32]) -> usize
+    ensures within { result ≤ length tops.now }
+    ensures rest { (n : ℕ) → result ≤ n → get_or tops.now n 0 ≡ 0 }
+    ensures last { (result ≡ 0) ⊎ (get_or tops.now (result - 1) 0 ≢ 0) }
+{
+    let mut count = tops.len();
+    while count > 0 {
+        if tops[count - 1] != 0 {
+            return count;
+        }
+        count -= 1;
+    }
+    0
 }
