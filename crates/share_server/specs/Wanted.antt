@@ -41,6 +41,6 @@ keys_for NoWrites summary = summary.writers
 keys_for Nothing summary = summary.keys
 
 -- how many of the keys are the request's
-abbrev pub own_count : Option Key → FileSummary → ℕ
-own_count None summary = 0
-own_count (Some key) summary = if contains key_order summary.keys key then 1 else 0
+abbrev pub own_count : Option Key → BTreeSet Key → ℕ
+own_count None keys = 0
+own_count (Some key) keys = if contains key_order keys key then 1 else 0
