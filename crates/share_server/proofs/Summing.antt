@@ -1,4 +1,5 @@
 -- How lease records and file summaries follow the list of opens: with one open more or less, and with another lease.
+use mathlib.Core.Bool.{beq}
 use Rattle.std.proofs.Common.{◌≡◌, ℕ, ◌+◌, ◌^◌, ◌<◌, Bool, true, false, not, List, [], ◌∷◌, length, refl, ap, sym, ◌∙◌, arith, subst, nat_eq, true≢false}
 use Rattle.std.specs.Prelude.{if◌then◌else◌, ◌&&◌, ◌||◌, ◌==◌, is_some, Option, Some, None}
 use Rattle.std.specs.BTreeMap.{BTreeMap, Updates, get}
@@ -10,6 +11,7 @@ use Rattle.lease_state.specs.declared.number.FileNo.{FileNo}
 use Rattle.lease_model.specs.server.State.{Open, Lease, has_key}
 use Rattle.lease_model.specs.values.Keys.{Key, key_eq}
 use Rattle.lease_laws.proofs.server.Keys.{key_eq-same}
+use Rattle.lease_laws.proofs.server.Lists.{either}
 use Rattle.share_server.specs.Hindering.{hinders_writes, marks_of}
 use Rattle.share_server.specs.Looks.{is_elsewhere}
 use Rattle.share_server.specs.Summaries.{IsOneMore, file_order, is_on, has_key_on, is_keyless_on, SumsUp, IsSummary, SummaryFits, Gains, Loses, IsMarked, AreAfter, AreLeft, IsPut}
@@ -514,3 +516,52 @@ pub never_on : (file : ℕ) (key : Key) (opens : List Open) (leases : Key → Le
     → list_any (has_key_on file key) opens ≡ true → known ≡ None → SummaryFits file opens leases known → ⊥
 never_on file key opens leases known there none fits =
     true≢false (sym there ∙ none_both (is_on file) (has_key key) opens (none_is_open file opens leases known none fits))
+
+-- ---- a lease of which nothing else is marked
+
+fits_alike : (file : ℕ) (opens : List Open) (leases later : Key → Lease) (known : Option FileSummary)
+    → ((key : Key) → marks_of (later key) ≡ marks_of (leases key))
+    → SummaryFits file opens leases known → SummaryFits file opens later known
+fits_alike file opens leases later None same fits = fits
+fits_alike file opens leases later (Some summary) same fits = record {
+  is_used = fits.is_used;
+  sums_up = record {
+    tally = fits.sums_up.tally;
+    keys = fits.sums_up.keys;
+    keyless = fits.sums_up.keyless;
+    writers = λ key. fits.sums_up.writers key
+        ∙ ap (λ b. list_any (has_key_on file key) opens && b) (sym (mark_writes (later key) (marks_of (leases key)) (same key)));
+    hinderers = λ key. fits.sums_up.hinderers key
+        ∙ ap (λ b. list_any (has_key_on file key) opens && b) (sym (mark_hinders (later key) (marks_of (leases key)) (same key)));
+  };
+}
+
+pub summaries_alike : (key : Key) (lease : Lease) (opens : List Open) (leases later : Key → Lease)
+    (known : FileNo → Option FileSummary)
+    → ((other : Key) → later other ≡ (if key_eq other key then lease else leases other))
+    → marks_of lease ≡ marks_of (leases key)
+    → ((file : FileNo) → SummaryFits file.0 opens leases (known file))
+    → (file : FileNo) → SummaryFits file.0 opens later (known file)
+summaries_alike key lease opens leases later known now same fits = λ file.
+    fits_alike file.0 opens leases later (known file)
+    (λ other. either (key_eq other key)
+    (λ e. ap marks_of (now other ∙ rw e refl) ∙ (same ∙ ap (λ k. marks_of (leases k)) (sym (key_eq-same other key e))))
+    (λ e. ap marks_of (now other ∙ rw e refl)))
+    (fits file)
+
+both_alike : (a b c d : Bool) → not (beq a c && beq b d) ≡ false → (a ≡ c) × (b ≡ d)
+both_alike true true true true e = (refl, refl)
+both_alike true false true false e = (refl, refl)
+both_alike false true false true e = (refl, refl)
+both_alike false false false false e = (refl, refl)
+both_alike true b false d e = absurd (true≢false e)
+both_alike false b true d e = absurd (true≢false e)
+both_alike true true true false e = absurd (true≢false e)
+both_alike true false true true e = absurd (true≢false e)
+both_alike false true false false e = absurd (true≢false e)
+both_alike false false false true e = absurd (true≢false e)
+
+pub marks_same : (a b : LeaseMarks) → not (beq a.writes b.writes && beq a.hinders b.hinders) ≡ false → a ≡ b
+marks_same a b e =
+    let parts = both_alike a.writes a.hinders b.writes b.hinders e in
+    rw (parts.0, parts.1) refl

@@ -7,7 +7,7 @@ use crate::lease::Lease;
 use crate::state::holds_any;
 
 /// What a file's summary marks of the lease of a key.
-#[derive(Clone, Copy, Debug)]
+#[derive(Clone, Copy, Debug, PartialEq, Eq)]
 pub struct LeaseMarks {
     /// It holds `WRITE_CACHING`.
     pub writes: bool,

@@ -232,9 +232,13 @@ impl Summaries {
     {
         match self.leases.get_mut(&key) {
             Some(known) => {
-                known.lease = lease;
+                let marked = LeaseMarks::of(known.lease);
+                let marks = LeaseMarks::of(lease);
                 let file = known.file;
-                self.mark_on_file(file, key, LeaseMarks::of(lease))?;
+                known.lease = lease;
+                if marks != marked {
+                    self.mark_on_file(file, key, marks)?;
+                }
                 Ok(())
             }
             None => Ok(()),
