@@ -127,7 +127,7 @@ none_own : (own : Key) (keys : List Key) → ((other : Key) → Among other keys
 none_own own [] apart = grind (arith, nat_tests)
 none_own own (key ∷ keys) apart = rw (apart key (inl refl)) (grind (arith, nat_tests))
 
-abbrev own_at : Key → List Key → ℕ
+abbrev pub own_at : Key → List Key → ℕ
 own_at own keys = if list_any (is_at (key_order own)) keys then 1 else 0
 
 one_below : (n : ℕ) → nat_lt 0 n ≡ nat_lt 1 (suc n)
@@ -216,14 +216,14 @@ others_are own file opens keys are keyless =
     still_keyed true false e o = absurd (true≢false e)
     still_keyed false false e o = absurd (true≢false (sym o))
 
-pub others_by : (own : Option Key) (keys : BTreeSet Key) → IsStrictlySortedBy key_order keys.keys
-    → list_any (λ key. not (is_own_key own key)) keys.keys ≡ nat_lt (own_count own keys) (length keys.keys)
-others_by None keys sorted = all_counted keys.keys
-  where
-    all_counted : (keys : List Key) → list_any (λ key. true) keys ≡ nat_lt 0 (length keys)
-    all_counted [] = grind (arith, nat_tests)
-    all_counted (key ∷ keys) = grind (arith, nat_tests)
-others_by (Some key) keys sorted = others_counted key keys.keys sorted
+pub all_counted : (keys : List Key) → list_any (λ key. true) keys ≡ nat_lt 0 (length keys)
+all_counted [] = grind (arith, nat_tests)
+all_counted (key ∷ keys) = grind (arith, nat_tests)
+
+pub others_by : (own : Option Key) (summary : FileSummary) → IsStrictlySortedBy key_order summary.keys.keys
+    → list_any (λ key. not (is_own_key own key)) summary.keys.keys ≡ nat_lt (own_count own summary) (length summary.keys.keys)
+others_by None summary sorted = all_counted summary.keys.keys
+others_by (Some key) summary sorted = others_counted key summary.keys.keys sorted
 
 pub some_is : (n : ℕ) → 0 < n → nat_lt 0 n ≡ true
 some_is n some = grind (arith, nat_tests, some)

@@ -12,7 +12,7 @@ use Rattle.lease_model.specs.server.State.{Open, Lease, has_key}
 use Rattle.lease_model.specs.values.Keys.{Key, key_eq}
 use Rattle.lease_laws.proofs.server.Keys.{key_eq-same}
 use Rattle.lease_laws.proofs.server.Lists.{either}
-use Rattle.share_server.specs.Hindering.{hinders_writes, marks_of}
+use Rattle.share_server.specs.Hindering.{is_harmless, marks_of}
 use Rattle.share_server.specs.Looks.{is_elsewhere}
 use Rattle.share_server.specs.Summaries.{IsOneMore, file_order, is_on, has_key_on, is_keyless_on, SumsUp, IsSummary, SummaryFits, Gains, Loses, IsMarked, AreAfter, AreLeft, IsPut}
 use Rattle.share_server.specs.Tallies.{count, tally_of, raised, lowered, tally_raised, tally_lowered}
@@ -105,8 +105,8 @@ holds_write lease = lease.state.write
 mark_writes : (lease : Lease) (marks : LeaseMarks) → marks_of lease ≡ marks → holds_write lease ≡ marks.writes
 mark_writes lease marks is = ap (λ (m : LeaseMarks). m.writes) is
 
-mark_hinders : (lease : Lease) (marks : LeaseMarks) → marks_of lease ≡ marks → hinders_writes lease ≡ marks.hinders
-mark_hinders lease marks is = ap (λ (m : LeaseMarks). m.hinders) is
+mark_harmless : (lease : Lease) (marks : LeaseMarks) → marks_of lease ≡ marks → is_harmless lease ≡ marks.harmless
+mark_harmless lease marks is = ap (λ (m : LeaseMarks). m.harmless) is
 
 pub gains_sums_up : (one : Open) (marks : LeaseMarks) (old new : FileSummary) (less more : List Open) (leases later : Key → Lease)
     → IsOneMore one less more → length more < 2 ^ 64 → AreAfter one marks less leases later
@@ -131,14 +131,14 @@ gains_sums_up one marks old new less more leases later m short after s g = recor
       gained holds_write (has_key key one) (list_any (has_key_on one.file key) less)
       (list_any (has_key_on one.file key) more) marks.writes (leases key) (later key) _ _ now was (rw here at e)
       (after.same key) (λ has. mark_writes (later key) marks (after.own key has));
-  hinderers = λ key.
-      let now = g.hinderers key in
-      let was = s.hinderers key in
+  harmless = λ key.
+      let now = g.harmless key in
+      let was = s.harmless key in
       let e = anys (has_key_on one.file key) one less more m in
       let here = on_itself one.file in
-      gained hinders_writes (has_key key one) (list_any (has_key_on one.file key) less)
-      (list_any (has_key_on one.file key) more) marks.hinders (leases key) (later key) _ _ now was (rw here at e)
-      (after.same key) (λ has. mark_hinders (later key) marks (after.own key has));
+      gained is_harmless (has_key key one) (list_any (has_key_on one.file key) less)
+      (list_any (has_key_on one.file key) more) marks.harmless (leases key) (later key) _ _ now was (rw here at e)
+      (after.same key) (λ has. mark_harmless (later key) marks (after.own key has));
 }
   where
     gained : (mark : Lease → Bool) (has any_less any_more marked : Bool) (old new : Lease) (was now : Bool)
@@ -173,11 +173,11 @@ sums_up_apart one marks file summary less more leases later m apart after s = re
       let none = elsewhere_none key file one.file less apart in
       stays holds_write (has_key key one) (list_any (has_key_on file key) less) (list_any (has_key_on file key) more)
       (leases key) (later key) _ was (rw apart at e) (after.same key) (λ has. none (after.home key has));
-  hinderers = λ key.
-      let was = s.hinderers key in
+  harmless = λ key.
+      let was = s.harmless key in
       let e = anys (has_key_on file key) one less more m in
       let none = elsewhere_none key file one.file less apart in
-      stays hinders_writes (has_key key one) (list_any (has_key_on file key) less) (list_any (has_key_on file key) more)
+      stays is_harmless (has_key key one) (list_any (has_key_on file key) less) (list_any (has_key_on file key) more)
       (leases key) (later key) _ was (rw apart at e) (after.same key) (λ has. none (after.home key has));
 }
   where
@@ -226,12 +226,12 @@ loses_sums_up one last old new less more leases later m left is_last s l = recor
       lost_mark holds_write (has_key key one) (list_any (has_key_on one.file key) less)
       (list_any (has_key_on one.file key) more) last (leases key) (later key) _ _ now was (rw here at e) (is_last key)
       (λ some. left key (has_on key one.file less some));
-  hinderers = λ key.
-      let now = l.hinderers key in
-      let was = s.hinderers key in
+  harmless = λ key.
+      let now = l.harmless key in
+      let was = s.harmless key in
       let e = anys (has_key_on one.file key) one less more m in
       let here = on_itself one.file in
-      lost_mark hinders_writes (has_key key one) (list_any (has_key_on one.file key) less)
+      lost_mark is_harmless (has_key key one) (list_any (has_key_on one.file key) less)
       (list_any (has_key_on one.file key) more) last (leases key) (later key) _ _ now was (rw here at e) (is_last key)
       (λ some. left key (has_on key one.file less some));
 }
@@ -272,10 +272,10 @@ sums_up_away one file summary less more leases later m apart left s = record {
       let e = anys (has_key_on file key) one less more m in
       stays holds_write (list_any (has_key_on file key) less) (list_any (has_key_on file key) more)
       (leases key) (later key) _ was (rw apart at e) (λ some. left key (has_on key file less some));
-  hinderers = λ key.
-      let was = s.hinderers key in
+  harmless = λ key.
+      let was = s.harmless key in
       let e = anys (has_key_on file key) one less more m in
-      stays hinders_writes (list_any (has_key_on file key) less) (list_any (has_key_on file key) more)
+      stays is_harmless (list_any (has_key_on file key) less) (list_any (has_key_on file key) more)
       (leases key) (later key) _ was (rw apart at e) (λ some. left key (has_on key file less some));
 }
   where
@@ -299,9 +299,9 @@ marked_sums_up file key marks old new opens leases later put there s w = record 
   writers = λ other. marked holds_write (key_eq other key) (list_any (has_key_on file other) opens) marks.writes
       (leases other) (later other) _ _ (w.writers other) (s.writers other) (put.0 other)
       (λ is. mark_writes (later other) marks (put.1 other is)) (there other);
-  hinderers = λ other. marked hinders_writes (key_eq other key) (list_any (has_key_on file other) opens) marks.hinders
-      (leases other) (later other) _ _ (w.hinderers other) (s.hinderers other) (put.0 other)
-      (λ is. mark_hinders (later other) marks (put.1 other is)) (there other);
+  harmless = λ other. marked is_harmless (key_eq other key) (list_any (has_key_on file other) opens) marks.harmless
+      (leases other) (later other) _ _ (w.harmless other) (s.harmless other) (put.0 other)
+      (λ is. mark_harmless (later other) marks (put.1 other is)) (there other);
 }
   where
     marked : (mark : Lease → Bool) (is any now_marked : Bool) (old new : Lease) (was now : Bool)
@@ -323,8 +323,8 @@ sums_up_marked file key marks summary opens leases later put none s = record {
   keyless = s.keyless;
   writers = λ other. kept holds_write (key_eq other key) (list_any (has_key_on file other) opens) (leases other)
       (later other) _ (s.writers other) (put.0 other) (none other);
-  hinderers = λ other. kept hinders_writes (key_eq other key) (list_any (has_key_on file other) opens) (leases other)
-      (later other) _ (s.hinderers other) (put.0 other) (none other);
+  harmless = λ other. kept is_harmless (key_eq other key) (list_any (has_key_on file other) opens) (leases other)
+      (later other) _ (s.harmless other) (put.0 other) (none other);
 }
   where
     kept : (mark : Lease → Bool) (is any : Bool) (old new : Lease) (was : Bool)
@@ -531,8 +531,8 @@ fits_alike file opens leases later (Some summary) same fits = record {
     keyless = fits.sums_up.keyless;
     writers = λ key. fits.sums_up.writers key
         ∙ ap (λ b. list_any (has_key_on file key) opens && b) (sym (mark_writes (later key) (marks_of (leases key)) (same key)));
-    hinderers = λ key. fits.sums_up.hinderers key
-        ∙ ap (λ b. list_any (has_key_on file key) opens && b) (sym (mark_hinders (later key) (marks_of (leases key)) (same key)));
+    harmless = λ key. fits.sums_up.harmless key
+        ∙ ap (λ b. list_any (has_key_on file key) opens && b) (sym (mark_harmless (later key) (marks_of (leases key)) (same key)));
   };
 }
 
@@ -561,7 +561,7 @@ both_alike true false true true e = absurd (true≢false e)
 both_alike false true false false e = absurd (true≢false e)
 both_alike false false false true e = absurd (true≢false e)
 
-pub marks_same : (a b : LeaseMarks) → not (beq a.writes b.writes && beq a.hinders b.hinders) ≡ false → a ≡ b
+pub marks_same : (a b : LeaseMarks) → not (beq a.writes b.writes && beq a.harmless b.harmless) ≡ false → a ≡ b
 marks_same a b e =
-    let parts = both_alike a.writes a.hinders b.writes b.hinders e in
+    let parts = both_alike a.writes a.harmless b.writes b.harmless e in
     rw (parts.0, parts.1) refl

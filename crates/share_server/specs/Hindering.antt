@@ -12,8 +12,11 @@ use Rattle.share_server.specs.declared.lease_marks.LeaseMarks.{LeaseMarks}
 abbrev pub hinders_writes : Lease → Bool
 hinders_writes lease = holds_any lease.state && not (breaks_to_none lease)
 
+abbrev pub is_harmless : Lease → Bool
+is_harmless lease = not (hinders_writes lease)
+
 abbrev pub marks_of : Lease → LeaseMarks
-marks_of lease = record { writes = lease.state.write; hinders = hinders_writes lease }
+marks_of lease = record { writes = lease.state.write; harmless = is_harmless lease }
 
 -- an open on the file has another key than the write, and its lease hinders the write
 abbrev pub is_hinderer : Server → Option Key → ℕ → Open → Bool

@@ -8,7 +8,7 @@ use Rattle.std.specs.Ordering.{nat_cmp, on}
 use Rattle.lease_state.specs.declared.number.FileNo.{FileNo}
 use Rattle.lease_model.specs.server.State.{Server, Open, Lease, no_lease, has_key}
 use Rattle.lease_model.specs.values.Keys.{Key, key_eq}
-use Rattle.share_server.specs.Hindering.{hinders_writes, marks_of}
+use Rattle.share_server.specs.Hindering.{is_harmless, marks_of}
 use Rattle.share_server.specs.KeyOrder.{key_order}
 use Rattle.share_server.specs.Leases.{lease_of}
 use Rattle.share_server.specs.Looks.{is_elsewhere}
@@ -81,15 +81,15 @@ RecordFits key opens None = list_any (has_key key) opens ≡ false
 RecordFits key opens (Some known) = IsRecord key opens known
 
 -- What a file summary says of the opens on its file: their counts, the keys that they have, how many have none, of
--- which of the keys the lease holds W, and of which it hinders writes under other keys.
+-- which of the keys the lease holds W, and of which it hinders no write.
 pub record SumsUp (file : ℕ) (opens : List Open) (leases : Key → Lease) (summary : FileSummary) : Type 0 where
   pub tally : summary.tally ≡ tally_of (is_on file) opens
   pub keys : (key : Key) → contains key_order summary.keys key ≡ list_any (has_key_on file key) opens
   pub keyless : summary.keyless ≡ count (is_keyless_on file) opens
   pub writers : (key : Key) → contains key_order summary.writers key
       ≡ (list_any (has_key_on file key) opens && (leases key).state.write)
-  pub hinderers : (key : Key) → contains key_order summary.hinderers key
-      ≡ (list_any (has_key_on file key) opens && hinders_writes (leases key))
+  pub harmless : (key : Key) → contains key_order summary.harmless key
+      ≡ (list_any (has_key_on file key) opens && is_harmless (leases key))
 
 -- what a summary becomes with an open more, of whose lease this is marked
 pub record Gains (one : Open) (marks : LeaseMarks) (old : FileSummary) (new : FileSummary) : Type 0 where
@@ -98,8 +98,8 @@ pub record Gains (one : Open) (marks : LeaseMarks) (old : FileSummary) (new : Fi
   pub keyless : new.keyless ≡ raised (not (is_some one.lease_key)) old.keyless
   pub writers : (key : Key) → contains key_order new.writers key
       ≡ (if has_key key one then marks.writes else contains key_order old.writers key)
-  pub hinderers : (key : Key) → contains key_order new.hinderers key
-      ≡ (if has_key key one then marks.hinders else contains key_order old.hinderers key)
+  pub harmless : (key : Key) → contains key_order new.harmless key
+      ≡ (if has_key key one then marks.harmless else contains key_order old.harmless key)
 
 -- what it becomes with an open less, the last of its key or not
 pub record Loses (one : Open) (last : Bool) (old : FileSummary) (new : FileSummary) : Type 0 where
@@ -109,8 +109,8 @@ pub record Loses (one : Open) (last : Bool) (old : FileSummary) (new : FileSumma
   pub keyless : new.keyless ≡ lowered (not (is_some one.lease_key)) old.keyless
   pub writers : (key : Key) → contains key_order new.writers key
       ≡ (contains key_order old.writers key && not (has_key key one && last))
-  pub hinderers : (key : Key) → contains key_order new.hinderers key
-      ≡ (contains key_order old.hinderers key && not (has_key key one && last))
+  pub harmless : (key : Key) → contains key_order new.harmless key
+      ≡ (contains key_order old.harmless key && not (has_key key one && last))
 
 -- what it becomes where this is marked of the lease of a key
 pub record IsMarked (key : Key) (marks : LeaseMarks) (old : FileSummary) (new : FileSummary) : Type 0 where
@@ -119,8 +119,8 @@ pub record IsMarked (key : Key) (marks : LeaseMarks) (old : FileSummary) (new : 
   pub keyless : new.keyless ≡ old.keyless
   pub writers : (other : Key) → contains key_order new.writers other
       ≡ (if key_eq other key then marks.writes else contains key_order old.writers other)
-  pub hinderers : (other : Key) → contains key_order new.hinderers other
-      ≡ (if key_eq other key then marks.hinders else contains key_order old.hinderers other)
+  pub harmless : (other : Key) → contains key_order new.harmless other
+      ≡ (if key_eq other key then marks.harmless else contains key_order old.harmless other)
 
 -- the same, where there are some
 pub record IsSummary (file : ℕ) (opens : List Open) (leases : Key → Lease) (summary : FileSummary) : Type 0 where

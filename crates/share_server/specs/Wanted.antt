@@ -41,6 +41,15 @@ keys_for NoWrites summary = summary.writers
 keys_for Nothing summary = summary.keys
 
 -- how many of the keys are the request's
-abbrev pub own_count : Option Key → BTreeSet Key → ℕ
-own_count None keys = 0
-own_count (Some key) keys = if contains key_order keys key then 1 else 0
+abbrev pub own_count : Option Key → FileSummary → ℕ
+own_count None summary = 0
+own_count (Some key) summary = if contains key_order summary.keys key then 1 else 0
+
+-- a key on the file whose lease hinders writes
+abbrev pub is_hindering : FileSummary → Key → Bool
+is_hindering summary key = contains key_order summary.keys key && not (contains key_order summary.harmless key)
+
+-- how many of them are the request's
+abbrev pub own_hindering : Option Key → FileSummary → ℕ
+own_hindering None summary = 0
+own_hindering (Some key) summary = if is_hindering summary key then 1 else 0

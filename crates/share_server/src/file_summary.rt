@@ -5,7 +5,7 @@ ghost use Rattle.lease_model.specs.server.State.{Open as ModelOpen, Lease as Mod
 ghost use Rattle.lease_model.specs.values.Keys.{Key as ModelKey, key_eq};
 ghost use Rattle.std.specs.BTreeSet.{contains};
 ghost use Rattle.share_server.specs.KeyOrder.{key_order};
-ghost use Rattle.share_server.specs.Wanted.{is_own_key, own_count, keys_for};
+ghost use Rattle.share_server.specs.Wanted.{is_own_key, is_hindering, keys_for, own_count, own_hindering};
 ghost use Rattle.share_server.specs.Summaries.{SumsUp, Gains, Loses, IsMarked, is_on};
 
 use crate::key::Key;
@@ -28,8 +28,9 @@ pub struct FileSummary {
     pub keyless: u64,
     /// Those of the keys whose leases hold `WRITE_CACHING`: one at most, by the laws of servers.
     pub writers: BTreeSet<Key>,
-    /// Those of the keys whose leases hinder writes under other keys.
-    pub hinderers: BTreeSet<Key>,
+    /// Those of the keys whose leases hinder no write under another key: they hold nothing, or are
+    /// breaking to nothing. Few do, so these are kept, and not the others.
+    pub harmless: BTreeSet<Key>,
 }
 
 impl FileSummary {
@@ -43,7 +44,7 @@ impl FileSummary {
             keys: BTreeSet::new(alloc),
             keyless: 0,
             writers: BTreeSet::new(alloc),
-            hinderers: BTreeSet::new(alloc),
+            harmless: BTreeSet::new(alloc),
         }
     }
 
@@ -76,8 +77,8 @@ impl FileSummary {
             ≡ (key_eq other key || contains key_order self.old.keys other)) }
         ensures writers { OnOk result ((other : ModelKey) → contains key_order self.new.writers other
             ≡ (if key_eq other key then marks.writes else contains key_order self.old.writers other)) }
-        ensures hinderers { OnOk result ((other : ModelKey) → contains key_order self.new.hinderers other
-            ≡ (if key_eq other key then marks.hinders else contains key_order self.old.hinderers other)) }
+        ensures harmless { OnOk result ((other : ModelKey) → contains key_order self.new.harmless other
+            ≡ (if key_eq other key then marks.harmless else contains key_order self.old.harmless other)) }
     {
         self.keys.insert(key)?;
         self.mark(key, marks)?;
@@ -103,13 +104,13 @@ impl FileSummary {
             ≡ (contains key_order self.old.keys other && not (key_eq other key && last)) }
         ensures writers { (other : ModelKey) → contains key_order self.new.writers other
             ≡ (contains key_order self.old.writers other && not (key_eq other key && last)) }
-        ensures hinderers { (other : ModelKey) → contains key_order self.new.hinderers other
-            ≡ (contains key_order self.old.hinderers other && not (key_eq other key && last)) }
+        ensures harmless { (other : ModelKey) → contains key_order self.new.harmless other
+            ≡ (contains key_order self.old.harmless other && not (key_eq other key && last)) }
     {
         if last {
             self.keys.remove(&key);
             self.writers.remove(&key);
-            self.hinderers.remove(&key);
+            self.harmless.remove(&key);
         }
     }
 
@@ -122,7 +123,7 @@ impl FileSummary {
         ensures { OnOk result (IsMarked key marks self.old self.new) }
     {
         set_member(&mut self.writers, key, marks.writes)?;
-        set_member(&mut self.hinderers, key, marks.hinders)?;
+        set_member(&mut self.harmless, key, marks.harmless)?;
         Ok(())
     }
 
@@ -131,14 +132,43 @@ impl FileSummary {
         ensures { (file : ℕ) (opens : List ModelOpen) (leases : ModelKey → ModelLease) → SumsUp file opens leases self.now
             → result ≡ list_any (is_other_on own file) opens }
     {
-        self.keyless > 0 || self.keys.len() > own_count(&self.keys, own)
+        self.keyless > 0 || self.keys.len() > self.own_count(own)
+    }
+
+    // How many of the keys are the request's.
+    fn own_count(&self, own: Option<Key>) -> usize
+        ensures { result ≡ own_count own self.now }
+    {
+        match own {
+            Some(key) => { if self.keys.contains(&key) { 1 } else { 0 } }
+            None => 0,
+        }
     }
 
     /// Whether the lease of another key than the request's hinders writes.
     pub fn is_hindered(&self, own: Option<Key>) -> bool
-        ensures { result ≡ list_any (λ key. not (is_own_key own key)) self.now.hinderers.keys }
+        ensures { (file : ℕ) (opens : List ModelOpen) (leases : ModelKey → ModelLease) → SumsUp file opens leases self.now
+            → result ≡ list_any (λ key. not (is_own_key own key) && is_hindering self.now key) self.now.keys.keys }
     {
-        self.hinderers.len() > own_count(&self.hinderers, own)
+        let hindering = self.keys.len().saturating_sub(self.harmless.len());
+        hindering > self.own_hindering(own)
+    }
+
+    // How many of the keys whose leases hinder writes are the request's.
+    fn own_hindering(&self, own: Option<Key>) -> usize
+        ensures { result ≡ own_hindering own self.now }
+    {
+        match own {
+            Some(key) => { if self.is_hindering(key) { 1 } else { 0 } }
+            None => 0,
+        }
+    }
+
+    // Whether the key is on the file, and its lease hinders writes.
+    fn is_hindering(&self, key: Key) -> bool
+        ensures { result ≡ is_hindering self.now key }
+    {
+        self.keys.contains(&key) && !self.harmless.contains(&key)
     }
 
     /// The keys among which are all whose leases can be wanted.
@@ -163,14 +193,4 @@ fn set_member(keys: &mut BTreeSet<Key>, key: Key, is_one: bool) -> Result<(), Me
         keys.remove(&key);
     }
     Ok(())
-}
-
-// How many of the keys are the request's.
-fn own_count(keys: &BTreeSet<Key>, own: Option<Key>) -> usize
-    ensures { result ≡ own_count own keys.now }
-{
-    match own {
-        Some(key) => { if keys.contains(&key) { 1 } else { 0 } }
-        None => 0,
-    }
 }

@@ -11,8 +11,8 @@ use crate::state::holds_any;
 pub struct LeaseMarks {
     /// It holds `WRITE_CACHING`.
     pub writes: bool,
-    /// It hinders writes under other keys.
-    pub hinders: bool,
+    /// It hinders no write under another key.
+    pub harmless: bool,
 }
 
 impl LeaseMarks {
@@ -22,7 +22,7 @@ impl LeaseMarks {
     {
         LeaseMarks {
             writes: lease.state.caches_writes(),
-            hinders: hinders_writes(lease),
+            harmless: !hinders_writes(lease),
         }
     }
 }

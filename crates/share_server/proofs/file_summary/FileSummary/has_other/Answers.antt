@@ -16,5 +16,5 @@ returns-else-self-gt0 c = λ file opens leases s.
     let none : list_any (is_keyless_on file) opens ≡ false =
     any_counted (is_keyless_on file) opens ∙ (ap (nat_lt 0) (sym s.keyless) ∙ none_is c.args.self.now.keyless c.if-self-gt0.false) in
     rw (c.own_count.ensures, c.len.ensures.len)
-    (sym (others_by c.args.own c.args.self.now.keys c.len.ensures.ordered)
+    (sym (others_by c.args.own c.args.self.now c.len.ensures.ordered)
     ∙ others_are c.args.own file opens c.args.self.now.keys s.keys none)

@@ -7,5 +7,5 @@ returns c = record {
   keys = refl;
   keyless = refl;
   writers = c.in_ok-set_member.ensures;
-  hinderers = c.in_ok-set_member-2.ensures;
+  harmless = c.in_ok-set_member-2.ensures;
 }

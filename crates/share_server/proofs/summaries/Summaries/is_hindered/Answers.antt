@@ -6,10 +6,10 @@ use Rattle.share_server.proofs.summaries.Summaries.is_hindered.Goals as goal
 
 pub returns-in-Some : goal.returns-in-Some
 returns-in-Some c = λ server stand.
-    c.is_hindered.ensures
-    ∙ hindered_by c.args.own c.args.file.0 c.args.self.now server c.in-Some.summary.now stand
-    (known_sums_up c.args.file.0 server.opens (lease_in c.args.self.now) _ c.in-Some.summary.now
-    (sym c.in-Some.ensures.value) (stand.agree.files c.args.file)).sums_up
+    let summed = (known_sums_up c.args.file.0 server.opens (lease_in c.args.self.now) _ c.in-Some.summary.now
+    (sym c.in-Some.ensures.value) (stand.agree.files c.args.file)).sums_up in
+    c.is_hindered.ensures c.args.file.0 server.opens (lease_in c.args.self.now) summed
+    ∙ hindered_by c.args.own c.args.file.0 c.args.self.now server c.in-Some.summary.now stand summed
 
 pub returns-in-None : goal.returns-in-None
 returns-in-None c = λ server stand.
