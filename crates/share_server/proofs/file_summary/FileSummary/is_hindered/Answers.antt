@@ -1,4 +1,3 @@
-use Rattle.std.proofs.Common.{sym, ◌∙◌}
 use Rattle.share_server.proofs.Hindering.{others_hindering}
 use Rattle.share_server.proofs.file_summary.FileSummary.is_hindered.Goals as goal
 
