@@ -9,11 +9,13 @@ use Rattle.lease_model.specs.server.State.{Open, has_key, no_lease}
 use Rattle.lease_model.specs.server.State as model
 use Rattle.lease_model.specs.values.Keys.{Key, key_eq}
 use Rattle.lease_state.specs.declared.number.FileNo.{FileNo}
+use Rattle.share_server.specs.Hindering.{marks_of}
 use Rattle.share_server.specs.KeyOrder.{key_order}
 use Rattle.share_server.specs.Leases.{lease_of}
 use Rattle.share_server.specs.Looks.{is_elsewhere}
 use Rattle.share_server.specs.Summaries.{Agrees, IsPut, IsRecord, AreAfter, IsAtHome, RecordFits, SummaryFits, record_at, summary_at, lease_in, lease_or_none, has_key_on, file_order}
 use Rattle.share_server.specs.declared.lease.Lease.{Lease}
+use Rattle.share_server.specs.declared.lease_marks.LeaseMarks.{LeaseMarks}
 use Rattle.share_server.specs.declared.summaries.LeaseRecord.{LeaseRecord}
 use Rattle.share_server.specs.declared.summaries.Summaries.{Summaries}
 use Rattle.share_server.proofs.Ordering.{has_key_own, has_key_none}
@@ -57,12 +59,12 @@ pub never_has : (one : Open) (key : Key) {P : Type 0} → key_of_open one ≡ No
 never_has one key own has = absurd (true≢false (sym has ∙ has_key_none one key own))
 
 -- the leases once an open of a key has come
-pub after_gain : (key : Key) (one : Open) (lease : Lease) (writes : Bool) (less : List Open) (before during : Summaries)
+pub after_gain : (key : Key) (one : Open) (lease : Lease) (marks : LeaseMarks) (less : List Open) (before during : Summaries)
     → key_of_open one ≡ Some key → list_any (is_elsewhere key one.file) less ≡ false
-    → (lease_of lease).state.write ≡ writes
+    → marks_of (lease_of lease) ≡ marks
     → ((other : Key) → lease_in during other ≡ (if key_eq other key then lease_of lease else lease_in before other))
-    → AreAfter one writes less (lease_in before) (lease_in during)
-after_gain key one lease writes less before during own home is now = record {
+    → AreAfter one marks less (lease_in before) (lease_in during)
+after_gain key one lease marks less before during own home is now = record {
   same = λ other e. now other ∙ rw (sym (has_key_own one key other own) ∙ e) refl;
   own = λ other e. rw (now other, sym (has_key_own one key other own) ∙ e) is;
   home = λ other e.
@@ -70,9 +72,9 @@ after_gain key one lease writes less before during own home is now = record {
       rw same home;
 }
 
-pub after_keyless : (one : Open) (writes : Bool) (less : List Open) (leases : Key → model.Lease)
-    → key_of_open one ≡ None → AreAfter one writes less leases leases
-after_keyless one writes less leases own = record {
+pub after_keyless : (one : Open) (marks : LeaseMarks) (less : List Open) (leases : Key → model.Lease)
+    → key_of_open one ≡ None → AreAfter one marks less leases leases
+after_keyless one marks less leases own = record {
   same = λ other e. refl;
   own = λ other e. never_has one other own e;
   home = λ other e. never_has one other own e;
@@ -82,11 +84,11 @@ pub at_home : (own : Option Key) (key : Key) (file : ℕ) (opens : List Open) �
     → list_any (is_elsewhere key file) opens ≡ false
 at_home own key file opens is home = subst (λ o. IsAtHome o file opens) is home
 
-pub is_put : (key : Key) (lease : model.Lease) (writes : Bool) (leases later : Key → model.Lease)
-    → lease.state.write ≡ writes
+pub is_put : (key : Key) (lease : model.Lease) (marks : LeaseMarks) (leases later : Key → model.Lease)
+    → marks_of lease ≡ marks
     → ((other : Key) → later other ≡ (if key_eq other key then lease else leases other))
-    → IsPut key writes leases later
-is_put key lease writes leases later is now =
+    → IsPut key marks leases later
+is_put key lease marks leases later is now =
     (λ other e. now other ∙ rw e refl, λ other e. rw (now other, e) is)
 
 -- a key that an open has has a record

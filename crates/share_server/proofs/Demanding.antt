@@ -127,7 +127,7 @@ none_own : (own : Key) (keys : List Key) → ((other : Key) → Among other keys
 none_own own [] apart = grind (arith, nat_tests)
 none_own own (key ∷ keys) apart = rw (apart key (inl refl)) (grind (arith, nat_tests))
 
-abbrev own_at : Key → List Key → ℕ
+abbrev pub own_at : Key → List Key → ℕ
 own_at own keys = if list_any (is_at (key_order own)) keys then 1 else 0
 
 one_below : (n : ℕ) → nat_lt 0 n ≡ nat_lt 1 (suc n)
@@ -160,7 +160,7 @@ own_alike (Some other) key one has = both_so (has_key other one) (key_eq key oth
     (λ h. ap (key_eq key) (is_key-one other key one.client one.lease_key h has) ∙ key_eq-refl key)
     (λ e. subst (λ k. has_key k one ≡ true) (key_eq-same key other e) has)
 
-key_there : (client : ℕ) (bytes : Option (List ℕ)) → is_some bytes ≡ true → (key : Key) × (is_key key client bytes ≡ true)
+pub key_there : (client : ℕ) (bytes : Option (List ℕ)) → is_some bytes ≡ true → (key : Key) × (is_key key client bytes ≡ true)
 key_there client None some = absurd (true≢false (sym some))
 key_there client (Some bytes) some = (key_of client bytes, is_key-refl client bytes)
 
@@ -216,13 +216,13 @@ others_are own file opens keys are keyless =
     still_keyed true false e o = absurd (true≢false e)
     still_keyed false false e o = absurd (true≢false (sym o))
 
+pub all_counted : (keys : List Key) → list_any (λ key. true) keys ≡ nat_lt 0 (length keys)
+all_counted [] = grind (arith, nat_tests)
+all_counted (key ∷ keys) = grind (arith, nat_tests)
+
 pub others_by : (own : Option Key) (summary : FileSummary) → IsStrictlySortedBy key_order summary.keys.keys
     → list_any (λ key. not (is_own_key own key)) summary.keys.keys ≡ nat_lt (own_count own summary) (length summary.keys.keys)
 others_by None summary sorted = all_counted summary.keys.keys
-  where
-    all_counted : (keys : List Key) → list_any (λ key. true) keys ≡ nat_lt 0 (length keys)
-    all_counted [] = grind (arith, nat_tests)
-    all_counted (key ∷ keys) = grind (arith, nat_tests)
 others_by (Some key) summary sorted = others_counted key summary.keys.keys sorted
 
 pub some_is : (n : ℕ) → 0 < n → nat_lt 0 n ≡ true
@@ -247,13 +247,13 @@ lease_known summaries server key one known stand is has =
     lease_by-key server key one.client one.lease_key has ∙ (stand.leases key ∙ ap lease_or_none is)
 
 -- an open on the file that has the key, whose lease passes
-other_on : (own : Option Key) (file : ℕ) (key : Key) (one : Open) → is_on file one ≡ true → has_key key one ≡ true
+pub other_on : (own : Option Key) (file : ℕ) (key : Key) (one : Open) → is_on file one ≡ true → has_key key one ≡ true
     → not (is_own_key own key) ≡ true → is_other_on own file one ≡ true
 unfolding is_other_on
 other_on own file key one on has apart =
     and_both (one.file == file) (not (has_own_key own one)) on (ap not (own_alike own key one has) ∙ apart)
 
-on_other : (own : Option Key) (file : ℕ) (key : Key) (one : Open) → is_other_on own file one ≡ true → has_key key one ≡ true
+pub on_other : (own : Option Key) (file : ℕ) (key : Key) (one : Open) → is_other_on own file one ≡ true → has_key key one ≡ true
     → (has_key_on file key one ≡ true) × (not (is_own_key own key) ≡ true)
 unfolding is_other_on
 on_other own file key one other has =
@@ -408,7 +408,7 @@ wanted_are demand summaries server summary stand s sorted =
     (and_both (not (is_own_key demand.own key)) (needs_known demand.wish (record_at summaries key)) k.apart k.needs))
 
 -- where nothing is open nothing is wanted
-other_here : (own : Option Key) (file : ℕ) (one : Open) → is_other_on own file one ≡ true → is_on file one ≡ true
+pub other_here : (own : Option Key) (file : ℕ) (one : Open) → is_other_on own file one ≡ true → is_on file one ≡ true
 unfolding is_other_on
 other_here own file one o = (and_parts (one.file == file) (not (has_own_key own one)) o).0
 

@@ -7,6 +7,7 @@ pub mod Demanding
 pub mod Expiring
 pub mod FilePlaces
 pub mod Filing
+pub mod Hindering
 pub mod Homing
 pub mod Joining
 pub mod Kept

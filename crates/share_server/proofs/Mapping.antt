@@ -8,6 +8,7 @@ use Rattle.lease_model.specs.values.Keys.{Key}
 use Rattle.lease_state.specs.Access.{uses_of, allowed_by}
 use Rattle.lease_state.specs.declared.access.Access.{Access}
 use Rattle.lease_state.specs.declared.access.Share.{Share}
+use Rattle.share_server.specs.Hindering.{is_harmless}
 use Rattle.share_server.specs.Looks.{is_elsewhere}
 use Rattle.share_server.specs.Summaries.{Agrees, RecordFits, SummaryFits, record_at, summary_at, lease_in, is_on, has_key_on, is_keyless_on}
 use Rattle.share_server.specs.Tallies.{count, tally_of}
@@ -90,6 +91,7 @@ summary_mapped file leases change opens (Some known) keeps fits =
         keyless = fits.sums_up.keyless ∙ sym (count_mapped (is_keyless_on file) change opens
             (λ one. ap₂ (λ o k. o && not (is_some k)) (on_same file change keeps one) (keeps.lease_key one)));
         writers = λ key. fits.sums_up.writers key ∙ ap (λ b. b && (leases key).state.write) (sym (on_key key));
+        harmless = λ key. fits.sums_up.harmless key ∙ ap (λ b. b && is_harmless (leases key)) (sym (on_key key));
       };
     }
 

@@ -1,59 +1,65 @@
 -- The rounds of a try, one after another.
-use Rattle.std.proofs.Common.{◌≡◌, ℕ, ◌+◌, ◌-◌, ◌<◌, ◌≤◌, suc, true, false, List, ap, sym, ◌∙◌, arith}
+use Rattle.std.proofs.Common.{◌≡◌, ℕ, ◌+◌, ◌-◌, ◌<◌, ◌≤◌, suc, true, false, List, refl, ap, sym, ◌∙◌, arith}
 use Rattle.std.specs.Prelude.{if◌then◌else◌}
-use Rattle.lease_state.specs.declared.status.Status.{Status}
+use Rattle.lease_laws.proofs.server.Lists.{either}
 use Rattle.lease_model.specs.messages.Requests.{FileRequest}
 use Rattle.lease_model.specs.server.Attempt.{Outcome, Tried, ended, must_wait, wants_met, after_breaks, after_finding, tried_for}
 use Rattle.lease_model.specs.server.Findings.{Finding, finding}
 use Rattle.lease_model.specs.server.Progress.{Progress}
 use Rattle.lease_model.specs.server.Ready.{is_ready}
 use Rattle.lease_model.specs.server.Wants.{Want}
+use Rattle.share_server.specs.Findings.{Look, looked}
 
-pub fails : (rounds client : ℕ) (request : FileRequest) (progress : Progress) (status : Status)
-    → finding progress.server client request ≡ Finding.Fails status
-    → tried_for (suc rounds) client request progress ≡ ended progress (Outcome.Refused status)
-unfolding tried_for
-fails rounds client request progress status found =
-    ap (after_finding (tried_for rounds client request) request progress) found
+-- a round by what the look at its start comes to
+abbrev after_look : (Progress → Tried) → FileRequest → Progress → Look → Tried
+after_look again request progress (Look.Fails status) = ended progress (Outcome.Refused status)
+after_look again request progress Look.Ready = ended progress Outcome.Ready
+after_look again request progress (Look.Needs wants) = after_breaks again request wants (wants_met wants progress)
 
-pub is_done : (rounds client : ℕ) (request : FileRequest) (progress : Progress) (wants : List Want)
-    → finding progress.server client request ≡ Finding.Needs wants
-    → is_ready request progress.server.leases wants ≡ true
-    → tried_for (suc rounds) client request progress ≡ ended progress Outcome.Ready
+abbrev look_at : ℕ → FileRequest → Progress → Look
+look_at client request progress =
+    looked (λ wants. is_ready request progress.server.leases wants) (finding progress.server client request)
+
+after_found : (again : Progress → Tried) (request : FileRequest) (progress : Progress) (found : Finding)
+    → after_finding again request progress found
+    ≡ after_look again request progress (looked (λ wants. is_ready request progress.server.leases wants) found)
+after_found again request progress (Finding.Fails status) = refl
+after_found again request progress (Finding.Needs wants) =
+    either (is_ready request progress.server.leases wants)
+    (λ ready. rw ready refl)
+    (λ unready. rw unready refl)
+
+pub looks : (rounds client : ℕ) (request : FileRequest) (progress : Progress) (look : Look)
+    → look ≡ look_at client request progress
+    → tried_for (suc rounds) client request progress
+    ≡ after_look (tried_for rounds client request) request progress look
 unfolding tried_for
-is_done rounds client request progress wants found ready =
-    ap (after_finding (tried_for rounds client request) request progress) found
-    ∙ ap (λ b. if b then ended progress Outcome.Ready
-    else after_breaks (tried_for rounds client request) request wants (wants_met wants progress)) ready
+looks rounds client request progress look is =
+    after_found (tried_for rounds client request) request progress (finding progress.server client request)
+    ∙ ap (after_look (tried_for rounds client request) request progress) (sym is)
 
 breaks : (rounds client : ℕ) (request : FileRequest) (progress after : Progress) (wants : List Want)
-    → finding progress.server client request ≡ Finding.Needs wants
-    → is_ready request progress.server.leases wants ≡ false → after ≡ wants_met wants progress
+    → Look.Needs wants ≡ look_at client request progress → after ≡ wants_met wants progress
     → tried_for (suc rounds) client request progress
     ≡ after_breaks (tried_for rounds client request) request wants after
-unfolding tried_for
-breaks rounds client request progress after wants found unready met =
-    ap (after_finding (tried_for rounds client request) request progress) found
-    ∙ (ap (λ b. if b then ended progress Outcome.Ready
-    else after_breaks (tried_for rounds client request) request wants (wants_met wants progress)) unready
-    ∙ ap (after_breaks (tried_for rounds client request) request wants) (sym met))
+breaks rounds client request progress after wants is met =
+    looks rounds client request progress (Look.Needs wants) is
+    ∙ ap (after_breaks (tried_for rounds client request) request wants) (sym met)
 
 pub waits : (rounds client : ℕ) (request : FileRequest) (progress after : Progress) (wants : List Want)
-    → finding progress.server client request ≡ Finding.Needs wants
-    → is_ready request progress.server.leases wants ≡ false → after ≡ wants_met wants progress
+    → Look.Needs wants ≡ look_at client request progress → after ≡ wants_met wants progress
     → must_wait request after wants ≡ true
     → tried_for (suc rounds) client request progress ≡ ended after Outcome.Waits
-waits rounds client request progress after wants found unready met must =
-    breaks rounds client request progress after wants found unready met
+waits rounds client request progress after wants is met must =
+    breaks rounds client request progress after wants is met
     ∙ ap (λ b. if b then ended after Outcome.Waits else tried_for rounds client request after) must
 
 pub again : (rounds client : ℕ) (request : FileRequest) (progress after : Progress) (wants : List Want)
-    → finding progress.server client request ≡ Finding.Needs wants
-    → is_ready request progress.server.leases wants ≡ false → after ≡ wants_met wants progress
+    → Look.Needs wants ≡ look_at client request progress → after ≡ wants_met wants progress
     → must_wait request after wants ≡ false
     → tried_for (suc rounds) client request progress ≡ tried_for rounds client request after
-again rounds client request progress after wants found unready met must =
-    breaks rounds client request progress after wants found unready met
+again rounds client request progress after wants is met must =
+    breaks rounds client request progress after wants is met
     ∙ ap (λ b. if b then ended after Outcome.Waits else tried_for rounds client request after) must
 
 -- ---- at most three

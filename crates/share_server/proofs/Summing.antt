@@ -1,4 +1,5 @@
 -- How lease records and file summaries follow the list of opens: with one open more or less, and with another lease.
+use mathlib.Core.Bool.{beq}
 use Rattle.std.proofs.Common.{◌≡◌, ℕ, ◌+◌, ◌^◌, ◌<◌, Bool, true, false, not, List, [], ◌∷◌, length, refl, ap, sym, ◌∙◌, arith, subst, nat_eq, true≢false}
 use Rattle.std.specs.Prelude.{if◌then◌else◌, ◌&&◌, ◌||◌, ◌==◌, is_some, Option, Some, None}
 use Rattle.std.specs.BTreeMap.{BTreeMap, Updates, get}
@@ -10,10 +11,13 @@ use Rattle.lease_state.specs.declared.number.FileNo.{FileNo}
 use Rattle.lease_model.specs.server.State.{Open, Lease, has_key}
 use Rattle.lease_model.specs.values.Keys.{Key, key_eq}
 use Rattle.lease_laws.proofs.server.Keys.{key_eq-same}
+use Rattle.lease_laws.proofs.server.Lists.{either}
+use Rattle.share_server.specs.Hindering.{is_harmless, marks_of}
 use Rattle.share_server.specs.Looks.{is_elsewhere}
-use Rattle.share_server.specs.Summaries.{IsOneMore, file_order, is_on, has_key_on, is_keyless_on, SumsUp, IsSummary, SummaryFits, Gains, Loses, Writes, AreAfter, AreLeft, IsPut}
+use Rattle.share_server.specs.Summaries.{IsOneMore, file_order, is_on, has_key_on, is_keyless_on, SumsUp, IsSummary, SummaryFits, Gains, Loses, IsMarked, AreAfter, AreLeft, IsPut}
 use Rattle.share_server.specs.Tallies.{count, tally_of, raised, lowered, tally_raised, tally_lowered}
 use Rattle.share_server.specs.declared.file_summary.FileSummary.{FileSummary}
+use Rattle.share_server.specs.declared.lease_marks.LeaseMarks.{LeaseMarks}
 use Rattle.share_server.specs.declared.tally.Tally.{Tally}
 use Rattle.share_server.proofs.Tallies.{count_more, any_more, count_less, any_counted, none_both}
 
@@ -94,10 +98,20 @@ keep_tally test one less more m is =
 pub on_itself : (n : ℕ) → (n == n) ≡ true
 on_itself n = (Decides-eqb n n).1 refl
 
-pub gains_sums_up : (one : Open) (writes : Bool) (old new : FileSummary) (less more : List Open) (leases later : Key → Lease)
-    → IsOneMore one less more → length more < 2 ^ 64 → AreAfter one writes less leases later
-    → SumsUp one.file less leases old → Gains one writes old new → SumsUp one.file more later new
-gains_sums_up one writes old new less more leases later m short after s g = record {
+-- the marks of leases
+abbrev holds_write : Lease → Bool
+holds_write lease = lease.state.write
+
+mark_writes : (lease : Lease) (marks : LeaseMarks) → marks_of lease ≡ marks → holds_write lease ≡ marks.writes
+mark_writes lease marks is = ap (λ (m : LeaseMarks). m.writes) is
+
+mark_harmless : (lease : Lease) (marks : LeaseMarks) → marks_of lease ≡ marks → is_harmless lease ≡ marks.harmless
+mark_harmless lease marks is = ap (λ (m : LeaseMarks). m.harmless) is
+
+pub gains_sums_up : (one : Open) (marks : LeaseMarks) (old new : FileSummary) (less more : List Open) (leases later : Key → Lease)
+    → IsOneMore one less more → length more < 2 ^ 64 → AreAfter one marks less leases later
+    → SumsUp one.file less leases old → Gains one marks old new → SumsUp one.file more later new
+gains_sums_up one marks old new less more leases later m short after s g = record {
   tally = g.tally ∙ (ap (tally_raised one) s.tally
       ∙ raise_tally (is_on one.file) one less more m short (on_itself one.file));
   keys = λ key.
@@ -114,19 +128,26 @@ gains_sums_up one writes old new less more leases later m short after s g = reco
       let was = s.writers key in
       let e = anys (has_key_on one.file key) one less more m in
       let here = on_itself one.file in
-      let same = after.same key in
-      let own = after.own key in
-      gained (has_key key one) (list_any (has_key_on one.file key) less) (list_any (has_key_on one.file key) more)
-      writes (leases key) (later key) _ _ now was (rw here at e) same own;
+      gained holds_write (has_key key one) (list_any (has_key_on one.file key) less)
+      (list_any (has_key_on one.file key) more) marks.writes (leases key) (later key) _ _ now was (rw here at e)
+      (after.same key) (λ has. mark_writes (later key) marks (after.own key has));
+  harmless = λ key.
+      let now = g.harmless key in
+      let was = s.harmless key in
+      let e = anys (has_key_on one.file key) one less more m in
+      let here = on_itself one.file in
+      gained is_harmless (has_key key one) (list_any (has_key_on one.file key) less)
+      (list_any (has_key_on one.file key) more) marks.harmless (leases key) (later key) _ _ now was (rw here at e)
+      (after.same key) (λ has. mark_harmless (later key) marks (after.own key has));
 }
   where
-    gained : (has any_less any_more writes : Bool) (old new : Lease) (was now : Bool)
-        → now ≡ (if has then writes else was) → was ≡ (any_less && old.state.write)
-        → any_more ≡ (has || any_less) → (has ≡ false → new ≡ old) → (has ≡ true → new.state.write ≡ writes)
-        → now ≡ (any_more && new.state.write)
-    gained true any_less any_more writes old new was now a b c d e =
+    gained : (mark : Lease → Bool) (has any_less any_more marked : Bool) (old new : Lease) (was now : Bool)
+        → now ≡ (if has then marked else was) → was ≡ (any_less && mark old)
+        → any_more ≡ (has || any_less) → (has ≡ false → new ≡ old) → (has ≡ true → mark new ≡ marked)
+        → now ≡ (any_more && mark new)
+    gained mark true any_less any_more marked old new was now a b c d e =
         let f = e refl in rw (a, c, f) refl
-    gained false any_less any_more writes old new was now a b c d e =
+    gained mark false any_less any_more marked old new was now a b c d e =
         let f = d refl in rw (a, b, c, f) refl
 
 -- on another file
@@ -136,10 +157,10 @@ elsewhere_none key file at [] apart none = refl
 elsewhere_none key file at (one ∷ opens) apart none =
     let e = elsewhere_none key file at opens apart in grind (arith, nat_tests, e)
 
-pub sums_up_apart : (one : Open) (writes : Bool) (file : ℕ) (summary : FileSummary) (less more : List Open) (leases later : Key → Lease)
-    → IsOneMore one less more → is_on file one ≡ false → AreAfter one writes less leases later
+pub sums_up_apart : (one : Open) (marks : LeaseMarks) (file : ℕ) (summary : FileSummary) (less more : List Open) (leases later : Key → Lease)
+    → IsOneMore one less more → is_on file one ≡ false → AreAfter one marks less leases later
     → SumsUp file less leases summary → SumsUp file more later summary
-sums_up_apart one writes file summary less more leases later m apart after s = record {
+sums_up_apart one marks file summary less more leases later m apart after s = record {
   tally = s.tally ∙ keep_tally (is_on file) one less more m apart;
   keys = λ key.
       let was = s.keys key in
@@ -150,15 +171,22 @@ sums_up_apart one writes file summary less more leases later m apart after s = r
       let was = s.writers key in
       let e = anys (has_key_on file key) one less more m in
       let none = elsewhere_none key file one.file less apart in
-      stays (has_key key one) (list_any (has_key_on file key) less) (list_any (has_key_on file key) more)
+      stays holds_write (has_key key one) (list_any (has_key_on file key) less) (list_any (has_key_on file key) more)
+      (leases key) (later key) _ was (rw apart at e) (after.same key) (λ has. none (after.home key has));
+  harmless = λ key.
+      let was = s.harmless key in
+      let e = anys (has_key_on file key) one less more m in
+      let none = elsewhere_none key file one.file less apart in
+      stays is_harmless (has_key key one) (list_any (has_key_on file key) less) (list_any (has_key_on file key) more)
       (leases key) (later key) _ was (rw apart at e) (after.same key) (λ has. none (after.home key has));
 }
   where
-    stays : (has any_less any_more : Bool) (old new : Lease) (was : Bool) → was ≡ (any_less && old.state.write)
+    stays : (mark : Lease → Bool) (has any_less any_more : Bool) (old new : Lease) (was : Bool)
+        → was ≡ (any_less && mark old)
         → any_more ≡ any_less → (has ≡ false → new ≡ old) → (has ≡ true → any_less ≡ false)
-        → was ≡ (any_more && new.state.write)
-    stays true any_less any_more old new was a b c d = let e = d refl in rw (a, b, e) refl
-    stays false any_less any_more old new was a b c d = let e = c refl in rw (a, b, e) refl
+        → was ≡ (any_more && mark new)
+    stays mark true any_less any_more old new was a b c d = let e = d refl in rw (a, b, e) refl
+    stays mark false any_less any_more old new was a b c d = let e = c refl in rw (a, b, e) refl
 
 and_on : (b : Bool) → (b && true) ≡ b
 and_on true = refl
@@ -195,7 +223,15 @@ loses_sums_up one last old new less more leases later m left is_last s l = recor
       let was = s.writers key in
       let e = anys (has_key_on one.file key) one less more m in
       let here = on_itself one.file in
-      lost_writer (has_key key one) (list_any (has_key_on one.file key) less)
+      lost_mark holds_write (has_key key one) (list_any (has_key_on one.file key) less)
+      (list_any (has_key_on one.file key) more) last (leases key) (later key) _ _ now was (rw here at e) (is_last key)
+      (λ some. left key (has_on key one.file less some));
+  harmless = λ key.
+      let now = l.harmless key in
+      let was = s.harmless key in
+      let e = anys (has_key_on one.file key) one less more m in
+      let here = on_itself one.file in
+      lost_mark is_harmless (has_key key one) (list_any (has_key_on one.file key) less)
       (list_any (has_key_on one.file key) more) last (leases key) (later key) _ _ now was (rw here at e) (is_last key)
       (λ some. left key (has_on key one.file less some));
 }
@@ -209,17 +245,17 @@ loses_sums_up one last old new less more leases later m left is_last s l = recor
     lost_key false true any_more last was now a b c d = rw (a, b, c) refl
     lost_key false false any_more last was now a b c d = rw (a, b, c) refl
 
-    lost_writer : (has any_less any_more last : Bool) (old new : Lease) (was now : Bool)
-        → now ≡ (was && not (has && last)) → was ≡ (any_more && old.state.write)
+    lost_mark : (mark : Lease → Bool) (has any_less any_more last : Bool) (old new : Lease) (was now : Bool)
+        → now ≡ (was && not (has && last)) → was ≡ (any_more && mark old)
         → any_more ≡ (has || any_less) → (has ≡ true → last ≡ not any_less) → (any_less ≡ true → new ≡ old)
-        → now ≡ (any_less && new.state.write)
-    lost_writer true true any_more last old new was now a b c d e =
-        let f = d refl in let g = e refl in rw (a, b, c, f, g) (and_on old.state.write)
-    lost_writer true false any_more last old new was now a b c d e =
-        let f = d refl in rw (a, b, c, f) (and_off old.state.write)
-    lost_writer false true any_more last old new was now a b c d e =
-        let g = e refl in rw (a, b, c, g) (and_on old.state.write)
-    lost_writer false false any_more last old new was now a b c d e = rw (a, b, c) refl
+        → now ≡ (any_less && mark new)
+    lost_mark mark true true any_more last old new was now a b c d e =
+        let f = d refl in let g = e refl in rw (a, b, c, f, g) (and_on (mark old))
+    lost_mark mark true false any_more last old new was now a b c d e =
+        let f = d refl in rw (a, b, c, f) (and_off (mark old))
+    lost_mark mark false true any_more last old new was now a b c d e =
+        let g = e refl in rw (a, b, c, g) (and_on (mark old))
+    lost_mark mark false false any_more last old new was now a b c d e = rw (a, b, c) refl
 
 pub sums_up_away : (one : Open) (file : ℕ) (summary : FileSummary) (less more : List Open) (leases later : Key → Lease)
     → IsOneMore one less more → is_on file one ≡ false → AreLeft less leases later
@@ -234,58 +270,69 @@ sums_up_away one file summary less more leases later m apart left s = record {
   writers = λ key.
       let was = s.writers key in
       let e = anys (has_key_on file key) one less more m in
-      stays (list_any (has_key_on file key) less) (list_any (has_key_on file key) more)
+      stays holds_write (list_any (has_key_on file key) less) (list_any (has_key_on file key) more)
+      (leases key) (later key) _ was (rw apart at e) (λ some. left key (has_on key file less some));
+  harmless = λ key.
+      let was = s.harmless key in
+      let e = anys (has_key_on file key) one less more m in
+      stays is_harmless (list_any (has_key_on file key) less) (list_any (has_key_on file key) more)
       (leases key) (later key) _ was (rw apart at e) (λ some. left key (has_on key file less some));
 }
   where
-    stays : (any_less any_more : Bool) (old new : Lease) (was : Bool) → was ≡ (any_more && old.state.write)
-        → any_more ≡ any_less → (any_less ≡ true → new ≡ old)
-        → was ≡ (any_less && new.state.write)
-    stays true any_more old new was a c d = let e = d refl in rw (a, c, e) refl
-    stays false any_more old new was a c d = rw (a, c) refl
+    stays : (mark : Lease → Bool) (any_less any_more : Bool) (old new : Lease) (was : Bool)
+        → was ≡ (any_more && mark old) → any_more ≡ any_less → (any_less ≡ true → new ≡ old)
+        → was ≡ (any_less && mark new)
+    stays mark true any_more old new was a c d = let e = d refl in rw (a, c, e) refl
+    stays mark false any_more old new was a c d = rw (a, c) refl
 
 -- ---- another lease of a key
 
-pub writes_sums_up : (file : ℕ) (key : Key) (writes : Bool) (old new : FileSummary) (opens : List Open)
+pub marked_sums_up : (file : ℕ) (key : Key) (marks : LeaseMarks) (old new : FileSummary) (opens : List Open)
     (leases later : Key → Lease)
-    → IsPut key writes leases later
+    → IsPut key marks leases later
     → ((other : Key) → key_eq other key ≡ true → list_any (has_key_on file other) opens ≡ true)
-    → SumsUp file opens leases old → Writes key writes old new → SumsUp file opens later new
-writes_sums_up file key writes old new opens leases later put there s w = record {
+    → SumsUp file opens leases old → IsMarked key marks old new → SumsUp file opens later new
+marked_sums_up file key marks old new opens leases later put there s w = record {
   tally = w.tally ∙ s.tally;
   keys = λ other. rw w.keys (s.keys other);
   keyless = w.keyless ∙ s.keyless;
-  writers = λ other. written (key_eq other key) (list_any (has_key_on file other) opens) writes (leases other)
-      (later other) _ _ (w.writers other) (s.writers other) (put.0 other) (put.1 other) (there other);
+  writers = λ other. marked holds_write (key_eq other key) (list_any (has_key_on file other) opens) marks.writes
+      (leases other) (later other) _ _ (w.writers other) (s.writers other) (put.0 other)
+      (λ is. mark_writes (later other) marks (put.1 other is)) (there other);
+  harmless = λ other. marked is_harmless (key_eq other key) (list_any (has_key_on file other) opens) marks.harmless
+      (leases other) (later other) _ _ (w.harmless other) (s.harmless other) (put.0 other)
+      (λ is. mark_harmless (later other) marks (put.1 other is)) (there other);
 }
   where
-    written : (is any writes : Bool) (old new : Lease) (was now : Bool)
-        → now ≡ (if is then writes else was) → was ≡ (any && old.state.write)
-        → (is ≡ false → new ≡ old) → (is ≡ true → new.state.write ≡ writes) → (is ≡ true → any ≡ true)
-        → now ≡ (any && new.state.write)
-    written true any writes old new was now a b c d e =
+    marked : (mark : Lease → Bool) (is any now_marked : Bool) (old new : Lease) (was now : Bool)
+        → now ≡ (if is then now_marked else was) → was ≡ (any && mark old)
+        → (is ≡ false → new ≡ old) → (is ≡ true → mark new ≡ now_marked) → (is ≡ true → any ≡ true)
+        → now ≡ (any && mark new)
+    marked mark true any now_marked old new was now a b c d e =
         let f = d refl in let g = e refl in rw (a, f, g) refl
-    written false any writes old new was now a b c d e = let f = c refl in rw (a, b, f) refl
+    marked mark false any now_marked old new was now a b c d e = let f = c refl in rw (a, b, f) refl
 
-pub sums_up_written : (file : ℕ) (key : Key) (writes : Bool) (summary : FileSummary) (opens : List Open)
+pub sums_up_marked : (file : ℕ) (key : Key) (marks : LeaseMarks) (summary : FileSummary) (opens : List Open)
     (leases later : Key → Lease)
-    → IsPut key writes leases later
+    → IsPut key marks leases later
     → ((other : Key) → key_eq other key ≡ true → list_any (has_key_on file other) opens ≡ false)
     → SumsUp file opens leases summary → SumsUp file opens later summary
-sums_up_written file key writes summary opens leases later put none s = record {
+sums_up_marked file key marks summary opens leases later put none s = record {
   tally = s.tally;
   keys = s.keys;
   keyless = s.keyless;
-  writers = λ other. written (key_eq other key) (list_any (has_key_on file other) opens) (leases other)
+  writers = λ other. kept holds_write (key_eq other key) (list_any (has_key_on file other) opens) (leases other)
       (later other) _ (s.writers other) (put.0 other) (none other);
+  harmless = λ other. kept is_harmless (key_eq other key) (list_any (has_key_on file other) opens) (leases other)
+      (later other) _ (s.harmless other) (put.0 other) (none other);
 }
   where
-    written : (is any : Bool) (old new : Lease) (was : Bool)
-        → was ≡ (any && old.state.write)
+    kept : (mark : Lease → Bool) (is any : Bool) (old new : Lease) (was : Bool)
+        → was ≡ (any && mark old)
         → (is ≡ false → new ≡ old) → (is ≡ true → any ≡ false)
-        → was ≡ (any && new.state.write)
-    written true any old new was b c e = let g = e refl in rw (b, g) refl
-    written false any old new was b c e = let f = c refl in rw (b, f) refl
+        → was ≡ (any && mark new)
+    kept mark true any old new was b c e = let g = e refl in rw (b, g) refl
+    kept mark false any old new was b c e = let f = c refl in rw (b, f) refl
 
 -- ---- the map of summaries
 
@@ -301,15 +348,15 @@ used_back : (test : Open → Bool) (one : Open) (less more : List Open) (b : Boo
     → test one ≡ false → list_any test more ≡ b → list_any test less ≡ b
 used_back test one less more b m is was = let e = anys test one less more m in grind (arith, e, is, was)
 
-fits_apart : (one : Open) (writes : Bool) (file : ℕ) (known : Option FileSummary) (less more : List Open)
+fits_apart : (one : Open) (marks : LeaseMarks) (file : ℕ) (known : Option FileSummary) (less more : List Open)
     (leases later : Key → Lease)
-    → IsOneMore one less more → is_on file one ≡ false → AreAfter one writes less leases later
+    → IsOneMore one less more → is_on file one ≡ false → AreAfter one marks less leases later
     → SummaryFits file less leases known → SummaryFits file more later known
-fits_apart one writes file None less more leases later m apart after fits =
+fits_apart one marks file None less more leases later m apart after fits =
     used_same (is_on file) one less more false m apart fits
-fits_apart one writes file (Some summary) less more leases later m apart after fits = record {
+fits_apart one marks file (Some summary) less more leases later m apart after fits = record {
   is_used = used_same (is_on file) one less more true m apart fits.is_used;
-  sums_up = sums_up_apart one writes file summary less more leases later m apart after fits.sums_up;
+  sums_up = sums_up_apart one marks file summary less more leases later m apart after fits.sums_up;
 }
 
 fits_away : (one : Open) (file : ℕ) (known : Option FileSummary) (less more : List Open)
@@ -339,20 +386,20 @@ at_file P here there apart file = by_case (file.0 == here) refl
 flip : (a b : ℕ) (x : Bool) → (a == b) ≡ x → (b == a) ≡ x
 flip a b x e = grind (arith, nat_tests, e)
 
-pub summaries_gain : (one : Open) (writes : Bool) (before after : FileNo → Option FileSummary) (old new : FileSummary)
+pub summaries_gain : (one : Open) (marks : LeaseMarks) (before after : FileNo → Option FileSummary) (old new : FileSummary)
     (less more : List Open) (leases later : Key → Lease)
-    → IsOneMore one less more → length more < 2 ^ 64 → AreAfter one writes less leases later
-    → SumsUp one.file less leases old → Gains one writes old new → IsChangedAt one.file before after (Some new)
+    → IsOneMore one less more → length more < 2 ^ 64 → AreAfter one marks less leases later
+    → SumsUp one.file less leases old → Gains one marks old new → IsChangedAt one.file before after (Some new)
     → ((file : FileNo) → SummaryFits file.0 less leases (before file))
     → (file : FileNo) → SummaryFits file.0 more later (after file)
-summaries_gain one writes before after old new less more leases later m short are s g changed fits =
+summaries_gain one marks before after old new less more leases later m short are s g changed fits =
     at_file (λ file. SummaryFits file.0 more later (after file)) one.file
     (subst (SummaryFits one.file more later) (sym changed.there) (record {
       is_used = used_more (is_on one.file) one less more m (on_itself one.file);
-      sums_up = gains_sums_up one writes old new less more leases later m short are s g;
+      sums_up = gains_sums_up one marks old new less more leases later m short are s g;
     }))
     (λ file apart. subst (SummaryFits file.0 more later) (sym (changed.apart file apart))
-    (fits_apart one writes file.0 (before file) less more leases later m (flip file.0 one.file false apart) are (fits file)))
+    (fits_apart one marks file.0 (before file) less more leases later m (flip file.0 one.file false apart) are (fits file)))
 
 -- what fits where there is a summary sums up
 pub known_sums_up : (file : ℕ) (opens : List Open) (leases : Key → Lease) (known : Option FileSummary) (summary : FileSummary)
@@ -437,19 +484,19 @@ changed_at_twice here before during after known other first second = record {
   apart = λ file e. second.apart file e ∙ first.apart file e;
 }
 
-pub summaries_put : (file : ℕ) (key : Key) (writes : Bool) (before after : FileNo → Option FileSummary)
+pub summaries_put : (file : ℕ) (key : Key) (marks : LeaseMarks) (before after : FileNo → Option FileSummary)
     (old new : FileSummary) (opens : List Open) (leases later : Key → Lease)
-    → IsPut key writes leases later
+    → IsPut key marks leases later
     → list_any (has_key_on file key) opens ≡ true → list_any (is_elsewhere key file) opens ≡ false
-    → before (record { 0 = file }) ≡ Some old → Writes key writes old new → IsChangedAt file before after (Some new)
+    → before (record { 0 = file }) ≡ Some old → IsMarked key marks old new → IsChangedAt file before after (Some new)
     → ((at : FileNo) → SummaryFits at.0 opens leases (before at))
     → (at : FileNo) → SummaryFits at.0 opens later (after at)
-summaries_put file key writes before after old new opens leases later put there home was w changed fits =
+summaries_put file key marks before after old new opens leases later put there home was w changed fits =
     let s = known_sums_up file opens leases _ old was (fits (record { 0 = file })) in
     at_file (λ at. SummaryFits at.0 opens later (after at)) file
     (subst (SummaryFits file opens later) (sym changed.there) (record {
       is_used = s.is_used;
-      sums_up = writes_sums_up file key writes old new opens leases later put
+      sums_up = marked_sums_up file key marks old new opens leases later put
           (λ other e. rw (key_eq-same other key e) there) s.sums_up w;
     }))
     (λ at apart. subst (SummaryFits at.0 opens later) (sym (changed.apart at apart))
@@ -462,10 +509,59 @@ summaries_put file key writes before after old new opens leases later put there 
     fits_put at None none f = f
     fits_put at (Some summary) none f = record {
       is_used = f.is_used;
-      sums_up = sums_up_written at key writes summary opens leases later put none f.sums_up;
+      sums_up = sums_up_marked at key marks summary opens leases later put none f.sums_up;
     }
 
 pub never_on : (file : ℕ) (key : Key) (opens : List Open) (leases : Key → Lease) (known : Option FileSummary)
     → list_any (has_key_on file key) opens ≡ true → known ≡ None → SummaryFits file opens leases known → ⊥
 never_on file key opens leases known there none fits =
     true≢false (sym there ∙ none_both (is_on file) (has_key key) opens (none_is_open file opens leases known none fits))
+
+-- ---- a lease of which nothing else is marked
+
+fits_alike : (file : ℕ) (opens : List Open) (leases later : Key → Lease) (known : Option FileSummary)
+    → ((key : Key) → marks_of (later key) ≡ marks_of (leases key))
+    → SummaryFits file opens leases known → SummaryFits file opens later known
+fits_alike file opens leases later None same fits = fits
+fits_alike file opens leases later (Some summary) same fits = record {
+  is_used = fits.is_used;
+  sums_up = record {
+    tally = fits.sums_up.tally;
+    keys = fits.sums_up.keys;
+    keyless = fits.sums_up.keyless;
+    writers = λ key. fits.sums_up.writers key
+        ∙ ap (λ b. list_any (has_key_on file key) opens && b) (sym (mark_writes (later key) (marks_of (leases key)) (same key)));
+    harmless = λ key. fits.sums_up.harmless key
+        ∙ ap (λ b. list_any (has_key_on file key) opens && b) (sym (mark_harmless (later key) (marks_of (leases key)) (same key)));
+  };
+}
+
+pub summaries_alike : (key : Key) (lease : Lease) (opens : List Open) (leases later : Key → Lease)
+    (known : FileNo → Option FileSummary)
+    → ((other : Key) → later other ≡ (if key_eq other key then lease else leases other))
+    → marks_of lease ≡ marks_of (leases key)
+    → ((file : FileNo) → SummaryFits file.0 opens leases (known file))
+    → (file : FileNo) → SummaryFits file.0 opens later (known file)
+summaries_alike key lease opens leases later known now same fits = λ file.
+    fits_alike file.0 opens leases later (known file)
+    (λ other. either (key_eq other key)
+    (λ e. ap marks_of (now other ∙ rw e refl) ∙ (same ∙ ap (λ k. marks_of (leases k)) (sym (key_eq-same other key e))))
+    (λ e. ap marks_of (now other ∙ rw e refl)))
+    (fits file)
+
+both_alike : (a b c d : Bool) → not (beq a c && beq b d) ≡ false → (a ≡ c) × (b ≡ d)
+both_alike true true true true e = (refl, refl)
+both_alike true false true false e = (refl, refl)
+both_alike false true false true e = (refl, refl)
+both_alike false false false false e = (refl, refl)
+both_alike true b false d e = absurd (true≢false e)
+both_alike false b true d e = absurd (true≢false e)
+both_alike true true true false e = absurd (true≢false e)
+both_alike true false true true e = absurd (true≢false e)
+both_alike false true false false e = absurd (true≢false e)
+both_alike false false false true e = absurd (true≢false e)
+
+pub marks_same : (a b : LeaseMarks) → not (beq a.writes b.writes && beq a.harmless b.harmless) ≡ false → a ≡ b
+marks_same a b e =
+    let parts = both_alike a.writes a.harmless b.writes b.harmless e in
+    rw (parts.0, parts.1) refl

@@ -1,15 +1,29 @@
--- What a look at a request finds, and how a try of it ends, as the definitions see them.
-use Rattle.std.specs.Prelude.{Option, Some, None}
+-- What a look at a request comes to, and how a try of it ends, as the definitions see them.
+use Rattle.std.specs.Prelude.{Bool, Option, Some, None, List, if◌then◌else◌}
+use Rattle.lease_state.specs.declared.status.Status.{Status}
 use Rattle.lease_model.specs.server.Attempt as model
 use Rattle.lease_model.specs.server.Attempt.{Tried, ended}
 use Rattle.lease_model.specs.server.Findings as findings
 use Rattle.lease_model.specs.server.Progress.{Progress}
+use Rattle.lease_model.specs.server.Wants.{Want}
 use Rattle.share_server.specs.declared.attempt.Outcome as outcome
 use Rattle.share_server.specs.declared.finding.Finding as code
 
-abbrev pub finding_of : code.Finding → findings.Finding
-finding_of (code.TheVariants.Fails status) = findings.Finding.Fails status
-finding_of (code.TheVariants.Needs wants) = findings.Finding.Needs wants.items
+-- the request is refused, can be answered, or needs these leases to be broken first
+pub data Look : Type 0 where
+  Fails : (status : Status) → Look
+  Ready : Look
+  Needs : (wants : List Want) → Look
+
+abbrev pub look_of : code.Finding → Look
+look_of (code.TheVariants.Fails status) = Look.Fails status
+look_of code.TheVariants.Ready = Look.Ready
+look_of (code.TheVariants.Needs wants) = Look.Needs wants.items
+
+-- what a finding of the rules comes to, where a request with these wants can be answered or can't
+abbrev pub looked : (List Want → Bool) → findings.Finding → Look
+looked is_ready (findings.Finding.Fails status) = Look.Fails status
+looked is_ready (findings.Finding.Needs wants) = if is_ready wants then Look.Ready else Look.Needs wants
 
 abbrev pub outcome_of : outcome.Outcome → model.Outcome
 outcome_of (outcome.TheVariants.Refused status) = model.Outcome.Refused status

@@ -1,6 +1,7 @@
 pub mod Closing
 pub mod Filed
 pub mod Findings
+pub mod Hindering
 pub mod Kept
 pub mod KeyOrder
 pub mod Laws

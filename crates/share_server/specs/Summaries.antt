@@ -8,11 +8,13 @@ use Rattle.std.specs.Ordering.{nat_cmp, on}
 use Rattle.lease_state.specs.declared.number.FileNo.{FileNo}
 use Rattle.lease_model.specs.server.State.{Server, Open, Lease, no_lease, has_key}
 use Rattle.lease_model.specs.values.Keys.{Key, key_eq}
+use Rattle.share_server.specs.Hindering.{is_harmless, marks_of}
 use Rattle.share_server.specs.KeyOrder.{key_order}
 use Rattle.share_server.specs.Leases.{lease_of}
 use Rattle.share_server.specs.Looks.{is_elsewhere}
 use Rattle.share_server.specs.Tallies.{tally_of, count, tally_raised, tally_lowered, raised, lowered}
 use Rattle.share_server.specs.declared.file_summary.FileSummary.{FileSummary}
+use Rattle.share_server.specs.declared.lease_marks.LeaseMarks.{LeaseMarks}
 use Rattle.share_server.specs.declared.summaries.LeaseRecord.{LeaseRecord}
 use Rattle.share_server.specs.declared.summaries.Summaries.{Summaries}
 use Rattle.share_server.specs.declared.tally.Tally.{Tally}
@@ -78,22 +80,26 @@ abbrev pub RecordFits : Key → List Open → Option LeaseRecord → Type 0
 RecordFits key opens None = list_any (has_key key) opens ≡ false
 RecordFits key opens (Some known) = IsRecord key opens known
 
--- What a file summary says of the opens on its file: their counts, the keys that they have, how many have none, and of
--- which of the keys the lease holds W.
+-- What a file summary says of the opens on its file: their counts, the keys that they have, how many have none, of
+-- which of the keys the lease holds W, and of which it hinders no write.
 pub record SumsUp (file : ℕ) (opens : List Open) (leases : Key → Lease) (summary : FileSummary) : Type 0 where
   pub tally : summary.tally ≡ tally_of (is_on file) opens
   pub keys : (key : Key) → contains key_order summary.keys key ≡ list_any (has_key_on file key) opens
   pub keyless : summary.keyless ≡ count (is_keyless_on file) opens
   pub writers : (key : Key) → contains key_order summary.writers key
       ≡ (list_any (has_key_on file key) opens && (leases key).state.write)
+  pub harmless : (key : Key) → contains key_order summary.harmless key
+      ≡ (list_any (has_key_on file key) opens && is_harmless (leases key))
 
--- what a summary becomes with an open more, whose lease holds W or not
-pub record Gains (one : Open) (writes : Bool) (old : FileSummary) (new : FileSummary) : Type 0 where
+-- what a summary becomes with an open more, of whose lease this is marked
+pub record Gains (one : Open) (marks : LeaseMarks) (old : FileSummary) (new : FileSummary) : Type 0 where
   pub tally : new.tally ≡ tally_raised one old.tally
   pub keys : (key : Key) → contains key_order new.keys key ≡ (has_key key one || contains key_order old.keys key)
   pub keyless : new.keyless ≡ raised (not (is_some one.lease_key)) old.keyless
   pub writers : (key : Key) → contains key_order new.writers key
-      ≡ (if has_key key one then writes else contains key_order old.writers key)
+      ≡ (if has_key key one then marks.writes else contains key_order old.writers key)
+  pub harmless : (key : Key) → contains key_order new.harmless key
+      ≡ (if has_key key one then marks.harmless else contains key_order old.harmless key)
 
 -- what it becomes with an open less, the last of its key or not
 pub record Loses (one : Open) (last : Bool) (old : FileSummary) (new : FileSummary) : Type 0 where
@@ -103,14 +109,18 @@ pub record Loses (one : Open) (last : Bool) (old : FileSummary) (new : FileSumma
   pub keyless : new.keyless ≡ lowered (not (is_some one.lease_key)) old.keyless
   pub writers : (key : Key) → contains key_order new.writers key
       ≡ (contains key_order old.writers key && not (has_key key one && last))
+  pub harmless : (key : Key) → contains key_order new.harmless key
+      ≡ (contains key_order old.harmless key && not (has_key key one && last))
 
--- what it becomes where the lease of a key holds W, or doesn't
-pub record Writes (key : Key) (writes : Bool) (old : FileSummary) (new : FileSummary) : Type 0 where
+-- what it becomes where this is marked of the lease of a key
+pub record IsMarked (key : Key) (marks : LeaseMarks) (old : FileSummary) (new : FileSummary) : Type 0 where
   pub tally : new.tally ≡ old.tally
   pub keys : new.keys ≡ old.keys
   pub keyless : new.keyless ≡ old.keyless
   pub writers : (other : Key) → contains key_order new.writers other
-      ≡ (if key_eq other key then writes else contains key_order old.writers other)
+      ≡ (if key_eq other key then marks.writes else contains key_order old.writers other)
+  pub harmless : (other : Key) → contains key_order new.harmless other
+      ≡ (if key_eq other key then marks.harmless else contains key_order old.harmless other)
 
 -- the same, where there are some
 pub record IsSummary (file : ℕ) (opens : List Open) (leases : Key → Lease) (summary : FileSummary) : Type 0 where
@@ -128,9 +138,9 @@ pub record Agrees (summaries : Summaries) (opens : List Open) : Type 0 where
   pub files : (file : FileNo) → SummaryFits file.0 opens (lease_in summaries) (summary_at summaries file)
 
 -- the leases after an open has come: those of other keys as before, and the open's key at home on its file
-pub record AreAfter (one : Open) (writes : Bool) (less : List Open) (leases later : Key → Lease) : Type 0 where
+pub record AreAfter (one : Open) (marks : LeaseMarks) (less : List Open) (leases later : Key → Lease) : Type 0 where
   pub same : (key : Key) → has_key key one ≡ false → later key ≡ leases key
-  pub own : (key : Key) → has_key key one ≡ true → (later key).state.write ≡ writes
+  pub own : (key : Key) → has_key key one ≡ true → marks_of (later key) ≡ marks
   pub home : (key : Key) → has_key key one ≡ true → list_any (is_elsewhere key one.file) less ≡ false
 
 -- the leases after an open has gone: those of keys that still have one as before
@@ -138,10 +148,10 @@ abbrev pub AreLeft : List Open → (Key → Lease) → (Key → Lease) → Type 
 AreLeft less leases later = (key : Key) → list_any (has_key key) less ≡ true → later key ≡ leases key
 
 -- the key's lease is another one
-abbrev pub IsPut : Key → Bool → (Key → Lease) → (Key → Lease) → Type 0
-IsPut key writes leases later =
+abbrev pub IsPut : Key → LeaseMarks → (Key → Lease) → (Key → Lease) → Type 0
+IsPut key marks leases later =
     ((other : Key) → key_eq other key ≡ false → later other ≡ leases other)
-    × ((other : Key) → key_eq other key ≡ true → (later other).state.write ≡ writes)
+    × ((other : Key) → key_eq other key ≡ true → marks_of (later other) ≡ marks)
 
 -- no open of the key is on another file
 abbrev pub IsAtHome : Option Key → ℕ → List Open → Type 0

@@ -44,3 +44,12 @@ keys_for Nothing summary = summary.keys
 abbrev pub own_count : Option Key → FileSummary → ℕ
 own_count None summary = 0
 own_count (Some key) summary = if contains key_order summary.keys key then 1 else 0
+
+-- a key on the file whose lease hinders writes
+abbrev pub is_hindering : FileSummary → Key → Bool
+is_hindering summary key = contains key_order summary.keys key && not (contains key_order summary.harmless key)
+
+-- how many of them are the request's
+abbrev pub own_hindering : Option Key → FileSummary → ℕ
+own_hindering None summary = 0
+own_hindering (Some key) summary = if is_hindering summary key then 1 else 0

@@ -1,5 +1,5 @@
 ghost use Rattle.std.specs.Prelude.{◌≡◌, ℕ, suc, IfOk, OnOk};
-ghost use Rattle.std.specs.List.{list_any, list_all};
+ghost use Rattle.std.specs.List.{list_any};
 ghost use Rattle.lease_model.specs.server.Attempt as rules;
 ghost use Rattle.lease_model.specs.server.Ready as ready;
 ghost use Rattle.lease_state.specs.State.{state_of};
@@ -12,7 +12,7 @@ ghost use Rattle.share_server.specs.Requests.{request_like};
 ghost use Rattle.share_server.specs.Table.{server_of};
 
 use crate::closing::Closing;
-use crate::finding::{Finding, has_none};
+use crate::finding::Finding;
 use crate::key::Key;
 use crate::lease::Lease;
 use crate::outs::Outs;
@@ -81,10 +81,8 @@ fn round(
 {
     match tables.finding(client, ask)? {
         Finding::Fails(status) => Ok(Some(Outcome::Refused(status))),
+        Finding::Ready => Ok(Some(Outcome::Ready)),
         Finding::Needs(wants) => {
-            if is_ready(tables, ask, &wants) {
-                return Ok(Some(Outcome::Ready));
-            }
             meet_all(tables, outs, &wants)?;
             if must_wait(tables, ask, &wants) {
                 Ok(Some(Outcome::Waits))
@@ -92,34 +90,6 @@ fn round(
                 Ok(None)
             }
         }
-    }
-}
-
-// Whether the request can be answered, where these leases are wanted.
-#[tactic(auto, unfolding(lease_model::specs::server::Ready::is_ready))]
-fn is_ready(tables: &Tables, ask: Ask, wants: &[Want]) -> bool
-    ensures { result ≡ ready.is_ready (request_like ask) (server_of tables.now).leases wants.now }
-{
-    match ask {
-        Ask::Write { .. } => all_break_to_nothing(tables, wants),
-        _ => has_none(wants),
-    }
-}
-
-fn all_break_to_nothing(tables: &Tables, wants: &[Want]) -> bool
-    ensures { result ≡ list_all (λ want. ready.breaks_to_none ((server_of tables.now).leases want.key)) wants.now }
-{
-    wants
-        .iter()
-        .all(|want| breaks_to_nothing(tables.lease(want.key)))
-}
-
-fn breaks_to_nothing(lease: Lease) -> bool
-    ensures { result ≡ ready.breaks_to_none (lease_of lease) }
-{
-    match lease.broken_to {
-        Some(lowered) => !holds_any(lowered),
-        None => false,
     }
 }
 

@@ -1,14 +1,15 @@
-ghost use Rattle.std.specs.Prelude.{◌≡◌, ◌<◌, ◌^◌, ◌+◌, ℕ, Bool, true, false, not, ◌&&◌, ◌||◌, if◌then◌else◌, nat_lt, List, length, OnOk};
+ghost use Rattle.std.specs.Prelude.{◌≡◌, ℕ, false, not, ◌&&◌, ◌||◌, if◌then◌else◌, List, OnOk};
 ghost use Rattle.std.specs.List.{list_any};
 ghost use Rattle.lease_model.specs.server.Allowed.{is_other_on};
-ghost use Rattle.lease_model.specs.server.State.{Open as ModelOpen, Lease as ModelLease, has_key};
+ghost use Rattle.lease_model.specs.server.State.{Open as ModelOpen, Lease as ModelLease};
 ghost use Rattle.lease_model.specs.values.Keys.{Key as ModelKey, key_eq};
 ghost use Rattle.std.specs.BTreeSet.{contains};
 ghost use Rattle.share_server.specs.KeyOrder.{key_order};
-ghost use Rattle.share_server.specs.Wanted.{own_count, keys_for};
-ghost use Rattle.share_server.specs.Summaries.{IsOneMore, SumsUp, Gains, Loses, Writes, is_on};
+ghost use Rattle.share_server.specs.Wanted.{is_own_key, is_hindering, keys_for, own_count, own_hindering};
+ghost use Rattle.share_server.specs.Summaries.{SumsUp, Gains, Loses, IsMarked, is_on};
 
 use crate::key::Key;
+use crate::lease_marks::LeaseMarks;
 use crate::open::Open;
 use crate::tally::Tally;
 use crate::want::Wish;
@@ -27,6 +28,9 @@ pub struct FileSummary {
     pub keyless: u64,
     /// Those of the keys whose leases hold `WRITE_CACHING`: one at most, by the laws of servers.
     pub writers: BTreeSet<Key>,
+    /// Those of the keys whose leases hinder no write under another key: they hold nothing, or are
+    /// breaking to nothing. Few do, so these are kept, and not the others.
+    pub harmless: BTreeSet<Key>,
 }
 
 impl FileSummary {
@@ -40,21 +44,22 @@ impl FileSummary {
             keys: BTreeSet::new(alloc),
             keyless: 0,
             writers: BTreeSet::new(alloc),
+            harmless: BTreeSet::new(alloc),
         }
     }
 
-    /// One more open, whose lease holds `WRITE_CACHING` or doesn't.
+    /// One more open, of whose lease this is marked.
     ///
     /// # Errors
     ///
     /// `Memory` where there is none left for the keys.
-    pub fn gain(&mut self, one: &Open, writes: bool) -> Result<(), Memory>
-        ensures { OnOk result (Gains one.now writes self.old self.new) }
+    pub fn gain(&mut self, one: &Open, marks: LeaseMarks) -> Result<(), Memory>
+        ensures { OnOk result (Gains one.now marks self.old self.new) }
     {
         self.tally = self.tally.raised(one);
         match one.key() {
             Some(key) => {
-                self.gain_key(key, writes)?;
+                self.gain_key(key, marks)?;
                 Ok(())
             }
             None => {
@@ -65,16 +70,18 @@ impl FileSummary {
     }
 
     // The key has an open.
-    fn gain_key(&mut self, key: Key, writes: bool) -> Result<(), Memory>
+    fn gain_key(&mut self, key: Key, marks: LeaseMarks) -> Result<(), Memory>
         ensures tally { OnOk result (self.new.tally ≡ self.old.tally) }
         ensures keyless { OnOk result (self.new.keyless ≡ self.old.keyless) }
         ensures keys { OnOk result ((other : ModelKey) → contains key_order self.new.keys other
             ≡ (key_eq other key || contains key_order self.old.keys other)) }
         ensures writers { OnOk result ((other : ModelKey) → contains key_order self.new.writers other
-            ≡ (if key_eq other key then writes else contains key_order self.old.writers other)) }
+            ≡ (if key_eq other key then marks.writes else contains key_order self.old.writers other)) }
+        ensures harmless { OnOk result ((other : ModelKey) → contains key_order self.new.harmless other
+            ≡ (if key_eq other key then marks.harmless else contains key_order self.old.harmless other)) }
     {
         self.keys.insert(key)?;
-        self.set_writer(key, writes)?;
+        self.mark(key, marks)?;
         Ok(())
     }
 
@@ -97,26 +104,26 @@ impl FileSummary {
             ≡ (contains key_order self.old.keys other && not (key_eq other key && last)) }
         ensures writers { (other : ModelKey) → contains key_order self.new.writers other
             ≡ (contains key_order self.old.writers other && not (key_eq other key && last)) }
+        ensures harmless { (other : ModelKey) → contains key_order self.new.harmless other
+            ≡ (contains key_order self.old.harmless other && not (key_eq other key && last)) }
     {
         if last {
             self.keys.remove(&key);
             self.writers.remove(&key);
+            self.harmless.remove(&key);
         }
     }
 
-    /// The lease of the key holds `WRITE_CACHING`, or doesn't.
+    /// This is marked of the lease of the key.
     ///
     /// # Errors
     ///
     /// `Memory` where there is none left for the keys.
-    pub fn set_writer(&mut self, key: Key, writes: bool) -> Result<(), Memory>
-        ensures { OnOk result (Writes key writes self.old self.new) }
+    pub fn mark(&mut self, key: Key, marks: LeaseMarks) -> Result<(), Memory>
+        ensures { OnOk result (IsMarked key marks self.old self.new) }
     {
-        if writes {
-            self.writers.insert(key)?;
-        } else {
-            self.writers.remove(&key);
-        }
+        set_member(&mut self.writers, key, marks.writes)?;
+        set_member(&mut self.harmless, key, marks.harmless)?;
         Ok(())
     }
 
@@ -138,6 +145,32 @@ impl FileSummary {
         }
     }
 
+    /// Whether the lease of another key than the request's hinders writes.
+    pub fn is_hindered(&self, own: Option<Key>) -> bool
+        ensures { (file : ℕ) (opens : List ModelOpen) (leases : ModelKey → ModelLease) → SumsUp file opens leases self.now
+            → result ≡ list_any (λ key. not (is_own_key own key) && is_hindering self.now key) self.now.keys.keys }
+    {
+        let hindering = self.keys.len().saturating_sub(self.harmless.len());
+        hindering > self.own_hindering(own)
+    }
+
+    // How many of the keys whose leases hinder writes are the request's.
+    fn own_hindering(&self, own: Option<Key>) -> usize
+        ensures { result ≡ own_hindering own self.now }
+    {
+        match own {
+            Some(key) => { if self.is_hindering(key) { 1 } else { 0 } }
+            None => 0,
+        }
+    }
+
+    // Whether the key is on the file, and its lease hinders writes.
+    fn is_hindering(&self, key: Key) -> bool
+        ensures { result ≡ is_hindering self.now key }
+    {
+        self.keys.contains(&key) && !self.harmless.contains(&key)
+    }
+
     /// The keys among which are all whose leases can be wanted.
     pub fn keys_for(&self, wish: Wish) -> &BTreeSet<Key>
         ensures { result.now ≡ keys_for wish self.now }
@@ -147,4 +180,17 @@ impl FileSummary {
             Wish::NoHandles { .. } | Wish::Nothing => &self.keys,
         }
     }
+}
+
+// The key is one of the keys, or isn't.
+fn set_member(keys: &mut BTreeSet<Key>, key: Key, is_one: bool) -> Result<(), Memory>
+    ensures { OnOk result ((other : ModelKey) → contains key_order keys.new other
+        ≡ (if key_eq other key then is_one else contains key_order keys.old other)) }
+{
+    if is_one {
+        keys.insert(key)?;
+    } else {
+        keys.remove(&key);
+    }
+    Ok(())
 }

@@ -1,8 +1,11 @@
 ghost use Rattle.std.specs.Prelude.{◌≡◌, [], IfOk, if◌then◌else◌};
+ghost use Rattle.std.specs.List.{list_all};
 ghost use Rattle.std.specs.Option.{option_map};
 ghost use Rattle.lease_model.specs.server.Findings as rules;
+ghost use Rattle.lease_model.specs.server.Ready as ready;
 ghost use Rattle.lease_model.specs.server.State.{has_file};
-ghost use Rattle.share_server.specs.Findings.{finding_of};
+ghost use Rattle.lease_model.specs.server.Wants.{all_wants};
+ghost use Rattle.share_server.specs.Findings.{look_of, looked};
 ghost use Rattle.lease_model.specs.values.Lists.{is_empty};
 ghost use Rattle.share_server.specs.Requests.{request_like, patch_like, lease_asked};
 ghost use Rattle.share_server.specs.Table.{server_of};
@@ -19,7 +22,9 @@ use lease_wire::CreateAsk;
 pub enum Finding {
     /// It is refused.
     Fails(Status),
-    /// It needs these leases to be broken, perhaps none.
+    /// It can be answered.
+    Ready,
+    /// It needs these leases to be broken.
     Needs(Vec<Want>),
 }
 
@@ -29,10 +34,11 @@ impl Tables {
     /// # Errors
     ///
     /// `Memory` where there is none left for the list of leases.
-    #[tactic(auto, unfolding(lease_model::specs::server::Findings::finding))]
+    #[tactic(auto, unfolding(lease_model::specs::server::Findings::finding, lease_model::specs::server::Ready::is_ready))]
     pub fn finding(&self, client: ClientNo, ask: Ask) -> Result<Finding, Memory>
-        ensures { IfOk result (λ found. finding_of found
-            ≡ rules.finding (server_of self.now) client.0 (request_like ask)) }
+        ensures { IfOk result (λ found. look_of found
+            ≡ looked (λ wants. ready.is_ready (request_like ask) (server_of self.now).leases wants)
+            (rules.finding (server_of self.now) client.0 (request_like ask))) }
     {
         match ask {
             Ask::Create {
@@ -47,21 +53,14 @@ impl Tables {
         }
     }
 
-    // Nothing has to be broken.
-    fn nothing_needed(&self) -> Finding
-        ensures { finding_of result ≡ rules.Finding.Needs [] }
-    {
-        Finding::Needs(Vec::new(self.alloc()))
-    }
-
     fn read_finding(&self, client: ClientNo, fid: FileId) -> Finding
-        ensures { finding_of result
-            ≡ rules.by_open (rules.connected_open (server_of self.now) client.0 fid.0) rules.read_finding }
+        ensures { look_of result ≡ looked (λ wants. is_empty wants)
+            (rules.by_open (rules.connected_open (server_of self.now) client.0 fid.0) rules.read_finding) }
     {
         match self.connected_open(client, fid) {
             Some(one) => {
                 if one.access.reads() {
-                    self.nothing_needed()
+                    Finding::Ready
                 } else {
                     Finding::Fails(Status::AccessDenied)
                 }
@@ -71,20 +70,21 @@ impl Tables {
     }
 
     fn close_finding(&self, client: ClientNo, fid: FileId) -> Finding
-        ensures { finding_of result
-            ≡ rules.by_open (rules.connected_open (server_of self.now) client.0 fid.0) (λ one. rules.Finding.Needs []) }
+        ensures { look_of result ≡ looked (λ wants. is_empty wants)
+            (rules.by_open (rules.connected_open (server_of self.now) client.0 fid.0) (λ one. rules.Finding.Needs [])) }
     {
         match self.connected_open(client, fid) {
-            Some(_) => self.nothing_needed(),
+            Some(_) => Finding::Ready,
             None => Finding::Fails(Status::FileClosed),
         }
     }
 
     #[tactic(auto, unfolding(lease_model::specs::server::Findings::write_finding))]
     fn write_finding(&self, client: ClientNo, fid: FileId, fits: bool) -> Result<Finding, Memory>
-        ensures { IfOk result (λ found. finding_of found
-            ≡ rules.by_open (rules.connected_open (server_of self.now) client.0 fid.0)
-            (λ one. rules.write_finding (server_of self.now) one (patch_like fits))) }
+        ensures { IfOk result (λ found. look_of found ≡ looked
+            (λ wants. list_all (λ want. ready.breaks_to_none ((server_of self.now).leases want.key)) wants)
+            (rules.by_open (rules.connected_open (server_of self.now) client.0 fid.0)
+            (λ one. rules.write_finding (server_of self.now) one (patch_like fits)))) }
     {
         match self.connected_open(client, fid) {
             None => Ok(Finding::Fails(Status::FileClosed)),
@@ -95,9 +95,23 @@ impl Tables {
                 if !fits {
                     return Ok(Finding::Fails(Status::InvalidParameter));
                 }
-                Ok(Finding::Needs(self.wants(Wish::Nothing, one.key(), one.file)?))
+                let needs = self.write_needs(one.key(), one.file)?;
+                Ok(needs)
             }
         }
+    }
+
+    // What a write needs under this key, or under none: nothing where each lease of another key on the
+    // file that holds something is breaking to nothing.
+    fn write_needs(&self, own: Option<Key>, file: FileNo) -> Result<Finding, Memory>
+        ensures { IfOk result (λ found. look_of found ≡ looked
+            (λ wants. list_all (λ want. ready.breaks_to_none ((server_of self.now).leases want.key)) wants)
+            (rules.Finding.Needs (all_wants (server_of self.now) own file.0))) }
+    {
+        if !self.is_hindered(own, file) {
+            return Ok(Finding::Ready);
+        }
+        Ok(Finding::Needs(self.wants(Wish::Nothing, own, file)?))
     }
 
     // A create of a file that is there is looked at as a reconnect, or as an open.
@@ -109,7 +123,8 @@ impl Tables {
         share: Share,
         ask: CreateAsk,
     ) -> Result<Finding, Memory>
-        ensures { IfOk result (λ found. finding_of found ≡ (if has_file (server_of self.now) file.0
+        ensures { IfOk result (λ found. look_of found ≡ looked (λ wants. is_empty wants)
+            (if has_file (server_of self.now) file.0
             then rules.asked_finding (server_of self.now) client.0 file.0 access share
             (option_map lease_asked ask.lease) (option_map (λ file_id. file_id.0) ask.reconnect)
             else rules.Finding.Fails Status.ObjectNameNotFound)) }
@@ -133,10 +148,11 @@ impl Tables {
         own: Option<Key>,
         fid: FileId,
     ) -> Finding
-        ensures { finding_of result ≡ rules.reconnect_finding (server_of self.now) client.0 file.0 own fid.0 }
+        ensures { look_of result ≡ looked (λ wants. is_empty wants)
+            (rules.reconnect_finding (server_of self.now) client.0 file.0 own fid.0) }
     {
         if self.has_awaiting(client, file, own, fid) {
-            self.nothing_needed()
+            Finding::Ready
         } else {
             Finding::Fails(Status::ObjectNameNotFound)
         }
@@ -151,14 +167,14 @@ impl Tables {
         access: Access,
         share: Share,
     ) -> Result<Finding, Memory>
-        ensures { IfOk result (λ found. finding_of found
-            ≡ rules.create_finding (server_of self.now) own file.0 access share) }
+        ensures { IfOk result (λ found. look_of found ≡ looked (λ wants. is_empty wants)
+            (rules.create_finding (server_of self.now) own file.0 access share)) }
     {
         if self.is_leased_elsewhere(own, file) {
             return Ok(Finding::Fails(Status::InvalidParameter));
         }
         if !self.has_conflict_on(file, access, share) {
-            return Ok(Finding::Needs(self.wants(Wish::NoWrites, own, file)?));
+            return Ok(needing(self.wants(Wish::NoWrites, own, file)?));
         }
         let wants = self.wants(Wish::NoHandles { access, share }, own, file)?;
         if has_none(&wants) {
@@ -169,8 +185,19 @@ impl Tables {
     }
 }
 
-/// Whether nothing is wanted.
-pub fn has_none(wants: &[Want]) -> bool
+// The request needs these leases to be broken, and can be answered where there are none.
+fn needing(needed: Vec<Want>) -> Finding
+    ensures { look_of result ≡ looked (λ wants. is_empty wants) (rules.Finding.Needs needed.items) }
+{
+    if has_none(&needed) {
+        Finding::Ready
+    } else {
+        Finding::Needs(needed)
+    }
+}
+
+// Whether nothing is wanted.
+fn has_none(wants: &[Want]) -> bool
     ensures { result ≡ is_empty wants.now }
 {
     match wants {

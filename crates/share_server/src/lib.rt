@@ -40,6 +40,7 @@ mod finding;
 mod grant;
 mod key;
 mod lease;
+mod lease_marks;
 mod left_opens;
 mod open;
 mod opens;

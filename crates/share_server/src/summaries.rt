@@ -12,6 +12,7 @@ ghost use Rattle.share_server.specs.Summaries.{record_at, lease_in, tally_in, Is
 ghost use Rattle.lease_model.specs.server.Allowed as grants;
 ghost use Rattle.std.specs.BTreeSet.{IsOrdered};
 ghost use Rattle.lease_model.specs.server.KeyOrder.{keys_of};
+ghost use Rattle.share_server.specs.Hindering.{is_hinderer};
 ghost use Rattle.share_server.specs.KeyOrder.{key_order};
 ghost use Rattle.share_server.specs.Wanted.{is_wanted_key, is_own_key};
 ghost use Rattle.share_server.specs.Wishes.{is_demanded};
@@ -23,6 +24,7 @@ ghost use Rattle.std.specs.Option.{option_map};
 use crate::file_summary::FileSummary;
 use crate::key::Key;
 use crate::lease::Lease;
+use crate::lease_marks::LeaseMarks;
 use crate::open::Open;
 use crate::tally::Tally;
 use crate::want::Demand;
@@ -61,21 +63,21 @@ impl Summaries {
     }
 
     // The summary of the file, with one open more.
-    fn gain_on_file(&mut self, alloc: Global, one: &Open, writes: bool) -> Result<(), Memory>
+    fn gain_on_file(&mut self, alloc: Global, one: &Open, marks: LeaseMarks) -> Result<(), Memory>
         ensures leases { OnOk result (self.new.leases ≡ self.old.leases) }
         ensures files { OnOk result ((less more : List ModelOpen) (leases later : ModelKey → ModelLease)
-            → IsOneMore one.now less more → length more < 2 ^ 64 → AreAfter one.now writes less leases later
+            → IsOneMore one.now less more → length more < 2 ^ 64 → AreAfter one.now marks less leases later
             → ((file : FileNo) → SummaryFits file.0 less leases (summary_at self.old file))
             → (file : FileNo) → SummaryFits file.0 more later (summary_at self.new file)) }
     {
         match self.files.get_mut(&one.file) {
             Some(summary) => {
-                summary.gain(one, writes)?;
+                summary.gain(one, marks)?;
                 Ok(())
             }
             None => {
                 let mut summary = FileSummary::new(alloc);
-                summary.gain(one, writes)?;
+                summary.gain(one, marks)?;
                 self.files.insert(one.file, summary)?;
                 Ok(())
             }
@@ -184,31 +186,32 @@ impl Summaries {
         ensures leases { OnOk result ((key : ModelKey) → lease_in self.new key
             ≡ (if has_key key one.now then lease_of lease else lease_in self.old key)) }
     {
+        let marks = LeaseMarks::of(lease);
         match one.key() {
             Some(key) => {
                 self.gain_record(key, one, lease)?;
-                self.gain_on_file(alloc, one, lease.state.caches_writes())?;
+                self.gain_on_file(alloc, one, marks)?;
                 Ok(())
             }
             None => {
-                self.gain_on_file(alloc, one, false)?;
+                self.gain_on_file(alloc, one, marks)?;
                 Ok(())
             }
         }
     }
 
-    // The summary of the file, where the lease of a key holds `WRITE_CACHING` or doesn't.
-    fn write_on_file(&mut self, file: FileNo, key: Key, writes: bool) -> Result<(), Memory>
+    // The summary of the file, where this is marked of the lease of a key.
+    fn mark_on_file(&mut self, file: FileNo, key: Key, marks: LeaseMarks) -> Result<(), Memory>
         ensures leases { OnOk result (self.new.leases ≡ self.old.leases) }
         ensures files { OnOk result ((opens : List ModelOpen) (leases later : ModelKey → ModelLease)
-            → IsPut key writes leases later
+            → IsPut key marks leases later
             → list_any (has_key_on file.0 key) opens ≡ true → list_any (is_elsewhere key file.0) opens ≡ false
             → ((at : FileNo) → SummaryFits at.0 opens leases (summary_at self.old at))
             → (at : FileNo) → SummaryFits at.0 opens later (summary_at self.new at)) }
     {
         match self.files.get_mut(&file) {
             Some(summary) => {
-                summary.set_writer(key, writes)?;
+                summary.mark(key, marks)?;
                 Ok(())
             }
             None => Ok(()),
@@ -229,9 +232,13 @@ impl Summaries {
     {
         match self.leases.get_mut(&key) {
             Some(known) => {
-                known.lease = lease;
+                let marked = LeaseMarks::of(known.lease);
+                let marks = LeaseMarks::of(lease);
                 let file = known.file;
-                self.write_on_file(file, key, lease.state.caches_writes())?;
+                known.lease = lease;
+                if marks != marked {
+                    self.mark_on_file(file, key, marks)?;
+                }
                 Ok(())
             }
             None => Ok(()),
@@ -305,6 +312,17 @@ impl Summaries {
     {
         match self.files.get(&file) {
             Some(summary) => summary.has_other(own),
+            None => false,
+        }
+    }
+
+    /// Whether the lease of another key on the file hinders a write under this key, or under none.
+    pub fn is_hindered(&self, own: Option<Key>, file: FileNo) -> bool
+        ensures { (server : Server) → StandFor self.now server
+            → result ≡ list_any (is_hinderer server own file.0) server.opens }
+    {
+        match self.files.get(&file) {
+            Some(summary) => summary.is_hindered(own),
             None => false,
         }
     }

@@ -1,4 +1,6 @@
 ghost use Rattle.std.specs.Prelude.{◌≡◌, IfOk, map};
+ghost use Rattle.std.specs.List.{list_any};
+ghost use Rattle.share_server.specs.Hindering.{is_hinderer};
 ghost use Rattle.share_server.specs.Table.{server_of};
 ghost use Rattle.share_server.specs.Wishes.{wants_for, want_of};
 
@@ -22,6 +24,14 @@ impl Tables {
             .wanted_keys(self.alloc(), &Demand { wish, own, file })?;
         let wants = self.wants_of(wish, &keys)?;
         Ok(wants)
+    }
+
+    /// Whether the lease of another key on the file hinders a write under this key, or under none: it
+    /// holds something, and is not breaking to nothing yet.
+    pub fn is_hindered(&self, own: Option<Key>, file: FileNo) -> bool
+        ensures { result ≡ list_any (is_hinderer (server_of self.now) own file.0) (server_of self.now).opens }
+    {
+        self.summaries.is_hindered(own, file)
     }
 
     // The wants of these keys.

@@ -13,6 +13,8 @@ returns-in_ok-gain_key-in-Some c =
       keys = λ other. rw (has_key_own c.args.one.now c.in-Some.key other own) (c.in_ok-gain_key-in-Some.ensures.keys other);
       writers = λ other.
           rw (has_key_own c.args.one.now c.in-Some.key other own) (c.in_ok-gain_key-in-Some.ensures.writers other);
+      harmless = λ other.
+          rw (has_key_own c.args.one.now c.in-Some.key other own) (c.in_ok-gain_key-in-Some.ensures.harmless other);
     }
 
 pub returns-in-None : goal.returns-in-None
@@ -24,4 +26,5 @@ returns-in-None c =
       keyless = rw has c.saturating_add-self.ensures;
       keys = λ other. rw (has_key_none c.args.one.now other own) refl;
       writers = λ other. rw (has_key_none c.args.one.now other own) refl;
+      harmless = λ other. rw (has_key_none c.args.one.now other own) refl;
     }

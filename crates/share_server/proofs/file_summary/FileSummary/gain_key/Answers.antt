@@ -6,5 +6,5 @@ pub returns-clause-keys : goal.returns-clause-keys
 returns-clause-keys c = λ other.
     let now = c.in_ok-insert.ensures.updates.0 other in
     let same = order_eq-back c.args.key other in
-    let kept = c.in_ok-set_writer.ensures.keys in
+    let kept = c.in_ok-mark.ensures.keys in
     rw kept (grind (arith, now, same))

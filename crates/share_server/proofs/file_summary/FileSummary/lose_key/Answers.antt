@@ -15,3 +15,10 @@ returns-then-last-clause-writers c = λ other.
     let same = order_eq-back c.args.key other in
     let yes = c.if-last.true in
     grind (arith, now, same, yes)
+
+pub returns-then-last-clause-harmless : goal.returns-then-last-clause-harmless
+returns-then-last-clause-harmless c = λ other.
+    let now = c.remove-then-last-2.ensures.updates.0 other in
+    let same = order_eq-back c.args.key other in
+    let yes = c.if-last.true in
+    grind (arith, now, same, yes)

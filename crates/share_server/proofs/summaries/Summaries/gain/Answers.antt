@@ -17,7 +17,7 @@ returns-in_ok-gain_on_file-in-Some-clause-agrees c = λ less more m short home a
     (records_gain key one c.args.lease (record_at c.args.self.now) (record_at during) less more own m short on_file
     changed agrees.records)
     (c.in_ok-gain_on_file-in-Some.ensures.files less more (lease_in c.args.self.now) (lease_in during) m short
-    (after_gain key one c.args.lease c.caches_writes.result less c.args.self.now during own on_file (sym c.caches_writes.ensures)
+    (after_gain key one c.args.lease c.of-marks.result less c.args.self.now during own on_file (sym c.of-marks.ensures)
     (lease_put key c.args.lease _ _ (record_at c.args.self.now) (record_at during) changed))
     (files_kept c.args.self.now during less (lease_in c.args.self.now) c.in_ok-gain_record-in-Some.ensures.files agrees.files))
 

@@ -6,7 +6,7 @@ use Rattle.share_server.proofs.summaries.Summaries.gain_on_file.Goals as goal
 pub returns-in_ok-gain-in-Some-clause-files : goal.returns-in_ok-gain-in-Some-clause-files
 returns-in_ok-gain-in-Some-clause-files c = λ less more leases later m short are fits.
     let one = the_view c.one.inside in
-    summaries_gain one c.args.writes _ _ c.in-Some.summary.now c.gain.new.self less more leases later
+    summaries_gain one c.args.marks _ _ c.in-Some.summary.now c.gain.new.self less more leases later
     (rw (← c.one.view_is) at m) short (rw (← c.one.view_is) at are)
     (known_sums_up one.file less leases _ c.in-Some.summary.now (sym c.in-Some.ensures.value) (fits c.one.inside.file)).sums_up
     (rw (← c.one.view_is) at c.in_ok-gain-in-Some.ensures)
@@ -16,7 +16,7 @@ returns-in_ok-gain-in-Some-clause-files c = λ less more leases later m short ar
 pub returns-in_ok-insert-in-None-clause-files : goal.returns-in_ok-insert-in-None-clause-files
 returns-in_ok-insert-in-None-clause-files c = λ less more leases later m short are fits.
     let one = the_view c.one.inside in
-    summaries_gain one c.args.writes _ _ c.new-summary.result c.gain-in-None.new.self less more leases later
+    summaries_gain one c.args.marks _ _ c.new-summary.result c.gain-in-None.new.self less more leases later
     (rw (← c.one.view_is) at m) short (rw (← c.one.view_is) at are)
     (c.new-summary.ensures one.file less leases (none_is_open one.file less leases _ (sym c.in-None.ensures.value) (fits c.one.inside.file)))
     (rw (← c.one.view_is) at c.in_ok-gain-in-None.ensures)
