@@ -1,9 +1,13 @@
 use Rattle.std.proofs.Common.{◌≡◌, ◌≢◌, ℕ, zero, suc, ◌+◌, ◌≤◌, ◌<◌, List, [], ◌∷◌, length, take, drop, refl, sym, arith, add-one, length-drop, ◌-◌, slice_index, ◌==◌, true, false, Bool, if◌then◌else◌}
 use Rattle.std.proofs.lemmas.Bool.Decides.{nat_tests}
-use Rattle.std.proofs.Common.{Option, Result, Ok}
+use Rattle.std.proofs.Common.{Option, Some, None, Result, Ok}
 use Rattle.lease_texts.specs.Pieces.{pieces, longer, lines_of}
 use Rattle.lease_texts.specs.Reading.{reads_on}
+use Rattle.std.proofs.lemmas.Grind.{common_steps}
 use Rattle.std.proofs.lemmas.List.{take_all}
+use Rattle.std.proofs.lemmas.List.Quantifiers.{position-Some}
+use Rattle.std.proofs.lemmas.List.Sums.{fails_before_first}
+use Rattle.std.specs.List.{position, position_or_len}
 use Rattle.lease_state.specs.State.{state_of_bits, bits_of_state}
 
 if_cases : {X : Type 0} (P : X → Type 0) (b : Bool) (x y : X) → (b ≡ true → P x) → (b ≡ false → P y) → P (if b then x else y)
@@ -40,6 +44,28 @@ pieces_whole separator (byte ∷ bytes) none =
     let other : (byte == separator) ≡ false = grind (arith, nat_tests, none 0 (omega arith)) in
     let rest = pieces_whole separator bytes (λ i below. none (suc i) (omega (arith, below))) in
     rw (other, rest) refl
+
+-- ---- the place of the first separator
+
+pub separator_at : (separator : ℕ) (last : List (List ℕ)) (bytes : List ℕ) (k n : ℕ) → position (λ byte. byte == separator) bytes ≡ Some k
+    → n ≡ length bytes - (k + 1)
+    → pieces separator last bytes ≡ take k bytes ∷ pieces separator last (take n (drop (k + 1) bytes))
+separator_at separator last bytes k n is rest =
+    let found = position-Some (λ byte. byte == separator) bytes k 0 is in
+    pieces_found separator last bytes k n found.0
+    (λ i below same. let other = found.2 i below in grind (arith, nat_tests, same, other))
+    (let here = found.1 in grind (arith, nat_tests, here)) rest
+
+none_before : (separator : ℕ) (bytes : List ℕ) → position (λ byte. byte == separator) bytes ≡ None
+    → (i : ℕ) → i < length bytes → slice_index bytes i ≢ separator
+none_before separator bytes none i below same =
+    let past : length bytes ≤ position_or_len (λ byte. byte == separator) bytes = grind (arith, common_steps, none) in
+    let fails = fails_before_first (λ byte. byte == separator) bytes i 0 (omega (arith, past, below)) in
+    absurd (grind (arith, nat_tests, same, fails))
+
+pub no_separator : (separator : ℕ) (bytes : List ℕ) → position (λ byte. byte == separator) bytes ≡ None
+    → pieces separator ([] ∷ []) bytes ≡ bytes ∷ []
+no_separator separator bytes none = pieces_whole separator bytes (none_before separator bytes none)
 
 -- Each text has a first piece.
 longer_some : (byte : ℕ) (rest : List (List ℕ)) → longer byte rest ≢ []

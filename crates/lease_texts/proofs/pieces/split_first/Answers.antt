@@ -1,17 +1,9 @@
-use Rattle.std.proofs.Common.{arith, refl, [], ◌∷◌}
-use Rattle.std.proofs.lemmas.Bool.Decides.{nat_tests}
-use Rattle.lease_texts.proofs.Cut.{pieces_found, pieces_whole}
+use Rattle.std.proofs.Common.{refl, sym, [], ◌∷◌}
+use Rattle.lease_texts.proofs.Cut.{separator_at, no_separator}
 use Rattle.lease_texts.proofs.pieces.split_first.Goals as goal
 
 pub returns-in-Some : goal.returns-in-Some
-returns-in-Some c =
-    let found = c.in-Some.ensures in
-    pieces_found c.args.separator ([] ∷ []) c.args.bytes.now c.in-Some.place _ found.0.high
-    (λ i below same. found.0.before i (omega arith) below (grind (arith, nat_tests, same)))
-    (grind (arith, nat_tests, found.1)) refl
+returns-in-Some c = separator_at c.args.separator ([] ∷ []) c.args.bytes.now c.in-Some.place _ (sym c.in-Some.ensures) refl
 
 pub returns-in-None : goal.returns-in-None
-returns-in-None c =
-    let nowhere = c.in-None.ensures in
-    pieces_whole c.args.separator c.args.bytes.now
-    (λ i below same. nowhere i (omega arith) below (grind (arith, nat_tests, same)))
+returns-in-None c = no_separator c.args.separator c.args.bytes.now (sym c.in-None.ensures)
