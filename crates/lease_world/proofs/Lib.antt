@@ -1,3 +1,4 @@
+pub mod Changed
 pub mod Linked
 pub mod Numbered
 pub mod Places

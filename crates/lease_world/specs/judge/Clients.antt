@@ -5,7 +5,7 @@ use Rattle.lease_state.specs.declared.patch.Patch.{Patch}
 use Rattle.lease_model.specs.values.Lists.{is_empty}
 use Rattle.lease_state.specs.State.{State}
 use Rattle.lease_world.specs.judge.Caches.{IsShown}
-use Rattle.lease_world.specs.judge.Seen.{SeenFile, SeenWrite, SeenWrites, SeenCache, SeenClient, cache_in, write_by, write_at, write_in, has_settled, accepted_as}
+use Rattle.lease_world.specs.judge.Seen.{SeenFile, SeenWrite, SeenWrites, SeenCache, SeenClient, Numbers, cache_in, write_by, write_at, write_in, has_settled, accepted_as}
 
 -- there is a message that was sent since it joined and not taken
 abbrev pub can_take : SeenClient → Bool
@@ -84,10 +84,13 @@ Believes file state old new = (new ≡ record old { caches = new.caches })
     × HasCache old.caches new.caches file (with_belief state (cache_in old.caches file))
 
 -- the cache of a file is brought up to the place, and shows these bytes or doesn't
+abbrev pub SeesCache : ℕ → SeenFile → ℕ → Numbers → List ℕ → List SeenCache → List SeenCache → Bool → Type 0
+SeesCache number file place settled bytes old new same = HasCache old new number (cache_in new number)
+    × IsShown file place settled bytes (cache_in old number) (cache_in new number) same
+
 abbrev pub Sees : ℕ → SeenFile → ℕ → List ℕ → SeenClient → SeenClient → Bool → Type 0
 Sees number file place bytes old new same = (new ≡ record old { caches = new.caches })
-    × HasCache old.caches new.caches number (cache_in new.caches number)
-    × IsShown file place old.settled bytes (cache_in old.caches number) (cache_in new.caches number) same
+    × SeesCache number file place old.settled bytes old.caches new.caches same
 
 -- the sending place of the message that it took last since it joined
 abbrev pub taken_of : SeenClient → Option ℕ

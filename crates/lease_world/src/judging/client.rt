@@ -242,9 +242,7 @@ impl ClientSeen {
     ) -> Result<bool, Memory>
         ensures { IfOk result (λ same. Sees number.0 file.now place bytes.now self.old self.new same) }
     {
-        reach(&mut self.caches, number)?;
-        let cache = &mut self.caches[usize::from(number.0)];
-        cache.shows(file, place, &self.settled, bytes)
+        see_in_cache(&mut self.caches, &self.settled, number, file, place, bytes)
     }
 }
 
@@ -279,6 +277,23 @@ fn write_in_cache(
     cache.write(number, write.patch.try_copy()?)
 }
 
+// Whether the cache of a file shows these bytes.
+fn see_in_cache(
+    caches: &mut Vec<CacheSeen>,
+    settled: &Numbers,
+    number: FileNo,
+    file: &FileSeen,
+    place: u64,
+    bytes: &[u8],
+) -> Result<bool, Memory>
+    ensures { IfOk result (λ same. SeesCache number.0 file.now place settled.now bytes.now
+        caches.old.items caches.new.items same) }
+{
+    reach(caches, number)?;
+    let cache = &mut caches[usize::from(number.0)];
+    cache.shows(file, place, settled, bytes)
+}
+
 fn believe_in_cache(
     caches: &mut Vec<CacheSeen>,
     file: FileNo,
@@ -293,4 +308,4 @@ fn believe_in_cache(
     Ok(())
 }
 
-ghost use Rattle.lease_world.specs.judge.Clients.{taken_of, TakesOne, is_buffered_before, is_accepted_write, Accepts, Writes, Settles, Believes, Sees, HasCache, WritesCache, with_belief};
+ghost use Rattle.lease_world.specs.judge.Clients.{taken_of, TakesOne, is_buffered_before, is_accepted_write, Accepts, Writes, Settles, Believes, Sees, SeesCache, HasCache, WritesCache, with_belief};

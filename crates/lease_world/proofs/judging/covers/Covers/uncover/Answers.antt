@@ -1,4 +1,4 @@
-use Rattle.std.proofs.Common.{◌≡◌, ◌≢◌, ◌⊎◌, ◌≤◌, ◌-◌, ◌∙◌, ℕ, List, arith, get_or, length, map, take, sym, ap, subst}
+use Rattle.std.proofs.Common.{◌≡◌, ◌≢◌, ◌⊎◌, ◌≤◌, ◌-◌, ◌∙◌, ℕ, List, arith, get_or, length, map, sym, ap, subst}
 use Rattle.std.proofs.lemmas.Bool.Decides.{nat_tests}
 use Rattle.lease_world.specs.declared.judging.covers.Cover.{Cover}
 use Rattle.lease_world.specs.declared.judging.covers.Layer.{Layer}
