@@ -646,7 +646,7 @@ read_held : (files : ℕ → SeenFile) (taken file : ℕ) (bytes : List ℕ) (se
     → (f : ℕ) → HasContents (files f) now.taken (cache_in now.caches f)
 read_held files taken file bytes seen now same is started some held f =
     rw is.0 (contents-each files seen.taken file seen.caches now.caches
-    (cache_in now.caches file) is.1
+    (cache_in now.caches file) is.1.0
     (contents-read taken bytes file seen now (files file) same (held file) started some is) held f)
 
 shown_judged : (place client file : ℕ) (bytes : List ℕ) (old new : Seen) (v : Verdict) (past : List Fact) (taken : Option ℕ) → Knows old past
