@@ -3,6 +3,7 @@ pub mod Alike
 pub mod Arriving
 pub mod Asking
 pub mod Breaking
+pub mod Counted
 pub mod Demanding
 pub mod Expiring
 pub mod FilePlaces
@@ -23,6 +24,7 @@ pub mod Recording
 pub mod Rounds
 pub mod Sending
 pub mod Standing
+pub mod StillWaiting
 pub mod Summing
 pub mod Tabling
 pub mod Tallies

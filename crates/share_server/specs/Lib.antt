@@ -10,6 +10,7 @@ pub mod Looks
 pub mod Outs
 pub mod Passing
 pub mod Requests
+pub mod StillWaiting
 pub mod Summaries
 pub mod Table
 pub mod Tallies

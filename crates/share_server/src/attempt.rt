@@ -95,9 +95,9 @@ fn round(
     }
 }
 
-// Whether the request can be answered, where these leases are wanted.
+/// Whether the request can be answered, where these leases are wanted.
 #[tactic(auto, unfolding(lease_model::specs::server::Ready::is_ready))]
-fn is_ready(tables: &Tables, ask: Ask, wants: &[Want]) -> bool
+pub fn is_ready(tables: &Tables, ask: Ask, wants: &[Want]) -> bool
     ensures { result ≡ ready.is_ready (request_like ask) (server_of tables.now).leases wants.now }
 {
     match ask {
@@ -132,8 +132,8 @@ fn breaks_to_something(lease: Lease) -> bool
     }
 }
 
-// Whether some lease of these keeps the request waiting.
-fn must_wait(tables: &Tables, ask: Ask, wants: &[Want]) -> bool
+/// Whether some lease of these keeps the request waiting.
+pub fn must_wait(tables: &Tables, ask: Ask, wants: &[Want]) -> bool
     ensures { result ≡ list_any (λ want. ready.waits_for (request_like ask) ((server_of tables.now).leases want.key))
         wants.now }
 {

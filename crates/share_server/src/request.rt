@@ -3,8 +3,10 @@ ghost use Rattle.std.specs.Option.{option_map};
 ghost use Rattle.lease_model.specs.server.Attempt.{tried};
 ghost use Rattle.lease_model.specs.server.Naming as naming;
 ghost use Rattle.lease_model.specs.server.Progress.{Progress};
+ghost use Rattle.lease_model.specs.server.State.{Server};
 ghost use Rattle.lease_model.specs.values.Patches.{is_within_limit};
 ghost use Rattle.share_server.specs.Requests.{file_request_of, request_like, lease_asked};
+ghost use Rattle.share_server.specs.StillWaiting.{HasOnlyToWait};
 
 use crate::key::Key;
 use lease_state::{
@@ -59,9 +61,11 @@ pub enum Ask {
 
 impl FileRequest {
     /// What of the request decides when it can be answered.
-    #[tactic(auto, using(crate::proofs::Alike::writes_are_tried_alike))]
+    #[tactic(auto, using(crate::proofs::Alike::writes_are_tried_alike, crate::proofs::Alike::writes_wait_alike))]
     pub fn ask(&self) -> Ask
-        ensures { (client : ℕ) (progress : Progress)
+        ensures waits { (client : ℕ) (server : Server) → HasOnlyToWait server client (request_like result)
+            → HasOnlyToWait server client (file_request_of self.now) }
+        ensures tried { (client : ℕ) (progress : Progress)
             → tried client (request_like result) progress ≡ tried client (file_request_of self.now) progress }
     {
         match self {

@@ -1,4 +1,4 @@
-ghost use Rattle.std.specs.Prelude.{◌≡◌, ◌≤◌, ◌<◌, ℕ, ◌==◌, ◌++◌, [], ◌∷◌, IfOk, OnOk, map, filter, not, length, vec_len};
+ghost use Rattle.std.specs.Prelude.{◌≡◌, ◌≤◌, ◌<◌, ℕ, ◌==◌, ◌++◌, [], ◌∷◌, IfOk, OnOk, OnErr, map, filter, not, length, vec_len};
 ghost use Rattle.std.specs.List.{remove, slice_get};
 ghost use Rattle.std.specs.Prelude.{Some, true};
 ghost use Rattle.lease_model.specs.values.Tables.{numbered};
@@ -13,6 +13,7 @@ use crate::opens::Opens;
 use crate::request::Held;
 use crate::state::without_write;
 use crate::summaries::Summaries;
+use crate::waiting::Waiting;
 use lease_state::{
     Access, ClientNo, Content, ContentFault, FileId, FileNo, LeaseState, Memory, Patch, Share,
 };
@@ -21,6 +22,7 @@ use std::marker::Model;
 
 mod changes;
 mod looks;
+mod still;
 mod wants;
 
 /// The last number that a file can have (profile): those of one byte.
@@ -67,7 +69,8 @@ impl File {
 
     /// The request waits after the others.
     fn hold(&mut self, one: Held) -> Result<(), Memory>
-        ensures { OnOk result (self.new ≡ record self.old { held = self.old.held ++ one ∷ [] }) }
+        ensures held { OnOk result (self.new ≡ record self.old { held = self.old.held ++ one ∷ [] }) }
+        ensures refused { OnErr result (self.new ≡ self.old) }
     {
         self.held.push(one)?;
         Ok(())
@@ -92,7 +95,8 @@ impl File {
     /// The patch, which ends within the limit, is put over the bytes.
     fn change(&mut self, patch: &Patch) -> Result<(), Memory>
         requires { is_within_limit patch.now ≡ true }
-        ensures { OnOk result (self.new ≡ record self.old { content = patched self.old.content patch.now }) }
+        ensures changed { OnOk result (self.new ≡ record self.old { content = patched self.old.content patch.now }) }
+        ensures held { self.new.held ≡ self.old.held }
     {
         match self.content.apply(patch) {
             Ok(()) => Ok(()),
@@ -118,12 +122,16 @@ pub struct Tables {
     expired: Vec<Key>,
     /// The FileId given last.
     last_id: u64,
+    /// The requests that are known to wait still.
+    waiting: Waiting,
 }
 
 impl Model for Tables {
     ghost use Rattle.std.specs.Prelude.{◌≡◌, vec_len};
     ghost use Rattle.share_server.specs.Table as table;
     ghost use Rattle.share_server.specs.Kept.{listed, AreKept};
+    ghost use Rattle.share_server.specs.StillWaiting.{AreKnown};
+    ghost use Rattle.share_server.specs.Summaries.{lease_in};
 
     ghost Value = { table.Table };
 
@@ -138,7 +146,8 @@ impl Model for Tables {
     } };
 
     ghost invariant = { λ tables. (vec_len tables.files ≡ 256)
-        × AreKept tables.opens tables.summaries tables.last_id };
+        × AreKept tables.opens tables.summaries tables.last_id
+        × AreKnown tables.waiting tables.count tables.files.items tables.opens (lease_in tables.summaries) };
 }
 
 impl Tables {
@@ -169,6 +178,7 @@ impl Tables {
             present: Vec::new(alloc),
             expired: Vec::new(alloc),
             last_id: 0,
+            waiting: Waiting::new(alloc),
         })
     }
 

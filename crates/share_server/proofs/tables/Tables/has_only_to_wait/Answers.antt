@@ -1,0 +1,19 @@
+use Rattle.std.proofs.Common.{refl, ap, sym, ◌∙◌}
+use Rattle.share_server.specs.Findings.{finding_of}
+use Rattle.share_server.specs.Requests.{request_like}
+use Rattle.share_server.specs.StillWaiting.{HasOnlyToWait}
+use Rattle.share_server.specs.Table.{server_of}
+use Rattle.share_server.specs.contracts.tables.Tables.{the_view}
+use Rattle.share_server.proofs.Counted.{in_vain_now}
+use Rattle.share_server.proofs.tables.Tables.has_only_to_wait.Goals as goal
+
+pub returns-in_ok-waits-in-Needs-clause-vain : goal.returns-in_ok-waits-in-Needs-clause-vain
+returns-in_ok-waits-in-Needs-clause-vain c = λ yes.
+    let has : HasOnlyToWait (server_of c.args.self.now) c.args.client.0 (request_like c.args.ask) = record {
+      wants = c.in-Needs.wants.items;
+      found = sym c.in_ok-finding.ensures ∙ ap finding_of c.in-Needs.is;
+      waits = rw c.deref.ensures.value at (c.in_ok-waits-in-Needs.ensures yes);
+    } in
+    rw (← c.self.view_is)
+    (in_vain_now (the_view c.self.inside) c.self.inside.summaries c.args.client.0 (request_like c.args.ask)
+    c.self.invariant.1 refl (rw (← c.self.view_is) at has))
