@@ -38,7 +38,8 @@ known_with P files i new inside here others n =
     let is = (Decides-eqb n i).0 its in
     subst (λ (f : File). P n f.held) (sym (at ∙ ap (λ b. cond b new (file_in files n)) its))
     (subst (λ m. P m new.held) (sym is) here))
-    (λ its. subst (λ (f : File). P n f.held) (sym (at ∙ ap (λ b. cond b new (file_in files n)) its)) (others n))
+    (λ its.
+    subst (λ (f : File). P n f.held) (sym (at ∙ ap (λ b. cond b new (file_in files n)) its)) (others n))
 
 -- one file's count becomes this one
 abbrev pub IsCountPut : Waiting → Waiting → ℕ → ℕ → Type 0

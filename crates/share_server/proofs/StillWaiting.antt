@@ -87,20 +87,19 @@ in_vain server client request spare has outs =
 abbrev pub decider : Server → Server
 decider server = deciding server.files server.opens server.leases
 
-elsewhere_decided : (server : Server) (own : Option Key) (file : ℕ)
-    → is_leased_elsewhere (decider server) own file ≡ is_leased_elsewhere server own file
-unfolding is_leased_elsewhere
-elsewhere_decided server None file = refl
-elsewhere_decided server (Some key) file = refl
-
 pub decided : (server : Server) (client : ℕ) (request : FileRequest)
     → finding (decider server) client request ≡ finding server client request
-unfolding finding create_finding reconnect_finding write_finding is_leased_elsewhere handle_wants write_wants all_wants wants_where
+unfolding finding create_finding reconnect_finding write_finding is_leased_elsewhere handle_wants write_wants all_wants
+    wants_where
 decided server client (FileRequest.Create file access share None) = refl
 decided server client (FileRequest.Create file access share (Some ask)) = again ask.lease ask.reconnect
   where
-    again : (lease : Option LeaseOf) (reconnect : Option ℕ) → finding (decider server) client (FileRequest.Create file access share (Some (record { lease = lease; durable = ask.durable; reconnect = reconnect })))
-        ≡ finding server client (FileRequest.Create file access share (Some (record { lease = lease; durable = ask.durable; reconnect = reconnect })))
+    asking : Option LeaseOf → Option ℕ → FileRequest
+    asking lease reconnect = FileRequest.Create file access share
+        (Some (record { lease = lease; durable = ask.durable; reconnect = reconnect }))
+
+    again : (lease : Option LeaseOf) (reconnect : Option ℕ)
+        → finding (decider server) client (asking lease reconnect) ≡ finding server client (asking lease reconnect)
     again None None = refl
     again (Some lease) None = refl
     again None (Some file_id) = refl
@@ -152,6 +151,9 @@ none_counted server queue count none = record {
   each = λ place less. absurd (omega (arith, none, less));
 }
 
+pub none_still : (server : Server) (file : ℕ) → WaitStill server file 0
+none_still server file = record { within = omega arith; each = λ place one less. absurd (omega (arith, less)) }
+
 pub one_counted : (server : Server) (queue : List Held) (count place : ℕ) → AreCounted server queue count → count ≡ place
     → place < length queue → StaysAt server queue place → AreCounted server queue (place + 1)
 one_counted server queue count place known is inside stays = record {
@@ -166,7 +168,8 @@ one_counted server queue count place known is inside stays = record {
     below_or_at zero zero less = inr refl
     below_or_at zero (suc b) less = inl (omega arith)
     below_or_at (suc a) zero less = absurd (omega (arith, less))
-    below_or_at (suc a) (suc b) less = ⊎_elim (λ l. inl (omega (arith, l))) (λ e. inr (ap suc e)) (below_or_at a b (omega (arith, less)))
+    below_or_at (suc a) (suc b) less =
+        ⊎_elim (λ l. inl (omega (arith, l))) (λ e. inr (ap suc e)) (below_or_at a b (omega (arith, less)))
 
 got_before : (queue : List Held) (one : Held) (place : ℕ) → place < length queue
     → slice_get (queue ++ one ∷ []) place ≡ slice_get queue place

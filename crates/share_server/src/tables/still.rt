@@ -18,6 +18,9 @@ impl Tables {
     pub fn still(&self, file: FileNo) -> usize
         ensures { WaitStill (server_of self.now) file.0 result }
     {
+        if self.held(file).len() == 0 {
+            return 0;
+        }
         self.waiting.count(file)
     }
 
