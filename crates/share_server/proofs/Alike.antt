@@ -72,12 +72,12 @@ pub writes_are_tried_alike : (client file_id number : ℕ) (patch : Patch) (fits
 writes_are_tried_alike client file_id number patch fits progress same =
     tried_alike 3 client file_id 0 number (patch_like fits) patch progress (limit_like fits ∙ same)
 
-pub writes_wait_alike : (client file_id number : ℕ) (patch : Patch) (fits : Bool) (server : Server)
+pub writes_wait_alike : (client file file_id number : ℕ) (patch : Patch) (fits : Bool) (server : Server)
     → fits ≡ is_within_limit patch
-    → HasOnlyToWait server client (FileRequest.Write file_id 0 (patch_like fits))
-    → HasOnlyToWait server client (FileRequest.Write file_id number patch)
+    → HasOnlyToWait server file client (FileRequest.Write file_id 0 (patch_like fits))
+    → HasOnlyToWait server file client (FileRequest.Write file_id number patch)
 unfolding is_ready waits_for
-writes_wait_alike client file_id number patch fits server same has = record {
+writes_wait_alike client file file_id number patch fits server same has = record {
   wants = has.wants;
   found = sym (found_alike server client file_id 0 number (patch_like fits) patch (limit_like fits ∙ same)) ∙ has.found;
   waits = record {

@@ -1,24 +1,41 @@
 -- The counts of requests that wait still, as the tables change.
-use Rattle.std.proofs.Common.{◌≡◌, ⊎_elim, inl, inr, ℕ, ◌+◌, ◌<◌, Bool, true, false, not, cond, List, [], ◌∷◌, ◌++◌, map, filter, length, get_or, refl, ap, sym, ◌∙◌, arith, subst}
+use Rattle.std.proofs.Common.{◌≡◌, ◌⊎◌, ⊎_elim, inl, inr, ℕ, ◌+◌, ◌<◌, zero, suc, take, Bool, true, false, not, cond, List, [], ◌∷◌, ◌++◌, map, filter, length, get_or, refl, ap, sym, ◌∙◌, arith, subst}
 use Rattle.std.proofs.Math.ListN.{set}
 use Rattle.std.proofs.lemmas.Bool.Decides.{nat_tests, Decides-eqb}
-use Rattle.std.specs.List.{list_any}
-use Rattle.std.specs.Prelude.{if◌then◌else◌, ◌==◌, ◌&&◌}
-use Rattle.lease_laws.proofs.server.Lists.{either}
+use Rattle.std.proofs.Math.Path.{fun_ext}
+use Rattle.std.specs.BTreeMap.{is_at}
+use Rattle.std.specs.Map.{lookup}
+use Rattle.std.specs.List.{list_any, slice_get}
+use Rattle.std.specs.Option.{option_map}
+use Rattle.std.specs.Prelude.{Option, Some, None, find, if◌then◌else◌, ◌==◌, ◌&&◌, ◌||◌}
+use Rattle.lease_laws.proofs.server.Goes.{one_id}
+use Rattle.lease_laws.proofs.server.Keys.{key_eq-same}
+use Rattle.lease_laws.proofs.server.Lists.{either, clash, and_both, not_true, any_has, has_any, none_has, has_none, find_has, among_filter, among_filtered}
+use Rattle.lease_laws.specs.server.Laws.{Among, AreInOrder}
+use Rattle.lease_model.specs.server.Findings.{is_leased_elsewhere}
+use Rattle.lease_model.specs.server.Naming.{own_key, key_under, key_of_open}
+use Rattle.lease_model.specs.values.Keys.{Key, key_eq}
+use Rattle.lease_model.specs.values.Lists.{without}
 use Rattle.lease_model.specs.messages.Requests.{FileRequest}
-use Rattle.lease_model.specs.server.State.{Server, Open, Held, has_key}
+use Rattle.lease_model.specs.server.State.{Server, Open, Lease, Held, has_key, is_key, has_own_key, no_lease}
 use Rattle.lease_state.specs.declared.number.FileId.{FileId}
-use Rattle.share_server.specs.Kept.{AreKept, listed}
-use Rattle.share_server.specs.StillWaiting.{IsTriedInVain, WaitStill, HasOnlyToWait, deciding, count_in, Stays, StaysAt, AreCounted}
-use Rattle.share_server.specs.Summaries.{Agrees, record_at, lease_in}
+use Rattle.lease_state.specs.declared.number.FileNo.{FileNo}
+use Rattle.share_server.specs.Filed.{has_id}
+use Rattle.share_server.specs.Kept.{AreKept, HaveClosed, listed, is_one_of}
+use Rattle.share_server.specs.Looks.{is_elsewhere}
+use Rattle.share_server.specs.OneFile.{on_file, local, IsOnlyAbout, own_asked, asks_with}
+use Rattle.share_server.specs.declared.summaries.LeaseRecord.{LeaseRecord}
+use Rattle.share_server.specs.StillWaiting.{counted, IsTriedInVain, WaitStill, HasOnlyToWait, deciding, count_in, StaysAt, StaysLocally, AreCounted, HaveForgotten, HaveForgottenFor}
+use Rattle.share_server.specs.Summaries.{Agrees, RecordFits, IsAtHome, file_order, record_at, lease_in, is_on}
 use Rattle.share_server.specs.Table.{Table, File, file_in, lease_at, server_of}
 use Rattle.share_server.specs.declared.summaries.Summaries.{Summaries}
 use Rattle.share_server.specs.declared.waiting.Waiting.{Waiting}
 use Rattle.share_server.proofs.FilePlaces.{place_set}
 use Rattle.share_server.proofs.Places.{file_there}
 use Rattle.share_server.proofs.Recording.{lease_unused}
-use Rattle.share_server.proofs.StillWaiting.{HasNoSpare, in_vain, decider, waits_decided, waits_really, none_counted, one_counted, counted_before}
-use Rattle.share_server.proofs.Tabling.{leases_are, listed_lease}
+use Rattle.share_server.proofs.StillWaiting.{HasNoSpare, in_vain, decider, waits_decided, waits_really, about_same, none_counted, one_counted, counted_before}
+use Rattle.share_server.proofs.OneFile.{any_once, none_within, found_on, some_file, waits_here_only, waits_there_too}
+use Rattle.share_server.proofs.Tabling.{leases_are, listed_lease, one_more}
 
 -- without an open there is nothing to agree with
 pub kept_empty : (opens : List Open) (summaries : Summaries) (last_id : ℕ) → opens ≡ [] → Agrees summaries []
@@ -60,45 +77,47 @@ count_cases P before after i count put here others n = either (n == i)
     (λ its. subst (P n) (sym (put n ∙ ap (λ b. if b then count else count_in before n) its)) (others n))
 
 abbrev Known : Server → List File → Waiting → Type 0
-Known server files waiting = (n : ℕ) → AreCounted server (file_in files n).held (count_in waiting n)
+Known server files waiting = (n : ℕ) → AreCounted server n (file_in files n).held (count_in waiting n)
 
 pub known_released : (server : Server) (files : List File) (i : ℕ) (new : File) (before after : Waiting) → i < length files
     → IsCountPut before after i 0 → Known server files before → Known server (set files i new) after
 known_released server files i new before after inside put known =
-    known_with (λ n queue. AreCounted server queue (count_in after n)) files i new inside
-    (none_counted server new.held (count_in after i) (count_here before after i 0 put))
-    (count_cases (λ n count. AreCounted server (file_in files n).held count) before after i 0 put
-    (none_counted server (file_in files i).held 0 refl) known)
+    known_with (λ n queue. AreCounted server n queue (count_in after n)) files i new inside
+    (none_counted server i new.held (count_in after i) (count_here before after i 0 put))
+    (count_cases (λ n count. AreCounted server n (file_in files n).held count) before after i 0 put
+    (none_counted server i (file_in files i).held 0 refl) known)
 
 here_known : (server : Server) (files : List File) (i : ℕ) (old : File) (waiting : Waiting) → i < length files
-    → old ≡ get_or files i old → Known server files waiting → AreCounted server old.held (count_in waiting i)
+    → old ≡ get_or files i old → Known server files waiting → AreCounted server i old.held (count_in waiting i)
 here_known server files i old waiting inside is known =
-    subst (λ (f : File). AreCounted server f.held (count_in waiting i)) (sym (file_there files i old inside is)) (known i)
+    subst (λ (f : File). AreCounted server i f.held (count_in waiting i)) (sym (file_there files i old inside is)) (known i)
 
 pub known_held : (server : Server) (files : List File) (i : ℕ) (old new : File) (one : Held) (waiting : Waiting)
     → i < length files → old ≡ get_or files i old → new ≡ record old { held = old.held ++ one ∷ [] }
     → Known server files waiting → Known server (set files i new) waiting
 known_held server files i old new one waiting inside is more known =
-    known_with (λ n queue. AreCounted server queue (count_in waiting n)) files i new inside
-    (subst (λ (f : File). AreCounted server f.held (count_in waiting i)) (sym more)
-    (counted_before server old.held one (count_in waiting i) (here_known server files i old waiting inside is known)))
+    known_with (λ n queue. AreCounted server n queue (count_in waiting n)) files i new inside
+    (subst (λ (f : File). AreCounted server i f.held (count_in waiting i)) (sym more)
+    (counted_before server i old.held one (count_in waiting i) (here_known server files i old waiting inside is known)))
     known
 
 pub known_same : (server : Server) (files : List File) (i : ℕ) (old new : File) (waiting : Waiting)
     → i < length files → old ≡ get_or files i old → new.held ≡ old.held
     → Known server files waiting → Known server (set files i new) waiting
 known_same server files i old new waiting inside is same known =
-    known_with (λ n queue. AreCounted server queue (count_in waiting n)) files i new inside
-    (subst (λ queue. AreCounted server queue (count_in waiting i)) (sym same)
+    known_with (λ n queue. AreCounted server n queue (count_in waiting n)) files i new inside
+    (subst (λ queue. AreCounted server i queue (count_in waiting i)) (sym same)
     (here_known server files i old waiting inside is known))
     known
 
 pub known_counted : (server : Server) (files : List File) (i place : ℕ) (before after : Waiting)
     → IsCountPut before after i (place + 1) → count_in before i ≡ place → place < length (file_in files i).held
-    → StaysAt server (file_in files i).held place → Known server files before → Known server files after
+    → ((one : Held) → slice_get (file_in files i).held place ≡ Some one
+    → StaysLocally server i (take place (file_in files i).held) one)
+    → Known server files before → Known server files after
 known_counted server files i place before after put is inside stays known =
-    count_cases (λ n count. AreCounted server (file_in files n).held count) before after i (place + 1) put
-    (one_counted server (file_in files i).held (count_in before i) place (known i) is inside stays) known
+    count_cases (λ n count. AreCounted server n (file_in files n).held count) before after i (place + 1) put
+    (one_counted server i (file_in files i).held (count_in before i) place (known i) is inside stays) known
 
 -- ---- what is known of the server
 
@@ -113,34 +132,389 @@ no_spare table summaries kept same = λ key none.
     ap (λ leases. lease_at leases key) same
     ∙ (listed_lease summaries key ∙ lease_unused key table.opens (record_at summaries key) (kept.agree.records key) none)
 
-pub in_vain_now : (table : Table) (summaries : Summaries) (client : ℕ) (request : FileRequest)
+pub in_vain_now : (table : Table) (summaries : Summaries) (file client : ℕ) (request : FileRequest)
     → AreKept table.opens summaries table.last_id → table.leases ≡ listed summaries
-    → HasOnlyToWait (server_of table) client request → IsTriedInVain (server_of table) client request
-in_vain_now table summaries client request kept same has =
-    in_vain (server_of table) client request (no_spare table summaries kept same) has
+    → HasOnlyToWait (server_of table) file client request → IsTriedInVain (server_of table) client request
+in_vain_now table summaries file client request kept same has =
+    in_vain (server_of table) file client request (no_spare table summaries kept same) has
+
+-- the opens of a key that has one on the file are all on the file
+pub home_of : (opens : List Open) (summaries : Summaries) (file : ℕ) (key : Key) → Agrees summaries opens
+    → list_any (has_key key) (on_file file opens) ≡ true → list_any (is_elsewhere key file) opens ≡ false
+home_of opens summaries file key agree some =
+    let known = any_has (has_key key) (on_file file opens) some in
+    let there = among_filter (is_on file) known.0 opens known.1 in
+    go known.0 there.0 known.2 ((Decides-eqb (known.0).file file).0 there.1) (record_at summaries key) (agree.records key)
+  where
+    go : (one : Open) → Among one opens → has_key key one ≡ true → one.file ≡ file → (found : Option LeaseRecord)
+        → RecordFits key opens found → list_any (is_elsewhere key file) opens ≡ false
+    go one among has at None fits =
+        clash (list_any (has_key key) opens) (has_any (has_key key) one opens among has) fits
+    go one among has at (Some found) fits =
+        let away = none_has (is_elsewhere key found.file.0) one opens fits.one_file among in
+        either (one.file == found.file.0)
+        (λ t. subst (λ n. list_any (is_elsewhere key n) opens ≡ false)
+        (sym ((Decides-eqb one.file found.file.0).0 t) ∙ at) fits.one_file)
+        (λ f. clash (is_elsewhere key found.file.0 one) (and_both (has_key key one) _ has (ap not f)) away)
 
 pub wait_still : (table : Table) (summaries : Summaries) (file count : ℕ) → AreKept table.opens summaries table.last_id
     → table.leases ≡ listed summaries
-    → AreCounted (deciding table.count table.opens (lease_in summaries)) (file_in table.files file).held count
+    → AreCounted (deciding table.count table.opens (lease_in summaries)) file (file_in table.files file).held count
     → WaitStill (server_of table) file count
 wait_still table summaries file count kept same known = record {
   within = known.within;
   each = λ place one less is. ⊎_elim
       (λ behind. inl behind)
-      (λ has. inr (in_vain (server_of table) one.client one.request (no_spare table summaries kept same)
-      (waits_really (server_of table) one.client one.request
-      (subst (λ server. HasOnlyToWait server one.client one.request) (server_decides table summaries same) has))))
-      (known.each place less one is);
+      (λ has. inr (in_vain (server_of table) file one.client one.request (no_spare table summaries kept same)
+      (waits_really (server_of table) file one.client one.request
+      (subst (λ server. HasOnlyToWait server file one.client one.request) (server_decides table summaries same)
+      (waits_there_too file (deciding table.count table.opens (lease_in summaries)) one.client one.request
+      (λ key some. home_of table.opens summaries file key kept.agree some) has.1 has.0)))))
+      (known.each place one less is);
 }
 
-pub stays_decided : (table : Table) (summaries : Summaries) (queue : List Held) (place : ℕ)
-    → table.leases ≡ listed summaries → StaysAt (server_of table) queue place
-    → StaysAt (deciding table.count table.opens (lease_in summaries)) queue place
-stays_decided table summaries queue place same stays = λ one is. ⊎_elim
+pub stays_decided : (table : Table) (summaries : Summaries) (file : ℕ) (queue : List Held) (place : ℕ)
+    → table.leases ≡ listed summaries → StaysAt (server_of table) file queue place
+    → (one : Held) → slice_get queue place ≡ Some one
+    → StaysLocally (deciding table.count table.opens (lease_in summaries)) file (take place queue) one
+stays_decided table summaries file queue place same stays = λ one is. ⊎_elim
     (λ behind. inl behind)
-    (λ has. inr (subst (λ server. HasOnlyToWait server one.client one.request) (sym (server_decides table summaries same))
-    (waits_decided (server_of table) one.client one.request has)))
+    (λ has.
+    let about = about_same (server_of table) (deciding table.count table.opens (lease_in summaries)) file one.client
+    one.request refl has.1 in
+    inr (
+      waits_here_only file (deciding table.count table.opens (lease_in summaries)) one.client one.request about
+          (subst (λ server. HasOnlyToWait server file one.client one.request) (sym (server_decides table summaries same))
+          (waits_decided (server_of table) file one.client one.request has.0)),
+      about,
+    ))
     (stays one is)
+
+-- ---- files that a change leaves as they were
+
+-- A file's count is forgotten, or what decides the tries of its requests is as it was.
+abbrev pub IsSettled : List File → Waiting → Waiting → Server → Server → Type 0
+IsSettled files waiting now before after = (file : ℕ) → (count_in now file ≡ 0)
+    ⊎ ((count_in now file ≡ count_in waiting file) × (local file after ≡ local file before)
+    × ((one : Held) → Among one (file_in files file).held → IsOnlyAbout before file one.client one.request
+    → IsOnlyAbout after file one.client one.request))
+
+among_got : (queue : List Held) (place : ℕ) (one : Held) → slice_get queue place ≡ Some one → Among one queue
+among_got [] place one is = absurd (cc is)
+among_got (first ∷ queue) zero one is = inl (cc is)
+among_got (first ∷ queue) (suc place) one is = inr (among_got queue place one is)
+
+pub known_settled : (files : List File) (waiting now : Waiting) (before after : Server)
+    → IsSettled files waiting now before after → Known before files waiting → Known after files now
+known_settled files waiting now before after settled known = λ file. ⊎_elim
+    (λ none. none_counted after file (file_in files file).held (count_in now file) none)
+    (λ same. subst (AreCounted after file (file_in files file).held) (sym same.0) (record {
+      within = (known file).within;
+      each = λ place one less is. ⊎_elim
+          (λ behind. inl behind)
+          (λ has. inr (
+            subst (λ server. HasOnlyToWait server file one.client one.request) (sym same.1) has.0,
+            same.2 one (among_got (file_in files file).held place one is) has.1,
+          ))
+          ((known file).each place one less is);
+    }))
+    (settled file)
+
+-- another lease for a key that has no open on the file
+lease_apart : (key other : Key) (lease was : Lease) (some : Bool) → some ≡ true → (key_eq other key ≡ true → some ≡ false)
+    → (if key_eq other key then lease else was) ≡ was
+lease_apart key other lease was some there none = either (key_eq other key)
+    (λ same. clash some there (none same))
+    (λ apart. rw apart refl)
+
+leases_put : (opens : List Open) (key : Key) (lease : Lease) (leases later : Key → Lease)
+    → ((other : Key) → later other ≡ (if key_eq other key then lease else leases other))
+    → list_any (has_key key) opens ≡ false → (other : Key)
+    → (if list_any (has_key other) opens then later other else no_lease)
+    ≡ (if list_any (has_key other) opens then leases other else no_lease)
+leases_put opens key lease leases later put none other = either (list_any (has_key other) opens)
+    (λ some. rw some (put other ∙ lease_apart key other lease (leases other) (list_any (has_key other) opens) some
+    (λ same. ap (λ k. list_any (has_key k) opens) (key_eq-same other key same) ∙ none)))
+    (λ some. rw some refl)
+
+none_on : (file : ℕ) (test : Open → Bool) (opens : List Open)
+    → ((one : Open) → Among one opens → is_on file one ≡ true → test one ≡ false)
+    → list_any test (on_file file opens) ≡ false
+none_on file test opens none = has_none test (on_file file opens)
+    (λ one a. let there = among_filter (is_on file) one opens a in none one there.0 there.1)
+
+pub settled_put : (files : List File) (waiting now : Waiting) (count : ℕ) (opens : List Open) (key : Key) (lease : Lease)
+    (leases later : Key → Lease)
+    → ((other : Key) → later other ≡ (if key_eq other key then lease else leases other))
+    → HaveForgotten (has_key key) opens waiting now
+    → IsSettled files waiting now (deciding count opens leases) (deciding count opens later)
+settled_put files waiting now count opens key lease leases later put forgotten = λ file. ⊎_elim
+    (λ none. inl none)
+    (λ same. inr (
+      same.0,
+      ap (deciding count (on_file file opens)) (fun_ext (leases_put (on_file file opens) key lease leases later put
+          (none_on file (has_key key) opens same.1))),
+      λ one a about. about_same (deciding count opens leases) (deciding count opens later) file one.client one.request refl about,
+    ))
+    (forgotten file)
+
+-- opens that are closed, none of them on the file
+on_left : (file : ℕ) (test : Open → Bool) (opens : List Open)
+    → ((one : Open) → Among one opens → is_on file one ≡ true → test one ≡ false)
+    → on_file file (without test opens) ≡ on_file file opens
+on_left file test [] none = refl
+on_left file test (one ∷ opens) none =
+    let later = on_left file test opens (λ other a. none other (inr a)) in
+    either (is_on file one)
+    (λ on. let no = none one (inl refl) on in rw (no, on) (ap (λ xs. one ∷ xs) later))
+    (λ off. either (test one) (λ t. rw (t, off) later) (λ t. rw (t, off) later))
+
+about_left : (file : ℕ) (test : Open → Bool) (count : ℕ) (opens : List Open) (leases later : Key → Lease) (client : ℕ)
+    (request : FileRequest) → ((one : Open) → Among one opens → is_on file one ≡ true → test one ≡ false)
+    → IsOnlyAbout (deciding count opens leases) file client request
+    → IsOnlyAbout (deciding count (without test opens) later) file client request
+unfolding is_leased_elsewhere
+about_left file test count opens leases later client (FileRequest.Create other access share None) none about = absurd about
+about_left file test count opens leases later client (FileRequest.Create other access share (Some ask)) none about =
+    (about.0, away (own_key client ask.lease) about.1)
+  where
+    away : (own : Option Key) → is_leased_elsewhere (deciding count opens leases) own file ≡ false
+        → is_leased_elsewhere (deciding count (without test opens) later) own file ≡ false
+    away None e = refl
+    away (Some key) e = none_within (λ one. has_key key one && not (one.file == file)) (λ x. not (test x)) opens e
+about_left file test count opens leases later client (FileRequest.Read file_id) none about = absurd about
+about_left file test count opens leases later client (FileRequest.Write file_id number patch) none about =
+    go (find (λ one. one.file_id == file_id && one.client == client && one.connected) opens) refl about
+  where
+    go : (found : Option Open) → find (λ one. one.file_id == file_id && one.client == client && one.connected) opens ≡ found
+        → option_map (λ one. one.file) found ≡ Some file
+        → option_map (λ one. one.file) (find (λ one. one.file_id == file_id && one.client == client && one.connected)
+        (without test opens)) ≡ Some file
+    go None is there = absurd (cc there)
+    go (Some one) is there =
+        let among = (find_has (λ x. x.file_id == file_id && x.client == client && x.connected) one opens is).0 in
+        let same = some_file one.file file there in
+        let stays = none one among ((Decides-eqb one.file file).1 same) in
+        ap (option_map (λ x. x.file)) (found_on (λ x. x.file_id == file_id && x.client == client && x.connected)
+        (λ x. not (test x)) opens one is (ap not stays)) ∙ there
+about_left file test count opens leases later client (FileRequest.Close file_id) none about = absurd about
+
+pub settled_closed : (files : List File) (waiting now : Waiting) (count : ℕ) (opens left : List Open) (ids : List ℕ)
+    (summaries after : Summaries) → HaveClosed opens ids summaries left after
+    → HaveForgotten (is_one_of ids) opens waiting now
+    → IsSettled files waiting now (deciding count opens (lease_in summaries)) (deciding count left (lease_in after))
+settled_closed files waiting now count opens left ids summaries after closed forgotten = λ file. ⊎_elim
+    (λ none. inl none)
+    (λ same.
+    let kept : on_file file left ≡ on_file file opens =
+    ap (on_file file) closed.opens_left ∙ on_left file (is_one_of ids) opens same.1 in
+    inr (
+      same.0,
+      ap (λ os. deciding count os (λ key. if list_any (has_key key) os then lease_in after key else no_lease)) kept
+          ∙ ap (deciding count (on_file file opens)) (fun_ext (λ key. either (list_any (has_key key) (on_file file opens))
+          (λ some.
+          let there = any_once (is_on file) (has_key key) left (ap (list_any (has_key key)) kept ∙ some) in
+          rw some (closed.leases key ∙ ap (λ b. if b then lease_in summaries key else no_lease) there))
+          (λ some. rw some refl))),
+      λ one a about. subst (λ os. IsOnlyAbout (deciding count os (lease_in after)) file one.client one.request)
+          (sym closed.opens_left)
+          (about_left file (is_one_of ids) count opens (lease_in summaries) (lease_in after) one.client one.request same.1 about),
+    ))
+    (forgotten file)
+
+-- an open that comes on another file
+on_more : (file : ℕ) (one : Open) (opens : List Open) → is_on file one ≡ false
+    → on_file file (opens ++ one ∷ []) ≡ on_file file opens
+on_more file one [] off = rw off refl
+on_more file one (first ∷ opens) off =
+    let later = on_more file one opens off in
+    either (is_on file first) (λ on. rw on (ap (λ xs. first ∷ xs) later)) (λ on. rw on later)
+
+home_key : (one : Open) (bytes : Option (List ℕ)) (opens : List Open) (key : Key)
+    → IsAtHome (key_under one.client bytes) one.file opens → is_key key one.client bytes ≡ true
+    → list_any (is_elsewhere key one.file) opens ≡ false
+unfolding key_eq
+home_key one None opens key home has = absurd (cc has)
+home_key one (Some bytes) opens key home has =
+    subst (λ k. list_any (is_elsewhere k one.file) opens ≡ false)
+    (sym (key_eq-same key (record { client = one.client; bytes = bytes }) has)) home
+
+apart_here : (file : ℕ) (one : Open) (opens : List Open) (key : Key) → is_on file one ≡ false
+    → IsAtHome (key_of_open one) one.file opens → list_any (has_key key) (on_file file opens) ≡ true
+    → has_key key one ≡ false
+apart_here file one opens key off home some = not_true (has_key key one) (λ has.
+    let known = any_has (has_key key) (on_file file opens) some in
+    let there = among_filter (is_on file) known.0 opens known.1 in
+    let none = none_has (is_elsewhere key one.file) known.0 opens (home_key one one.lease_key opens key home has) there.0 in
+    either ((known.0).file == one.file)
+    (λ t. clash (is_on file one)
+    ((Decides-eqb one.file file).1 (sym ((Decides-eqb (known.0).file one.file).0 t) ∙ (Decides-eqb (known.0).file file).0 there.1)) off)
+    (λ f. clash (is_elsewhere key one.file known.0) (and_both (has_key key known.0) _ known.2 (ap not f)) none))
+
+any_more : (test : Open → Bool) (opens : List Open) (one : Open) → list_any test opens ≡ false → test one ≡ false
+    → list_any test (opens ++ one ∷ []) ≡ false
+any_more test [] one none last = rw last refl
+any_more test (first ∷ opens) one none last = either (test first)
+    (λ t. absurd (cc (rw t at none)))
+    (λ t. rw t (any_more test opens one (rw t at none) last))
+
+found_before : (test : Open → Bool) (opens : List Open) (one found : Open) → find test opens ≡ Some found
+    → find test (opens ++ one ∷ []) ≡ Some found
+found_before test [] one found is = absurd (cc is)
+found_before test (first ∷ opens) one found is = either (test first)
+    (λ t. rw t (rw t at is))
+    (λ t. rw t (found_before test opens one found (rw t at is)))
+
+about_more : (file count : ℕ) (opens : List Open) (one : Open) (leases later : Key → Lease) (held : Held)
+    → asks_with one held ≡ false → IsOnlyAbout (deciding count opens leases) file held.client held.request
+    → IsOnlyAbout (deciding count (opens ++ one ∷ []) later) file held.client held.request
+unfolding is_leased_elsewhere
+about_more file count opens one leases later held apart about = go held.client held.request apart about
+  where
+    away : (own : Option Key) → has_own_key own one ≡ false → is_leased_elsewhere (deciding count opens leases) own file ≡ false
+        → is_leased_elsewhere (deciding count (opens ++ one ∷ []) later) own file ≡ false
+    away None none e = refl
+    away (Some key) none e = any_more (λ x. has_key key x && not (x.file == file)) opens one e (rw none refl)
+
+    go : (client : ℕ) (request : FileRequest) → has_own_key (own_asked client request) one ≡ false
+        → IsOnlyAbout (deciding count opens leases) file client request
+        → IsOnlyAbout (deciding count (opens ++ one ∷ []) later) file client request
+    go client (FileRequest.Create other access share None) none told = absurd told
+    go client (FileRequest.Create other access share (Some ask)) none told =
+        (told.0, away (own_key client ask.lease) none told.1)
+    go client (FileRequest.Read file_id) none told = absurd told
+    go client (FileRequest.Write file_id number patch) none told =
+        write (find (λ x. x.file_id == file_id && x.client == client && x.connected) opens) refl told
+      where
+        write : (found : Option Open)
+            → find (λ x. x.file_id == file_id && x.client == client && x.connected) opens ≡ found
+            → option_map (λ x. x.file) found ≡ Some file
+            → option_map (λ x. x.file) (find (λ x. x.file_id == file_id && x.client == client && x.connected)
+            (opens ++ one ∷ [])) ≡ Some file
+        write None is there = absurd (cc there)
+        write (Some found) is there = ap (option_map (λ x. x.file))
+            (found_before (λ x. x.file_id == file_id && x.client == client && x.connected) opens one found is) ∙ there
+    go client (FileRequest.Close file_id) none told = absurd told
+
+pub settled_opened : (files : List File) (waiting now : Waiting) (count : ℕ) (opens more : List Open) (one : Open)
+    (lease : Lease) (leases later : Key → Lease) → more ≡ opens ++ one ∷ []
+    → ((key : Key) → later key ≡ (if has_key key one then lease else leases key))
+    → IsAtHome (key_of_open one) one.file opens → HaveForgottenFor one files waiting now
+    → IsSettled files waiting now (deciding count opens leases) (deciding count more later)
+settled_opened files waiting now count opens more one lease leases later is put home forgotten = λ file. ⊎_elim
+    (λ none. inl none)
+    (λ same.
+    let kept : on_file file more ≡ on_file file opens = ap (on_file file) is ∙ on_more file one opens same.1 in
+    inr (
+      same.0,
+      ap (λ os. deciding count os (λ key. if list_any (has_key key) os then later key else no_lease)) kept
+          ∙ ap (deciding count (on_file file opens)) (fun_ext (λ key. either (list_any (has_key key) (on_file file opens))
+          (λ some.
+          let apart = apart_here file one opens key same.1 home some in
+          rw some (put key ∙ rw apart refl))
+          (λ some. rw some refl))),
+      λ held a about. subst (λ os. IsOnlyAbout (deciding count os later) file held.client held.request) (sym is)
+          (about_more file count opens one leases later held (same.2 held a) about),
+    ))
+    (forgotten file)
+
+-- ---- what is forgotten
+
+forgotten_at : (test : Open → Bool) (opens : List Open) (before after : Waiting) (i : ℕ) → IsCountPut before after i 0
+    → ((one : Open) → Among one opens → test one ≡ true → one.file ≡ i) → HaveForgotten test opens before after
+forgotten_at test opens before after i put only = λ file. either (file == i)
+    (λ its. inl (put file ∙ ap (λ b. if b then 0 else count_in before file) its))
+    (λ off. inr (
+      put file ∙ ap (λ b. if b then 0 else count_in before file) off,
+      λ one a on. not_true (test one) (λ t. clash (file == i)
+          ((Decides-eqb file i).1 (sym ((Decides-eqb one.file file).0 on) ∙ only one a t)) off),
+    ))
+
+pub forgotten_none : (test : Open → Bool) (opens : List Open) (before after : Waiting) → before ≡ after
+    → list_any test opens ≡ false → HaveForgotten test opens before after
+forgotten_none test opens before after same none = λ file.
+    inr (ap (λ (w : Waiting). count_in w file) (sym same), λ one a on. none_has test one opens none a)
+
+pub forgotten_home : (key : Key) (opens : List Open) (before after : Waiting) (home : ℕ) → IsCountPut before after home 0
+    → list_any (is_elsewhere key home) opens ≡ false → HaveForgotten (has_key key) opens before after
+forgotten_home key opens before after home put none = forgotten_at (has_key key) opens before after home put
+    (λ one a has. either (one.file == home)
+    (λ t. (Decides-eqb one.file home).0 t)
+    (λ f. clash (is_elsewhere key home one) (and_both (has_key key one) _ has (ap not f))
+    (none_has (is_elsewhere key home) one opens none a)))
+
+pub forgotten_id : (id : ℕ) (opens : List Open) (one : Open) (before after : Waiting) → AreInOrder opens
+    → Some one ≡ find (has_id id) opens → IsCountPut before after one.file 0
+    → HaveForgotten (has_id id) opens before after
+forgotten_id id opens one before after order found put = forgotten_at (has_id id) opens before after one.file put
+    (λ other a has.
+    let there = find_has (has_id id) one opens (sym found) in
+    ap (λ (o : Open). o.file) (one_id opens other one order a there.0
+    ((Decides-eqb other.file_id id).0 has ∙ sym ((Decides-eqb one.file_id id).0 there.1))))
+
+pub none_found : (test : Open → Bool) (opens : List Open) → None ≡ find test opens → list_any test opens ≡ false
+none_found test [] none = refl
+none_found test (one ∷ opens) none = either (test one)
+    (λ t. absurd (cc (rw t at none)))
+    (λ t. rw t (none_found test opens (rw t at none)))
+
+pub forgotten_first : (opens : List Open) (waiting : Waiting) → HaveForgotten (is_one_of []) opens waiting waiting
+forgotten_first opens waiting = λ file. inr (refl, λ one a on. refl)
+
+pub forgotten_more : (ids : List ℕ) (id : ℕ) (opens : List Open) (before during after : Waiting)
+    → HaveForgotten (is_one_of ids) opens before during → HaveForgotten (has_id id) opens during after
+    → HaveForgotten (is_one_of (ids ++ id ∷ [])) opens before after
+forgotten_more ids id opens before during after first last = λ file. ⊎_elim
+    (λ none. inl none)
+    (λ same. ⊎_elim
+    (λ none. inl (same.0 ∙ none))
+    (λ was. inr (
+      same.0 ∙ was.0,
+      λ one a on. one_more ids id one ∙ (ap (λ b. b || has_id id one) (was.1 one a on) ∙ same.1 one a on),
+    ))
+    (first file))
+    (last file)
+
+asked_none : (test : Held → Bool) (files : List File) (n : ℕ) (held : Held)
+    → list_any (λ file. list_any test file.held) files ≡ false → Among held (file_in files n).held → test held ≡ false
+asked_none test [] zero held none a = absurd a
+asked_none test [] (suc n) held none a = absurd a
+asked_none test (file ∷ files) zero held none a = either (list_any test file.held)
+    (λ t. absurd (cc (rw t at none)))
+    (λ t. none_has test held file.held t a)
+asked_none test (file ∷ files) (suc n) held none a = either (list_any test file.held)
+    (λ t. absurd (cc (rw t at none)))
+    (λ t. asked_none test files n held (rw t at none) a)
+
+pub forgotten_for : (one : Open) (files : List File) (before after : Waiting) → IsCountPut before after one.file 0
+    → list_any (λ file. list_any (asks_with one) file.held) files ≡ false → HaveForgottenFor one files before after
+forgotten_for one files before after put none = λ file. either (file == one.file)
+    (λ its. inl (put file ∙ ap (λ b. if b then 0 else count_in before file) its))
+    (λ off. inr (
+      put file ∙ ap (λ b. if b then 0 else count_in before file) off,
+      not_true (is_on file one) (λ on. clash (file == one.file)
+          ((Decides-eqb file one.file).1 (sym ((Decides-eqb one.file file).0 on))) off),
+      λ held a. asked_none (asks_with one) files file held none a,
+    ))
+
+-- ---- an open on the file
+
+pub at_home_here : (file : ℕ) (key : Key) (opens : List Open) (summaries : Summaries) → Agrees summaries opens
+    → list_any (has_key key) opens ≡ true
+    → not (list_any (is_elsewhere key file) opens) ≡ list_any (has_key key) (on_file file opens)
+at_home_here file key opens summaries agree some = either (list_any (has_key key) (on_file file opens))
+    (λ on. let home = home_of opens summaries file key agree on in rw (home, on) refl)
+    (λ off.
+    let known = any_has (has_key key) opens some in
+    let away : list_any (is_elsewhere key file) opens ≡ true =
+    has_any (is_elsewhere key file) known.0 opens known.1 (and_both (has_key key known.0) _ known.2
+    (ap not (not_true (is_on file known.0) (λ on. clash (list_any (has_key key) (on_file file opens))
+    (has_any (has_key key) known.0 (on_file file opens) (among_filtered (is_on file) known.0 opens known.1 on) known.2) off)))) in
+    rw (away, off) refl)
+
+pub not_at_home : (file : ℕ) (key : Key) (opens : List Open) → list_any (has_key key) opens ≡ false
+    → false ≡ list_any (has_key key) (on_file file opens)
+not_at_home file key opens none = sym (none_within (has_key key) (is_on file) opens none)
 
 -- ---- opens that are left
 
@@ -164,5 +538,23 @@ none_left test opens ids same = lengths ids (filter test opens) same ∙ none_pa
     none_passes [] = refl
     none_passes (x ∷ xs) = let e = none_passes xs in either (test x) (λ t. rw t (grind (arith, nat_tests))) (λ t. rw t e)
 
-pub both_so : (a b c : Bool) → a ≡ true → c ≡ b → c ≡ (a && b)
-both_so a b c t same = rw t same
+pub both_so : (a b c d : Bool) → a ≡ true → b ≡ true → d ≡ c → d ≡ (a && (b && c))
+both_so a b c d t u same = rw (t, u) same
+
+pub second_not : (a b c : Bool) → b ≡ false → false ≡ (a && (b && c))
+second_not true b c e = rw e refl
+second_not false b c e = refl
+
+pub none_in : (waiting : Waiting) (file : ℕ) → length waiting.counts.entries ≡ 0 → count_in waiting file ≡ 0
+none_in waiting file none = go waiting.counts.entries none
+  where
+    go : (entries : List (FileNo × ℕ)) → length entries ≡ 0
+        → counted (lookup (is_at (file_order (record { 0 = file }))) entries) ≡ 0
+    go [] none = refl
+    go (entry ∷ entries) none = absurd (omega (arith, none))
+
+pub home_by : (server : Server) (file : ℕ) (key : Key) (summaries : Summaries) → Agrees summaries server.opens
+    → list_any (has_key key) server.opens ≡ true
+    → not (is_leased_elsewhere server (Some key) file) ≡ list_any (has_key key) (on_file file server.opens)
+unfolding is_leased_elsewhere
+home_by server file key summaries agree some = at_home_here file key server.opens summaries agree some

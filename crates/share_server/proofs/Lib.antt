@@ -16,6 +16,7 @@ pub mod LeftOpens
 pub mod Losing
 pub mod Mapping
 pub mod NewTables
+pub mod OneFile
 pub mod Ordering
 pub mod Owners
 pub mod Passing

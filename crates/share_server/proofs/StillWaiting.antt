@@ -4,7 +4,7 @@ use Rattle.std.proofs.Math.Path.{fun_ext}
 use Rattle.std.proofs.lemmas.Bool.Decides.{nat_tests}
 use Rattle.std.specs.BTreeMap.{Updates, is_at}
 use Rattle.std.specs.List.{list_any, list_all, slice_get}
-use Rattle.std.specs.Prelude.{Option, Some, None, if◌then◌else◌, ◌&&◌, ◌==◌}
+use Rattle.std.specs.Prelude.{Option, Some, None, find, if◌then◌else◌, ◌&&◌, ◌==◌}
 use Rattle.lease_laws.proofs.server.Lists.{either, clash, and_parts, not_parts}
 use Rattle.lease_model.specs.messages.Replies.{Out}
 use Rattle.lease_model.specs.messages.Requests.{FileRequest, CreateAsk, LeaseOf}
@@ -21,7 +21,11 @@ use Rattle.share_server.specs.Passing.{pass_at}
 use Rattle.lease_state.specs.declared.number.FileNo.{FileNo}
 use Rattle.share_server.specs.Summaries.{file_order}
 use Rattle.share_server.specs.declared.waiting.Waiting.{Waiting}
-use Rattle.share_server.specs.StillWaiting.{counted, count_in, at_call, IsTriedInVain, WaitStill, is_under_way, OnlyWaits, HasOnlyToWait, deciding, Stays, StaysAt, AreCounted}
+use Rattle.share_server.specs.StillWaiting.{counted, count_in, at_call, IsTriedInVain, WaitStill, is_under_way, OnlyWaits, HasOnlyToWait, deciding, StaysLocally, AreCounted}
+use Rattle.share_server.specs.OneFile.{local, IsOnlyAbout}
+use Rattle.share_server.proofs.Homing.{elsewhere_same}
+use Rattle.lease_model.specs.server.Naming.{own_key}
+use Rattle.std.specs.Option.{option_map}
 use Rattle.share_server.proofs.Breaking.{not_broken}
 use Rattle.share_server.proofs.Passing.{behind_here, waits_here}
 use Rattle.share_server.proofs.Rounds.{waits}
@@ -57,30 +61,31 @@ dropped_none server test outs spare none =
     ∙ (ap (λ leases. built server server.opens leases (outs ++ [])) (fun_ext (λ key. lease_left server key spare))
     ∙ ap (λ told. at_call server told) (append-nil outs))
 
-want_met_already : (server : Server) (want : Want) (outs : List Out) → HasNoSpare server
-    → is_under_way server want.key ≡ true → want_met want (at_call server outs) ≡ at_call server outs
+want_met_already : (server : Server) (file : ℕ) (want : Want) (outs : List Out) → HasNoSpare server
+    → is_under_way server file want.key ≡ true → want_met want (at_call server outs) ≡ at_call server outs
 unfolding want_met
-want_met_already server want outs spare is =
+want_met_already server file want outs spare is =
     let parts = and_parts (is_breaking (server.leases want.key)) _ is in
     ap (lease_broken want.key want.lowered)
-    (dropped_none server (is_left_open want.key) outs spare (not_parts _ parts.1))
+    (dropped_none server (is_left_open want.key) outs spare
+    (not_parts _ (and_parts (not (list_any (is_left_open want.key) server.opens)) _ parts.1).0))
     ∙ sym (not_broken (at_call server outs) want.key want.lowered (inr parts.0))
 
-met_already : (server : Server) (wants : List Want) (outs : List Out) → HasNoSpare server
-    → list_all (λ want. is_under_way server want.key) wants ≡ true
+met_already : (server : Server) (file : ℕ) (wants : List Want) (outs : List Out) → HasNoSpare server
+    → list_all (λ want. is_under_way server file want.key) wants ≡ true
     → wants_met wants (at_call server outs) ≡ at_call server outs
 unfolding wants_met
-met_already server [] outs spare all = refl
-met_already server (want ∷ wants) outs spare all =
-    let parts = and_parts (is_under_way server want.key) _ all in
-    ap (wants_met wants) (want_met_already server want outs spare parts.0)
-    ∙ met_already server wants outs spare parts.1
+met_already server file [] outs spare all = refl
+met_already server file (want ∷ wants) outs spare all =
+    let parts = and_parts (is_under_way server file want.key) _ all in
+    ap (wants_met wants) (want_met_already server file want outs spare parts.0)
+    ∙ met_already server file wants outs spare parts.1
 
-pub in_vain : (server : Server) (client : ℕ) (request : FileRequest) → HasNoSpare server
-    → HasOnlyToWait server client request → IsTriedInVain server client request
-in_vain server client request spare has outs =
+pub in_vain : (server : Server) (file client : ℕ) (request : FileRequest) → HasNoSpare server
+    → HasOnlyToWait server file client request → IsTriedInVain server client request
+in_vain server file client request spare has outs =
     waits 2 client request (at_call server outs) (at_call server outs) has.wants has.found has.waits.unready
-    (sym (met_already server has.wants outs spare has.waits.under_way)) has.waits.must_wait
+    (sym (met_already server file has.wants outs spare has.waits.under_way)) has.waits.must_wait
 
 -- ---- what decides a try
 
@@ -108,9 +113,9 @@ decided server client (FileRequest.Read file_id) = refl
 decided server client (FileRequest.Write file_id number patch) = refl
 decided server client (FileRequest.Close file_id) = refl
 
-pub waits_decided : (server : Server) (client : ℕ) (request : FileRequest)
-    → HasOnlyToWait server client request → HasOnlyToWait (decider server) client request
-waits_decided server client request has = record {
+pub waits_decided : (server : Server) (file client : ℕ) (request : FileRequest)
+    → HasOnlyToWait server file client request → HasOnlyToWait (decider server) file client request
+waits_decided server file client request has = record {
   wants = has.wants;
   found = decided server client request ∙ has.found;
   waits = record {
@@ -120,9 +125,9 @@ waits_decided server client request has = record {
   };
 }
 
-pub waits_really : (server : Server) (client : ℕ) (request : FileRequest)
-    → HasOnlyToWait (decider server) client request → HasOnlyToWait server client request
-waits_really server client request has = record {
+pub waits_really : (server : Server) (file client : ℕ) (request : FileRequest)
+    → HasOnlyToWait (decider server) file client request → HasOnlyToWait server file client request
+waits_really server file client request has = record {
   wants = has.wants;
   found = sym (decided server client request) ∙ has.found;
   waits = record {
@@ -131,6 +136,18 @@ waits_really server client request has = record {
     under_way = has.waits.under_way;
   };
 }
+
+pub about_same : (a b : Server) (file client : ℕ) (request : FileRequest) → a.opens ≡ b.opens
+    → IsOnlyAbout a file client request → IsOnlyAbout b file client request
+about_same a b file client (FileRequest.Create other access share None) same about = about
+about_same a b file client (FileRequest.Create other access share (Some ask)) same about =
+    (about.0, sym (elsewhere_same a b (own_key client ask.lease) file same) ∙ about.1)
+about_same a b file client (FileRequest.Read file_id) same about = about
+about_same a b file client (FileRequest.Write file_id number patch) same about =
+    ap (λ opens. option_map (λ one. one.file)
+    (find (λ one. one.file_id == file_id && one.client == client && one.connected) opens)) (sym same)
+    ∙ about
+about_same a b file client (FileRequest.Close file_id) same about = about
 
 -- ---- counts
 
@@ -145,22 +162,26 @@ count_changed before after file count updates other = either (other == file.0)
     (λ its. rw (updates.0 (record { 0 = other }), at_file file other, its) refl)
     (λ its. rw (updates.0 (record { 0 = other }), at_file file other, its) refl)
 
-pub none_counted : (server : Server) (queue : List Held) (count : ℕ) → count ≡ 0 → AreCounted server queue count
-none_counted server queue count none = record {
+pub none_counted : (server : Server) (file : ℕ) (queue : List Held) (count : ℕ) → count ≡ 0
+    → AreCounted server file queue count
+none_counted server file queue count none = record {
   within = omega (arith, none);
-  each = λ place less. absurd (omega (arith, none, less));
+  each = λ place one less is. absurd (omega (arith, none, less));
 }
 
 pub none_still : (server : Server) (file : ℕ) → WaitStill server file 0
 none_still server file = record { within = omega arith; each = λ place one less. absurd (omega (arith, less)) }
 
-pub one_counted : (server : Server) (queue : List Held) (count place : ℕ) → AreCounted server queue count → count ≡ place
-    → place < length queue → StaysAt server queue place → AreCounted server queue (place + 1)
-one_counted server queue count place known is inside stays = record {
+pub one_counted : (server : Server) (file : ℕ) (queue : List Held) (count place : ℕ)
+    → AreCounted server file queue count → count ≡ place → place < length queue
+    → ((one : Held) → slice_get queue place ≡ Some one → StaysLocally server file (take place queue) one)
+    → AreCounted server file queue (place + 1)
+one_counted server file queue count place known is inside stays = record {
   within = omega (arith, inside);
-  each = λ other less. ⊎_elim
-      (λ before. known.each other (omega (arith, is, before)))
-      (λ same. subst (StaysAt server queue) (sym same) stays)
+  each = λ other one less there. ⊎_elim
+      (λ before. known.each other one (omega (arith, is, before)) there)
+      (λ same. subst (λ n. StaysLocally server file (take n queue) one) (sym same)
+      (stays one (ap (slice_get queue) (sym same) ∙ there)))
       (below_or_at other place less);
 }
   where
@@ -189,17 +210,17 @@ longer [] one = refl
 longer (first ∷ queue) one = let e = longer queue one in omega (arith, e)
 
 -- one more at the end changes nothing for those before it
-pub counted_before : (server : Server) (queue : List Held) (one : Held) (count : ℕ) → AreCounted server queue count
-    → AreCounted server (queue ++ one ∷ []) count
-counted_before server queue one count known =
+pub counted_before : (server : Server) (file : ℕ) (queue : List Held) (one : Held) (count : ℕ)
+    → AreCounted server file queue count → AreCounted server file (queue ++ one ∷ []) count
+counted_before server file queue one count known =
     let within = known.within in
     let more = longer queue one in
     record {
       within = omega (arith, within, more);
-      each = λ place less other is.
+      each = λ place other less is.
           let inside : place < length queue = omega (arith, less, within) in
-          subst (λ before. Stays server before other) (sym (taken_before queue one place inside))
-          (known.each place less other (sym (got_before queue one place inside) ∙ is));
+          subst (λ before. StaysLocally server file before other) (sym (taken_before queue one place inside))
+          (known.each place other less (sym (got_before queue one place inside) ∙ is));
     }
 
 -- ---- a pass over a queue

@@ -7,6 +7,7 @@ pub mod Laws
 pub mod Leases
 pub mod LeftOpens
 pub mod Looks
+pub mod OneFile
 pub mod Outs
 pub mod Passing
 pub mod Requests

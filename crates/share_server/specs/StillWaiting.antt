@@ -9,10 +9,12 @@ use Rattle.lease_model.specs.server.Findings.{Finding, finding}
 use Rattle.lease_model.specs.server.Passes.{is_behind}
 use Rattle.lease_model.specs.server.Progress.{Progress}
 use Rattle.lease_model.specs.server.Ready.{is_ready, waits_for}
-use Rattle.lease_model.specs.server.State.{Server, Open, Lease, Held, is_breaking}
+use Rattle.lease_model.specs.server.State.{Server, Open, Lease, Held, has_key, is_breaking}
 use Rattle.lease_model.specs.server.Wants.{Want}
 use Rattle.lease_model.specs.values.Keys.{Key}
-use Rattle.share_server.specs.Summaries.{file_order}
+use Rattle.share_server.specs.OneFile.{on_file, local, IsOnlyAbout, asks_with}
+use Rattle.lease_laws.specs.server.Laws.{Among}
+use Rattle.share_server.specs.Summaries.{file_order, is_on}
 use Rattle.share_server.specs.Table.{File, file_in}
 use Rattle.share_server.specs.declared.waiting.Waiting.{Waiting}
 
@@ -34,21 +36,23 @@ pub record WaitStill (server : Server) (file : ℕ) (count : ℕ) : Type 0 where
 
 -- ---- why a try is in vain
 
--- what is wanted of a key can't be had at once: its lease is breaking, and none of its opens is left to be closed
-abbrev pub is_under_way : Server → Key → Bool
-is_under_way server key = is_breaking (server.leases key) && not (list_any (is_left_open key) server.opens)
+-- What is wanted of a key on the file can't be had at once: its lease is breaking, and none of its opens is left to be
+-- closed.
+abbrev pub is_under_way : Server → ℕ → Key → Bool
+is_under_way server file key = is_breaking (server.leases key)
+    && (not (list_any (is_left_open key) server.opens) && list_any (has_key key) (on_file file server.opens))
 
 -- The request isn't ready, and has to wait for some of these wants, all of which are under way.
-pub record OnlyWaits (server : Server) (request : FileRequest) (wants : List Want) : Type 0 where
+pub record OnlyWaits (server : Server) (file : ℕ) (request : FileRequest) (wants : List Want) : Type 0 where
   pub unready : is_ready request server.leases wants ≡ false
   pub must_wait : list_any (λ want. waits_for request (server.leases want.key)) wants ≡ true
-  pub under_way : list_all (λ want. is_under_way server want.key) wants ≡ true
+  pub under_way : list_all (λ want. is_under_way server file want.key) wants ≡ true
 
 -- A look at the request finds such wants.
-pub record HasOnlyToWait (server : Server) (client : ℕ) (request : FileRequest) : Type 0 where
+pub record HasOnlyToWait (server : Server) (file : ℕ) (client : ℕ) (request : FileRequest) : Type 0 where
   pub wants : List Want
   pub found : finding server client request ≡ Finding.Needs wants
-  pub waits : OnlyWaits server request wants
+  pub waits : OnlyWaits server file request wants
 
 -- ---- what the tables keep
 
@@ -73,21 +77,40 @@ deciding files opens leases = record {
   last_id = 0;
 }
 
--- a request behind these is behind one of its client, or has only to wait
-abbrev pub Stays : Server → List Held → Held → Type 0
-Stays server before one = (is_behind one.client before ≡ true) ⊎ HasOnlyToWait server one.client one.request
+-- a request behind these is behind one of its client, or is about the file alone and has only to wait
+abbrev pub Stays : Server → ℕ → List Held → Held → Type 0
+Stays server file before one = (is_behind one.client before ≡ true)
+    ⊎ (HasOnlyToWait server file one.client one.request × IsOnlyAbout server file one.client one.request)
 
--- the request at the place of the queue stays
-abbrev pub StaysAt : Server → List Held → ℕ → Type 0
-StaysAt server queue place =
-    (one : Held) → slice_get queue place ≡ Some one → Stays server (take place queue) one
+-- the request at the place of the file's queue stays
+abbrev pub StaysAt : Server → ℕ → List Held → ℕ → Type 0
+StaysAt server file queue place =
+    (one : Held) → slice_get queue place ≡ Some one → Stays server file (take place queue) one
 
--- The first requests of the queue, so many, stay.
-pub record AreCounted (server : Server) (queue : List Held) (count : ℕ) : Type 0 where
+-- the same by what of the server its look sees
+abbrev pub StaysLocally : Server → ℕ → List Held → Held → Type 0
+StaysLocally server file before one = (is_behind one.client before ≡ true)
+    ⊎ (HasOnlyToWait (local file server) file one.client one.request × IsOnlyAbout server file one.client one.request)
+
+-- The first requests of the file's queue, so many, stay.
+pub record AreCounted (server : Server) (file : ℕ) (queue : List Held) (count : ℕ) : Type 0 where
   pub within : count ≤ length queue
-  pub each : (place : ℕ) → place < count → StaysAt server queue place
+  pub each : (place : ℕ) (one : Held) → place < count → slice_get queue place ≡ Some one
+      → StaysLocally server file (take place queue) one
 
 -- In each file's queue the counted requests wait still.
 abbrev pub AreKnown : Waiting → ℕ → List File → List Open → (Key → Lease) → Type 0
 AreKnown waiting count files opens leases = (file : ℕ)
-    → AreCounted (deciding count opens leases) (file_in files file).held (count_in waiting file)
+    → AreCounted (deciding count opens leases) file (file_in files file).held (count_in waiting file)
+
+-- What is known of a file's count is forgotten, or nothing that it rests on has changed.
+abbrev pub HaveForgotten : (Open → Bool) → List Open → Waiting → Waiting → Type 0
+HaveForgotten test opens before after = (file : ℕ) → (count_in after file ≡ 0)
+    ⊎ ((count_in after file ≡ count_in before file)
+    × ((one : Open) → Among one opens → is_on file one ≡ true → test one ≡ false))
+
+-- the same where an open comes, under whose key no create of another file is held
+abbrev pub HaveForgottenFor : Open → List File → Waiting → Waiting → Type 0
+HaveForgottenFor one files before after = (file : ℕ) → (count_in after file ≡ 0)
+    ⊎ ((count_in after file ≡ count_in before file) × (is_on file one ≡ false)
+    × ((held : Held) → Among held (file_in files file).held → asks_with one held ≡ false))

@@ -78,7 +78,7 @@ fn try_again(
         tables.count_still(file, place)?;
         return Ok(false);
     }
-    if tables.has_only_to_wait(client, ask)? {
+    if tables.has_only_to_wait(file, client, ask)? {
         tables.count_still(file, place)?;
         return Ok(false);
     }

@@ -1,14 +1,16 @@
 ghost use Rattle.std.specs.Prelude.{◌≡◌, ◌≤◌, ◌<◌, ℕ, ◌==◌, ◌++◌, [], ◌∷◌, IfOk, OnOk, OnErr, map, filter, not, length, vec_len};
-ghost use Rattle.std.specs.List.{remove, slice_get};
+ghost use Rattle.std.specs.List.{remove, slice_get, list_any};
 ghost use Rattle.std.specs.Prelude.{Some, true};
 ghost use Rattle.lease_model.specs.values.Tables.{numbered};
 ghost use Rattle.lease_state.specs.Content.{patch as patched};
 ghost use Rattle.lease_model.specs.values.Lists.{without};
 ghost use Rattle.lease_model.specs.values.Patches.{is_within_limit};
+ghost use Rattle.share_server.specs.OneFile.{asks_with};
 ghost use Rattle.share_server.specs.Table.{no_file, file_in, fresh_file};
 
 use crate::key::Key;
 use crate::lease::Lease;
+use crate::open::Open;
 use crate::opens::Opens;
 use crate::request::Held;
 use crate::state::without_write;
@@ -90,6 +92,13 @@ impl File {
         ensures { self.new ≡ record self.old { held = without (λ one. one.client == client.0) self.old.held } }
     {
         forget_held(&mut self.held, client);
+    }
+
+    /// Whether a create waits there under the key of the open.
+    pub fn asks_with(&self, one: &Open) -> bool
+        ensures { result ≡ list_any (asks_with one.now) self.now.held }
+    {
+        self.held.iter().any(|held| held.asks_with(one))
     }
 
     /// The patch, which ends within the limit, is put over the bytes.

@@ -1,4 +1,4 @@
-ghost use Rattle.std.specs.Prelude.{◌≡◌, ℕ, ◌==◌, OnOk, OnErr, if◌then◌else◌};
+ghost use Rattle.std.specs.Prelude.{◌≡◌, ℕ, true, ◌==◌, OnOk, OnErr, if◌then◌else◌};
 ghost use Rattle.share_server.specs.StillWaiting.{count_in};
 
 use lease_state::{FileNo, Memory};
@@ -30,6 +30,13 @@ impl Waiting {
             Some(count) => *count,
             None => 0,
         }
+    }
+
+    /// Whether none is known to.
+    pub fn is_empty(&self) -> bool
+        ensures { result ≡ true → (file : ℕ) → count_in self.now file ≡ 0 }
+    {
+        self.counts.is_empty()
     }
 
     /// So many of the file's are known to.

@@ -27,6 +27,7 @@ use crate::open::Open;
 use crate::opens::Opens;
 use crate::request::Held;
 use crate::summaries::Summaries;
+use crate::tables::still::{forget_files, forget_for, forget_home};
 use crate::tables::{File, Tables};
 use lease_state::{ClientNo, FileId, FileNo, Memory, Patch};
 use std::alloc::Global;
@@ -42,10 +43,11 @@ impl Tables {
         ensures { OnOk result (server_of self.new ≡ with_lease (server_of self.old) key (lease_of lease)) }
     {
         let alloc = self.alloc();
-        self.waiting.clear();
+        forget_home(&mut self.waiting, &self.summaries, key);
         match self.summaries.put(key, lease) {
             Ok(()) => Ok(()),
             Err(memory) => {
+                self.waiting.clear();
                 forget_opens(&mut self.opens, &mut self.summaries, alloc);
                 Err(memory)
             }
@@ -67,7 +69,7 @@ impl Tables {
         if ids.is_empty() {
             return Ok(());
         }
-        self.waiting.clear();
+        forget_files(&mut self.waiting, &self.opens, &ids);
         close_all(&mut self.opens, &mut self.summaries, &ids);
         Ok(())
     }
@@ -157,11 +159,12 @@ impl Tables {
         ensures { OnOk result (server_of self.new ≡ opened_with (server_of self.old) one (lease_of lease)) }
     {
         let alloc = self.alloc();
-        self.waiting.clear();
+        forget_for(&mut self.waiting, &self.files, &one);
         self.last_id = one.file_id.0;
         match add(&mut self.opens, &mut self.summaries, alloc, one, lease) {
             Ok(()) => Ok(()),
             Err(memory) => {
+                self.waiting.clear();
                 forget_opens(&mut self.opens, &mut self.summaries, alloc);
                 Err(memory)
             }

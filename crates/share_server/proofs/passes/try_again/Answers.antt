@@ -86,9 +86,13 @@ count_still-requires-then-branch c = λ one is.
     let queue = (server_of c.args.tables.now).held c.args.file.0 in
     let there = (rw (← c.one.view_is, c.held-held.ensures) at c.index-held-place.is)
     ∙ got queue c.args.place one (the_view c.one.inside) is in
-    subst (Stays (server_of c.args.tables.now) (take c.args.place queue)) there
-    (inr (c.ask-ask.ensures.waits c.one.inside.client.0 (server_of c.args.tables.now)
-    (c.in_ok-has_only_to_wait.ensures.waits c.if-branch.true)))
+    subst (Stays (server_of c.args.tables.now) c.args.file.0 (take c.args.place queue)) there
+    (inr (
+      c.ask-ask.ensures.waits c.one.inside.client.0 c.args.file.0 (server_of c.args.tables.now)
+          (c.in_ok-has_only_to_wait.ensures.waits c.if-branch.true),
+      c.ask-ask.ensures.about c.one.inside.client.0 c.args.file.0 (server_of c.args.tables.now)
+          (c.in_ok-has_only_to_wait.ensures.about c.if-branch.true),
+    ))
 
 pub returns-then-branch-clause-step : goal.returns-then-branch-clause-step
 returns-then-branch-clause-step c = λ has.

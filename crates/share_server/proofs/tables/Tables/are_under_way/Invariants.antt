@@ -6,5 +6,5 @@ use Rattle.share_server.proofs.tables.Tables.are_under_way.Given as goal
 
 abbrev pub invariant-loop-want : goal.invariant-loop-want
 invariant-loop-want l =
-    list_all (λ want. is_under_way (server_of l.self) want.key) (drop l.want-index l.wants)
-    ≡ list_all (λ want. is_under_way (server_of l.self) want.key) l.wants
+    list_all (λ want. is_under_way (server_of l.self) l.file.0 want.key) (drop l.want-index l.wants)
+    ≡ list_all (λ want. is_under_way (server_of l.self) l.file.0 want.key) l.wants

@@ -12,5 +12,5 @@ invariant_of-self c = (
   rw c.connect_again.ensures
       (kept_mapped c.self.inside.opens (connected_again c.args.fid.0) c.self.inside.summaries c.self.inside.last_id
       c.self.invariant.1 (connection_kept (has_id c.args.fid.0) true) (same_id_where (has_id c.args.fid.0) true)),
-  λ file. none_counted _ _ _ (c.clear.ensures file),
+  λ file. none_counted _ _ _ _ (c.clear.ensures file),
 )

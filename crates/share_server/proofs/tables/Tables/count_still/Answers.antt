@@ -10,7 +10,7 @@ invariant_of-self-then-place-held c = (
   known_counted _ c.self.inside.files.items c.args.file.0 c.args.place c.self.inside.waiting c.put.new.self
       c.in_ok-put.ensures.put (sym c.count.ensures ∙ c.if-count-place.true)
       (rw (c.held.ensures, ← c.self.view_is) at c.if-place-held.true)
-      (stays_decided (the_view c.self.inside) c.self.inside.summaries _ c.args.place refl
+      (stays_decided (the_view c.self.inside) c.self.inside.summaries c.args.file.0 _ c.args.place refl
       (rw (← c.self.view_is) at c.requires))
       c.self.invariant.2,
 )

@@ -14,7 +14,7 @@ invariant_of-self c = (
   rw c.in-Ok.ensures
       (kept_mapped c.self.inside.opens (disconnected_where _) c.self.inside.summaries c.self.inside.last_id
       c.self.invariant.1 (connection_kept _ false) (same_id_where _ false)),
-  λ file. none_counted _ _ _ (c.clear.ensures file),
+  λ file. none_counted _ _ _ _ (c.clear.ensures file),
 )
 
 pub returns-in-Ok : goal.returns-in-Ok
@@ -29,5 +29,5 @@ pub invariant_of-self-in-Err : goal.invariant_of-self-in-Err
 invariant_of-self-in-Err c = (
   c.self.invariant.0,
   kept_empty _ _ _ c.forget_opens.ensures.opens c.forget_opens.ensures.agrees,
-  λ file. none_counted _ _ _ (c.clear.ensures file),
+  λ file. none_counted _ _ _ _ (c.clear.ensures file),
 )

@@ -9,11 +9,11 @@ use Rattle.share_server.proofs.tables.Tables.has_only_to_wait.Goals as goal
 
 pub returns-in_ok-waits-in-Needs-clause-vain : goal.returns-in_ok-waits-in-Needs-clause-vain
 returns-in_ok-waits-in-Needs-clause-vain c = λ yes.
-    let has : HasOnlyToWait (server_of c.args.self.now) c.args.client.0 (request_like c.args.ask) = record {
+    let has : HasOnlyToWait (server_of c.args.self.now) c.args.file.0 c.args.client.0 (request_like c.args.ask) = record {
       wants = c.in-Needs.wants.items;
       found = sym c.in_ok-finding.ensures ∙ ap finding_of c.in-Needs.is;
       waits = rw c.deref.ensures.value at (c.in_ok-waits-in-Needs.ensures yes);
     } in
     rw (← c.self.view_is)
-    (in_vain_now (the_view c.self.inside) c.self.inside.summaries c.args.client.0 (request_like c.args.ask)
+    (in_vain_now (the_view c.self.inside) c.self.inside.summaries c.args.file.0 c.args.client.0 (request_like c.args.ask)
     c.self.invariant.1 refl (rw (← c.self.view_is) at has))

@@ -18,5 +18,5 @@ pub invariant_of-result : goal.invariant_of-result
 invariant_of-result c = (
   c.in_ok-places_of.ensures.len,
   kept_empty c.new.result c.new-2.result 0 c.new.ensures c.new-2.ensures.agrees,
-  λ file. none_counted _ _ _ (c.new-5.ensures file),
+  λ file. none_counted _ _ _ _ (c.new-5.ensures file),
 )
