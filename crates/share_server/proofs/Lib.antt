@@ -24,6 +24,7 @@ pub mod Places
 pub mod Recording
 pub mod Rounds
 pub mod Sending
+pub mod Settled
 pub mod Standing
 pub mod StillWaiting
 pub mod Summing

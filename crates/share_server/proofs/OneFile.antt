@@ -14,7 +14,7 @@ use Rattle.lease_model.specs.server.Allowed.{conflicts_on, is_other_on}
 use Rattle.lease_model.specs.server.Findings.{Finding, finding, create_finding, reconnect_finding, asked_finding, write_finding, by_open, awaits, connected_open, is_leased_elsewhere}
 use Rattle.lease_model.specs.server.Attempt.{is_left_open}
 use Rattle.lease_model.specs.server.Ready.{is_ready, waits_for, breaks_to_none}
-use Rattle.lease_model.specs.messages.Requests.{FileRequest, CreateAsk, LeaseOf}
+use Rattle.lease_model.specs.messages.Requests.{FileRequest, CreateAsk}
 use Rattle.lease_model.specs.values.Patches.{is_within_limit}
 use Rattle.lease_model.specs.values.Sharing.{may_write}
 use Rattle.lease_state.specs.declared.patch.Patch.{Patch}
@@ -22,12 +22,12 @@ use Rattle.lease_state.specs.declared.status.Status.{Status}
 use Rattle.std.specs.Option.{option_map}
 use Rattle.lease_model.specs.server.KeyOrder.{keys_of}
 use Rattle.lease_model.specs.server.Naming.{key_of, own_key, key_of_open, lease_of, lease_by}
-use Rattle.lease_model.specs.server.State.{Server, Open, Lease, has_key, has_file, is_key, no_lease, is_breaking}
+use Rattle.lease_model.specs.server.State.{Server, Open, Lease, has_key, has_file, is_key, is_breaking}
 use Rattle.lease_model.specs.server.Wants.{Want, wants_where, handle_wants, write_wants, all_wants}
 use Rattle.lease_model.specs.values.Keys.{Key}
 use Rattle.lease_model.specs.values.LeaseStates.{holds_any}
 use Rattle.share_server.specs.OneFile.{on_file, local, IsOnlyAbout}
-use Rattle.share_server.specs.StillWaiting.{is_under_way, OnlyWaits, HasOnlyToWait}
+use Rattle.share_server.specs.StillWaiting.{is_under_way, HasOnlyToWait}
 use Rattle.share_server.specs.Looks.{is_elsewhere}
 use Rattle.share_server.specs.Summaries.{is_on}
 
@@ -63,7 +63,8 @@ filter_on file here there (one ∷ opens) only same =
 lease_here : (file : ℕ) (server : Server) (key : Key) (one : Open) → Among one server.opens → is_on file one ≡ true
     → has_key key one ≡ true → (local file server).leases key ≡ server.leases key
 lease_here file server key one there on has =
-    let some = has_any (has_key key) one (on_file file server.opens) (among_filtered (is_on file) one server.opens there on) has in
+    let some = has_any (has_key key) one (on_file file server.opens)
+    (among_filtered (is_on file) one server.opens there on) has in
     rw some refl
 
 lease_on : (file : ℕ) (server : Server) (one : Open) → Among one server.opens → is_on file one ≡ true
@@ -114,7 +115,9 @@ pub handles_on : (file : ℕ) (server : Server) (own : Option Key) (access : Acc
 unfolding handle_wants
 handles_on file server own access share =
     wants_on file server _ _ _
-    (λ one is. conflicts_for file access share one (and_parts (conflicts_on file access share one) _ (and_parts (conflicts_on file access share one && is_other_on own file one) _ is).0).0)
+    (λ one is.
+    let both = (and_parts (conflicts_on file access share one && is_other_on own file one) _ is).0 in
+    conflicts_for file access share one (and_parts (conflicts_on file access share one) _ both).0)
     (λ one there on. ap (λ (lease : Lease). conflicts_on file access share one && is_other_on own file one && lease.state.handle)
     (lease_on file server one there on))
 
@@ -132,7 +135,8 @@ unfolding all_wants
 all_on file server own =
     wants_on file server _ _ _
     (λ one is. other_for own file one (and_parts (is_other_on own file one) _ is).0)
-    (λ one there on. ap (λ (lease : Lease). is_other_on own file one && holds_any lease.state) (lease_on file server one there on))
+    (λ one there on.
+    ap (λ (lease : Lease). is_other_on own file one && holds_any lease.state) (lease_on file server one there on))
 
 elsewhere_here : (file : ℕ) (server : Server) (own : Option Key) → is_leased_elsewhere (local file server) own file ≡ false
 unfolding is_leased_elsewhere

@@ -1,5 +1,5 @@
 -- Requests that have only to wait: a try of one changes nothing, and a pass may begin behind them.
-use Rattle.std.proofs.Common.{◌≡◌, ◌⊎◌, inl, inr, ⊎_elim, ℕ, ◌+◌, ◌<◌, ◌≤◌, zero, suc, Bool, true, false, not, List, [], ◌∷◌, ◌++◌, length, get_or, take, drop, refl, ap, sym, ◌∙◌, arith, subst, append-nil, true≢false}
+use Rattle.std.proofs.Common.{◌≡◌, ◌⊎◌, inl, inr, ⊎_elim, ℕ, ◌+◌, ◌<◌, ◌≤◌, zero, suc, Bool, true, false, not, List, [], ◌∷◌, ◌++◌, length, get_or, take, refl, ap, sym, ◌∙◌, arith, subst, append-nil}
 use Rattle.std.proofs.Math.Path.{fun_ext}
 use Rattle.std.proofs.lemmas.Bool.Decides.{nat_tests}
 use Rattle.std.specs.BTreeMap.{Updates, is_at}
@@ -7,12 +7,11 @@ use Rattle.std.specs.List.{list_any, list_all, slice_get}
 use Rattle.std.specs.Prelude.{Option, Some, None, find, if◌then◌else◌, ◌&&◌, ◌==◌}
 use Rattle.lease_laws.proofs.server.Lists.{either, clash, and_parts, not_parts}
 use Rattle.lease_model.specs.messages.Replies.{Out}
-use Rattle.lease_model.specs.messages.Requests.{FileRequest, CreateAsk, LeaseOf}
-use Rattle.lease_model.specs.server.Attempt.{Outcome, ended, tried, wants_met, want_met, lease_broken, is_left_open, must_wait}
-use Rattle.lease_model.specs.server.Findings.{Finding, finding, create_finding, reconnect_finding, write_finding, is_leased_elsewhere, connected_open}
-use Rattle.lease_model.specs.server.Passes.{Pass, is_behind, one_pass, pass_over}
+use Rattle.lease_model.specs.messages.Requests.{FileRequest, LeaseOf}
+use Rattle.lease_model.specs.server.Attempt.{Outcome, wants_met, want_met, lease_broken, is_left_open}
+use Rattle.lease_model.specs.server.Findings.{finding, create_finding, reconnect_finding, write_finding, is_leased_elsewhere}
+use Rattle.lease_model.specs.server.Passes.{is_behind, one_pass}
 use Rattle.lease_model.specs.server.Progress.{Progress, opens_dropped, with_opens}
-use Rattle.lease_model.specs.server.Ready.{is_ready, waits_for}
 use Rattle.lease_model.specs.server.State.{Server, Open, Lease, Held, has_key, no_lease, is_breaking}
 use Rattle.lease_model.specs.server.Wants.{Want, handle_wants, write_wants, all_wants, wants_where}
 use Rattle.lease_model.specs.values.Keys.{Key}
@@ -21,8 +20,8 @@ use Rattle.share_server.specs.Passing.{pass_at}
 use Rattle.lease_state.specs.declared.number.FileNo.{FileNo}
 use Rattle.share_server.specs.Summaries.{file_order}
 use Rattle.share_server.specs.declared.waiting.Waiting.{Waiting}
-use Rattle.share_server.specs.StillWaiting.{counted, count_in, at_call, IsTriedInVain, WaitStill, is_under_way, OnlyWaits, HasOnlyToWait, deciding, StaysLocally, AreCounted}
-use Rattle.share_server.specs.OneFile.{local, IsOnlyAbout}
+use Rattle.share_server.specs.StillWaiting.{counted, count_in, at_call, IsTriedInVain, WaitStill, is_under_way, HasOnlyToWait, deciding, StaysLocally, AreCounted}
+use Rattle.share_server.specs.OneFile.{IsOnlyAbout}
 use Rattle.share_server.proofs.Homing.{elsewhere_same}
 use Rattle.lease_model.specs.server.Naming.{own_key}
 use Rattle.std.specs.Option.{option_map}

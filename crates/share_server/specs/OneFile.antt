@@ -1,5 +1,5 @@
 -- What of a server a look at a request about one file sees.
-use Rattle.std.specs.Prelude.{◌≡◌, ◌≢◌, ◌⊎◌, Bool, false, ℕ, Option, Some, None, List, filter, if◌then◌else◌}
+use Rattle.std.specs.Prelude.{◌≡◌, Bool, false, ℕ, Option, Some, None, List, filter, if◌then◌else◌}
 use Rattle.std.specs.List.{list_any}
 use Rattle.std.specs.Option.{option_map}
 use Rattle.lease_model.specs.messages.Requests.{FileRequest}
@@ -7,7 +7,6 @@ use Rattle.lease_model.specs.server.Findings.{is_leased_elsewhere, connected_ope
 use Rattle.lease_model.specs.server.Naming.{own_key}
 use Rattle.lease_model.specs.server.State.{Server, Open, Held, no_lease, has_key, has_own_key}
 use Rattle.lease_model.specs.values.Keys.{Key}
-use Rattle.lease_laws.specs.server.Laws.{Among}
 use Rattle.share_server.specs.Summaries.{is_on}
 
 abbrev pub on_file : ℕ → List Open → List Open

@@ -1,4 +1,4 @@
-use Rattle.std.proofs.Common.{◌+◌, ◌∙◌, ap, sym, arith, subst, take, inl, inr, refl}
+use Rattle.std.proofs.Common.{◌+◌, ◌∙◌, ap, sym, arith, subst, take, inr, refl}
 use Rattle.lease_model.specs.server.Attempt.{Outcome}
 use Rattle.lease_model.specs.server.State.{Server}
 use Rattle.share_server.specs.Findings.{outcome_of}

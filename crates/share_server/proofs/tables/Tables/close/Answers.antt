@@ -2,7 +2,8 @@ use Rattle.std.proofs.Common.{◌≡◌, length, arith, [], map, refl, ap, sym, 
 use Rattle.std.specs.Vec.{vec_len}
 use Rattle.lease_state.specs.declared.number.FileId.{FileId}
 use Rattle.share_server.specs.contracts.tables.Tables.{the_view}
-use Rattle.share_server.proofs.Counted.{no_ids, known_settled, settled_closed}
+use Rattle.share_server.proofs.Counted.{no_ids}
+use Rattle.share_server.proofs.Settled.{known_settled, settled_closed}
 use Rattle.share_server.proofs.Tabling.{kept_left, table_closed, closed_none}
 use Rattle.share_server.proofs.tables.Tables.close.Goals as goal
 

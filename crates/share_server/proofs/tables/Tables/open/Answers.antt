@@ -3,7 +3,8 @@ use Rattle.lease_model.specs.server.State.{Open}
 use Rattle.share_server.specs.Kept.{AreKept}
 use Rattle.share_server.specs.Leases.{lease_of}
 use Rattle.share_server.specs.contracts.tables.Tables.{the_view}
-use Rattle.share_server.proofs.Counted.{kept_empty, known_settled, settled_opened}
+use Rattle.share_server.proofs.Counted.{kept_empty}
+use Rattle.share_server.proofs.Settled.{known_settled, settled_opened}
 use Rattle.share_server.proofs.StillWaiting.{none_counted}
 use Rattle.share_server.proofs.Tabling.{table_opened, below_new, opened_now}
 use Rattle.share_server.proofs.tables.Tables.open.Goals as goal

@@ -1,7 +1,8 @@
 use Rattle.std.proofs.Common.{refl}
 use Rattle.share_server.specs.Leases.{lease_of}
 use Rattle.share_server.specs.contracts.tables.Tables.{the_view}
-use Rattle.share_server.proofs.Counted.{kept_empty, known_settled, settled_put}
+use Rattle.share_server.proofs.Counted.{kept_empty}
+use Rattle.share_server.proofs.Settled.{known_settled, settled_put}
 use Rattle.share_server.proofs.StillWaiting.{none_counted}
 use Rattle.share_server.proofs.Tabling.{lease_written}
 use Rattle.share_server.proofs.tables.Tables.put_lease.Goals as goal

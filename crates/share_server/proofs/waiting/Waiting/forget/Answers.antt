@@ -1,5 +1,4 @@
 use Rattle.std.specs.Prelude.{None}
-use Rattle.share_server.proofs.Counted.{known_settled}
 use Rattle.share_server.proofs.StillWaiting.{count_changed}
 use Rattle.share_server.proofs.waiting.Waiting.forget.Goals as goal
 
