@@ -14,6 +14,7 @@ use Rattle.lease_model.specs.server.Wants.{all_wants}
 use Rattle.lease_model.specs.values.Patches.{is_within_limit}
 use Rattle.lease_model.specs.values.Sharing.{may_write}
 use Rattle.share_server.specs.Requests.{patch_like}
+use Rattle.share_server.specs.StillWaiting.{HasOnlyToWait}
 
 -- what a write's look finds, by whether the patch fits
 abbrev found_for : Server → Option Open → Bool → Finding
@@ -70,3 +71,18 @@ pub writes_are_tried_alike : (client file_id number : ℕ) (patch : Patch) (fits
     ≡ tried client (FileRequest.Write file_id number patch) progress
 writes_are_tried_alike client file_id number patch fits progress same =
     tried_alike 3 client file_id 0 number (patch_like fits) patch progress (limit_like fits ∙ same)
+
+pub writes_wait_alike : (client file file_id number : ℕ) (patch : Patch) (fits : Bool) (server : Server)
+    → fits ≡ is_within_limit patch
+    → HasOnlyToWait server file client (FileRequest.Write file_id 0 (patch_like fits))
+    → HasOnlyToWait server file client (FileRequest.Write file_id number patch)
+unfolding is_ready waits_for
+writes_wait_alike client file file_id number patch fits server same has = record {
+  wants = has.wants;
+  found = sym (found_alike server client file_id 0 number (patch_like fits) patch (limit_like fits ∙ same)) ∙ has.found;
+  waits = record {
+    unready = has.waits.unready;
+    must_wait = has.waits.must_wait;
+    under_way = has.waits.under_way;
+  };
+}

@@ -8,7 +8,7 @@ use Rattle.lease_model.specs.values.Tables.{put}
 use Rattle.share_server.specs.Table.{Table, File, file_in, server_of}
 use Rattle.share_server.proofs.Places.{file_there}
 
-place_set : (files : List File) (i n : ℕ) (file : File) → i < length files
+pub place_set : (files : List File) (i n : ℕ) (file : File) → i < length files
     → file_in (set files i file) n ≡ cond (eqb n i) file (file_in files n)
 place_set [] i n file inside = absurd (omega arith)
 place_set (one ∷ files) zero zero file inside = refl

@@ -101,7 +101,7 @@ ready_at_home client request before after outcome end ready =
     subst (λ (p : Progress). CanBeAnswered client request p.server) (ap (λ (t : Tried). t.progress) (sym end))
     (at_home (tried client request before).progress.server client request looked.wants looked.found free)
 
-elsewhere_same : (a b : Server) (own : Option Key) (file : ℕ) → a.opens ≡ b.opens
+pub elsewhere_same : (a b : Server) (own : Option Key) (file : ℕ) → a.opens ≡ b.opens
     → is_leased_elsewhere a own file ≡ is_leased_elsewhere b own file
 unfolding is_leased_elsewhere
 elsewhere_same a b None file same = refl

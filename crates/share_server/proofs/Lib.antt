@@ -3,6 +3,7 @@ pub mod Alike
 pub mod Arriving
 pub mod Asking
 pub mod Breaking
+pub mod Counted
 pub mod Demanding
 pub mod Expiring
 pub mod FilePlaces
@@ -16,6 +17,7 @@ pub mod LeftOpens
 pub mod Losing
 pub mod Mapping
 pub mod NewTables
+pub mod OneFile
 pub mod Ordering
 pub mod Owners
 pub mod Passing
@@ -23,7 +25,9 @@ pub mod Places
 pub mod Recording
 pub mod Rounds
 pub mod Sending
+pub mod Settled
 pub mod Standing
+pub mod StillWaiting
 pub mod Summing
 pub mod Tabling
 pub mod Tallies

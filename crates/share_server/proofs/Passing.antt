@@ -63,7 +63,7 @@ one_less (one ∷ q) (suc place) inside =
     let less = one_less q place (omega arith) in
     rw e (omega (arith, less))
 
-got : (q : List Held) (place : ℕ) (one other : Held) → slice_get q place ≡ Some one → get_or q place other ≡ one
+pub got : (q : List Held) (place : ℕ) (one other : Held) → slice_get q place ≡ Some one → get_or q place other ≡ one
 got [] place one other is = absurd (cc is)
 got (first ∷ q) zero one other is = cc is
 got (first ∷ q) (suc place) one other is = got q place one other is

@@ -1,5 +1,5 @@
 -- The rounds of a try, one after another.
-use Rattle.std.proofs.Common.{◌≡◌, ℕ, ◌+◌, ◌-◌, ◌<◌, ◌≤◌, suc, true, false, List, refl, ap, sym, ◌∙◌, arith}
+use Rattle.std.proofs.Common.{◌≡◌, ℕ, ◌+◌, ◌-◌, ◌<◌, ◌≤◌, suc, Bool, true, false, List, refl, ap, sym, ◌∙◌, arith}
 use Rattle.std.specs.Prelude.{if◌then◌else◌}
 use Rattle.lease_laws.proofs.server.Lists.{either}
 use Rattle.lease_model.specs.messages.Requests.{FileRequest}
@@ -84,3 +84,19 @@ pub none_left : (i client : ℕ) (request : FileRequest) (now : Progress) (whole
 unfolding tried_for
 none_left i client request now whole over so_far =
     let e : 3 - i ≡ 0 = omega arith in rw e at so_far
+
+-- where a look finds wants, these are the finding's, and the request can't be answered
+pub needs_unready : (is_ready : List Want → Bool) (found : Finding) (wants : List Want) → Look.Needs wants ≡ looked is_ready found
+    → (found ≡ Finding.Needs wants) × (is_ready wants ≡ false)
+needs_unready is_ready (Finding.Fails status) wants is = let c : ⊥ = cc in absurd c
+needs_unready is_ready (Finding.Needs those) wants is = by_case (is_ready those) refl
+  where
+    by_case : (b : Bool) → is_ready those ≡ b → (Finding.Needs those ≡ Finding.Needs wants) × (is_ready wants ≡ false)
+    by_case true ready = let e = rw ready at is in let c : ⊥ = cc in absurd c
+    by_case false unready =
+        let e = rw unready at is in
+        let same : those ≡ wants = cc in (ap (λ (ws : List Want). Finding.Needs ws) same, sym (ap is_ready same) ∙ unready)
+
+pub unready_needs : (is_ready : List Want → Bool) (found : Finding) (wants : List Want) → found ≡ Finding.Needs wants
+    → is_ready wants ≡ false → Look.Needs wants ≡ looked is_ready found
+unready_needs is_ready found wants is unready = rw (is, unready) refl

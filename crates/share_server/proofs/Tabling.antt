@@ -150,7 +150,7 @@ map_alike f g (one ∷ opens) same =
 
 -- ---- opens that are closed
 
-one_more : (ids : List ℕ) (id : ℕ) (one : Open) → is_one_of (ids ++ id ∷ []) one ≡ (is_one_of ids one || has_id id one)
+pub one_more : (ids : List ℕ) (id : ℕ) (one : Open) → is_one_of (ids ++ id ∷ []) one ≡ (is_one_of ids one || has_id id one)
 one_more [] id one = or_false (has_id id one)
   where
     or_false : (b : Bool) → (b || false) ≡ b

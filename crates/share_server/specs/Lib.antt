@@ -8,9 +8,11 @@ pub mod Laws
 pub mod Leases
 pub mod LeftOpens
 pub mod Looks
+pub mod OneFile
 pub mod Outs
 pub mod Passing
 pub mod Requests
+pub mod StillWaiting
 pub mod Summaries
 pub mod Table
 pub mod Tallies

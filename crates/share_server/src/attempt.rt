@@ -102,8 +102,8 @@ fn breaks_to_something(lease: Lease) -> bool
     }
 }
 
-// Whether some lease of these keeps the request waiting.
-fn must_wait(tables: &Tables, ask: Ask, wants: &[Want]) -> bool
+/// Whether some lease of these keeps the request waiting.
+pub fn must_wait(tables: &Tables, ask: Ask, wants: &[Want]) -> bool
     ensures { result ≡ list_any (λ want. ready.waits_for (request_like ask) ((server_of tables.now).leases want.key))
         wants.now }
 {

@@ -53,6 +53,7 @@ mod state;
 mod summaries;
 mod tables;
 mod tally;
+mod waiting;
 mod want;
 
 pub use out::Out;

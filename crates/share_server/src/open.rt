@@ -1,5 +1,5 @@
 ghost use Rattle.std.specs.Prelude.{◌≡◌};
-ghost use Rattle.lease_model.specs.server.State.{has_key};
+ghost use Rattle.lease_model.specs.server.State.{has_key, has_own_key};
 ghost use Rattle.lease_model.specs.server.Attempt.{is_left_open};
 ghost use Rattle.lease_model.specs.server.Calls.{is_left_behind};
 ghost use Rattle.lease_model.specs.server.Findings.{awaits};
@@ -54,6 +54,16 @@ impl Open {
     {
         match self.lease_key {
             Some(bytes) => key.client == self.client && key.bytes == bytes,
+            None => false,
+        }
+    }
+
+    /// Whether the open has the key, if this is one.
+    pub fn has_own_key(&self, own: Option<Key>) -> bool
+        ensures { result ≡ has_own_key own self.now }
+    {
+        match own {
+            Some(key) => self.has_key(key),
             None => false,
         }
     }

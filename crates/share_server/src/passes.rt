@@ -36,14 +36,15 @@ fn try_held(tables: &mut Tables, outs: &mut Outs, file: FileNo) -> Result<(), Me
     Ok(())
 }
 
-// A pass over what is held on a file, in order of arrival: whether it answered a request.
+// A pass over what is held on a file, in order of arrival, from the first request on that isn't known
+// to wait still: whether it answered a request.
 fn pass(tables: &mut Tables, outs: &mut Outs, file: FileNo) -> Result<bool, Memory>
     ensures step { IfOk result (λ answered. (rules.one_pass file.0 (progress_of tables.old outs.old)).progress
         ≡ progress_of tables.new outs.new) }
     ensures answered { IfOk result (λ answered.
         (rules.one_pass file.0 (progress_of tables.old outs.old)).has_answered ≡ answered) }
 {
-    let mut place = 0;
+    let mut place = tables.still(file);
     let mut answered = false;
     while place < tables.held(file).len() {
         if try_again(tables, outs, file, place)? {
@@ -74,6 +75,11 @@ fn try_again(
     let client = one.client;
     let ask = one.request.ask();
     if is_behind(client, &held[..place]) {
+        tables.count_still(file, place)?;
+        return Ok(false);
+    }
+    if tables.has_only_to_wait(file, client, ask)? {
+        tables.count_still(file, place)?;
         return Ok(false);
     }
     let outcome = attempt(tables, outs, client, ask)?;

@@ -3,10 +3,14 @@ ghost use Rattle.std.specs.Option.{option_map};
 ghost use Rattle.lease_model.specs.server.Attempt.{tried};
 ghost use Rattle.lease_model.specs.server.Naming as naming;
 ghost use Rattle.lease_model.specs.server.Progress.{Progress};
+ghost use Rattle.lease_model.specs.server.State.{Server};
 ghost use Rattle.lease_model.specs.values.Patches.{is_within_limit};
 ghost use Rattle.share_server.specs.Requests.{file_request_of, request_like, lease_asked};
+ghost use Rattle.share_server.specs.OneFile.{IsOnlyAbout, asks_with};
+ghost use Rattle.share_server.specs.StillWaiting.{HasOnlyToWait};
 
 use crate::key::Key;
+use crate::open::Open;
 use lease_state::{
     Access, ClientNo, FILE_LIMIT, FileId, FileNo, LeaseKey, LeaseState, Patch, Share,
 };
@@ -59,9 +63,13 @@ pub enum Ask {
 
 impl FileRequest {
     /// What of the request decides when it can be answered.
-    #[tactic(auto, using(crate::proofs::Alike::writes_are_tried_alike))]
+    #[tactic(auto, using(crate::proofs::Alike::writes_are_tried_alike, crate::proofs::Alike::writes_wait_alike))]
     pub fn ask(&self) -> Ask
-        ensures { (client : ℕ) (progress : Progress)
+        ensures waits { (client file : ℕ) (server : Server) → HasOnlyToWait server file client (request_like result)
+            → HasOnlyToWait server file client (file_request_of self.now) }
+        ensures about { (client file : ℕ) (server : Server) → IsOnlyAbout server file client (request_like result)
+            → IsOnlyAbout server file client (file_request_of self.now) }
+        ensures tried { (client : ℕ) (progress : Progress)
             → tried client (request_like result) progress ≡ tried client (file_request_of self.now) progress }
     {
         match self {
@@ -118,4 +126,16 @@ impl Model for Held {
     ghost Value = { model.Held };
 
     ghost view = { λ one. record { client = one.client.0; request = file_request_of one.request } };
+}
+
+impl Held {
+    /// Whether it is a create under the key of the open.
+    pub fn asks_with(&self, one: &Open) -> bool
+        ensures { result ≡ asks_with one.now self.now }
+    {
+        match &self.request {
+            FileRequest::Create { ask, .. } => one.has_own_key(key_asked(self.client, ask.lease)),
+            _ => false,
+        }
+    }
 }

@@ -1,18 +1,21 @@
-ghost use Rattle.std.specs.Prelude.{◌≡◌, ◌≤◌, ◌<◌, ℕ, ◌==◌, ◌++◌, [], ◌∷◌, IfOk, OnOk, map, filter, not, length, vec_len};
-ghost use Rattle.std.specs.List.{remove, slice_get};
+ghost use Rattle.std.specs.Prelude.{◌≡◌, ◌≤◌, ◌<◌, ℕ, ◌==◌, ◌++◌, [], ◌∷◌, IfOk, OnOk, OnErr, map, filter, not, length, vec_len};
+ghost use Rattle.std.specs.List.{remove, slice_get, list_any};
 ghost use Rattle.std.specs.Prelude.{Some, true};
 ghost use Rattle.lease_model.specs.values.Tables.{numbered};
 ghost use Rattle.lease_state.specs.Content.{patch as patched};
 ghost use Rattle.lease_model.specs.values.Lists.{without};
 ghost use Rattle.lease_model.specs.values.Patches.{is_within_limit};
+ghost use Rattle.share_server.specs.OneFile.{asks_with};
 ghost use Rattle.share_server.specs.Table.{no_file, file_in, fresh_file};
 
 use crate::key::Key;
 use crate::lease::Lease;
+use crate::open::Open;
 use crate::opens::Opens;
 use crate::request::Held;
 use crate::state::without_write;
 use crate::summaries::Summaries;
+use crate::waiting::Waiting;
 use lease_state::{
     Access, ClientNo, Content, ContentFault, FileId, FileNo, LeaseState, Memory, Patch, Share,
 };
@@ -21,6 +24,7 @@ use std::marker::Model;
 
 mod changes;
 mod looks;
+mod still;
 mod wants;
 
 /// The last number that a file can have (profile): those of one byte.
@@ -67,7 +71,8 @@ impl File {
 
     /// The request waits after the others.
     fn hold(&mut self, one: Held) -> Result<(), Memory>
-        ensures { OnOk result (self.new ≡ record self.old { held = self.old.held ++ one ∷ [] }) }
+        ensures held { OnOk result (self.new ≡ record self.old { held = self.old.held ++ one ∷ [] }) }
+        ensures refused { OnErr result (self.new ≡ self.old) }
     {
         self.held.push(one)?;
         Ok(())
@@ -89,10 +94,18 @@ impl File {
         forget_held(&mut self.held, client);
     }
 
+    /// Whether a create waits there under the key of the open.
+    pub fn asks_with(&self, one: &Open) -> bool
+        ensures { result ≡ list_any (asks_with one.now) self.now.held }
+    {
+        self.held.iter().any(|held| held.asks_with(one))
+    }
+
     /// The patch, which ends within the limit, is put over the bytes.
     fn change(&mut self, patch: &Patch) -> Result<(), Memory>
         requires { is_within_limit patch.now ≡ true }
-        ensures { OnOk result (self.new ≡ record self.old { content = patched self.old.content patch.now }) }
+        ensures changed { OnOk result (self.new ≡ record self.old { content = patched self.old.content patch.now }) }
+        ensures held { self.new.held ≡ self.old.held }
     {
         match self.content.apply(patch) {
             Ok(()) => Ok(()),
@@ -118,12 +131,16 @@ pub struct Tables {
     expired: Vec<Key>,
     /// The FileId given last.
     last_id: u64,
+    /// The requests that are known to wait still.
+    waiting: Waiting,
 }
 
 impl Model for Tables {
     ghost use Rattle.std.specs.Prelude.{◌≡◌, vec_len};
     ghost use Rattle.share_server.specs.Table as table;
     ghost use Rattle.share_server.specs.Kept.{listed, AreKept};
+    ghost use Rattle.share_server.specs.StillWaiting.{AreKnown};
+    ghost use Rattle.share_server.specs.Summaries.{lease_in};
 
     ghost Value = { table.Table };
 
@@ -138,7 +155,8 @@ impl Model for Tables {
     } };
 
     ghost invariant = { λ tables. (vec_len tables.files ≡ 256)
-        × AreKept tables.opens tables.summaries tables.last_id };
+        × AreKept tables.opens tables.summaries tables.last_id
+        × AreKnown tables.waiting tables.count tables.files.items tables.opens (lease_in tables.summaries) };
 }
 
 impl Tables {
@@ -169,6 +187,7 @@ impl Tables {
             present: Vec::new(alloc),
             expired: Vec::new(alloc),
             last_id: 0,
+            waiting: Waiting::new(alloc),
         })
     }
 

@@ -27,6 +27,7 @@ use crate::open::Open;
 use crate::opens::Opens;
 use crate::request::Held;
 use crate::summaries::Summaries;
+use crate::tables::still::{forget_files, forget_for, forget_home};
 use crate::tables::{File, Tables};
 use lease_state::{ClientNo, FileId, FileNo, Memory, Patch};
 use std::alloc::Global;
@@ -42,9 +43,11 @@ impl Tables {
         ensures { OnOk result (server_of self.new ≡ with_lease (server_of self.old) key (lease_of lease)) }
     {
         let alloc = self.alloc();
+        forget_home(&mut self.waiting, &self.summaries, key);
         match self.summaries.put(key, lease) {
             Ok(()) => Ok(()),
             Err(memory) => {
+                self.waiting.clear();
                 forget_opens(&mut self.opens, &mut self.summaries, alloc);
                 Err(memory)
             }
@@ -63,6 +66,10 @@ impl Tables {
     {
         let alloc = self.alloc();
         let ids = self.opens.closed(alloc, &closing, &self.summaries)?;
+        if ids.is_empty() {
+            return Ok(());
+        }
+        forget_files(&mut self.waiting, &self.opens, &ids);
         close_all(&mut self.opens, &mut self.summaries, &ids);
         Ok(())
     }
@@ -89,6 +96,7 @@ impl Tables {
         } }
         ensures taken { slice_get ((server_of self.old).held file.0) place ≡ Some result }
     {
+        self.waiting.forget(file);
         self.files[usize::from(file.0)].release(place)
     }
 
@@ -112,6 +120,7 @@ impl Tables {
     pub fn forget(&mut self, client: ClientNo)
         ensures { progress_of self.new [] ≡ client_forgotten client.0 (progress_of self.old []) }
     {
+        self.waiting.clear();
         forget_connection(&mut self.present, client);
         forget_requests(&mut self.files, client);
     }
@@ -150,10 +159,12 @@ impl Tables {
         ensures { OnOk result (server_of self.new ≡ opened_with (server_of self.old) one (lease_of lease)) }
     {
         let alloc = self.alloc();
+        forget_for(&mut self.waiting, &self.files, &one);
         self.last_id = one.file_id.0;
         match add(&mut self.opens, &mut self.summaries, alloc, one, lease) {
             Ok(()) => Ok(()),
             Err(memory) => {
+                self.waiting.clear();
                 forget_opens(&mut self.opens, &mut self.summaries, alloc);
                 Err(memory)
             }
@@ -173,6 +184,7 @@ impl Tables {
     {
         let alloc = self.alloc();
         let ids = self.opens.of_client(alloc, client)?;
+        self.waiting.clear();
         match disconnect_all(&mut self.opens, alloc, &ids) {
             Ok(()) => Ok(()),
             Err(memory) => {
@@ -188,6 +200,7 @@ impl Tables {
           opens = map (connected_again fid.0) (server_of self.old).opens;
         } }
     {
+        self.waiting.clear();
         self.opens.connect_again(fid);
     }
 }

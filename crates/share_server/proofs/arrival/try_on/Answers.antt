@@ -17,11 +17,11 @@ returns-then-waits c =
     tried_and_held c.args.tables.now c.attempt.new.tables c.hold-then-waits.new.self c.args.outs.now c.attempt.new.outs
     c.args.client.0 c.args.file.0 (file_request_of c.args.request) (outcome_of c.in_ok-outcome.outcome)
     (rw c.held.ensures at (sym c.is_behind.ensures ∙ c.if-is_behind.false))
-    (c.in_ok-outcome.ensures ∙ c.ask.ensures c.args.client.0 (progress_of c.args.tables.now c.args.outs.now))
+    (c.in_ok-outcome.ensures ∙ c.ask.ensures.tried c.args.client.0 (progress_of c.args.tables.now c.args.outs.now))
     (sym c.waits.ensures ∙ c.if-waits.true) c.in_ok-hold-2.ensures
 
 pub conclude-requires : goal.conclude-requires
 conclude-requires c = λ ready.
     ready_at_home c.args.client.0 (file_request_of c.args.request) (progress_of c.args.tables.now c.args.outs.now)
     (progress_of c.attempt.new.tables c.attempt.new.outs) _
-    (c.in_ok-outcome.ensures ∙ c.ask.ensures c.args.client.0 (progress_of c.args.tables.now c.args.outs.now)) ready
+    (c.in_ok-outcome.ensures ∙ c.ask.ensures.tried c.args.client.0 (progress_of c.args.tables.now c.args.outs.now)) ready

@@ -1,13 +1,20 @@
-use Rattle.std.proofs.Common.{◌∙◌, sym, arith}
+use Rattle.std.proofs.Common.{◌+◌, ◌∙◌, ap, sym, arith, subst, take, inr, refl}
+use Rattle.lease_model.specs.server.Attempt.{Outcome}
+use Rattle.lease_model.specs.server.State.{Server}
 use Rattle.share_server.specs.Findings.{outcome_of}
 use Rattle.share_server.specs.Outs.{progress_of}
+use Rattle.share_server.specs.Passing.{pass_at}
+use Rattle.share_server.specs.StillWaiting.{at_call, Stays}
+use Rattle.share_server.specs.Table.{server_of}
 use Rattle.share_server.specs.contracts.request.Held.{the_view}
-use Rattle.share_server.proofs.Passing.{behind_here, waits_here, same_held, answered_here, home_again}
+use Rattle.share_server.proofs.Passing.{got, behind_here, waits_here, same_held, answered_here, home_again}
 use Rattle.share_server.proofs.passes.try_again.Goals as goal
 
 pub returns-then-is_behind-clause-step : goal.returns-then-is_behind-clause-step
 returns-then-is_behind-clause-step c = λ has.
-    behind_here c.args.file.0 c.args.place has (progress_of c.args.tables.now c.args.outs.now) (the_view c.one.inside)
+    ap (λ (server : Server). pass_at c.args.file.0 (c.args.place + 1) has (at_call server c.args.outs.now))
+    c.in_ok-count_still.ensures
+    ∙ behind_here c.args.file.0 c.args.place has (progress_of c.args.tables.now c.args.outs.now) (the_view c.one.inside)
     c.requires (rw (← c.one.view_is, c.held-held.ensures) at c.index-held-place.is)
     (rw c.held-held.ensures at (sym c.is_behind.ensures ∙ c.if-is_behind.true))
 
@@ -18,7 +25,7 @@ returns-then-waits-clause-step c = λ has.
     c.requires (rw (← c.one.view_is, c.held-held.ensures) at c.index-held-place.is)
     (rw c.held-held.ensures at (sym c.is_behind.ensures ∙ c.if-is_behind.false))
     (c.in_ok-outcome.ensures
-    ∙ c.ask-ask.ensures c.one.inside.client.0 (progress_of c.args.tables.now c.args.outs.now))
+    ∙ c.ask-ask.ensures.tried c.one.inside.client.0 (progress_of c.args.tables.now c.args.outs.now))
     (sym c.waits.ensures ∙ c.if-waits.true)
 
 pub returns-then-waits-clause-fewer : goal.returns-then-waits-clause-fewer
@@ -43,7 +50,7 @@ returns-clause-step c =
     c.requires (rw (← c.one.view_is, c.held-held.ensures) at c.index-held-place.is)
     (rw c.held-held.ensures at (sym c.is_behind.ensures ∙ c.if-is_behind.false))
     (c.in_ok-outcome.ensures
-    ∙ c.ask-ask.ensures c.one.inside.client.0 (progress_of c.args.tables.now c.args.outs.now))
+    ∙ c.ask-ask.ensures.tried c.one.inside.client.0 (progress_of c.args.tables.now c.args.outs.now))
     (sym c.waits.ensures ∙ c.if-waits.false) c.release-one.ensures.left
     (rw (← c.one-2.view_is) at c.release-one.ensures.taken) c.in_ok-conclude.ensures).step
 
@@ -55,7 +62,7 @@ returns-clause-fewer c =
     c.requires (rw (← c.one.view_is, c.held-held.ensures) at c.index-held-place.is)
     (rw c.held-held.ensures at (sym c.is_behind.ensures ∙ c.if-is_behind.false))
     (c.in_ok-outcome.ensures
-    ∙ c.ask-ask.ensures c.one.inside.client.0 (progress_of c.args.tables.now c.args.outs.now))
+    ∙ c.ask-ask.ensures.tried c.one.inside.client.0 (progress_of c.args.tables.now c.args.outs.now))
     (sym c.waits.ensures ∙ c.if-waits.false) c.release-one.ensures.left
     (rw (← c.one-2.view_is) at c.release-one.ensures.taken) c.in_ok-conclude.ensures).fewer
 
@@ -66,5 +73,40 @@ conclude-requires c = λ ready.
     (outcome_of c.in_ok-outcome.outcome)
     (rw (← c.one.view_is, c.held-held.ensures) at c.index-held-place.is)
     (c.in_ok-outcome.ensures
-    ∙ c.ask-ask.ensures c.one.inside.client.0 (progress_of c.args.tables.now c.args.outs.now))
+    ∙ c.ask-ask.ensures.tried c.one.inside.client.0 (progress_of c.args.tables.now c.args.outs.now))
     c.release-one.ensures.left (rw (← c.one-2.view_is) at c.release-one.ensures.taken) ready
+
+pub returns-then-is_behind-clause-fewer : goal.returns-then-is_behind-clause-fewer
+returns-then-is_behind-clause-fewer c =
+    let same = ap (λ (server : Server). server.held c.args.file.0) c.in_ok-count_still.ensures in
+    rw same (omega arith)
+
+pub count_still-requires-then-branch : goal.count_still-requires-then-branch
+count_still-requires-then-branch c = λ one is.
+    let queue = (server_of c.args.tables.now).held c.args.file.0 in
+    let there = (rw (← c.one.view_is, c.held-held.ensures) at c.index-held-place.is)
+    ∙ got queue c.args.place one (the_view c.one.inside) is in
+    subst (Stays (server_of c.args.tables.now) c.args.file.0 (take c.args.place queue)) there
+    (inr (
+      c.ask-ask.ensures.waits c.one.inside.client.0 c.args.file.0 (server_of c.args.tables.now)
+          (c.in_ok-has_only_to_wait.ensures.waits c.if-branch.true),
+      c.ask-ask.ensures.about c.one.inside.client.0 c.args.file.0 (server_of c.args.tables.now)
+          (c.in_ok-has_only_to_wait.ensures.about c.if-branch.true),
+    ))
+
+pub returns-then-branch-clause-step : goal.returns-then-branch-clause-step
+returns-then-branch-clause-step c = λ has.
+    ap (λ (server : Server). pass_at c.args.file.0 (c.args.place + 1) has (at_call server c.args.outs.now))
+    c.in_ok-count_still-2.ensures
+    ∙ waits_here c.args.file.0 c.args.place has (progress_of c.args.tables.now c.args.outs.now)
+    (progress_of c.args.tables.now c.args.outs.now) (the_view c.one.inside) Outcome.Waits
+    c.requires (rw (← c.one.view_is, c.held-held.ensures) at c.index-held-place.is)
+    (rw c.held-held.ensures at (sym c.is_behind.ensures ∙ c.if-is_behind.false))
+    (sym (c.in_ok-has_only_to_wait.ensures.vain c.if-branch.true c.args.outs.now)
+    ∙ c.ask-ask.ensures.tried c.one.inside.client.0 (progress_of c.args.tables.now c.args.outs.now))
+    refl
+
+pub returns-then-branch-clause-fewer : goal.returns-then-branch-clause-fewer
+returns-then-branch-clause-fewer c =
+    let same = ap (λ (server : Server). server.held c.args.file.0) c.in_ok-count_still-2.ensures in
+    rw same (omega arith)

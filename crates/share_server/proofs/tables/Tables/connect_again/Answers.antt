@@ -1,6 +1,7 @@
 use Rattle.std.proofs.Common.{true}
 use Rattle.lease_model.specs.server.Grant.{connected_again}
 use Rattle.share_server.specs.Filed.{has_id}
+use Rattle.share_server.proofs.StillWaiting.{none_counted}
 use Rattle.share_server.proofs.Mapping.{connection_kept}
 use Rattle.share_server.proofs.Tabling.{kept_mapped, same_id_where}
 use Rattle.share_server.proofs.tables.Tables.connect_again.Goals as goal
@@ -11,4 +12,5 @@ invariant_of-self c = (
   rw c.connect_again.ensures
       (kept_mapped c.self.inside.opens (connected_again c.args.fid.0) c.self.inside.summaries c.self.inside.last_id
       c.self.invariant.1 (connection_kept (has_id c.args.fid.0) true) (same_id_where (has_id c.args.fid.0) true)),
+  λ file. none_counted _ _ _ _ (c.clear.ensures file),
 )

@@ -2,6 +2,8 @@ use Rattle.std.proofs.Common.{◌∙◌, false, ap}
 use Rattle.share_server.specs.Kept.{disconnected_where}
 use Rattle.share_server.specs.Table.{server_of}
 use Rattle.share_server.specs.contracts.tables.Tables.{the_view}
+use Rattle.share_server.proofs.Counted.{kept_empty}
+use Rattle.share_server.proofs.StillWaiting.{none_counted}
 use Rattle.share_server.proofs.Mapping.{connection_kept}
 use Rattle.share_server.proofs.Tabling.{kept_mapped, same_id_where, disconnected_are}
 use Rattle.share_server.proofs.tables.Tables.disconnect.Goals as goal
@@ -12,6 +14,7 @@ invariant_of-self c = (
   rw c.in-Ok.ensures
       (kept_mapped c.self.inside.opens (disconnected_where _) c.self.inside.summaries c.self.inside.last_id
       c.self.invariant.1 (connection_kept _ false) (same_id_where _ false)),
+  λ file. none_counted _ _ _ _ (c.clear.ensures file),
 )
 
 pub returns-in-Ok : goal.returns-in-Ok
@@ -21,3 +24,10 @@ returns-in-Ok c =
     (ap (λ opens. server_of (record table { opens = opens }))
     (rw c.deref.ensures.value at c.in-Ok.ensures
     ∙ disconnected_are c.args.client.0 _ c.self.inside.opens c.of_client.ensures.in_order c.in_ok-ids.ensures.ids))
+
+pub invariant_of-self-in-Err : goal.invariant_of-self-in-Err
+invariant_of-self-in-Err c = (
+  c.self.invariant.0,
+  kept_empty _ _ _ c.forget_opens.ensures.opens c.forget_opens.ensures.agrees,
+  λ file. none_counted _ _ _ _ (c.clear.ensures file),
+)

@@ -1,0 +1,327 @@
+-- The counts of requests that wait still, as the tables change.
+use Rattle.std.proofs.Common.{◌≡◌, ⊎_elim, inl, inr, ℕ, ◌+◌, ◌<◌, zero, suc, take, Bool, true, false, not, cond, List, [], ◌∷◌, ◌++◌, map, filter, length, get_or, refl, ap, sym, ◌∙◌, arith, subst}
+use Rattle.std.proofs.Math.ListN.{set}
+use Rattle.std.proofs.lemmas.Bool.Decides.{nat_tests, Decides-eqb}
+use Rattle.std.specs.BTreeMap.{is_at}
+use Rattle.std.specs.Map.{lookup}
+use Rattle.std.specs.List.{list_any, slice_get}
+use Rattle.std.specs.Prelude.{Option, Some, None, find, if◌then◌else◌, ◌==◌, ◌&&◌, ◌||◌}
+use Rattle.lease_laws.proofs.server.Goes.{one_id}
+use Rattle.lease_laws.proofs.server.Lists.{either, clash, and_both, not_true, any_has, has_any, none_has, find_has, among_filter, among_filtered}
+use Rattle.lease_laws.specs.server.Laws.{Among, AreInOrder}
+use Rattle.lease_model.specs.server.Findings.{is_leased_elsewhere}
+use Rattle.lease_model.specs.values.Keys.{Key}
+use Rattle.lease_model.specs.messages.Requests.{FileRequest}
+use Rattle.lease_model.specs.server.State.{Server, Open, Held, has_key}
+use Rattle.lease_state.specs.declared.number.FileId.{FileId}
+use Rattle.lease_state.specs.declared.number.FileNo.{FileNo}
+use Rattle.share_server.specs.Filed.{has_id}
+use Rattle.share_server.specs.Kept.{AreKept, listed, is_one_of}
+use Rattle.share_server.specs.Looks.{is_elsewhere}
+use Rattle.share_server.specs.OneFile.{on_file, asks_with}
+use Rattle.share_server.specs.declared.summaries.LeaseRecord.{LeaseRecord}
+use Rattle.share_server.specs.StillWaiting.{counted, IsTriedInVain, WaitStill, HasOnlyToWait, deciding, count_in, StaysAt, StaysLocally, AreCounted, HaveForgotten, HaveForgottenFor}
+use Rattle.share_server.specs.Summaries.{Agrees, RecordFits, file_order, record_at, lease_in, is_on}
+use Rattle.share_server.specs.Table.{Table, File, file_in, lease_at, server_of}
+use Rattle.share_server.specs.declared.summaries.Summaries.{Summaries}
+use Rattle.share_server.specs.declared.waiting.Waiting.{Waiting}
+use Rattle.share_server.proofs.FilePlaces.{place_set}
+use Rattle.share_server.proofs.Places.{file_there}
+use Rattle.share_server.proofs.Recording.{lease_unused}
+use Rattle.share_server.proofs.StillWaiting.{HasNoSpare, in_vain, decider, waits_decided, waits_really, about_same, none_counted, one_counted, counted_before}
+use Rattle.share_server.proofs.OneFile.{none_within, waits_here_only, waits_there_too}
+use Rattle.share_server.proofs.Tabling.{leases_are, listed_lease, one_more}
+
+-- without an open there is nothing to agree with
+pub kept_empty : (opens : List Open) (summaries : Summaries) (last_id : ℕ) → opens ≡ [] → Agrees summaries []
+    → AreKept opens summaries last_id
+kept_empty opens summaries last_id none agree =
+    subst (λ xs. AreKept xs summaries last_id) (sym none) (record { agree = agree; numbered = λ one a. absurd a })
+
+-- ---- one file's queue, and one file's count
+
+-- what holds of each file's queue, once one file is another
+known_with : (P : ℕ → List Held → Type 0) (files : List File) (i : ℕ) (new : File) → i < length files → P i new.held
+    → ((n : ℕ) → P n (file_in files n).held) → (n : ℕ) → P n (file_in (set files i new) n).held
+known_with P files i new inside here others n =
+    let at = place_set files i n new inside in
+    either (n == i)
+    (λ its.
+    let is = (Decides-eqb n i).0 its in
+    subst (λ (f : File). P n f.held) (sym (at ∙ ap (λ b. cond b new (file_in files n)) its))
+    (subst (λ m. P m new.held) (sym is) here))
+    (λ its.
+    subst (λ (f : File). P n f.held) (sym (at ∙ ap (λ b. cond b new (file_in files n)) its)) (others n))
+
+-- one file's count becomes this one
+abbrev pub IsCountPut : Waiting → Waiting → ℕ → ℕ → Type 0
+IsCountPut before after i count = (n : ℕ) → count_in after n ≡ (if n == i then count else count_in before n)
+
+count_here : (before after : Waiting) (i count : ℕ) → IsCountPut before after i count → count_in after i ≡ count
+count_here before after i count put =
+    put i ∙ ap (λ b. if b then count else count_in before i) ((Decides-eqb i i).1 refl)
+
+-- what is known of each file's count, once one file's is another
+count_cases : (P : ℕ → ℕ → Type 0) (before after : Waiting) (i count : ℕ) → IsCountPut before after i count → P i count
+    → ((n : ℕ) → P n (count_in before n)) → (n : ℕ) → P n (count_in after n)
+count_cases P before after i count put here others n = either (n == i)
+    (λ its.
+    let is = (Decides-eqb n i).0 its in
+    subst (P n) (sym (put n ∙ ap (λ b. if b then count else count_in before n) its))
+    (subst (λ m. P m count) (sym is) here))
+    (λ its. subst (P n) (sym (put n ∙ ap (λ b. if b then count else count_in before n) its)) (others n))
+
+abbrev pub Known : Server → List File → Waiting → Type 0
+Known server files waiting = (n : ℕ) → AreCounted server n (file_in files n).held (count_in waiting n)
+
+pub known_released : (server : Server) (files : List File) (i : ℕ) (new : File) (before after : Waiting) → i < length files
+    → IsCountPut before after i 0 → Known server files before → Known server (set files i new) after
+known_released server files i new before after inside put known =
+    known_with (λ n queue. AreCounted server n queue (count_in after n)) files i new inside
+    (none_counted server i new.held (count_in after i) (count_here before after i 0 put))
+    (count_cases (λ n count. AreCounted server n (file_in files n).held count) before after i 0 put
+    (none_counted server i (file_in files i).held 0 refl) known)
+
+here_known : (server : Server) (files : List File) (i : ℕ) (old : File) (waiting : Waiting) → i < length files
+    → old ≡ get_or files i old → Known server files waiting → AreCounted server i old.held (count_in waiting i)
+here_known server files i old waiting inside is known =
+    subst (λ (f : File). AreCounted server i f.held (count_in waiting i)) (sym (file_there files i old inside is)) (known i)
+
+pub known_held : (server : Server) (files : List File) (i : ℕ) (old new : File) (one : Held) (waiting : Waiting)
+    → i < length files → old ≡ get_or files i old → new ≡ record old { held = old.held ++ one ∷ [] }
+    → Known server files waiting → Known server (set files i new) waiting
+known_held server files i old new one waiting inside is more known =
+    known_with (λ n queue. AreCounted server n queue (count_in waiting n)) files i new inside
+    (subst (λ (f : File). AreCounted server i f.held (count_in waiting i)) (sym more)
+    (counted_before server i old.held one (count_in waiting i) (here_known server files i old waiting inside is known)))
+    known
+
+pub known_same : (server : Server) (files : List File) (i : ℕ) (old new : File) (waiting : Waiting)
+    → i < length files → old ≡ get_or files i old → new.held ≡ old.held
+    → Known server files waiting → Known server (set files i new) waiting
+known_same server files i old new waiting inside is same known =
+    known_with (λ n queue. AreCounted server n queue (count_in waiting n)) files i new inside
+    (subst (λ queue. AreCounted server i queue (count_in waiting i)) (sym same)
+    (here_known server files i old waiting inside is known))
+    known
+
+pub known_counted : (server : Server) (files : List File) (i place : ℕ) (before after : Waiting)
+    → IsCountPut before after i (place + 1) → count_in before i ≡ place → place < length (file_in files i).held
+    → ((one : Held) → slice_get (file_in files i).held place ≡ Some one
+    → StaysLocally server i (take place (file_in files i).held) one)
+    → Known server files before → Known server files after
+known_counted server files i place before after put is inside stays known =
+    count_cases (λ n count. AreCounted server n (file_in files n).held count) before after i (place + 1) put
+    (one_counted server i (file_in files i).held (count_in before i) place (known i) is inside stays) known
+
+-- ---- what is known of the server
+
+server_decides : (table : Table) (summaries : Summaries) → table.leases ≡ listed summaries
+    → deciding table.count table.opens (lease_in summaries) ≡ decider (server_of table)
+server_decides table summaries same =
+    ap (deciding table.count table.opens) (sym (leases_are summaries) ∙ ap lease_at (sym same))
+
+no_spare : (table : Table) (summaries : Summaries) → AreKept table.opens summaries table.last_id
+    → table.leases ≡ listed summaries → HasNoSpare (server_of table)
+no_spare table summaries kept same = λ key none.
+    ap (λ leases. lease_at leases key) same
+    ∙ (listed_lease summaries key ∙ lease_unused key table.opens (record_at summaries key) (kept.agree.records key) none)
+
+pub in_vain_now : (table : Table) (summaries : Summaries) (file client : ℕ) (request : FileRequest)
+    → AreKept table.opens summaries table.last_id → table.leases ≡ listed summaries
+    → HasOnlyToWait (server_of table) file client request → IsTriedInVain (server_of table) client request
+in_vain_now table summaries file client request kept same has =
+    in_vain (server_of table) file client request (no_spare table summaries kept same) has
+
+-- the opens of a key that has one on the file are all on the file
+pub home_of : (opens : List Open) (summaries : Summaries) (file : ℕ) (key : Key) → Agrees summaries opens
+    → list_any (has_key key) (on_file file opens) ≡ true → list_any (is_elsewhere key file) opens ≡ false
+home_of opens summaries file key agree some =
+    let known = any_has (has_key key) (on_file file opens) some in
+    let there = among_filter (is_on file) known.0 opens known.1 in
+    go known.0 there.0 known.2 ((Decides-eqb (known.0).file file).0 there.1) (record_at summaries key) (agree.records key)
+  where
+    go : (one : Open) → Among one opens → has_key key one ≡ true → one.file ≡ file → (found : Option LeaseRecord)
+        → RecordFits key opens found → list_any (is_elsewhere key file) opens ≡ false
+    go one among has at None fits =
+        clash (list_any (has_key key) opens) (has_any (has_key key) one opens among has) fits
+    go one among has at (Some found) fits =
+        let away = none_has (is_elsewhere key found.file.0) one opens fits.one_file among in
+        either (one.file == found.file.0)
+        (λ t. subst (λ n. list_any (is_elsewhere key n) opens ≡ false)
+        (sym ((Decides-eqb one.file found.file.0).0 t) ∙ at) fits.one_file)
+        (λ f. clash (is_elsewhere key found.file.0 one) (and_both (has_key key one) _ has (ap not f)) away)
+
+pub wait_still : (table : Table) (summaries : Summaries) (file count : ℕ) → AreKept table.opens summaries table.last_id
+    → table.leases ≡ listed summaries
+    → AreCounted (deciding table.count table.opens (lease_in summaries)) file (file_in table.files file).held count
+    → WaitStill (server_of table) file count
+wait_still table summaries file count kept same known = record {
+  within = known.within;
+  each = λ place one less is. ⊎_elim
+      (λ behind. inl behind)
+      (λ has. inr (in_vain (server_of table) file one.client one.request (no_spare table summaries kept same)
+      (waits_really (server_of table) file one.client one.request
+      (subst (λ server. HasOnlyToWait server file one.client one.request) (server_decides table summaries same)
+      (waits_there_too file (deciding table.count table.opens (lease_in summaries)) one.client one.request
+      (λ key some. home_of table.opens summaries file key kept.agree some) has.1 has.0)))))
+      (known.each place one less is);
+}
+
+pub stays_decided : (table : Table) (summaries : Summaries) (file : ℕ) (queue : List Held) (place : ℕ)
+    → table.leases ≡ listed summaries → StaysAt (server_of table) file queue place
+    → (one : Held) → slice_get queue place ≡ Some one
+    → StaysLocally (deciding table.count table.opens (lease_in summaries)) file (take place queue) one
+stays_decided table summaries file queue place same stays = λ one is. ⊎_elim
+    (λ behind. inl behind)
+    (λ has.
+    let about = about_same (server_of table) (deciding table.count table.opens (lease_in summaries)) file one.client
+    one.request refl has.1 in
+    inr (
+      waits_here_only file (deciding table.count table.opens (lease_in summaries)) one.client one.request about
+          (subst (λ server. HasOnlyToWait server file one.client one.request) (sym (server_decides table summaries same))
+          (waits_decided (server_of table) file one.client one.request has.0)),
+      about,
+    ))
+    (stays one is)
+
+-- ---- what is forgotten
+
+forgotten_at : (test : Open → Bool) (opens : List Open) (before after : Waiting) (i : ℕ) → IsCountPut before after i 0
+    → ((one : Open) → Among one opens → test one ≡ true → one.file ≡ i) → HaveForgotten test opens before after
+forgotten_at test opens before after i put only = λ file. either (file == i)
+    (λ its. inl (put file ∙ ap (λ b. if b then 0 else count_in before file) its))
+    (λ off. inr (
+      put file ∙ ap (λ b. if b then 0 else count_in before file) off,
+      λ one a on. not_true (test one) (λ t. clash (file == i)
+          ((Decides-eqb file i).1 (sym ((Decides-eqb one.file file).0 on) ∙ only one a t)) off),
+    ))
+
+pub forgotten_none : (test : Open → Bool) (opens : List Open) (before after : Waiting) → before ≡ after
+    → list_any test opens ≡ false → HaveForgotten test opens before after
+forgotten_none test opens before after same none = λ file.
+    inr (ap (λ (w : Waiting). count_in w file) (sym same), λ one a on. none_has test one opens none a)
+
+pub forgotten_home : (key : Key) (opens : List Open) (before after : Waiting) (home : ℕ) → IsCountPut before after home 0
+    → list_any (is_elsewhere key home) opens ≡ false → HaveForgotten (has_key key) opens before after
+forgotten_home key opens before after home put none = forgotten_at (has_key key) opens before after home put
+    (λ one a has. either (one.file == home)
+    (λ t. (Decides-eqb one.file home).0 t)
+    (λ f. clash (is_elsewhere key home one) (and_both (has_key key one) _ has (ap not f))
+    (none_has (is_elsewhere key home) one opens none a)))
+
+pub forgotten_id : (id : ℕ) (opens : List Open) (one : Open) (before after : Waiting) → AreInOrder opens
+    → Some one ≡ find (has_id id) opens → IsCountPut before after one.file 0
+    → HaveForgotten (has_id id) opens before after
+forgotten_id id opens one before after order found put = forgotten_at (has_id id) opens before after one.file put
+    (λ other a has.
+    let there = find_has (has_id id) one opens (sym found) in
+    ap (λ (o : Open). o.file) (one_id opens other one order a there.0
+    ((Decides-eqb other.file_id id).0 has ∙ sym ((Decides-eqb one.file_id id).0 there.1))))
+
+pub none_found : (test : Open → Bool) (opens : List Open) → None ≡ find test opens → list_any test opens ≡ false
+none_found test [] none = refl
+none_found test (one ∷ opens) none = either (test one)
+    (λ t. absurd (cc (rw t at none)))
+    (λ t. rw t (none_found test opens (rw t at none)))
+
+pub forgotten_first : (opens : List Open) (waiting : Waiting) → HaveForgotten (is_one_of []) opens waiting waiting
+forgotten_first opens waiting = λ file. inr (refl, λ one a on. refl)
+
+pub forgotten_more : (ids : List ℕ) (id : ℕ) (opens : List Open) (before during after : Waiting)
+    → HaveForgotten (is_one_of ids) opens before during → HaveForgotten (has_id id) opens during after
+    → HaveForgotten (is_one_of (ids ++ id ∷ [])) opens before after
+forgotten_more ids id opens before during after first last = λ file. ⊎_elim
+    (λ none. inl none)
+    (λ same. ⊎_elim
+    (λ none. inl (same.0 ∙ none))
+    (λ was. inr (
+      same.0 ∙ was.0,
+      λ one a on. one_more ids id one ∙ (ap (λ b. b || has_id id one) (was.1 one a on) ∙ same.1 one a on),
+    ))
+    (first file))
+    (last file)
+
+asked_none : (test : Held → Bool) (files : List File) (n : ℕ) (held : Held)
+    → list_any (λ file. list_any test file.held) files ≡ false → Among held (file_in files n).held → test held ≡ false
+asked_none test [] zero held none a = absurd a
+asked_none test [] (suc n) held none a = absurd a
+asked_none test (file ∷ files) zero held none a = either (list_any test file.held)
+    (λ t. absurd (cc (rw t at none)))
+    (λ t. none_has test held file.held t a)
+asked_none test (file ∷ files) (suc n) held none a = either (list_any test file.held)
+    (λ t. absurd (cc (rw t at none)))
+    (λ t. asked_none test files n held (rw t at none) a)
+
+pub forgotten_for : (one : Open) (files : List File) (before after : Waiting) → IsCountPut before after one.file 0
+    → list_any (λ file. list_any (asks_with one) file.held) files ≡ false → HaveForgottenFor one files before after
+forgotten_for one files before after put none = λ file. either (file == one.file)
+    (λ its. inl (put file ∙ ap (λ b. if b then 0 else count_in before file) its))
+    (λ off. inr (
+      put file ∙ ap (λ b. if b then 0 else count_in before file) off,
+      not_true (is_on file one) (λ on. clash (file == one.file)
+          ((Decides-eqb file one.file).1 (sym ((Decides-eqb one.file file).0 on))) off),
+      λ held a. asked_none (asks_with one) files file held none a,
+    ))
+
+-- ---- an open on the file
+
+pub at_home_here : (file : ℕ) (key : Key) (opens : List Open) (summaries : Summaries) → Agrees summaries opens
+    → list_any (has_key key) opens ≡ true
+    → not (list_any (is_elsewhere key file) opens) ≡ list_any (has_key key) (on_file file opens)
+at_home_here file key opens summaries agree some = either (list_any (has_key key) (on_file file opens))
+    (λ on. let home = home_of opens summaries file key agree on in rw (home, on) refl)
+    (λ off.
+    let known = any_has (has_key key) opens some in
+    let away : list_any (is_elsewhere key file) opens ≡ true =
+    has_any (is_elsewhere key file) known.0 opens known.1 (and_both (has_key key known.0) _ known.2
+    (ap not (not_true (is_on file known.0) (λ on. clash (list_any (has_key key) (on_file file opens))
+    (has_any (has_key key) known.0 (on_file file opens) (among_filtered (is_on file) known.0 opens known.1 on) known.2) off)))) in
+    rw (away, off) refl)
+
+pub not_at_home : (file : ℕ) (key : Key) (opens : List Open) → list_any (has_key key) opens ≡ false
+    → false ≡ list_any (has_key key) (on_file file opens)
+not_at_home file key opens none = sym (none_within (has_key key) (is_on file) opens none)
+
+-- ---- opens that are left
+
+pub no_ids : (ids : List FileId) → (length ids == 0) ≡ true → ids ≡ []
+no_ids [] none = refl
+no_ids (id ∷ ids) none = let e = (Decides-eqb (length (id ∷ ids)) 0).0 none in absurd (omega (arith, e))
+
+-- no open passes the test where there is no FileId of one that does
+pub none_left : (test : Open → Bool) (opens : List Open) (ids : List FileId)
+    → map (λ id. id.0) ids ≡ map (λ one. one.file_id) (filter test opens) → (length ids == 0) ≡ not (list_any test opens)
+none_left test opens ids same = lengths ids (filter test opens) same ∙ none_passes opens
+  where
+    lengths : (xs : List FileId) (ys : List Open) → map (λ id. id.0) xs ≡ map (λ one. one.file_id) ys
+        → (length xs == 0) ≡ (length ys == 0)
+    lengths [] [] e = refl
+    lengths [] (y ∷ ys) e = absurd (cc e)
+    lengths (x ∷ xs) [] e = absurd (cc e)
+    lengths (x ∷ xs) (y ∷ ys) e = grind (arith, nat_tests)
+
+    none_passes : (xs : List Open) → (length (filter test xs) == 0) ≡ not (list_any test xs)
+    none_passes [] = refl
+    none_passes (x ∷ xs) = let e = none_passes xs in either (test x) (λ t. rw t (grind (arith, nat_tests))) (λ t. rw t e)
+
+pub both_so : (a b c d : Bool) → a ≡ true → b ≡ true → d ≡ c → d ≡ (a && (b && c))
+both_so a b c d t u same = rw (t, u) same
+
+pub second_not : (a b c : Bool) → b ≡ false → false ≡ (a && (b && c))
+second_not true b c e = rw e refl
+second_not false b c e = refl
+
+pub none_in : (waiting : Waiting) (file : ℕ) → length waiting.counts.entries ≡ 0 → count_in waiting file ≡ 0
+none_in waiting file none = go waiting.counts.entries none
+  where
+    go : (entries : List (FileNo × ℕ)) → length entries ≡ 0
+        → counted (lookup (is_at (file_order (record { 0 = file }))) entries) ≡ 0
+    go [] none = refl
+    go (entry ∷ entries) none = absurd (omega (arith, none))
+
+pub home_by : (server : Server) (file : ℕ) (key : Key) (summaries : Summaries) → Agrees summaries server.opens
+    → list_any (has_key key) server.opens ≡ true
+    → not (is_leased_elsewhere server (Some key) file) ≡ list_any (has_key key) (on_file file server.opens)
+unfolding is_leased_elsewhere
+home_by server file key summaries agree some = at_home_here file key server.opens summaries agree some

@@ -1,0 +1,262 @@
+-- Requests that have only to wait: a try of one changes nothing, and a pass may begin behind them.
+use Rattle.std.proofs.Common.{◌≡◌, ◌⊎◌, inl, inr, ⊎_elim, ℕ, ◌+◌, ◌<◌, ◌≤◌, zero, suc, Bool, true, false, not, List, [], ◌∷◌, ◌++◌, length, get_or, take, refl, ap, sym, ◌∙◌, arith, subst, append-nil}
+use Rattle.std.proofs.Math.Path.{fun_ext}
+use Rattle.std.proofs.lemmas.Bool.Decides.{nat_tests}
+use Rattle.std.specs.BTreeMap.{Updates, is_at}
+use Rattle.std.specs.List.{list_any, list_all, slice_get}
+use Rattle.std.specs.Prelude.{Option, Some, None, find, if◌then◌else◌, ◌&&◌, ◌==◌}
+use Rattle.lease_laws.proofs.server.Lists.{either, clash, and_parts, not_parts}
+use Rattle.lease_model.specs.messages.Replies.{Out}
+use Rattle.lease_model.specs.messages.Requests.{FileRequest, LeaseOf}
+use Rattle.lease_model.specs.server.Attempt.{Outcome, wants_met, want_met, lease_broken, is_left_open}
+use Rattle.lease_model.specs.server.Findings.{finding, create_finding, reconnect_finding, write_finding, is_leased_elsewhere}
+use Rattle.lease_model.specs.server.Passes.{is_behind, one_pass}
+use Rattle.lease_model.specs.server.Progress.{Progress, opens_dropped, with_opens}
+use Rattle.lease_model.specs.server.Ready.{is_ready}
+use Rattle.lease_model.specs.server.State.{Server, Open, Lease, Held, has_key, no_lease, is_breaking}
+use Rattle.lease_model.specs.server.Wants.{Want, handle_wants, write_wants, all_wants, wants_where}
+use Rattle.lease_model.specs.values.Keys.{Key}
+use Rattle.lease_model.specs.values.Lists.{without}
+use Rattle.share_server.specs.Passing.{pass_at}
+use Rattle.lease_state.specs.declared.number.FileNo.{FileNo}
+use Rattle.share_server.specs.Summaries.{file_order}
+use Rattle.share_server.specs.declared.waiting.Waiting.{Waiting}
+use Rattle.share_server.specs.StillWaiting.{counted, count_in, at_call, IsTriedInVain, WaitStill, is_under_way, HasOnlyToWait, deciding, StaysLocally, AreCounted}
+use Rattle.share_server.specs.OneFile.{IsOnlyAbout}
+use Rattle.share_server.proofs.Homing.{elsewhere_same}
+use Rattle.lease_model.specs.server.Naming.{own_key}
+use Rattle.std.specs.Option.{option_map}
+use Rattle.share_server.proofs.Breaking.{not_broken}
+use Rattle.share_server.proofs.Passing.{behind_here, waits_here}
+use Rattle.share_server.proofs.Rounds.{waits, unready_needs}
+
+-- ---- a try of a request that has only to wait
+
+-- a key that no open has has no lease
+abbrev pub HasNoSpare : Server → Type 0
+HasNoSpare server = (key : Key) → list_any (has_key key) server.opens ≡ false → server.leases key ≡ no_lease
+
+none_out : (test : Open → Bool) (opens : List Open) → list_any test opens ≡ false → without test opens ≡ opens
+none_out test [] none = refl
+none_out test (one ∷ opens) none = either (test one)
+    (λ t. absurd (cc (rw t at none)))
+    (λ t. rw t (ap (λ xs. one ∷ xs) (none_out test opens (rw t at none))))
+
+abbrev built : Server → List Open → (Key → Lease) → List Out → Progress
+built server opens leases outs = at_call (record server { opens = opens; leases = leases }) outs
+
+abbrev left_leases : Server → List Open → Key → Lease
+left_leases server opens key = if list_any (has_key key) opens then server.leases key else no_lease
+
+lease_left : (server : Server) (key : Key) → HasNoSpare server → left_leases server server.opens key ≡ server.leases key
+lease_left server key spare = either (list_any (has_key key) server.opens)
+    (λ t. rw t refl)
+    (λ t. rw t (sym (spare key t)))
+
+dropped_none : (server : Server) (test : Open → Bool) (outs : List Out) → HasNoSpare server
+    → list_any test server.opens ≡ false → opens_dropped test (at_call server outs) ≡ at_call server outs
+unfolding opens_dropped with_opens
+dropped_none server test outs spare none =
+    ap (λ opens. built server opens (left_leases server opens) (outs ++ [])) (none_out test server.opens none)
+    ∙ (ap (λ leases. built server server.opens leases (outs ++ [])) (fun_ext (λ key. lease_left server key spare))
+    ∙ ap (λ told. at_call server told) (append-nil outs))
+
+want_met_already : (server : Server) (file : ℕ) (want : Want) (outs : List Out) → HasNoSpare server
+    → is_under_way server file want.key ≡ true → want_met want (at_call server outs) ≡ at_call server outs
+unfolding want_met
+want_met_already server file want outs spare is =
+    let parts = and_parts (is_breaking (server.leases want.key)) _ is in
+    ap (lease_broken want.key want.lowered)
+    (dropped_none server (is_left_open want.key) outs spare
+    (not_parts _ (and_parts (not (list_any (is_left_open want.key) server.opens)) _ parts.1).0))
+    ∙ sym (not_broken (at_call server outs) want.key want.lowered (inr parts.0))
+
+met_already : (server : Server) (file : ℕ) (wants : List Want) (outs : List Out) → HasNoSpare server
+    → list_all (λ want. is_under_way server file want.key) wants ≡ true
+    → wants_met wants (at_call server outs) ≡ at_call server outs
+unfolding wants_met
+met_already server file [] outs spare all = refl
+met_already server file (want ∷ wants) outs spare all =
+    let parts = and_parts (is_under_way server file want.key) _ all in
+    ap (wants_met wants) (want_met_already server file want outs spare parts.0)
+    ∙ met_already server file wants outs spare parts.1
+
+pub in_vain : (server : Server) (file client : ℕ) (request : FileRequest) → HasNoSpare server
+    → HasOnlyToWait server file client request → IsTriedInVain server client request
+in_vain server file client request spare has outs =
+    waits 2 client request (at_call server outs) (at_call server outs) has.wants
+    (unready_needs (λ wants. is_ready request server.leases wants) (finding server client request) has.wants has.found has.waits.unready)
+    (sym (met_already server file has.wants outs spare has.waits.under_way)) has.waits.must_wait
+
+-- ---- what decides a try
+
+abbrev pub decider : Server → Server
+decider server = deciding server.files server.opens server.leases
+
+pub decided : (server : Server) (client : ℕ) (request : FileRequest)
+    → finding (decider server) client request ≡ finding server client request
+unfolding finding create_finding reconnect_finding write_finding is_leased_elsewhere handle_wants write_wants all_wants
+    wants_where
+decided server client (FileRequest.Create file access share None) = refl
+decided server client (FileRequest.Create file access share (Some ask)) = again ask.lease ask.reconnect
+  where
+    asking : Option LeaseOf → Option ℕ → FileRequest
+    asking lease reconnect = FileRequest.Create file access share
+        (Some (record { lease = lease; durable = ask.durable; reconnect = reconnect }))
+
+    again : (lease : Option LeaseOf) (reconnect : Option ℕ)
+        → finding (decider server) client (asking lease reconnect) ≡ finding server client (asking lease reconnect)
+    again None None = refl
+    again (Some lease) None = refl
+    again None (Some file_id) = refl
+    again (Some lease) (Some file_id) = refl
+decided server client (FileRequest.Read file_id) = refl
+decided server client (FileRequest.Write file_id number patch) = refl
+decided server client (FileRequest.Close file_id) = refl
+
+pub waits_decided : (server : Server) (file client : ℕ) (request : FileRequest)
+    → HasOnlyToWait server file client request → HasOnlyToWait (decider server) file client request
+waits_decided server file client request has = record {
+  wants = has.wants;
+  found = decided server client request ∙ has.found;
+  waits = record {
+    unready = has.waits.unready;
+    must_wait = has.waits.must_wait;
+    under_way = has.waits.under_way;
+  };
+}
+
+pub waits_really : (server : Server) (file client : ℕ) (request : FileRequest)
+    → HasOnlyToWait (decider server) file client request → HasOnlyToWait server file client request
+waits_really server file client request has = record {
+  wants = has.wants;
+  found = sym (decided server client request) ∙ has.found;
+  waits = record {
+    unready = has.waits.unready;
+    must_wait = has.waits.must_wait;
+    under_way = has.waits.under_way;
+  };
+}
+
+pub about_same : (a b : Server) (file client : ℕ) (request : FileRequest) → a.opens ≡ b.opens
+    → IsOnlyAbout a file client request → IsOnlyAbout b file client request
+about_same a b file client (FileRequest.Create other access share None) same about = about
+about_same a b file client (FileRequest.Create other access share (Some ask)) same about =
+    (about.0, sym (elsewhere_same a b (own_key client ask.lease) file same) ∙ about.1)
+about_same a b file client (FileRequest.Read file_id) same about = about
+about_same a b file client (FileRequest.Write file_id number patch) same about =
+    ap (λ opens. option_map (λ one. one.file)
+    (find (λ one. one.file_id == file_id && one.client == client && one.connected) opens)) (sym same)
+    ∙ about
+about_same a b file client (FileRequest.Close file_id) same about = about
+
+-- ---- counts
+
+at_file : (file : FileNo) (other : ℕ) → is_at (file_order file) (record { 0 = other }) ≡ (other == file.0)
+at_file file other = grind (arith, nat_tests)
+
+-- the counts before and after a change at one file
+pub count_changed : (before after : Waiting) (file : FileNo) (count : Option ℕ)
+    → Updates file_order before.counts after.counts file count
+    → (other : ℕ) → count_in after other ≡ (if other == file.0 then counted count else count_in before other)
+count_changed before after file count updates other = either (other == file.0)
+    (λ its. rw (updates.0 (record { 0 = other }), at_file file other, its) refl)
+    (λ its. rw (updates.0 (record { 0 = other }), at_file file other, its) refl)
+
+pub none_counted : (server : Server) (file : ℕ) (queue : List Held) (count : ℕ) → count ≡ 0
+    → AreCounted server file queue count
+none_counted server file queue count none = record {
+  within = omega (arith, none);
+  each = λ place one less is. absurd (omega (arith, none, less));
+}
+
+pub none_still : (server : Server) (file : ℕ) → WaitStill server file 0
+none_still server file = record { within = omega arith; each = λ place one less. absurd (omega (arith, less)) }
+
+pub one_counted : (server : Server) (file : ℕ) (queue : List Held) (count place : ℕ)
+    → AreCounted server file queue count → count ≡ place → place < length queue
+    → ((one : Held) → slice_get queue place ≡ Some one → StaysLocally server file (take place queue) one)
+    → AreCounted server file queue (place + 1)
+one_counted server file queue count place known is inside stays = record {
+  within = omega (arith, inside);
+  each = λ other one less there. ⊎_elim
+      (λ before. known.each other one (omega (arith, is, before)) there)
+      (λ same. subst (λ n. StaysLocally server file (take n queue) one) (sym same)
+      (stays one (ap (slice_get queue) (sym same) ∙ there)))
+      (below_or_at other place less);
+}
+  where
+    below_or_at : (a b : ℕ) → a < b + 1 → (a < b) ⊎ (a ≡ b)
+    below_or_at zero zero less = inr refl
+    below_or_at zero (suc b) less = inl (omega arith)
+    below_or_at (suc a) zero less = absurd (omega (arith, less))
+    below_or_at (suc a) (suc b) less =
+        ⊎_elim (λ l. inl (omega (arith, l))) (λ e. inr (ap suc e)) (below_or_at a b (omega (arith, less)))
+
+got_before : (queue : List Held) (one : Held) (place : ℕ) → place < length queue
+    → slice_get (queue ++ one ∷ []) place ≡ slice_get queue place
+got_before [] one place inside = absurd (omega (arith, inside))
+got_before (first ∷ queue) one zero inside = refl
+got_before (first ∷ queue) one (suc place) inside = got_before queue one place (omega (arith, inside))
+
+taken_before : (queue : List Held) (one : Held) (place : ℕ) → place < length queue
+    → take place (queue ++ one ∷ []) ≡ take place queue
+taken_before [] one place inside = absurd (omega (arith, inside))
+taken_before (first ∷ queue) one zero inside = refl
+taken_before (first ∷ queue) one (suc place) inside =
+    ap (λ xs. first ∷ xs) (taken_before queue one place (omega (arith, inside)))
+
+longer : (queue : List Held) (one : Held) → length (queue ++ one ∷ []) ≡ length queue + 1
+longer [] one = refl
+longer (first ∷ queue) one = let e = longer queue one in omega (arith, e)
+
+-- one more at the end changes nothing for those before it
+pub counted_before : (server : Server) (file : ℕ) (queue : List Held) (one : Held) (count : ℕ)
+    → AreCounted server file queue count → AreCounted server file (queue ++ one ∷ []) count
+counted_before server file queue one count known =
+    let within = known.within in
+    let more = longer queue one in
+    record {
+      within = omega (arith, within, more);
+      each = λ place other less is.
+          let inside : place < length queue = omega (arith, less, within) in
+          subst (λ before. StaysLocally server file before other) (sym (taken_before queue one place inside))
+          (known.each place other less (sym (got_before queue one place inside) ∙ is));
+    }
+
+-- ---- a pass over a queue
+
+there : (queue : List Held) (place : ℕ) → place < length queue
+    → (one : Held) × (slice_get queue place ≡ Some one) × (one ≡ get_or queue place one)
+there [] place inside = absurd (omega (arith, inside))
+there (one ∷ queue) zero inside = (one, refl, refl)
+there (one ∷ queue) (suc place) inside = there queue place (omega (arith, inside))
+
+skipped : (file place : ℕ) (has : Bool) (server : Server) (outs : List Out) (count : ℕ) → WaitStill server file count
+    → place < count → pass_at file (place + 1) has (at_call server outs) ≡ pass_at file place has (at_call server outs)
+skipped file place has server outs count still less =
+    let within = still.within in
+    let inside : place < length (server.held file) = omega (arith, less, within) in
+    let found = there (server.held file) place inside in
+    either (is_behind found.0.client (take place (server.held file)))
+    (λ behind. behind_here file place has (at_call server outs) found.0 inside found.2 behind)
+    (λ first. ⊎_elim
+    (λ behind. clash (is_behind found.0.client (take place (server.held file))) behind first)
+    (λ vain. waits_here file place has (at_call server outs) (at_call server outs) found.0 Outcome.Waits inside found.2 first
+    (sym (vain outs)) refl)
+    (still.each place found.0 less found.1))
+
+skipped_all : (file count : ℕ) (has : Bool) (server : Server) (outs : List Out) (place : ℕ) → WaitStill server file count
+    → place ≤ count → pass_at file place has (at_call server outs) ≡ pass_at file 0 has (at_call server outs)
+skipped_all file count has server outs zero still within = refl
+skipped_all file count has server outs (suc place) still within =
+    let e : place + 1 ≡ suc place = omega arith in
+    ap (λ n. pass_at file n has (at_call server outs)) (sym e)
+    ∙ (skipped file place has server outs count still (omega (arith, within))
+    ∙ skipped_all file count has server outs place still (omega (arith, within)))
+
+-- a pass may begin behind the requests that wait still
+pub begins_behind : (file count : ℕ) (server : Server) (outs : List Out) → WaitStill server file count
+    → pass_at file count false (at_call server outs) ≡ one_pass file (at_call server outs)
+begins_behind file count server outs still =
+    skipped_all file count false server outs count still (omega arith)
