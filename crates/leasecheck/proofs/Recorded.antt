@@ -1,7 +1,7 @@
 -- Records that are written as they are made.
-use Rattle.std.proofs.Common.{◌≡◌, inl, inr, refl, ℕ, ◌++◌, List, [], ◌∷◌, Bool, true, false, Option, Some, None, sym, ap, ◌∙◌, subst, append_assoc}
+use Rattle.std.proofs.Common.{◌≡◌, inl, inr, refl, ℕ, ◌++◌, List, [], ◌∷◌, Bool, true, false, Option, Some, None, Result, Ok, Err, sym, ap, ◌∙◌, subst, append_assoc}
 use Rattle.std.proofs.lemmas.List.{append-nil}
-use Rattle.std.specs.List.{flat_map}
+use Rattle.std.specs.Prelude.{IfErr}
 use Rattle.std.specs.Io.KnownBytes.{Appends, Keeps}
 use Rattle.std.specs.String.{string_bytes}
 use Rattle.lease_facts.specs.declared.fact.Fact.{Fact}
@@ -62,25 +62,25 @@ wrote_block first old new before after told has wrote none begun = record {
 
 -- ---- what is not written
 
-not_made_by : (begun : Bool) (failed : Failure) (first current : Option (List ℕ)) (part rest whole : List ℕ) → failed ≡ not_made begun
-    → whole ≡ part ++ rest → Appends first current part → (begun ≡ false → part ≡ []) → IsUnwritten failed first current whole
-not_made_by true failed first current part rest whole is cut had begins = inl (is, (part, rest, cut, had))
-not_made_by false failed first current part rest whole is cut had begins =
+not_made_by : (begun : Bool) (why : Failure) (first current : Option (List ℕ)) (part rest whole : List ℕ) → why ≡ not_made begun
+    → whole ≡ part ++ rest → Appends first current part → (begun ≡ false → part ≡ []) → IsUnwritten why first current whole
+not_made_by true why first current part rest whole is cut had begins = inl (is, (part, rest, cut, had))
+not_made_by false why first current part rest whole is cut had begins =
     inr (is, keeps_if_nothing first current part had (begins refl))
 
 -- there was no memory for what follows
-pub unmade : (first current : Option (List ℕ)) (gathered : Gathered) (told rest whole : List ℕ) (failed : Failure)
-    → HasGathered first current gathered told → failed ≡ not_made gathered.begun → told ++ rest ≡ whole
-    → IsUnwritten failed first current whole
-unmade first current gathered told rest whole failed has is cut =
-    not_made_by gathered.begun failed first current has.part (string_bytes gathered.text ++ rest) whole is
+pub unmade : (first current : Option (List ℕ)) (gathered : Gathered) (told rest whole : List ℕ) (why : Failure)
+    → HasGathered first current gathered told → why ≡ not_made gathered.begun → told ++ rest ≡ whole
+    → IsUnwritten why first current whole
+unmade first current gathered told rest whole why has is cut =
+    not_made_by gathered.begun why first current has.part (string_bytes gathered.text ++ rest) whole is
     (sym cut ∙ (ap (λ t. t ++ rest) has.gathers ∙ append_assoc has.part (string_bytes gathered.text) rest)) has.written has.begins
 
 -- what has gathered was not written
-pub unwritten : (first current new : Option (List ℕ)) (gathered : Gathered) (told rest whole : List ℕ) (failed : Failure)
-    → HasGathered first current gathered told → failed ≡ failure.Output → Begins current new (string_bytes gathered.text)
-    → told ++ rest ≡ whole → IsUnwritten failed first new whole
-unwritten first current new gathered told rest whole failed has is (part, left, cut, had) whole-is =
+pub unwritten : (first current new : Option (List ℕ)) (gathered : Gathered) (told rest whole : List ℕ) (why : Failure)
+    → HasGathered first current gathered told → why ≡ failure.Output → Begins current new (string_bytes gathered.text)
+    → told ++ rest ≡ whole → IsUnwritten why first new whole
+unwritten first current new gathered told rest whole why has is (part, left, cut, had) whole-is =
     let all : told ≡ (has.part ++ part) ++ left =
     has.gathers ∙ (ap (λ t. has.part ++ t) cut ∙ sym (append_assoc has.part part left)) in
     inl (
@@ -93,6 +93,14 @@ unwritten first current new gathered told rest whole failed has is (part, left, 
       ),
     )
 
+pub unwritten_whole : {T : Type 0} (first current new : Option (List ℕ)) (gathered : Gathered) (told : List ℕ) (answer : Result T Failure)
+    → HasGathered first current gathered told
+    → IfErr answer (λ why. (why ≡ failure.Output) × Begins current new (string_bytes gathered.text))
+    → IfErr answer (λ why. IsUnwritten why first new told)
+unwritten_whole first current new gathered told (Ok value) has begins = tt
+unwritten_whole first current new gathered told (Err why) has begins =
+    unwritten first current new gathered told [] told why has begins.0 begins.1 (append-nil told)
+
 -- what has gathered is written, and with it all that is told
 pub all_written : (first current new : Option (List ℕ)) (gathered : Gathered) (told : List ℕ) → HasGathered first current gathered told
     → Appends current new (string_bytes gathered.text) → Appends first new told
@@ -102,20 +110,20 @@ all_written first current new gathered told has wrote =
 
 -- ---- how a task ends
 
-lacks_memory : (asked : Task) (file : Option (List ℕ)) (failed : Failure) → failed ≡ failure.Memory → MayEnd asked file failed
-lacks_memory (task.Ack argument) file failed is = inl is
-lacks_memory (task.Show kind argument) file failed is = inl is
-lacks_memory (task.Replay path telling) file failed is = inl is
-lacks_memory (task.Judge path) file failed is = inl is
-lacks_memory (task.Explain path) file failed is = inl is
-lacks_memory (task.Draw path) file failed is = inl is
-lacks_memory task.Version file failed is = inl is
+lacks_memory : (asked : Task) (file : Option (List ℕ)) (why : Failure) → why ≡ failure.Memory → MayEnd asked file why
+lacks_memory (task.Ack argument) file why is = inl is
+lacks_memory (task.Show kind argument) file why is = inl is
+lacks_memory (task.Replay path telling) file why is = inl is
+lacks_memory (task.Judge path) file why is = inl is
+lacks_memory (task.Explain path) file why is = inl is
+lacks_memory (task.Draw path) file why is = inl is
+lacks_memory task.Version file why is = inl is
 
-pub ends_unwritten : (asked : Task) (file old new : Option (List ℕ)) (failed : Failure) (text : List ℕ) (status : ℕ)
-    → refusal_of asked file ≡ None → IsTextOf asked file text status → IsUnwritten failed old new text → EndsWith asked file old new failed
-ends_unwritten asked file old new failed text status accepted prints (inl (is, begins)) =
+pub ends_unwritten : (asked : Task) (file old new : Option (List ℕ)) (why : Failure) (text : List ℕ) (status : ℕ)
+    → refusal_of asked file ≡ None → IsTextOf asked file text status → IsUnwritten why old new text → EndsWith asked file old new why
+ends_unwritten asked file old new why text status accepted prints (inl (is, begins)) =
     inl (is, accepted, text, status, prints, begins)
-ends_unwritten asked file old new failed text status accepted prints (inr (is, keeps)) = inr (keeps, lacks_memory asked file failed is)
+ends_unwritten asked file old new why text status accepted prints (inr (is, keeps)) = inr (keeps, lacks_memory asked file why is)
 
 -- ---- records that are told without messages
 

@@ -9,9 +9,9 @@ use Rattle.leasecheck.specs.declared.printing.Made.TheVariants.{Text, Record}
 -- its text
 abbrev pub text_made : Made → List ℕ
 text_made (Text printed) = string_bytes printed.text
-text_made (Record record) = recorded_text record
+text_made (Record one) = recorded_text one
 
 -- the exit status
 abbrev pub status_made : Made → ℕ
 status_made (Text printed) = printed.status
-status_made (Record record) = status_of record.verdict
+status_made (Record one) = status_of one.verdict

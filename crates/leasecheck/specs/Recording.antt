@@ -12,7 +12,7 @@ use Rattle.leasecheck.specs.declared.recording.Record.{Record}
 
 -- the lines of the facts, each after the message that it speaks of, and a comment line with the verdict
 abbrev pub recorded_text : Record → List ℕ
-recorded_text record = record_with_messages record.facts.items record.messages.items ++ (codes "# " ++ verdict_line record.verdict)
+recorded_text one = record_with_messages one.facts.items one.messages.items ++ (codes "# " ++ verdict_line one.verdict)
 
 -- why a text is not made for want of memory: where some of it is written, its writing has failed
 abbrev pub not_made : Bool → Failure
@@ -20,8 +20,8 @@ not_made begun = if begun then failure.Output else failure.Memory
 
 -- a text is not written whole: there was no memory, and nothing was written, or the writing failed
 abbrev pub IsUnwritten : Failure → Option (List ℕ) → Option (List ℕ) → List ℕ → Type 0
-IsUnwritten failure old new text =
-    ((failure ≡ failure.Output) × Begins old new text) ⊎ ((failure ≡ failure.Memory) × Keeps old new)
+IsUnwritten failed old new text =
+    ((failed ≡ failure.Output) × Begins old new text) ⊎ ((failed ≡ failure.Memory) × Keeps old new)
 
 -- of a text that is told so far a beginning is written, and the rest has gathered
 pub record HasGathered (first current : Option (List ℕ)) (gathered : Gathered) (told : List ℕ) : Type 0 where

@@ -78,8 +78,8 @@ fn judged<I: Read>(alloc: Global, input: &mut I) -> Result<Printed, Refusal>
 }
 
 fn replayed<I: Read>(alloc: Global, telling: Telling, input: &mut I) -> Result<Record, Refusal>
-    ensures printed { IfOk result (λ record. (status_of record.verdict ≡ 0)
-        × IfSome (I.remaining input.old) (λ schedule. Replays telling schedule (recorded_text record))) }
+    ensures printed { IfOk result (λ ran. (status_of ran.verdict ≡ 0)
+        × IfSome (I.remaining input.old) (λ schedule. Replays telling schedule (recorded_text ran))) }
     ensures refused { MatchResult result (λ _. known_refusal (I.remaining input.old) ≡ None)
         (λ refusal. MayEndReplay (I.remaining input.old) refusal.failure) }
     ensures said { IfErr result (λ refusal. Says refusal (IsFileRemark schedule_remark (I.remaining input.old))) }
@@ -89,7 +89,7 @@ fn replayed<I: Read>(alloc: Global, telling: Telling, input: &mut I) -> Result<R
         return Err(Refusal::bare(Failure::File));
     };
     match replay(alloc, telling, bytes.as_slice()) {
-        Ok(record) => Ok(record),
+        Ok(ran) => Ok(ran),
         Err(refusal) => Err(refusal),
     }
 }
@@ -234,9 +234,9 @@ fn print_made<O: Write>(alloc: Global, made: &Made, out: &mut O) -> Result<u8, F
             print_text(printed.text.as_str(), out)?;
             Ok(printed.status)
         }
-        Made::Record(record) => {
-            write_record(alloc, record, out)?;
-            Ok(status_of(&record.verdict))
+        Made::Record(recorded) => {
+            write_record(alloc, recorded, out)?;
+            Ok(status_of(&recorded.verdict))
         }
     }
 }

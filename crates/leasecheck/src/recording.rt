@@ -1,4 +1,4 @@
-ghost use Rattle.std.specs.Prelude.{◌≡◌, ◌++◌, ℕ, List, [], codes, false, OnOk, IfOk, IfErr, MatchResult};
+ghost use Rattle.std.specs.Prelude.{◌≡◌, ◌++◌, ℕ, List, Option, [], codes, false, OnOk, IfOk, IfErr, MatchResult};
 ghost use Rattle.std.specs.Io.KnownBytes.{Appends};
 ghost use Rattle.std.specs.String.{string_bytes};
 ghost use Rattle.lease_texts.specs.Records.{fact_line};
@@ -20,7 +20,7 @@ use std::io::Write;
 // How many bytes of a record's text gather before they are written.
 const BLOCK: usize = 65_536;
 
-/// A record, the messages that are told with it, if any are, and the verdict on it.
+/// A record, the messages that it speaks of, where they are wanted, and the verdict on it.
 #[derive(Drop)]
 pub struct Record {
     pub facts: Vec<Fact>,
@@ -117,21 +117,26 @@ impl Gathered {
 // Writes the lines of the facts but for what has gathered last.
 fn write_facts<O: Write>(
     alloc: Global,
-    record: &Record,
+    recorded: &Record,
     gathered: &mut Gathered,
     out: &mut O,
 ) -> Result<(), Failure>
     requires { HasGathered (O.contents out.old) (O.contents out.old) gathered.old [] }
     ensures { MatchResult result
         (λ _. HasGathered (O.contents out.old) (O.contents out.new) gathered.new
-            (record_with_messages record.now.facts.items record.now.messages.items))
+            (record_with_messages recorded.now.facts.items recorded.now.messages.items))
         (λ failure. (rest : List ℕ) → IsUnwritten failure (O.contents out.old) (O.contents out.new)
-            (record_with_messages record.now.facts.items record.now.messages.items ++ rest)) }
+            (record_with_messages recorded.now.facts.items recorded.now.messages.items ++ rest)) }
 {
-    let mut left = record.messages.as_slice();
-    for fact in record.facts.as_slice() {
-        left = gathered.push(alloc, fact, left)?;
-        gathered.write_block(out)?;
+    let mut left = recorded.messages.as_slice();
+    for fact in recorded.facts.as_slice() {
+        match gathered.push(alloc, fact, left) {
+            Ok(behind) => left = behind,
+            Err(failure) => return Err(failure),
+        }
+        if let Err(failure) = gathered.write_block(out) {
+            return Err(failure);
+        }
     }
     Ok(())
 }
@@ -142,13 +147,17 @@ fn write_facts<O: Write>(
 ///
 /// `Memory` where there is none left before anything is written, and `Output` where a write fails, or there is no memory
 /// left for what follows.
-pub fn write_record<O: Write>(alloc: Global, record: &Record, out: &mut O) -> Result<(), Failure>
-    ensures written { OnOk result (Appends (O.contents out.old) (O.contents out.new) (recorded_text record.now)) }
+pub fn write_record<O: Write>(alloc: Global, recorded: &Record, out: &mut O) -> Result<(), Failure>
+    ensures written { OnOk result (Appends (O.contents out.old) (O.contents out.new) (recorded_text recorded.now)) }
     ensures failed { IfErr result (λ failure.
-        IsUnwritten failure (O.contents out.old) (O.contents out.new) (recorded_text record.now)) }
+        IsUnwritten failure (O.contents out.old) (O.contents out.new) (recorded_text recorded.now)) }
 {
     let mut gathered = Gathered::new(alloc);
-    write_facts(alloc, record, &mut gathered, out)?;
-    gathered.push_end(&record.verdict)?;
-    print_text(gathered.text.as_str(), out)
+    if let Err(failure) = write_facts(alloc, recorded, &mut gathered, out) {
+        return Err(failure);
+    }
+    match gathered.push_end(&recorded.verdict) {
+        Ok(()) => print_text(gathered.text.as_str(), out),
+        Err(failure) => Err(failure),
+    }
 }

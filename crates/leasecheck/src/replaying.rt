@@ -30,9 +30,9 @@ pub(crate) fn not_run(fault: RunFault) -> Failure
 
 // The record of a run, with its messages where they are asked for, and the verdict on it.
 fn ran(alloc: Global, telling: Telling, schedule: &Schedule) -> Result<Record, Refusal>
-    ensures told { IfOk result (λ record. Tells telling (draft_of schedule.now)
-        (record_with_messages record.facts.items record.messages.items)) }
-    ensures safe { IfOk result (λ record. record.verdict ≡ verdict.Safe) }
+    ensures told { IfOk result (λ ran. Tells telling (draft_of schedule.now)
+        (record_with_messages ran.facts.items ran.messages.items)) }
+    ensures safe { IfOk result (λ ran. ran.verdict ≡ verdict.Safe) }
     ensures refused { RefusesRun (draft_of schedule.now) result }
     ensures said { IfErr result (λ told. Says told (λ failure line. run_remark failure (draft_of schedule.now) ≡ Some line)) }
 {
@@ -43,9 +43,9 @@ fn ran(alloc: Global, telling: Telling, schedule: &Schedule) -> Result<Record, R
 }
 
 fn ran_alone(alloc: Global, schedule: &Schedule) -> Result<Record, Refusal>
-    ensures told { IfOk result (λ record. Tells telling.Facts (draft_of schedule.now)
-        (record_with_messages record.facts.items record.messages.items)) }
-    ensures safe { IfOk result (λ record. record.verdict ≡ verdict.Safe) }
+    ensures told { IfOk result (λ ran. Tells telling.Facts (draft_of schedule.now)
+        (record_with_messages ran.facts.items ran.messages.items)) }
+    ensures safe { IfOk result (λ ran. ran.verdict ≡ verdict.Safe) }
     ensures refused { RefusesRun (draft_of schedule.now) result }
     ensures said { IfErr result (λ told. Says told (λ failure line. run_remark failure (draft_of schedule.now) ≡ Some line)) }
 {
@@ -64,9 +64,9 @@ fn ran_alone(alloc: Global, schedule: &Schedule) -> Result<Record, Refusal>
 }
 
 fn ran_with_messages(alloc: Global, schedule: &Schedule) -> Result<Record, Refusal>
-    ensures told { IfOk result (λ record. Tells telling.Messages (draft_of schedule.now)
-        (record_with_messages record.facts.items record.messages.items)) }
-    ensures safe { IfOk result (λ record. record.verdict ≡ verdict.Safe) }
+    ensures told { IfOk result (λ ran. Tells telling.Messages (draft_of schedule.now)
+        (record_with_messages ran.facts.items ran.messages.items)) }
+    ensures safe { IfOk result (λ ran. ran.verdict ≡ verdict.Safe) }
     ensures refused { RefusesRun (draft_of schedule.now) result }
     ensures said { IfErr result (λ told. Says told (λ failure line. run_remark failure (draft_of schedule.now) ≡ Some line)) }
 {
@@ -105,8 +105,8 @@ fn schedule_of(alloc: Global, text: &[u8]) -> Result<Schedule, Refusal>
 /// `Line` with the number of the first line that is refused, else `Run` where there is no run of
 /// the schedule, and `Memory` where there is none left; with what else is said of it.
 pub fn replay(alloc: Global, telling: Telling, schedule: &[u8]) -> Result<Record, Refusal>
-    ensures printed { IfOk result (λ record. Replays telling schedule.now (recorded_text record)) }
-    ensures safe { IfOk result (λ record. record.verdict ≡ verdict.Safe) }
+    ensures printed { IfOk result (λ ran. Replays telling schedule.now (recorded_text ran)) }
+    ensures safe { IfOk result (λ ran. ran.verdict ≡ verdict.Safe) }
     ensures refused { RefusesReplay schedule.now result }
     ensures said { IfErr result (λ told. Says told (λ failure line. schedule_remark schedule.now failure ≡ Some line)) }
 {

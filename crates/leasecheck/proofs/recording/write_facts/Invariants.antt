@@ -7,5 +7,5 @@ use Rattle.leasecheck.proofs.recording.write_facts.Given as goal
 abbrev pub invariant-loop-fact : goal.invariant-loop-fact
 invariant-loop-fact g l = (told : List ℕ)
     × HasGathered (g.O.Write.contents l.fn.out) (g.O.Write.contents l.out) l.gathered told
-    × (told ++ record_with_messages (drop l.fact-index l.record.facts.items) l.left
-    ≡ record_with_messages l.record.facts.items l.record.messages.items)
+    × (told ++ record_with_messages (drop l.fact-index l.recorded.facts.items) l.left
+    ≡ record_with_messages l.recorded.facts.items l.recorded.messages.items)

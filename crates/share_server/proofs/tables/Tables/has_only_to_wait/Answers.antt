@@ -1,7 +1,6 @@
-use Rattle.std.proofs.Common.{◌≡◌, List, true, refl, ap, sym, ◌∙◌}
+use Rattle.std.proofs.Common.{refl, ap, sym, ◌∙◌}
 use Rattle.lease_model.specs.server.Findings.{finding}
 use Rattle.lease_model.specs.server.Ready.{is_ready}
-use Rattle.lease_model.specs.server.Wants.{Want}
 use Rattle.share_server.specs.Findings.{look_of}
 use Rattle.share_server.specs.Requests.{request_like}
 use Rattle.share_server.specs.StillWaiting.{HasOnlyToWait}
