@@ -114,7 +114,7 @@ fn play(alloc: Global, setup: &Setup, events: &[Event], messages: Messages) -> R
 {
     let mut world = World::new(alloc, setup, messages)?;
     for place in 0..events.len() {
-        world = world.happen(&events[place])?;
+        world.happen(&events[place])?;
     }
     Ok(world)
 }

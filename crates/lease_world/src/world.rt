@@ -1,4 +1,4 @@
-ghost use Rattle.std.specs.Prelude.{◌≡◌, ◌<◌, ◌≤◌, ◌^◌, ◌&&◌, [], ◌∷◌, IfOk, length, is_some, nat_le, true};
+ghost use Rattle.std.specs.Prelude.{◌≡◌, ◌<◌, ◌≤◌, ◌^◌, ◌&&◌, [], ◌∷◌, IfOk, OnOk, length, is_some, nat_le, true};
 ghost use Rattle.lease_laws.specs.messages.Written.{CallHasFileId};
 ghost use Rattle.lease_model.specs.client.Calls.{ClientCall};
 ghost use Rattle.lease_model.specs.messages.FromBytes.{request_of, reply_of};
@@ -43,19 +43,21 @@ mod seats;
 /// they are kept.
 #[derive(Debug, Drop)]
 pub struct World {
-    server: Server,
+    // `None` once a call of it found no memory; no call finds any from then on.
+    server: Option<Server>,
     seats: Vec<Seat>,
     facts: Vec<Fact>,
     messages: Messages,
 }
 
 impl Model for World {
+    ghost use Rattle.std.specs.Prelude as prelude;
     ghost use Rattle.lease_world.specs.world.Stands as stands;
 
     ghost Value = { stands.Seen };
 
     ghost view = { λ world. record {
-      server = world.server;
+      server = prelude.unwrap_or world.server stands.no_server;
       seats = world.seats.items;
       facts = world.facts.items;
       messages = world.messages;
@@ -78,7 +80,7 @@ impl World {
         let server = Server::new(alloc, first::copy_contents(alloc, contents)?)?;
         let seats = first::seats(alloc, &setup.clients, contents.len() as u8)?;
         Ok(World {
-            server,
+            server: Some(server),
             seats,
             facts,
             messages,
@@ -90,12 +92,12 @@ impl World {
     /// # Errors
     ///
     /// `Memory` where there is none left.
-    pub fn happen(self, event: &Event) -> Result<World, Memory>
-        ensures { IfOk result (λ world. Happens (event_of event.now) self world) }
+    pub fn happen(&mut self, event: &Event) -> Result<(), Memory>
+        ensures { OnOk result (Happens (event_of event.now) self.old self.new) }
     {
         let client = client_of(event);
         if !self.has(client) {
-            return Ok(self);
+            return Ok(());
         }
         match event {
             Event::App(_, command) => self.command(client, command),
@@ -132,95 +134,53 @@ impl World {
     }
 
     // A client's application gives a command.
-    fn command(self, client: ClientNo, command: &Command) -> Result<World, Memory>
-        requires { IsPresent client.0 self.seats }
-        ensures { IfOk result (λ world. Applies (model.Event.App client.0 (command_of command.now)) self world) }
+    fn command(&mut self, client: ClientNo, command: &Command) -> Result<(), Memory>
+        requires { IsPresent client.0 self.old.seats }
+        ensures { OnOk result (Applies (model.Event.App client.0 (command_of command.now)) self.old self.new) }
     {
         let command = copy_command(command)?;
         self.step(client, Doing::App(command))
     }
 
     // A fact is recorded.
-    fn tell(self, fact: Fact) -> Result<World, Memory>
-        ensures becomes { IfOk result (λ world. Tells (fact_of fact) self world) }
-        ensures count { IfOk result (λ world. length world.seats ≡ length self.seats) }
+    fn tell(&mut self, fact: Fact) -> Result<(), Memory>
+        ensures becomes { OnOk result (Tells (fact_of fact) self.old self.new) }
+        ensures count { OnOk result (length self.new.seats ≡ length self.old.seats) }
     {
-        let World {
-            server,
-            seats,
-            mut facts,
-            messages,
-        } = self;
-        facts.push(fact)?;
-        Ok(World {
-            server,
-            seats,
-            facts,
-            messages,
-        })
+        self.facts.push(fact)?;
+        Ok(())
     }
 
     // A message is kept, where messages are.
-    fn keep(self, message: &Reply) -> Result<World, Memory>
-        ensures becomes { IfOk result (λ world. world ≡ record self { messages = world.messages }) }
-        ensures kept { IfOk result (λ world. HasKept self.messages world.messages (message.now ∷ [])) }
+    fn keep(&mut self, message: &Reply) -> Result<(), Memory>
+        ensures becomes { OnOk result (self.new ≡ record self.old { messages = self.new.messages }) }
+        ensures kept { OnOk result (HasKept self.old.messages self.new.messages (message.now ∷ [])) }
     {
-        let World {
-            server,
-            seats,
-            facts,
-            mut messages,
-        } = self;
-        messages.push(message)?;
-        Ok(World {
-            server,
-            seats,
-            facts,
-            messages,
-        })
+        self.messages.push(message)
     }
 
     // The server is called, and what it gives out is delivered.
-    fn serve(self, serving: Serving) -> Result<World, Memory>
-        ensures becomes { IfOk result (λ world. Serves (server_call serving) self world) }
-        ensures count { IfOk result (λ world. length world.seats ≡ length self.seats) }
+    fn serve(&mut self, serving: Serving) -> Result<(), Memory>
+        ensures becomes { OnOk result (Serves (server_call serving) self.old self.new) }
+        ensures count { OnOk result (length self.new.seats ≡ length self.old.seats) }
     {
-        let World {
-            server,
-            mut seats,
-            mut facts,
-            mut messages,
-        } = self;
+        let Some(server) = self.server.take() else {
+            return Err(Memory);
+        };
         let (server, outs) = call_server(server, serving)?;
-        deliver(&mut seats, &mut facts, &mut messages, outs)?;
-        Ok(World {
-            server,
-            seats,
-            facts,
-            messages,
-        })
+        self.server = Some(server);
+        deliver(&mut self.seats, &mut self.facts, &mut self.messages, outs)?;
+        Ok(())
     }
 
     // A client is called: what it sends is on its way, and what it notes is recorded.
-    fn step(self, client: ClientNo, doing: Doing) -> Result<World, Memory>
-        requires { IsPresent client.0 self.seats }
-        ensures becomes { IfOk result (λ world. StepsIn client.0 (client_call doing) self world) }
-        ensures count { IfOk result (λ world. length world.seats ≡ length self.seats) }
+    fn step(&mut self, client: ClientNo, doing: Doing) -> Result<(), Memory>
+        requires { IsPresent client.0 self.old.seats }
+        ensures becomes { OnOk result (StepsIn client.0 (client_call doing) self.old self.new) }
+        ensures count { OnOk result (length self.new.seats ≡ length self.old.seats) }
     {
-        let World {
-            server,
-            mut seats,
-            mut facts,
-            messages,
-        } = self;
-        let notes = seats::step(&mut seats, client, doing)?;
-        tell_notes(&mut facts, client, notes)?;
-        Ok(World {
-            server,
-            seats,
-            facts,
-            messages,
-        })
+        let notes = seats::step(&mut self.seats, client, doing)?;
+        tell_notes(&mut self.facts, client, notes)
     }
 
     // Whether this is the link of a client.
@@ -244,200 +204,146 @@ impl World {
         ensures { result ≡ (is_some (content (server_of self.now.server) file.0)
             && breaking (server_of self.now.server) (key_of client.0 key.0)) }
     {
-        self.server.content(file).is_some() && self.server.breaking(client, key)
+        match &self.server {
+            Some(server) => server.content(file).is_some() && server.breaking(client, key),
+            None => false,
+        }
     }
 
     // The FileId of a client's lowest kept open of a file.
     fn kept(&self, client: ClientNo, file: FileNo) -> Option<FileId>
         ensures { option_map (λ file_id. file_id.0) result ≡ kept (server_of self.now.server) client.0 file.0 }
     {
-        self.server.kept(client, file)
+        match &self.server {
+            Some(server) => server.kept(client, file),
+            None => None,
+        }
     }
 
     // The link of a client is this from now on.
-    fn set_link(self, client: ClientNo, link: Link) -> World
-        requires { IsPresent client.0 self.seats }
-        ensures becomes { Links client.0 (link_of link) self result }
-        ensures count { length result.seats ≡ length self.seats }
+    fn set_link(&mut self, client: ClientNo, link: Link)
+        requires { IsPresent client.0 self.old.seats }
+        ensures becomes { Links client.0 (link_of link) self.old self.new }
+        ensures count { length self.new.seats ≡ length self.old.seats }
     {
-        let World {
-            server,
-            mut seats,
-            facts,
-            messages,
-        } = self;
-        seats::set_link(&mut seats, client, link);
-        World {
-            server,
-            seats,
-            facts,
-            messages,
-        }
+        seats::set_link(&mut self.seats, client, link);
     }
 
     // The link of a client is cut: nothing is on its way any more.
-    fn cut_link(self, client: ClientNo) -> World
-        requires { IsPresent client.0 self.seats }
-        ensures { CutsLink client.0 self result }
+    fn cut_link(&mut self, client: ClientNo)
+        requires { IsPresent client.0 self.old.seats }
+        ensures { CutsLink client.0 self.old self.new }
     {
-        let World {
-            server,
-            mut seats,
-            facts,
-            messages,
-        } = self;
-        seats::cut_link(&mut seats, client);
-        World {
-            server,
-            seats,
-            facts,
-            messages,
-        }
+        seats::cut_link(&mut self.seats, client);
     }
 
     // A request is sent in a client's name.
-    fn send(self, client: ClientNo, request: Request) -> Result<World, Memory>
-        requires { IsPresent client.0 self.seats }
-        ensures { IfOk result (λ world. Sends client.0 (request_of request) self world) }
+    fn send(&mut self, client: ClientNo, request: Request) -> Result<(), Memory>
+        requires { IsPresent client.0 self.old.seats }
+        ensures { OnOk result (Sends client.0 (request_of request) self.old self.new) }
     {
-        let World {
-            server,
-            mut seats,
-            facts,
-            messages,
-        } = self;
-        seats::send(&mut seats, client, request)?;
-        Ok(World {
-            server,
-            seats,
-            facts,
-            messages,
-        })
+        seats::send(&mut self.seats, client, request)
     }
 
     // The server takes the oldest request of a client.
-    fn server_takes(self, client: ClientNo) -> Result<World, Memory>
-        requires { IsPresent client.0 self.seats }
-        ensures { IfOk result (λ world. Applies (model.Event.ServerTakes client.0) self world) }
+    fn server_takes(&mut self, client: ClientNo) -> Result<(), Memory>
+        requires { IsPresent client.0 self.old.seats }
+        ensures { OnOk result (Applies (model.Event.ServerTakes client.0) self.old self.new) }
     {
-        let World {
-            server,
-            mut seats,
-            facts,
-            messages,
-        } = self;
-        let request = seats::pop_request(&mut seats, client);
-        let world = World {
-            server,
-            seats,
-            facts,
-            messages,
-        };
-        match request {
-            Some(request) => world.serve(Serving::Receive(client, request)),
-            None => Ok(world),
+        match seats::pop_request(&mut self.seats, client) {
+            Some(request) => self.serve(Serving::Receive(client, request)),
+            None => Ok(()),
         }
     }
 
     // A client takes the oldest message that was sent to it.
-    fn client_takes(self, client: ClientNo) -> Result<World, Memory>
-        requires { IsPresent client.0 self.seats }
-        ensures { IfOk result (λ world. Applies (model.Event.ClientTakes client.0) self world) }
+    fn client_takes(&mut self, client: ClientNo) -> Result<(), Memory>
+        requires { IsPresent client.0 self.old.seats }
+        ensures { OnOk result (Applies (model.Event.ClientTakes client.0) self.old self.new) }
     {
-        let World {
-            server,
-            mut seats,
-            facts,
-            messages,
-        } = self;
-        let reply = seats::pop_reply(&mut seats, client);
-        let world = World {
-            server,
-            seats,
-            facts,
-            messages,
-        };
-        match reply {
+        match seats::pop_reply(&mut self.seats, client) {
             Some(reply) => {
                 has_its_field(&reply);
-                let kept = world.keep(&reply)?;
-                let world = kept.tell(Fact::Took(client))?;
-                world.step(client, Doing::Take(reply))
+                self.keep(&reply)?;
+                self.tell(Fact::Took(client))?;
+                self.step(client, Doing::Take(reply))
             }
-            None => Ok(world),
+            None => Ok(()),
         }
     }
 
     // The connection of a client whose link is up is lost.
-    fn cut(self, client: ClientNo) -> Result<World, Memory>
-        requires { IsPresent client.0 self.seats }
-        ensures { IfOk result (λ world. Applies (model.Event.Cut client.0) self world) }
+    fn cut(&mut self, client: ClientNo) -> Result<(), Memory>
+        requires { IsPresent client.0 self.old.seats }
+        ensures { OnOk result (Applies (model.Event.Cut client.0) self.old self.new) }
     {
         if !self.has_link(client, Link::Up) {
-            return Ok(self);
+            return Ok(());
         }
-        let world = self.cut_link(client).tell(Fact::Dropped(client))?;
-        world.serve(Serving::Cut(client))
+        self.cut_link(client);
+        self.tell(Fact::Dropped(client))?;
+        self.serve(Serving::Cut(client))
     }
 
     // A client whose link is cut notices that.
-    fn notice(self, client: ClientNo) -> Result<World, Memory>
-        requires { IsPresent client.0 self.seats }
-        ensures { IfOk result (λ world. Applies (model.Event.Notice client.0) self world) }
+    fn notice(&mut self, client: ClientNo) -> Result<(), Memory>
+        requires { IsPresent client.0 self.old.seats }
+        ensures { OnOk result (Applies (model.Event.Notice client.0) self.old self.new) }
     {
         if !self.has_link(client, Link::Cut) {
-            return Ok(self);
+            return Ok(());
         }
-        let world = self.set_link(client, Link::Down);
-        world.step(client, Doing::Notice)
+        self.set_link(client, Link::Down);
+        self.step(client, Doing::Notice)
     }
 
     // A client whose link is down connects.
-    fn connect(self, client: ClientNo) -> Result<World, Memory>
-        requires { IsPresent client.0 self.seats }
-        ensures { IfOk result (λ world. Applies (model.Event.Connect client.0) self world) }
+    fn connect(&mut self, client: ClientNo) -> Result<(), Memory>
+        requires { IsPresent client.0 self.old.seats }
+        ensures { OnOk result (Applies (model.Event.Connect client.0) self.old self.new) }
     {
         if !self.has_link(client, Link::Down) {
-            return Ok(self);
+            return Ok(());
         }
-        let world = self.set_link(client, Link::Up).tell(Fact::Joined(client))?;
-        let world = world.serve(Serving::Join(client))?;
-        world.step(client, Doing::Connect)
+        self.set_link(client, Link::Up);
+        self.tell(Fact::Joined(client))?;
+        self.serve(Serving::Join(client))?;
+        self.step(client, Doing::Connect)
     }
 
     // The timer of the lease of a client's key of a file runs out, where its break waits.
-    fn expire(self, client: ClientNo, file: FileNo) -> Result<World, Memory>
-        requires { IsPresent client.0 self.seats }
-        ensures { IfOk result (λ world. Applies (model.Event.Expire client.0 file.0) self world) }
+    fn expire(&mut self, client: ClientNo, file: FileNo) -> Result<(), Memory>
+        requires { IsPresent client.0 self.old.seats }
+        ensures { OnOk result (Applies (model.Event.Expire client.0 file.0) self.old self.new) }
     {
         let key = self.key(client, file);
         if !self.is_breaking(client, key, file) {
-            return Ok(self);
+            return Ok(());
         }
-        let world = self.tell(Fact::Expired(client, file))?;
-        world.serve(Serving::Expire(client, key))
+        self.tell(Fact::Expired(client, file))?;
+        self.serve(Serving::Expire(client, key))
     }
 
     // The timer of a client's lowest kept open of a file runs out, where there is one.
-    fn scavenge(self, client: ClientNo, file: FileNo) -> Result<World, Memory>
-        ensures { IfOk result (λ world. Applies (model.Event.Scavenge client.0 file.0) self world) }
+    fn scavenge(&mut self, client: ClientNo, file: FileNo) -> Result<(), Memory>
+        ensures { OnOk result (Applies (model.Event.Scavenge client.0 file.0) self.old self.new) }
     {
         match self.kept(client, file) {
             Some(fid) => self.serve(Serving::Scavenge(fid)),
-            None => Ok(self),
+            None => Ok(()),
         }
     }
 
     // A request is sent in the name of a client whose link is up.
-    fn stray(self, client: ClientNo, request: Request) -> Result<World, Memory>
-        requires { IsPresent client.0 self.seats }
-        ensures { IfOk result (λ world. Applies (model.Event.Raw client.0 (request_of request)) self world) }
+    fn stray(&mut self, client: ClientNo, request: Request) -> Result<(), Memory>
+        requires { IsPresent client.0 self.old.seats }
+        ensures { OnOk result (Applies (model.Event.Raw client.0 (request_of request)) self.old self.new) }
     {
         if !self.has_link(client, Link::Up) {
-            return Ok(self);
+            return Ok(());
         }
-        let world = self.tell(Fact::Strayed(client))?;
-        world.send(client, request)
+        self.tell(Fact::Strayed(client))?;
+        self.send(client, request)
     }
 }
 

@@ -13,7 +13,7 @@ loop-place-init c =
 
 pub loop-place-preserved : goal.loop-place-preserved
 loop-place-preserved c =
-    one_more_event c.loop-place.world c.in_ok-world-2.world (first_world (setup_of c.args.setup.now)) c.args.messages c.args.events.now
+    one_more_event c.loop-place.world c.happen.new.self (first_world (setup_of c.args.setup.now)) c.args.messages c.args.events.now
     c.loop-place.place c.index-events-place.result c.loop-place-test.true c.loop-place.invariant
-    (subst (λ (event : Event). Happens (event_of event) c.loop-place.world c.in_ok-world-2.world) c.index-events-place.is
-    c.in_ok-world-2.ensures)
+    (subst (λ (event : Event). Happens (event_of event) c.loop-place.world c.happen.new.self) c.index-events-place.is
+    c.in_ok-happen.ensures)

@@ -8,6 +8,6 @@ returns c = rw (← c.self.view_is) (
   refl,
   λ world s.
       cut_stands (the_view c.self.inside)
-      (record { server = c.self.inside.server; seats = c.cut_link.new.seats.items; facts = c.self.inside.facts.items; messages = c.self.inside.messages })
+      (record (the_view c.self.inside) { seats = c.cut_link.new.seats.items })
       c.args.client.0 (refl, refl, refl) c.cut_link.ensures world s,
 )

@@ -8,6 +8,6 @@ returns-clause-becomes c = rw (← c.self.view_is) (
   refl,
   λ world s.
       linked_stands (the_view c.self.inside)
-      (record { server = c.self.inside.server; seats = c.set_link.new.seats.items; facts = c.self.inside.facts.items; messages = c.self.inside.messages })
+      (record (the_view c.self.inside) { seats = c.set_link.new.seats.items })
       c.args.client.0 c.args.link (refl, refl, refl) c.set_link.ensures world s,
 )
