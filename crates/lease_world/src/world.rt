@@ -1,11 +1,10 @@
-ghost use Rattle.std.specs.Prelude.{◌≡◌, ◌<◌, ◌≤◌, ◌^◌, ◌&&◌, [], ◌∷◌, IfOk, OnOk, length, is_some, nat_le, true};
+ghost use Rattle.std.specs.Prelude.{◌≡◌, ◌<◌, ◌≤◌, ◌+◌, ◌^◌, ◌&&◌, [], ◌∷◌, IfOk, OnOk, length, is_some, nat_le, true};
 ghost use Rattle.lease_laws.specs.messages.Written.{CallHasFileId};
 ghost use Rattle.lease_model.specs.client.Calls.{ClientCall};
 ghost use Rattle.lease_model.specs.messages.FromBytes.{request_of, reply_of};
 ghost use Rattle.lease_model.specs.world.Events as model;
-ghost use Rattle.lease_world.specs.world.Stands.{link_of, Stands};
-ghost use Rattle.lease_world.specs.world.Calls.{client_call, server_call};
-ghost use Rattle.lease_world.specs.world.Worlds.{Happens, Tells, Serves, StepsIn, Links, CutsLink, Sends, Applies};
+ghost use Rattle.lease_world.specs.world.Stands.{link_of, no_server, Stands};
+ghost use Rattle.lease_world.specs.world.Worlds.{Happens, Tells, Delivers, Links, CutsLink, Sends, Applies};
 ghost use Rattle.lease_world.specs.world.Seats.{IsPresent, HasKept, is_link, seat_in};
 ghost use Rattle.std.specs.Option.{option_map};
 ghost use Rattle.lease_model.specs.client.State.{lease_key as model_key};
@@ -19,7 +18,6 @@ ghost use Rattle.lease_model.specs.world.World.{first_world};
 
 use crate::copies::{copy_command, copy_request};
 use crate::setup::client_of;
-use crate::world::calls::{Doing, Serving, call_server};
 use crate::world::delivering::{deliver, tell_notes};
 use crate::world::link::Link;
 use crate::world::messages::Messages;
@@ -27,17 +25,15 @@ use crate::world::seat::Seat;
 use lease_client::{Command, lease_key};
 use lease_facts::{Event, Fact, Setup};
 use lease_state::{ClientNo, FileId, FileNo, LeaseKey, Memory, Reply, Request};
-use share_server::Server;
+use share_server::{Out, Server};
 use std::alloc::Global;
 use std::marker::Model;
 
-mod calls;
 mod delivering;
 mod first;
 mod link;
 pub mod messages;
 mod seat;
-mod seats;
 
 /// A server, clients, and what lies between them, with the record of what happened, and the messages that it speaks of where
 /// they are kept.
@@ -130,7 +126,7 @@ impl World {
         ensures value { result ≡ (nat_le 1 client.0 && nat_le client.0 (length self.now.seats)) }
         ensures present { result ≡ true → IsPresent client.0 self.now.seats }
     {
-        seats::has(&self.seats, client)
+        1 <= client.0 && usize::from(client.0) <= self.seats.len()
     }
 
     // A client's application gives a command.
@@ -139,7 +135,9 @@ impl World {
         ensures { OnOk result (Applies (model.Event.App client.0 (command_of command.now)) self.old self.new) }
     {
         let command = copy_command(command)?;
-        self.step(client, Doing::App(command))
+        let seat = &mut self.seats[place_of(client)];
+        let notes = seat.app(command)?;
+        tell_notes(&mut self.facts, client, notes)
     }
 
     // A fact is recorded.
@@ -159,28 +157,23 @@ impl World {
         self.messages.push(message)
     }
 
-    // The server is called, and what it gives out is delivered.
-    fn serve(&mut self, serving: Serving) -> Result<(), Memory>
-        ensures becomes { OnOk result (Serves (server_call serving) self.old self.new) }
-        ensures count { OnOk result (length self.new.seats ≡ length self.old.seats) }
+    // Takes the server out, to be called.
+    fn take_server(&mut self) -> Result<Server, Memory>
+        ensures { IfOk result (λ server. (server ≡ self.old.server) × (self.new ≡ record self.old { server = no_server })) }
     {
-        let Some(server) = self.server.take() else {
-            return Err(Memory);
-        };
-        let (server, outs) = call_server(server, serving)?;
+        match self.server.take() {
+            Some(server) => Ok(server),
+            None => Err(Memory),
+        }
+    }
+
+    // Puts the server back after a call, and delivers what it gave out.
+    fn put_back(&mut self, server: Server, outs: Vec<Out>) -> Result<(), Memory>
+        ensures { OnOk result (Delivers server outs.items self.old self.new) }
+    {
         self.server = Some(server);
         deliver(&mut self.seats, &mut self.facts, &mut self.messages, outs)?;
         Ok(())
-    }
-
-    // A client is called: what it sends is on its way, and what it notes is recorded.
-    fn step(&mut self, client: ClientNo, doing: Doing) -> Result<(), Memory>
-        requires { IsPresent client.0 self.old.seats }
-        ensures becomes { OnOk result (StepsIn client.0 (client_call doing) self.old self.new) }
-        ensures count { OnOk result (length self.new.seats ≡ length self.old.seats) }
-    {
-        let notes = seats::step(&mut self.seats, client, doing)?;
-        tell_notes(&mut self.facts, client, notes)
     }
 
     // Whether this is the link of a client.
@@ -188,7 +181,8 @@ impl World {
         requires { IsPresent client.0 self.now.seats }
         ensures { result ≡ is_link (seat_in self.now.seats client.0).link link }
     {
-        seats::has_link(&self.seats, client, link)
+        let seat = &self.seats[place_of(client)];
+        seat.has_link(link)
     }
 
     // The key under which a client's machine has a file.
@@ -196,7 +190,8 @@ impl World {
         requires { IsPresent client.0 self.now.seats }
         ensures { result.0 ≡ model_key (seat_in self.now.seats client.0).guid file.0 }
     {
-        lease_key(seats::guid(&self.seats, client), file)
+        let seat = &self.seats[place_of(client)];
+        lease_key(seat.guid(), file)
     }
 
     // Whether there is such a file, and a break of the client's lease of this key waits.
@@ -226,7 +221,8 @@ impl World {
         ensures becomes { Links client.0 (link_of link) self.old self.new }
         ensures count { length self.new.seats ≡ length self.old.seats }
     {
-        seats::set_link(&mut self.seats, client, link);
+        let seat = &mut self.seats[place_of(client)];
+        seat.set_link(link);
     }
 
     // The link of a client is cut: nothing is on its way any more.
@@ -234,7 +230,8 @@ impl World {
         requires { IsPresent client.0 self.old.seats }
         ensures { CutsLink client.0 self.old self.new }
     {
-        seats::cut_link(&mut self.seats, client);
+        let seat = &mut self.seats[place_of(client)];
+        seat.cut();
     }
 
     // A request is sent in a client's name.
@@ -242,7 +239,8 @@ impl World {
         requires { IsPresent client.0 self.old.seats }
         ensures { OnOk result (Sends client.0 (request_of request) self.old self.new) }
     {
-        seats::send(&mut self.seats, client, request)
+        let seat = &mut self.seats[place_of(client)];
+        seat.send(request)
     }
 
     // The server takes the oldest request of a client.
@@ -250,8 +248,13 @@ impl World {
         requires { IsPresent client.0 self.old.seats }
         ensures { OnOk result (Applies (model.Event.ServerTakes client.0) self.old self.new) }
     {
-        match seats::pop_request(&mut self.seats, client) {
-            Some(request) => self.serve(Serving::Receive(client, request)),
+        let seat = &mut self.seats[place_of(client)];
+        match seat.pop_request() {
+            Some(request) => {
+                let server = self.take_server()?;
+                let (server, outs) = server.receive(client, request)?;
+                self.put_back(server, outs)
+            }
             None => Ok(()),
         }
     }
@@ -261,12 +264,15 @@ impl World {
         requires { IsPresent client.0 self.old.seats }
         ensures { OnOk result (Applies (model.Event.ClientTakes client.0) self.old self.new) }
     {
-        match seats::pop_reply(&mut self.seats, client) {
+        let seat = &mut self.seats[place_of(client)];
+        match seat.pop_reply() {
             Some(reply) => {
                 has_its_field(&reply);
                 self.keep(&reply)?;
                 self.tell(Fact::Took(client))?;
-                self.step(client, Doing::Take(reply))
+                let seat = &mut self.seats[place_of(client)];
+                let notes = seat.take(reply)?;
+                tell_notes(&mut self.facts, client, notes)
             }
             None => Ok(()),
         }
@@ -282,7 +288,9 @@ impl World {
         }
         self.cut_link(client);
         self.tell(Fact::Dropped(client))?;
-        self.serve(Serving::Cut(client))
+        let server = self.take_server()?;
+        let (server, outs) = server.cut(client)?;
+        self.put_back(server, outs)
     }
 
     // A client whose link is cut notices that.
@@ -294,7 +302,9 @@ impl World {
             return Ok(());
         }
         self.set_link(client, Link::Down);
-        self.step(client, Doing::Notice)
+        let seat = &mut self.seats[place_of(client)];
+        let notes = seat.notice()?;
+        tell_notes(&mut self.facts, client, notes)
     }
 
     // A client whose link is down connects.
@@ -307,8 +317,12 @@ impl World {
         }
         self.set_link(client, Link::Up);
         self.tell(Fact::Joined(client))?;
-        self.serve(Serving::Join(client))?;
-        self.step(client, Doing::Connect)
+        let server = self.take_server()?;
+        let (server, outs) = server.join(client)?;
+        self.put_back(server, outs)?;
+        let seat = &mut self.seats[place_of(client)];
+        let notes = seat.connect()?;
+        tell_notes(&mut self.facts, client, notes)
     }
 
     // The timer of the lease of a client's key of a file runs out, where its break waits.
@@ -321,7 +335,9 @@ impl World {
             return Ok(());
         }
         self.tell(Fact::Expired(client, file))?;
-        self.serve(Serving::Expire(client, key))
+        let server = self.take_server()?;
+        let (server, outs) = server.expire(client, key)?;
+        self.put_back(server, outs)
     }
 
     // The timer of a client's lowest kept open of a file runs out, where there is one.
@@ -329,7 +345,11 @@ impl World {
         ensures { OnOk result (Applies (model.Event.Scavenge client.0 file.0) self.old self.new) }
     {
         match self.kept(client, file) {
-            Some(fid) => self.serve(Serving::Scavenge(fid)),
+            Some(fid) => {
+                let server = self.take_server()?;
+                let (server, outs) = server.scavenge(fid)?;
+                self.put_back(server, outs)
+            }
             None => Ok(()),
         }
     }
@@ -345,6 +365,14 @@ impl World {
         self.tell(Fact::Strayed(client))?;
         self.send(client, request)
     }
+}
+
+// Where the seat of a client is.
+fn place_of(client: ClientNo) -> usize
+    requires { 1 ≤ client.0 }
+    ensures { result + 1 ≡ client.0 }
+{
+    usize::from(client.0) - 1
 }
 
 // The FileId of a reply fits its field, as each number of its type. Does nothing.
