@@ -40,7 +40,8 @@ returns-in_ok-notes-in-Some c =
     c.has_its_field.ensures c.in_ok-keep-in-Some.ensures.becomes c.in_ok-keep-in-Some.ensures.kept
     c.in_ok-tell-in-Some.ensures.becomes
     (subst (λ (w : Seen). StepsIn c.args.client.0 call w new) c.self-in-Some.view_is
-    (steps_in told new c.args.client.0 call c.in_ok-notes-in-Some.notes.items refl refl changed noted here))) c.tell_notes.ensures)
+    (steps_in told new c.args.client.0 call c.in_ok-notes-in-Some.notes.items refl refl changed noted here)))
+    c.tell_notes.ensures)
 
 pub returns-in-None : goal.returns-in-None
 returns-in-None c =

@@ -1,4 +1,4 @@
-use Rattle.std.proofs.Common.{◌∙◌, refl, sym, subst, length}
+use Rattle.std.proofs.Common.{◌∙◌, refl, sym, subst}
 use Rattle.std.specs.List.{slice_set}
 use Rattle.std.proofs.lemmas.Result.{on_ok_weaker}
 use Rattle.lease_model.specs.client.Calls.{ClientCall}
@@ -37,8 +37,8 @@ returns c =
     connect_one c.args.self.now c.set_link.new.self c.tell.new.self c.put_back.new.self new c.args.client.0 c.requires
     (sym c.has_link.ensures ∙ c.if-not-has_link.false) c.set_link.ensures.becomes c.in_ok-tell.ensures.becomes
     (served_by c.tell.new.self c.take_server.new.self c.put_back.new.self (Call.Join c.args.client.0)
-    c.in_ok-server.server c.in_ok-server-2.server c.in_ok-server-2.outs.items c.in_ok-server.ensures c.in_ok-server-2.ensures.after
-    delivers)
+    c.in_ok-server.server c.in_ok-server-2.server c.in_ok-server-2.outs.items
+    c.in_ok-server.ensures c.in_ok-server-2.ensures.after delivers)
     (subst (λ (w : Seen). StepsIn c.args.client.0 ClientCall.Connected w new) c.self.view_is
     (steps_in joined new c.args.client.0 ClientCall.Connected c.in_ok-notes.notes.items refl refl changed told there)))
     c.tell_notes.ensures

@@ -14,7 +14,8 @@ returns c =
     let there : IsPresent c.args.client.0 old.seats =
     subst (λ (w : Seen). IsPresent c.args.client.0 w.seats) (sym c.self.view_is) c.requires in
     let new : Seen = record old { seats = slice_set old.seats c.place_of.result c.cut.new.self } in
-    let changed = seat_changed (λ before after. after ≡ record before { link = code.TheVariants.Cut; requests = []; replies = [] }) old.seats c.args.client.0
+    let changed = seat_changed (λ was next. next ≡ record was { link = code.TheVariants.Cut; requests = []; replies = [] })
+    old.seats c.args.client.0
     c.place_of.result c.index_mut-seat.result.now c.cut.new.self c.place_of.ensures there c.index_mut-seat.ensures.value
     c.cut.ensures in
     rw (← c.self.view_is) (refl, λ world s. cut_stands old new c.args.client.0 (refl, refl, refl) changed world s)

@@ -32,4 +32,5 @@ returns c =
     notice_one c.args.self.now c.set_link.new.self new c.args.client.0 c.requires
     (sym c.has_link.ensures ∙ c.if-not-has_link.false) c.set_link.ensures.becomes
     (subst (λ (w : Seen). StepsIn c.args.client.0 ClientCall.Noticed w new) c.self.view_is
-    (steps_in linked new c.args.client.0 ClientCall.Noticed c.in_ok-notes.notes.items refl refl changed told there))) c.tell_notes.ensures
+    (steps_in linked new c.args.client.0 ClientCall.Noticed c.in_ok-notes.notes.items refl refl changed told there)))
+    c.tell_notes.ensures

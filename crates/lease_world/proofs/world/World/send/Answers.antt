@@ -18,6 +18,7 @@ returns c =
       refl,
       λ world s. sent_stands old new c.args.client.0 c.args.request (refl, refl, refl)
           (seat_changed (λ before after. after ≡ with_requests (c.args.request ∷ []) before) old.seats c.args.client.0
-          c.place_of.result c.index_mut-seat.result.now c.send.new.self c.place_of.ensures there c.index_mut-seat.ensures.value sent)
+          c.place_of.result c.index_mut-seat.result.now c.send.new.self c.place_of.ensures there c.index_mut-seat.ensures.value
+          sent)
           world s,
     )) c.send.ensures)
