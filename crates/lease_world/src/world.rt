@@ -161,10 +161,7 @@ impl World {
     fn take_server(&mut self) -> Result<Server, Memory>
         ensures { IfOk result (λ server. (server ≡ self.old.server) × (self.new ≡ record self.old { server = no_server })) }
     {
-        match self.server.take() {
-            Some(server) => Ok(server),
-            None => Err(Memory),
-        }
+        self.server.take().ok_or(Memory)
     }
 
     // Puts the server back after a call, and delivers what it gave out.

@@ -142,10 +142,7 @@ impl Seat {
     fn take_client(&mut self) -> Result<Client, Memory>
         ensures { IfOk result (λ client. (client ≡ self.old.client) × (self.new ≡ record self.old { client = no_client })) }
     {
-        match self.client.take() {
-            Some(client) => Ok(client),
-            None => Err(Memory),
-        }
+        self.client.take().ok_or(Memory)
     }
 
     // Puts the client back after a call, and sends what it sends. The notes are given.
