@@ -1,3 +1,4 @@
+pub mod Called
 pub mod Delivered
 pub mod Events
 pub mod First
@@ -5,5 +6,6 @@ pub mod Happening
 pub mod Kept
 pub mod Keys
 pub mod Replies
+pub mod Seats
 pub mod Speaking
 pub mod Standing

@@ -1,4 +1,3 @@
-pub mod Calls
 pub mod First
 pub mod Messages
 pub mod Seats

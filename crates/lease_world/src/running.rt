@@ -113,8 +113,8 @@ fn play(alloc: Global, setup: &Setup, events: &[Event], messages: Messages) -> R
     ensures kept { IfOk result (λ world. KeepsBehind messages (messages_told (setup_of setup.now) (map event_of events.now)) world) }
 {
     let mut world = World::new(alloc, setup, messages)?;
-    for place in 0..events.len() {
-        world = world.happen(&events[place])?;
+    for event in events {
+        world.happen(event)?;
     }
     Ok(world)
 }

@@ -1,11 +1,10 @@
-ghost use Rattle.std.specs.Prelude.{◌≡◌, ◌<◌, ◌≤◌, ◌^◌, ◌&&◌, [], ◌∷◌, IfOk, length, is_some, nat_le, true};
+ghost use Rattle.std.specs.Prelude.{◌≡◌, ◌<◌, ◌≤◌, ◌+◌, ◌^◌, ◌&&◌, [], ◌∷◌, IfOk, OnOk, length, is_some, nat_le, true};
 ghost use Rattle.lease_laws.specs.messages.Written.{CallHasFileId};
 ghost use Rattle.lease_model.specs.client.Calls.{ClientCall};
 ghost use Rattle.lease_model.specs.messages.FromBytes.{request_of, reply_of};
 ghost use Rattle.lease_model.specs.world.Events as model;
-ghost use Rattle.lease_world.specs.world.Stands.{link_of, Stands};
-ghost use Rattle.lease_world.specs.world.Calls.{client_call, server_call};
-ghost use Rattle.lease_world.specs.world.Worlds.{Happens, Tells, Serves, StepsIn, Links, CutsLink, Sends, Applies};
+ghost use Rattle.lease_world.specs.world.Stands.{link_of, no_server, Stands};
+ghost use Rattle.lease_world.specs.world.Worlds.{Happens, Tells, Delivers, Links, CutsLink, Sends, Applies};
 ghost use Rattle.lease_world.specs.world.Seats.{IsPresent, HasKept, is_link, seat_in};
 ghost use Rattle.std.specs.Option.{option_map};
 ghost use Rattle.lease_model.specs.client.State.{lease_key as model_key};
@@ -19,7 +18,6 @@ ghost use Rattle.lease_model.specs.world.World.{first_world};
 
 use crate::copies::{copy_command, copy_request};
 use crate::setup::client_of;
-use crate::world::calls::{Doing, Serving, call_server};
 use crate::world::delivering::{deliver, tell_notes};
 use crate::world::link::Link;
 use crate::world::messages::Messages;
@@ -27,35 +25,35 @@ use crate::world::seat::Seat;
 use lease_client::{Command, lease_key};
 use lease_facts::{Event, Fact, Setup};
 use lease_state::{ClientNo, FileId, FileNo, LeaseKey, Memory, Reply, Request};
-use share_server::Server;
+use share_server::{Out, Server};
 use std::alloc::Global;
 use std::marker::Model;
 
-mod calls;
 mod delivering;
 mod first;
 mod link;
 pub mod messages;
 mod seat;
-mod seats;
 
 /// A server, clients, and what lies between them, with the record of what happened, and the messages that it speaks of where
 /// they are kept.
 #[derive(Debug, Drop)]
 pub struct World {
-    server: Server,
+    // `None` once a call of it found no memory; no call finds any from then on.
+    server: Option<Server>,
     seats: Vec<Seat>,
     facts: Vec<Fact>,
     messages: Messages,
 }
 
 impl Model for World {
+    ghost use Rattle.std.specs.Prelude as prelude;
     ghost use Rattle.lease_world.specs.world.Stands as stands;
 
     ghost Value = { stands.Seen };
 
     ghost view = { λ world. record {
-      server = world.server;
+      server = prelude.unwrap_or world.server stands.no_server;
       seats = world.seats.items;
       facts = world.facts.items;
       messages = world.messages;
@@ -78,7 +76,7 @@ impl World {
         let server = Server::new(alloc, first::copy_contents(alloc, contents)?)?;
         let seats = first::seats(alloc, &setup.clients, contents.len() as u8)?;
         Ok(World {
-            server,
+            server: Some(server),
             seats,
             facts,
             messages,
@@ -90,12 +88,12 @@ impl World {
     /// # Errors
     ///
     /// `Memory` where there is none left.
-    pub fn happen(self, event: &Event) -> Result<World, Memory>
-        ensures { IfOk result (λ world. Happens (event_of event.now) self world) }
+    pub fn happen(&mut self, event: &Event) -> Result<(), Memory>
+        ensures { OnOk result (Happens (event_of event.now) self.old self.new) }
     {
         let client = client_of(event);
         if !self.has(client) {
-            return Ok(self);
+            return Ok(());
         }
         match event {
             Event::App(_, command) => self.command(client, command),
@@ -128,99 +126,51 @@ impl World {
         ensures value { result ≡ (nat_le 1 client.0 && nat_le client.0 (length self.now.seats)) }
         ensures present { result ≡ true → IsPresent client.0 self.now.seats }
     {
-        seats::has(&self.seats, client)
+        1 <= client.0 && usize::from(client.0) <= self.seats.len()
     }
 
     // A client's application gives a command.
-    fn command(self, client: ClientNo, command: &Command) -> Result<World, Memory>
-        requires { IsPresent client.0 self.seats }
-        ensures { IfOk result (λ world. Applies (model.Event.App client.0 (command_of command.now)) self world) }
+    fn command(&mut self, client: ClientNo, command: &Command) -> Result<(), Memory>
+        requires { IsPresent client.0 self.old.seats }
+        ensures { OnOk result (Applies (model.Event.App client.0 (command_of command.now)) self.old self.new) }
     {
         let command = copy_command(command)?;
-        self.step(client, Doing::App(command))
+        let seat = &mut self.seats[place_of(client)];
+        let notes = seat.app(command)?;
+        tell_notes(&mut self.facts, client, notes)
     }
 
     // A fact is recorded.
-    fn tell(self, fact: Fact) -> Result<World, Memory>
-        ensures becomes { IfOk result (λ world. Tells (fact_of fact) self world) }
-        ensures count { IfOk result (λ world. length world.seats ≡ length self.seats) }
+    fn tell(&mut self, fact: Fact) -> Result<(), Memory>
+        ensures becomes { OnOk result (Tells (fact_of fact) self.old self.new) }
+        ensures count { OnOk result (length self.new.seats ≡ length self.old.seats) }
     {
-        let World {
-            server,
-            seats,
-            mut facts,
-            messages,
-        } = self;
-        facts.push(fact)?;
-        Ok(World {
-            server,
-            seats,
-            facts,
-            messages,
-        })
+        self.facts.push(fact)?;
+        Ok(())
     }
 
     // A message is kept, where messages are.
-    fn keep(self, message: &Reply) -> Result<World, Memory>
-        ensures becomes { IfOk result (λ world. world ≡ record self { messages = world.messages }) }
-        ensures kept { IfOk result (λ world. HasKept self.messages world.messages (message.now ∷ [])) }
+    fn keep(&mut self, message: &Reply) -> Result<(), Memory>
+        ensures becomes { OnOk result (self.new ≡ record self.old { messages = self.new.messages }) }
+        ensures kept { OnOk result (HasKept self.old.messages self.new.messages (message.now ∷ [])) }
     {
-        let World {
-            server,
-            seats,
-            facts,
-            mut messages,
-        } = self;
-        messages.push(message)?;
-        Ok(World {
-            server,
-            seats,
-            facts,
-            messages,
-        })
+        self.messages.push(message)
     }
 
-    // The server is called, and what it gives out is delivered.
-    fn serve(self, serving: Serving) -> Result<World, Memory>
-        ensures becomes { IfOk result (λ world. Serves (server_call serving) self world) }
-        ensures count { IfOk result (λ world. length world.seats ≡ length self.seats) }
+    // Takes the server out, to be called.
+    fn take_server(&mut self) -> Result<Server, Memory>
+        ensures { IfOk result (λ server. (server ≡ self.old.server) × (self.new ≡ record self.old { server = no_server })) }
     {
-        let World {
-            server,
-            mut seats,
-            mut facts,
-            mut messages,
-        } = self;
-        let (server, outs) = call_server(server, serving)?;
-        deliver(&mut seats, &mut facts, &mut messages, outs)?;
-        Ok(World {
-            server,
-            seats,
-            facts,
-            messages,
-        })
+        self.server.take().ok_or(Memory)
     }
 
-    // A client is called: what it sends is on its way, and what it notes is recorded.
-    fn step(self, client: ClientNo, doing: Doing) -> Result<World, Memory>
-        requires { IsPresent client.0 self.seats }
-        ensures becomes { IfOk result (λ world. StepsIn client.0 (client_call doing) self world) }
-        ensures count { IfOk result (λ world. length world.seats ≡ length self.seats) }
+    // Puts the server back after a call, and delivers what it gave out.
+    fn put_back(&mut self, server: Server, outs: Vec<Out>) -> Result<(), Memory>
+        ensures { OnOk result (Delivers server outs.items self.old self.new) }
     {
-        let World {
-            server,
-            mut seats,
-            mut facts,
-            messages,
-        } = self;
-        let notes = seats::step(&mut seats, client, doing)?;
-        tell_notes(&mut facts, client, notes)?;
-        Ok(World {
-            server,
-            seats,
-            facts,
-            messages,
-        })
+        self.server = Some(server);
+        deliver(&mut self.seats, &mut self.facts, &mut self.messages, outs)?;
+        Ok(())
     }
 
     // Whether this is the link of a client.
@@ -228,7 +178,8 @@ impl World {
         requires { IsPresent client.0 self.now.seats }
         ensures { result ≡ is_link (seat_in self.now.seats client.0).link link }
     {
-        seats::has_link(&self.seats, client, link)
+        let seat = &self.seats[place_of(client)];
+        seat.has_link(link)
     }
 
     // The key under which a client's machine has a file.
@@ -236,7 +187,8 @@ impl World {
         requires { IsPresent client.0 self.now.seats }
         ensures { result.0 ≡ model_key (seat_in self.now.seats client.0).guid file.0 }
     {
-        lease_key(seats::guid(&self.seats, client), file)
+        let seat = &self.seats[place_of(client)];
+        lease_key(seat.guid(), file)
     }
 
     // Whether there is such a file, and a break of the client's lease of this key waits.
@@ -244,201 +196,180 @@ impl World {
         ensures { result ≡ (is_some (content (server_of self.now.server) file.0)
             && breaking (server_of self.now.server) (key_of client.0 key.0)) }
     {
-        self.server.content(file).is_some() && self.server.breaking(client, key)
+        match &self.server {
+            Some(server) => server.content(file).is_some() && server.breaking(client, key),
+            None => false,
+        }
     }
 
     // The FileId of a client's lowest kept open of a file.
     fn kept(&self, client: ClientNo, file: FileNo) -> Option<FileId>
         ensures { option_map (λ file_id. file_id.0) result ≡ kept (server_of self.now.server) client.0 file.0 }
     {
-        self.server.kept(client, file)
+        match &self.server {
+            Some(server) => server.kept(client, file),
+            None => None,
+        }
     }
 
     // The link of a client is this from now on.
-    fn set_link(self, client: ClientNo, link: Link) -> World
-        requires { IsPresent client.0 self.seats }
-        ensures becomes { Links client.0 (link_of link) self result }
-        ensures count { length result.seats ≡ length self.seats }
+    fn set_link(&mut self, client: ClientNo, link: Link)
+        requires { IsPresent client.0 self.old.seats }
+        ensures becomes { Links client.0 (link_of link) self.old self.new }
+        ensures count { length self.new.seats ≡ length self.old.seats }
     {
-        let World {
-            server,
-            mut seats,
-            facts,
-            messages,
-        } = self;
-        seats::set_link(&mut seats, client, link);
-        World {
-            server,
-            seats,
-            facts,
-            messages,
-        }
+        let seat = &mut self.seats[place_of(client)];
+        seat.set_link(link);
     }
 
     // The link of a client is cut: nothing is on its way any more.
-    fn cut_link(self, client: ClientNo) -> World
-        requires { IsPresent client.0 self.seats }
-        ensures { CutsLink client.0 self result }
+    fn cut_link(&mut self, client: ClientNo)
+        requires { IsPresent client.0 self.old.seats }
+        ensures { CutsLink client.0 self.old self.new }
     {
-        let World {
-            server,
-            mut seats,
-            facts,
-            messages,
-        } = self;
-        seats::cut_link(&mut seats, client);
-        World {
-            server,
-            seats,
-            facts,
-            messages,
-        }
+        let seat = &mut self.seats[place_of(client)];
+        seat.cut();
     }
 
     // A request is sent in a client's name.
-    fn send(self, client: ClientNo, request: Request) -> Result<World, Memory>
-        requires { IsPresent client.0 self.seats }
-        ensures { IfOk result (λ world. Sends client.0 (request_of request) self world) }
+    fn send(&mut self, client: ClientNo, request: Request) -> Result<(), Memory>
+        requires { IsPresent client.0 self.old.seats }
+        ensures { OnOk result (Sends client.0 (request_of request) self.old self.new) }
     {
-        let World {
-            server,
-            mut seats,
-            facts,
-            messages,
-        } = self;
-        seats::send(&mut seats, client, request)?;
-        Ok(World {
-            server,
-            seats,
-            facts,
-            messages,
-        })
+        let seat = &mut self.seats[place_of(client)];
+        seat.send(request)
     }
 
     // The server takes the oldest request of a client.
-    fn server_takes(self, client: ClientNo) -> Result<World, Memory>
-        requires { IsPresent client.0 self.seats }
-        ensures { IfOk result (λ world. Applies (model.Event.ServerTakes client.0) self world) }
+    fn server_takes(&mut self, client: ClientNo) -> Result<(), Memory>
+        requires { IsPresent client.0 self.old.seats }
+        ensures { OnOk result (Applies (model.Event.ServerTakes client.0) self.old self.new) }
     {
-        let World {
-            server,
-            mut seats,
-            facts,
-            messages,
-        } = self;
-        let request = seats::pop_request(&mut seats, client);
-        let world = World {
-            server,
-            seats,
-            facts,
-            messages,
-        };
-        match request {
-            Some(request) => world.serve(Serving::Receive(client, request)),
-            None => Ok(world),
+        let seat = &mut self.seats[place_of(client)];
+        match seat.pop_request() {
+            Some(request) => {
+                let server = self.take_server()?;
+                let (server, outs) = server.receive(client, request)?;
+                self.put_back(server, outs)
+            }
+            None => Ok(()),
         }
     }
 
     // A client takes the oldest message that was sent to it.
-    fn client_takes(self, client: ClientNo) -> Result<World, Memory>
-        requires { IsPresent client.0 self.seats }
-        ensures { IfOk result (λ world. Applies (model.Event.ClientTakes client.0) self world) }
+    fn client_takes(&mut self, client: ClientNo) -> Result<(), Memory>
+        requires { IsPresent client.0 self.old.seats }
+        ensures { OnOk result (Applies (model.Event.ClientTakes client.0) self.old self.new) }
     {
-        let World {
-            server,
-            mut seats,
-            facts,
-            messages,
-        } = self;
-        let reply = seats::pop_reply(&mut seats, client);
-        let world = World {
-            server,
-            seats,
-            facts,
-            messages,
-        };
-        match reply {
+        let seat = &mut self.seats[place_of(client)];
+        match seat.pop_reply() {
             Some(reply) => {
                 has_its_field(&reply);
-                let kept = world.keep(&reply)?;
-                let world = kept.tell(Fact::Took(client))?;
-                world.step(client, Doing::Take(reply))
+                self.keep(&reply)?;
+                self.tell(Fact::Took(client))?;
+                let seat = &mut self.seats[place_of(client)];
+                let notes = seat.take(reply)?;
+                tell_notes(&mut self.facts, client, notes)
             }
-            None => Ok(world),
+            None => Ok(()),
         }
     }
 
     // The connection of a client whose link is up is lost.
-    fn cut(self, client: ClientNo) -> Result<World, Memory>
-        requires { IsPresent client.0 self.seats }
-        ensures { IfOk result (λ world. Applies (model.Event.Cut client.0) self world) }
+    fn cut(&mut self, client: ClientNo) -> Result<(), Memory>
+        requires { IsPresent client.0 self.old.seats }
+        ensures { OnOk result (Applies (model.Event.Cut client.0) self.old self.new) }
     {
         if !self.has_link(client, Link::Up) {
-            return Ok(self);
+            return Ok(());
         }
-        let world = self.cut_link(client).tell(Fact::Dropped(client))?;
-        world.serve(Serving::Cut(client))
+        self.cut_link(client);
+        self.tell(Fact::Dropped(client))?;
+        let server = self.take_server()?;
+        let (server, outs) = server.cut(client)?;
+        self.put_back(server, outs)
     }
 
     // A client whose link is cut notices that.
-    fn notice(self, client: ClientNo) -> Result<World, Memory>
-        requires { IsPresent client.0 self.seats }
-        ensures { IfOk result (λ world. Applies (model.Event.Notice client.0) self world) }
+    fn notice(&mut self, client: ClientNo) -> Result<(), Memory>
+        requires { IsPresent client.0 self.old.seats }
+        ensures { OnOk result (Applies (model.Event.Notice client.0) self.old self.new) }
     {
         if !self.has_link(client, Link::Cut) {
-            return Ok(self);
+            return Ok(());
         }
-        let world = self.set_link(client, Link::Down);
-        world.step(client, Doing::Notice)
+        self.set_link(client, Link::Down);
+        let seat = &mut self.seats[place_of(client)];
+        let notes = seat.notice()?;
+        tell_notes(&mut self.facts, client, notes)
     }
 
     // A client whose link is down connects.
-    fn connect(self, client: ClientNo) -> Result<World, Memory>
-        requires { IsPresent client.0 self.seats }
-        ensures { IfOk result (λ world. Applies (model.Event.Connect client.0) self world) }
+    fn connect(&mut self, client: ClientNo) -> Result<(), Memory>
+        requires { IsPresent client.0 self.old.seats }
+        ensures { OnOk result (Applies (model.Event.Connect client.0) self.old self.new) }
     {
         if !self.has_link(client, Link::Down) {
-            return Ok(self);
+            return Ok(());
         }
-        let world = self.set_link(client, Link::Up).tell(Fact::Joined(client))?;
-        let world = world.serve(Serving::Join(client))?;
-        world.step(client, Doing::Connect)
+        self.set_link(client, Link::Up);
+        self.tell(Fact::Joined(client))?;
+        let server = self.take_server()?;
+        let (server, outs) = server.join(client)?;
+        self.put_back(server, outs)?;
+        let seat = &mut self.seats[place_of(client)];
+        let notes = seat.connect()?;
+        tell_notes(&mut self.facts, client, notes)
     }
 
     // The timer of the lease of a client's key of a file runs out, where its break waits.
-    fn expire(self, client: ClientNo, file: FileNo) -> Result<World, Memory>
-        requires { IsPresent client.0 self.seats }
-        ensures { IfOk result (λ world. Applies (model.Event.Expire client.0 file.0) self world) }
+    fn expire(&mut self, client: ClientNo, file: FileNo) -> Result<(), Memory>
+        requires { IsPresent client.0 self.old.seats }
+        ensures { OnOk result (Applies (model.Event.Expire client.0 file.0) self.old self.new) }
     {
         let key = self.key(client, file);
         if !self.is_breaking(client, key, file) {
-            return Ok(self);
+            return Ok(());
         }
-        let world = self.tell(Fact::Expired(client, file))?;
-        world.serve(Serving::Expire(client, key))
+        self.tell(Fact::Expired(client, file))?;
+        let server = self.take_server()?;
+        let (server, outs) = server.expire(client, key)?;
+        self.put_back(server, outs)
     }
 
     // The timer of a client's lowest kept open of a file runs out, where there is one.
-    fn scavenge(self, client: ClientNo, file: FileNo) -> Result<World, Memory>
-        ensures { IfOk result (λ world. Applies (model.Event.Scavenge client.0 file.0) self world) }
+    fn scavenge(&mut self, client: ClientNo, file: FileNo) -> Result<(), Memory>
+        ensures { OnOk result (Applies (model.Event.Scavenge client.0 file.0) self.old self.new) }
     {
         match self.kept(client, file) {
-            Some(fid) => self.serve(Serving::Scavenge(fid)),
-            None => Ok(self),
+            Some(fid) => {
+                let server = self.take_server()?;
+                let (server, outs) = server.scavenge(fid)?;
+                self.put_back(server, outs)
+            }
+            None => Ok(()),
         }
     }
 
     // A request is sent in the name of a client whose link is up.
-    fn stray(self, client: ClientNo, request: Request) -> Result<World, Memory>
-        requires { IsPresent client.0 self.seats }
-        ensures { IfOk result (λ world. Applies (model.Event.Raw client.0 (request_of request)) self world) }
+    fn stray(&mut self, client: ClientNo, request: Request) -> Result<(), Memory>
+        requires { IsPresent client.0 self.old.seats }
+        ensures { OnOk result (Applies (model.Event.Raw client.0 (request_of request)) self.old self.new) }
     {
         if !self.has_link(client, Link::Up) {
-            return Ok(self);
+            return Ok(());
         }
-        let world = self.tell(Fact::Strayed(client))?;
-        world.send(client, request)
+        self.tell(Fact::Strayed(client))?;
+        self.send(client, request)
     }
+}
+
+// Where the seat of a client is.
+fn place_of(client: ClientNo) -> usize
+    requires { 1 ≤ client.0 }
+    ensures { result + 1 ≡ client.0 }
+{
+    usize::from(client.0) - 1
 }
 
 // The FileId of a reply fits its field, as each number of its type. Does nothing.

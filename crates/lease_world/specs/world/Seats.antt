@@ -71,11 +71,14 @@ with_requests requests seat = record seat { requests = queued seat.link seat.req
 
 -- ---- one seat
 
+abbrev pub no_client : Known
+no_client = record { guid = []; is_online = false; last_number = 0; entries = [] }
+
 -- a number that no client has
 abbrev pub no_seat : Seat
 no_seat = record {
   guid = [];
-  client = record { guid = []; is_online = false; last_number = 0; entries = [] };
+  client = no_client;
   link = Link.Down;
   requests = [];
   replies = [];

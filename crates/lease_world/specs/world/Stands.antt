@@ -1,5 +1,5 @@
 -- When a world of the code stands for one of the definitions.
-use Rattle.std.specs.Prelude.{◌≡◌, ℕ, Option, List, length, map, reverse}
+use Rattle.std.specs.Prelude.{◌≡◌, ℕ, Option, List, [], length, map, reverse}
 use Rattle.lease_client.specs.Known.{client_of}
 use Rattle.lease_laws.specs.messages.Written.{HaveFullKeys, IsWriting}
 use Rattle.lease_laws.specs.server.Laws.{IsSound}
@@ -18,6 +18,10 @@ pub record Seen : Type 0 where
   pub seats : List Seat
   pub facts : List Fact
   pub messages : Option (List Reply)
+
+-- no file is there, and no client
+abbrev pub no_server : Table
+no_server = record { files = []; count = 0; opens = []; leases = []; present = []; expired = []; last_id = 0 }
 
 abbrev pub link_of : code.Link → model.Link
 link_of code.TheVariants.Down = model.Link.Down
@@ -43,7 +47,3 @@ pub record Stands (code : Seen) (world : model.World) : Type 0 where
   pub waiting : WaitsWell world.server
   pub keys : HaveFullKeys world.server
   pub writing : (n : ℕ) → IsPresent n code.seats → IsWriting (world.clients n)
-
--- whatever world this one stood for, the new one stands for what becomes of it
-abbrev pub Becomes : Seen → Seen → (model.World → model.World) → Type 0
-Becomes old new change = (world : model.World) → Stands old world → Stands new (change world)

@@ -1,5 +1,5 @@
 -- What happens to a world of the code, as it happens to each world that it stands for.
-use Rattle.std.specs.Prelude.{◌≡◌, ℕ, Option, List, [], ◌∷◌, ◌++◌, map}
+use Rattle.std.specs.Prelude.{◌≡◌, ℕ, Option, List, [], ◌∷◌, ◌++◌, map, length}
 use Rattle.std.specs.Option.{option_map}
 use Rattle.lease_laws.specs.messages.Written.{CallHasFullKey, CallHasFileId}
 use Rattle.lease_model.specs.client.Calls.{ClientCall, client_called}
@@ -11,9 +11,13 @@ use Rattle.lease_model.specs.messages.Requests.{Request}
 use Rattle.lease_model.specs.values.Tables.{put}
 use Rattle.lease_model.specs.world.Events.{Event, served, stepped_in, applied, happens}
 use Rattle.lease_model.specs.world.World.{World, Link, happened, requests_sent}
+use Rattle.lease_facts.specs.Facts.{fact_of}
 use Rattle.lease_state.specs.declared.reply.Reply as code
 use Rattle.lease_world.specs.world.Messages.{sent_by, messages_of, messages_in}
+use Rattle.lease_world.specs.world.Seats.{HasReplies, HasKept, fact_given, replies_among}
 use Rattle.lease_world.specs.world.Stands.{Seen, Stands}
+use Rattle.share_server.specs.Table.{Table}
+use Rattle.share_server.specs.declared.out.Out.{Out}
 
 -- ---- messages
 
@@ -35,6 +39,14 @@ abbrev pub IsQuiet : Seen → Seen → Type 0
 IsQuiet old new = new.messages ≡ old.messages
 
 -- ---- what happens
+
+-- the server is this one, and what it gave out is recorded, delivered and kept, where messages are
+pub record Delivers (table : Table) (outs : List Out) (old new : Seen) : Type 0 where
+  pub server : new.server ≡ table
+  pub replies : HasReplies old.seats new.seats outs
+  pub count : length new.seats ≡ length old.seats
+  pub facts : map fact_of new.facts ≡ map fact_of old.facts ++ map fact_given outs
+  pub kept : HasKept old.messages new.messages (replies_among outs)
 
 abbrev pub Tells : Fact → Seen → Seen → Type 0
 Tells fact old new = IsQuiet old new × ((world : World) → Stands old world → Stands new (happened world fact))

@@ -1,36 +1,36 @@
 ghost use Rattle.std.specs.Prelude.{◌≡◌, ◌++◌, [], ◌∷◌, OnOk, IfOk, MatchOption};
-ghost use Rattle.lease_model.specs.client.State.{new_client};
-ghost use Rattle.lease_client.specs.Known.{client_of};
-ghost use Rattle.lease_world.specs.world.Seats.{is_link, queued, with_replies, with_requests, PopsRequest, PopsReply, StepsSeat};
-ghost use Rattle.lease_world.specs.world.Calls.{client_call};
+ghost use Rattle.lease_model.specs.client.Calls.{ClientCall};
+ghost use Rattle.lease_model.specs.messages.FromBytes.{reply_of};
+ghost use Rattle.lease_client.specs.Answers.{command_of};
+ghost use Rattle.lease_world.specs.world.Seats.{is_link, no_client, queued, with_replies, with_requests, PopsRequest, PopsReply, StepsSeat};
 
-use crate::world::calls::{Doing, call_client};
 use crate::world::link::Link;
-use lease_client::{Client, Note, Step};
+use lease_client::{Client, Command, Note, Step};
 use lease_state::{Memory, Reply, Request};
 use std::alloc::Global;
 use std::collections::VecDeque;
 use std::marker::Model;
-use std::mem;
 
 /// A client, its link, and the messages on their way, the oldest first.
 #[derive(Debug, Drop)]
 pub struct Seat {
     guid: [u8; 16],
-    client: Client,
+    // `None` once a call of it found no memory; no call finds any from then on.
+    client: Option<Client>,
     link: Link,
     requests: VecDeque<Request>,
     replies: VecDeque<Reply>,
 }
 
 impl Model for Seat {
+    ghost use Rattle.std.specs.Prelude as prelude;
     ghost use Rattle.lease_world.specs.world.Seats as seats;
 
     ghost Value = { seats.Seat };
 
     ghost view = { λ seat. record {
       guid = seat.guid;
-      client = seat.client;
+      client = prelude.unwrap_or seat.client seats.no_client;
       link = seat.link;
       requests = seat.requests.items;
       replies = seat.replies.items;
@@ -44,7 +44,7 @@ impl Seat {
     {
         Seat {
             guid,
-            client,
+            client: Some(client),
             link: Link::Down,
             requests: VecDeque::new(alloc),
             replies: VecDeque::new(alloc),
@@ -75,31 +75,88 @@ impl Seat {
         self.link = link;
     }
 
-    /// Nothing is on its way any more.
-    pub fn clear(&mut self)
-        ensures { self.new ≡ record self.old { requests = []; replies = [] } }
+    /// The link is cut: nothing is on its way any more.
+    pub fn cut(&mut self)
+        ensures { self.new ≡ record self.old { link = Link.Cut; requests = []; replies = [] } }
     {
+        self.link = Link::Cut;
         self.requests.clear();
         self.replies.clear();
     }
 
-    /// Calls the client, and sends what it sends. The notes are given.
+    /// The client's application gives a command, and what the client sends is on its way. Its notes
+    /// are given.
     ///
     /// # Errors
     ///
     /// `Memory` where there is none left.
-    pub fn step(&mut self, doing: Doing) -> Result<Vec<Note>, Memory>
-        ensures { IfOk result (λ notes. StepsSeat (client_call doing) notes.items self.old self.new) }
+    pub fn app(&mut self, command: Command) -> Result<Vec<Note>, Memory>
+        ensures { IfOk result (λ notes. StepsSeat (ClientCall.Commanded (command_of command)) notes.items self.old self.new) }
     {
-        let idle = Client::new(*self.requests.allocator(), [0; 16], 0)?;
-        let client = mem::replace(&mut self.client, idle);
+        let client = self.take_client()?;
+        let step = client.app(command)?;
+        self.put_back(step)
+    }
+
+    /// The client takes a reply, and what it sends is on its way. Its notes are given.
+    ///
+    /// # Errors
+    ///
+    /// `Memory` where there is none left.
+    pub fn take(&mut self, reply: Reply) -> Result<Vec<Note>, Memory>
+        ensures { IfOk result (λ notes. StepsSeat (ClientCall.Taken (reply_of reply)) notes.items self.old self.new) }
+    {
+        let client = self.take_client()?;
+        let step = client.take(reply)?;
+        self.put_back(step)
+    }
+
+    /// The client notices that its connection is lost, and what it sends is on its way. Its notes are
+    /// given.
+    ///
+    /// # Errors
+    ///
+    /// `Memory` where there is none left.
+    pub fn notice(&mut self) -> Result<Vec<Note>, Memory>
+        ensures { IfOk result (λ notes. StepsSeat ClientCall.Noticed notes.items self.old self.new) }
+    {
+        let client = self.take_client()?;
+        let step = client.notice()?;
+        self.put_back(step)
+    }
+
+    /// The client is connected, and what it sends is on its way. Its notes are given.
+    ///
+    /// # Errors
+    ///
+    /// `Memory` where there is none left.
+    pub fn connect(&mut self) -> Result<Vec<Note>, Memory>
+        ensures { IfOk result (λ notes. StepsSeat ClientCall.Connected notes.items self.old self.new) }
+    {
+        let client = self.take_client()?;
+        let step = client.connect()?;
+        self.put_back(step)
+    }
+
+    // Takes the client out, to be called.
+    fn take_client(&mut self) -> Result<Client, Memory>
+        ensures { IfOk result (λ client. (client ≡ self.old.client) × (self.new ≡ record self.old { client = no_client })) }
+    {
+        self.client.take().ok_or(Memory)
+    }
+
+    // Puts the client back after a call, and sends what it sends. The notes are given.
+    fn put_back(&mut self, step: Step) -> Result<Vec<Note>, Memory>
+        ensures notes { IfOk result (λ notes. notes ≡ step.notes) }
+        ensures seat { OnOk result (self.new ≡ with_requests step.requests.items (record self.old { client = step.client })) }
+    {
         let Step {
             client,
             requests,
             notes,
             ..
-        } = call_client(client, doing)?;
-        self.client = client;
+        } = step;
+        self.client = Some(client);
         send_over(self.link, &mut self.requests, requests)?;
         Ok(notes)
     }

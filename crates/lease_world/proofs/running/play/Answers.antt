@@ -6,14 +6,13 @@ use Rattle.lease_world.specs.world.Worlds.{Happens}
 use Rattle.lease_world.proofs.worlds.First.{no_event, one_more_event}
 use Rattle.lease_world.proofs.running.play.Goals as goal
 
-pub loop-place-init : goal.loop-place-init
-loop-place-init c =
+pub loop-event-init : goal.loop-event-init
+loop-event-init c =
     no_event c.in_ok-world.world (first_world (setup_of c.args.setup.now)) c.args.messages (map event_of c.args.events.now)
     c.in_ok-world.ensures.stands c.in_ok-world.ensures.messages
 
-pub loop-place-preserved : goal.loop-place-preserved
-loop-place-preserved c =
-    one_more_event c.loop-place.world c.in_ok-world-2.world (first_world (setup_of c.args.setup.now)) c.args.messages c.args.events.now
-    c.loop-place.place c.index-events-place.result c.loop-place-test.true c.loop-place.invariant
-    (subst (λ (event : Event). Happens (event_of event) c.loop-place.world c.in_ok-world-2.world) c.index-events-place.is
-    c.in_ok-world-2.ensures)
+pub loop-event-preserved : goal.loop-event-preserved
+loop-event-preserved c =
+    one_more_event c.loop-event.world c.happen.new.self (first_world (setup_of c.args.setup.now)) c.args.messages c.args.events.now
+    c.loop-event.event-index c.event-item.result c.loop-event-test.true c.loop-event.invariant
+    (subst (λ (event : Event). Happens (event_of event) c.loop-event.world c.happen.new.self) c.event-item.is c.in_ok-happen.ensures)

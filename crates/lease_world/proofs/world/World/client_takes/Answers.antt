@@ -1,24 +1,54 @@
-use Rattle.std.proofs.Common.{refl, sym, subst}
-use Rattle.std.proofs.lemmas.Result.{IfOk-weaker}
+use Rattle.std.proofs.Common.{◌∙◌, refl, sym, ap, subst, length, None, Some}
+use Rattle.std.specs.List.{slice_set}
+use Rattle.std.proofs.lemmas.List.{length-set}
+use Rattle.std.proofs.lemmas.Result.{on_ok_weaker}
+use Rattle.lease_model.specs.client.Calls.{ClientCall}
+use Rattle.lease_model.specs.messages.FromBytes.{reply_of}
 use Rattle.lease_world.specs.contracts.world.World.{the_view}
-use Rattle.lease_world.specs.world.Seats.{IsPresent}
+use Rattle.lease_world.specs.world.Seats.{IsPresent, PopsReply, StepsSeat}
 use Rattle.lease_world.specs.world.Stands.{Seen}
+use Rattle.lease_world.specs.world.Worlds.{StepsIn}
+use Rattle.lease_world.proofs.worlds.Called.{steps_in}
 use Rattle.lease_world.proofs.worlds.Events.{client_took, client_took_nothing}
+use Rattle.lease_world.proofs.worlds.Seats.{seat_changed, still_there}
 use Rattle.lease_world.proofs.world.World.client_takes.Goals as goal
 
-pub returns-in_ok-world-in-Some : goal.returns-in_ok-world-in-Some
-returns-in_ok-world-in-Some c =
+pub returns-in_ok-notes-in-Some : goal.returns-in_ok-notes-in-Some
+returns-in_ok-notes-in-Some c =
     let old : Seen = the_view c.self.inside in
     let there : IsPresent c.args.client.0 old.seats =
     subst (λ (w : Seen). IsPresent c.args.client.0 w.seats) (sym c.self.view_is) c.requires in
-    rw (← c.self.view_is) (IfOk-weaker c.step.result _ _ (λ new steps.
-    client_took old (record old { seats = c.pop_reply-reply.new.seats.items }) c.in_ok-kept-in-Some.kept c.in_ok-world-in-Some.world new c.args.client.0 c.in-Some.reply
-    (refl, refl, refl) c.in-Some.ensures there c.has_its_field.ensures c.in_ok-kept-in-Some.ensures.becomes c.in_ok-kept-in-Some.ensures.kept c.in_ok-world-in-Some.ensures.becomes steps) c.step.ensures.becomes)
+    let popped : Seen = record old { seats = slice_set old.seats c.place_of.result c.pop_reply.new.self } in
+    let popping = seat_changed (PopsReply (Some c.in-Some.reply)) old.seats c.args.client.0 c.place_of.result
+    c.index_mut-seat.result.now c.pop_reply.new.self c.place_of.ensures there c.index_mut-seat.ensures.value c.in-Some.ensures in
+    let told : Seen = the_view c.self-in-Some.inside in
+    let count = c.in_ok-tell-in-Some.ensures.count ∙ ap (λ (w : Seen). length w.seats) c.in_ok-keep-in-Some.ensures.becomes
+    ∙ length-set old.seats c.place_of.result c.pop_reply.new.self in
+    let here : IsPresent c.args.client.0 told.seats =
+    subst (λ (w : Seen). IsPresent c.args.client.0 w.seats) (sym c.self-in-Some.view_is)
+    (still_there old.seats c.tell.new.self.seats c.args.client.0 count there) in
+    let new : Seen = record told {
+      seats = slice_set told.seats c.place_of-in-Some.result c.take.new.self;
+      facts = c.tell_notes.new.facts.items;
+    } in
+    let call : ClientCall = ClientCall.Taken (reply_of c.in-Some.reply) in
+    let changed = seat_changed (StepsSeat call c.in_ok-notes-in-Some.notes.items) told.seats c.args.client.0
+    c.place_of-in-Some.result c.index_mut-seat-in-Some.result.now c.take.new.self c.place_of-in-Some.ensures here
+    c.index_mut-seat-in-Some.ensures.value c.in_ok-notes-in-Some.ensures in
+    rw (← c.self.view_is) (on_ok_weaker c.tell_notes.result (λ noted.
+    client_took old popped c.keep.new.self c.tell.new.self new c.args.client.0 c.in-Some.reply (refl, refl, refl) popping there
+    c.has_its_field.ensures c.in_ok-keep-in-Some.ensures.becomes c.in_ok-keep-in-Some.ensures.kept
+    c.in_ok-tell-in-Some.ensures.becomes
+    (subst (λ (w : Seen). StepsIn c.args.client.0 call w new) c.self-in-Some.view_is
+    (steps_in told new c.args.client.0 call c.in_ok-notes-in-Some.notes.items refl refl changed noted here)))
+    c.tell_notes.ensures)
 
 pub returns-in-None : goal.returns-in-None
 returns-in-None c =
     let old : Seen = the_view c.self.inside in
     let there : IsPresent c.args.client.0 old.seats =
     subst (λ (w : Seen). IsPresent c.args.client.0 w.seats) (sym c.self.view_is) c.requires in
-    rw (← c.self.view_is) (client_took_nothing old (record old { seats = c.pop_reply-reply.new.seats.items }) c.args.client.0
-    (refl, refl, refl) c.in-None.ensures there)
+    let popped : Seen = record old { seats = slice_set old.seats c.place_of.result c.pop_reply.new.self } in
+    rw (← c.self.view_is) (client_took_nothing old popped c.args.client.0 (refl, refl, refl)
+    (seat_changed (PopsReply None) old.seats c.args.client.0 c.place_of.result c.index_mut-seat.result.now c.pop_reply.new.self
+    c.place_of.ensures there c.index_mut-seat.ensures.value c.in-None.ensures) there)

@@ -1,8 +1,29 @@
-use Rattle.std.proofs.lemmas.Result.{IfOk-weaker}
+use Rattle.std.proofs.Common.{refl, sym, subst}
+use Rattle.std.specs.List.{slice_set}
+use Rattle.std.proofs.lemmas.Result.{on_ok_weaker}
 use Rattle.lease_client.specs.Answers.{command_of}
+use Rattle.lease_model.specs.client.Calls.{ClientCall}
+use Rattle.lease_world.specs.contracts.world.World.{the_view}
+use Rattle.lease_world.specs.world.Seats.{IsPresent, StepsSeat}
+use Rattle.lease_world.specs.world.Stands.{Seen}
+use Rattle.lease_world.proofs.worlds.Called.{steps_in}
 use Rattle.lease_world.proofs.worlds.Events.{command_applies}
+use Rattle.lease_world.proofs.worlds.Seats.{seat_changed}
 use Rattle.lease_world.proofs.world.World.command.Goals as goal
 
 pub returns : goal.returns
-returns c = IfOk-weaker c.step.result _ _ (λ new steps.
-    command_applies c.args.self new c.args.client.0 (command_of c.args.command.now) (rw c.in_ok-command.ensures at steps)) c.step.ensures.becomes
+returns c =
+    let old : Seen = the_view c.self.inside in
+    let there : IsPresent c.args.client.0 old.seats =
+    subst (λ (w : Seen). IsPresent c.args.client.0 w.seats) (sym c.self.view_is) c.requires in
+    let new : Seen = record old {
+      seats = slice_set old.seats c.place_of.result c.app.new.self;
+      facts = c.tell_notes.new.facts.items;
+    } in
+    let call : ClientCall = ClientCall.Commanded (command_of c.in_ok-command.command) in
+    let changed = seat_changed (StepsSeat call c.in_ok-notes.notes.items) old.seats c.args.client.0 c.place_of.result
+    c.index_mut-seat.result.now c.app.new.self c.place_of.ensures there c.index_mut-seat.ensures.value c.in_ok-notes.ensures in
+    rw (← c.self.view_is) (on_ok_weaker c.tell_notes.result (λ told.
+    let steps = steps_in old new c.args.client.0 call c.in_ok-notes.notes.items refl refl changed told there in
+    command_applies old new c.args.client.0 (command_of c.args.command.now) (rw c.in_ok-command.ensures at steps))
+    c.tell_notes.ensures)

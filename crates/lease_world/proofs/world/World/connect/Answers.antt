@@ -1,14 +1,44 @@
-use Rattle.std.proofs.Common.{◌∙◌, sym}
-use Rattle.std.proofs.lemmas.Result.{IfOk-weaker}
+use Rattle.std.proofs.Common.{◌∙◌, refl, sym, subst}
+use Rattle.std.specs.List.{slice_set}
+use Rattle.std.proofs.lemmas.Result.{on_ok_weaker}
+use Rattle.lease_model.specs.client.Calls.{ClientCall}
+use Rattle.lease_model.specs.server.Calls.{Call}
+use Rattle.lease_world.specs.contracts.world.World.{the_view}
+use Rattle.lease_world.specs.world.Seats.{IsPresent, StepsSeat}
+use Rattle.lease_world.specs.world.Stands.{Seen}
+use Rattle.lease_world.specs.world.Worlds.{StepsIn}
+use Rattle.lease_world.proofs.worlds.Called.{served_by, served_count, steps_in}
 use Rattle.lease_world.proofs.worlds.Events.{connect_one, connect_nothing}
+use Rattle.lease_world.proofs.worlds.Seats.{seat_changed, still_there}
 use Rattle.lease_world.proofs.world.World.connect.Goals as goal
 
 pub returns-then-not-has_link : goal.returns-then-not-has_link
 returns-then-not-has_link c =
-    connect_nothing c.args.self c.args.client.0 c.requires (sym c.has_link.ensures ∙ c.if-not-has_link.true)
+    connect_nothing c.args.self.now c.args.client.0 c.requires (sym c.has_link.ensures ∙ c.if-not-has_link.true)
 
 pub returns : goal.returns
-returns c = IfOk-weaker c.step.result _ _ (λ new steps.
-    connect_one c.args.self c.set_link.result c.in_ok-world.world c.in_ok-world-2.world new c.args.client.0 c.requires
-    (sym c.has_link.ensures ∙ c.if-not-has_link.false) c.set_link.ensures.becomes c.in_ok-world.ensures.becomes
-    c.in_ok-world-2.ensures.becomes steps) c.step.ensures.becomes
+returns c =
+    let joined : Seen = the_view c.self.inside in
+    let delivers = c.in_ok-put_back.ensures in
+    let count = served_count c.tell.new.self c.take_server.new.self c.put_back.new.self c.in_ok-server.server
+    c.in_ok-server-2.server c.in_ok-server-2.outs.items c.in_ok-server.ensures delivers
+    ∙ c.in_ok-tell.ensures.count ∙ c.set_link.ensures.count in
+    let there : IsPresent c.args.client.0 joined.seats =
+    subst (λ (w : Seen). IsPresent c.args.client.0 w.seats) (sym c.self.view_is)
+    (still_there c.args.self.now.seats c.put_back.new.self.seats c.args.client.0 count c.requires) in
+    let new : Seen = record joined {
+      seats = slice_set joined.seats c.place_of.result c.connect.new.self;
+      facts = c.tell_notes.new.facts.items;
+    } in
+    let changed = seat_changed (StepsSeat ClientCall.Connected c.in_ok-notes.notes.items) joined.seats c.args.client.0
+    c.place_of.result c.index_mut-seat.result.now c.connect.new.self c.place_of.ensures there c.index_mut-seat.ensures.value
+    c.in_ok-notes.ensures in
+    on_ok_weaker c.tell_notes.result (λ told.
+    connect_one c.args.self.now c.set_link.new.self c.tell.new.self c.put_back.new.self new c.args.client.0 c.requires
+    (sym c.has_link.ensures ∙ c.if-not-has_link.false) c.set_link.ensures.becomes c.in_ok-tell.ensures.becomes
+    (served_by c.tell.new.self c.take_server.new.self c.put_back.new.self (Call.Join c.args.client.0)
+    c.in_ok-server.server c.in_ok-server-2.server c.in_ok-server-2.outs.items
+    c.in_ok-server.ensures c.in_ok-server-2.ensures.after delivers)
+    (subst (λ (w : Seen). StepsIn c.args.client.0 ClientCall.Connected w new) c.self.view_is
+    (steps_in joined new c.args.client.0 ClientCall.Connected c.in_ok-notes.notes.items refl refl changed told there)))
+    c.tell_notes.ensures

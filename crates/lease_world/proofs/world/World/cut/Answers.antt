@@ -1,13 +1,18 @@
 use Rattle.std.proofs.Common.{◌∙◌, sym}
-use Rattle.std.proofs.lemmas.Result.{IfOk-weaker}
+use Rattle.std.proofs.lemmas.Result.{on_ok_weaker}
+use Rattle.lease_model.specs.server.Calls.{Call}
+use Rattle.lease_world.proofs.worlds.Called.{served_by}
 use Rattle.lease_world.proofs.worlds.Events.{cut_one, cut_nothing}
 use Rattle.lease_world.proofs.world.World.cut.Goals as goal
 
 pub returns-then-not-has_link : goal.returns-then-not-has_link
 returns-then-not-has_link c =
-    cut_nothing c.args.self c.args.client.0 c.requires (sym c.has_link.ensures ∙ c.if-not-has_link.true)
+    cut_nothing c.args.self.now c.args.client.0 c.requires (sym c.has_link.ensures ∙ c.if-not-has_link.true)
 
 pub returns : goal.returns
-returns c = IfOk-weaker c.serve.result _ _ (λ new serves.
-    cut_one c.args.self c.cut_link.result c.in_ok-world.world new c.args.client.0 c.requires
-    (sym c.has_link.ensures ∙ c.if-not-has_link.false) c.cut_link.ensures c.in_ok-world.ensures.becomes serves) c.serve.ensures.becomes
+returns c = on_ok_weaker c.put_back.result (λ delivers.
+    cut_one c.args.self.now c.cut_link.new.self c.tell.new.self c.put_back.new.self c.args.client.0 c.requires
+    (sym c.has_link.ensures ∙ c.if-not-has_link.false) c.cut_link.ensures c.in_ok-tell.ensures.becomes
+    (served_by c.tell.new.self c.take_server.new.self c.put_back.new.self (Call.Cut c.args.client.0)
+    c.in_ok-server.server c.in_ok-server-2.server c.in_ok-server-2.outs.items
+    c.in_ok-server.ensures c.in_ok-server-2.ensures.after delivers)) c.put_back.ensures
