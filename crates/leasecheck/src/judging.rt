@@ -47,9 +47,13 @@ impl Progress {
                 second: None,
             });
         }
-        take_fact(alloc, &mut self.judge, line, self.number)?;
-        self.number += 1;
-        Ok(())
+        match take_fact(alloc, &mut self.judge, line, self.number) {
+            Ok(()) => {
+                self.number += 1;
+                Ok(())
+            }
+            Err(refusal) => Err(refusal),
+        }
     }
 
     // Takes all lines of a text.
@@ -60,8 +64,10 @@ impl Progress {
         let mut rest = text;
         while !rest.is_empty() {
             let (line, behind) = first_line(rest);
-            progress.take_line(alloc, line)?;
-            rest = behind;
+            match progress.take_line(alloc, line) {
+                Ok(()) => rest = behind,
+                Err(refusal) => return Err(refusal),
+            }
         }
         Ok(progress)
     }

@@ -10,7 +10,7 @@ returns c = λ lines has.
 pub loop-rest-preserved : goal.loop-rest-preserved
 loop-rest-preserved c = λ lines has.
     let so_far = c.loop-rest.invariant lines has in
-    go_on c.in-Ok.next c.first_line.result.0.now c.first_line.result.1.now c.loop-rest.rest.now c.args.text.now lines so_far.0
+    go_on c.take_line.new.self c.first_line.result.0.now c.first_line.result.1.now c.loop-rest.rest.now c.args.text.now lines so_far.0
     (c.in-Ok.ensures (lines ++ so_far.0) so_far.1) c.first_line.ensures.lines so_far.2
 
 pub returns-in-Err : goal.returns-in-Err
