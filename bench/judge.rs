@@ -6,6 +6,7 @@ use std::process::exit;
 
 include!("plain_judge.rs");
 
+#[derive(Clone)]
 struct Patch {
     offset: u32,
     bytes: Vec<u8>,
@@ -118,7 +119,7 @@ fn fact(line: &[u8]) -> Option<Fact> {
             }
         }
         b"believes" => Fact::Believes(f.ordinal()?, f.ordinal()?, state(f.next()?)?),
-        b"cachedread" => Fact::CachedRead(f.ordinal()?, f.ordinal()?, f.bytes()?),
+        b"cachedread" => Fact::CachedRead(f.ordinal()?, f.ordinal()?, Rc::new(f.bytes()?)),
         b"strayed" => Fact::Strayed(f.ordinal()?),
         _ => return None,
     };

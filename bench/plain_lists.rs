@@ -55,6 +55,12 @@ impl Tables {
         self.opens.iter().any(|one| Tables::conflicts(one, file, access, share))
     }
 
+    fn is_hindered(&self, own: Option<Key>, file: u8) -> bool {
+        self.opens.iter().any(|one| {
+            one.file == file && !one.has_own(own) && one.key().is_some_and(|key| self.lease(key).hinders_writes())
+        })
+    }
+
     fn conflicts(one: &Open, file: u8, access: Access, share: Share) -> bool {
         one.file == file && !(access.within(one.share) && one.access.within(share))
     }

@@ -34,7 +34,34 @@ impl Tally {
 
 struct LeaseRecord { file: u8, lease: Lease, tally: Tally }
 
-struct Summary { tally: Tally, keys: BTreeSet<Key>, keyless: u64, writers: BTreeSet<Key> }
+// What is marked of a lease: it holds W, and it hinders no write under another key.
+#[derive(PartialEq)]
+struct Marks { writes: bool, harmless: bool }
+
+impl Marks {
+    fn of(lease: Lease) -> Marks { Marks { writes: lease.state & 4 != 0, harmless: !lease.hinders_writes() } }
+}
+
+struct Summary { tally: Tally, keys: BTreeSet<Key>, keyless: u64, writers: BTreeSet<Key>, harmless: BTreeSet<Key> }
+
+impl Summary {
+    fn none() -> Summary {
+        let (keys, writers, harmless) = (BTreeSet::new(), BTreeSet::new(), BTreeSet::new());
+        Summary { tally: Tally::none(), keys, keyless: 0, writers, harmless }
+    }
+
+    fn mark(&mut self, key: Key, marks: Marks) {
+        set_member(&mut self.writers, key, marks.writes);
+        set_member(&mut self.harmless, key, marks.harmless);
+    }
+
+    fn is_hindering(&self, key: Key) -> bool { self.keys.contains(&key) && !self.harmless.contains(&key) }
+
+    fn is_hindered(&self, own: Option<Key>) -> bool {
+        let hindering = self.keys.len() - self.harmless.len();
+        hindering > usize::from(own.is_some_and(|key| self.is_hindering(key)))
+    }
+}
 
 struct Tables {
     opens: BTreeMap<u64, Open>,
@@ -52,9 +79,13 @@ impl Tables {
 
     fn put_lease(&mut self, key: Key, lease: Lease) {
         if let Some(record) = self.leases.get_mut(&key) {
+            let (marked, marks) = (Marks::of(record.lease), Marks::of(lease));
             record.lease = lease;
+            if marks == marked {
+                return;
+            }
             if let Some(summary) = self.files.get_mut(&record.file) {
-                set_writer(summary, key, lease);
+                summary.mark(key, marks);
             }
         }
     }
@@ -64,8 +95,7 @@ impl Tables {
     fn open(&self, fid: u64) -> Option<&Open> { self.opens.get(&fid) }
 
     fn push(&mut self, one: Open, lease: Lease) {
-        let none = || Summary { tally: Tally::none(), keys: BTreeSet::new(), keyless: 0, writers: BTreeSet::new() };
-        let summary = self.files.entry(one.file).or_insert_with(none);
+        let summary = self.files.entry(one.file).or_insert_with(Summary::none);
         summary.tally.gain(&one);
         match one.key() {
             Some(key) => {
@@ -74,7 +104,7 @@ impl Tables {
                 record.lease = lease;
                 record.tally.gain(&one);
                 summary.keys.insert(key);
-                set_writer(summary, key, lease);
+                summary.mark(key, Marks::of(lease));
             }
             None => summary.keyless += 1,
         }
@@ -99,6 +129,7 @@ impl Tables {
                     self.leases.remove(&key);
                     summary.keys.remove(&key);
                     summary.writers.remove(&key);
+                    summary.harmless.remove(&key);
                 }
             }
             None => summary.keyless -= 1,
@@ -143,6 +174,10 @@ impl Tables {
         self.files.get(&file).is_some_and(|summary| summary.tally.conflicts(access, share))
     }
 
+    fn is_hindered(&self, own: Option<Key>, file: u8) -> bool {
+        self.files.get(&file).is_some_and(|summary| summary.is_hindered(own))
+    }
+
     fn is_wanted(&self, wish: Wish, own: Option<Key>, key: Key) -> bool {
         let Some(record) = self.leases.get(&key) else { return false };
         let state = record.lease.state;
@@ -160,10 +195,10 @@ impl Tables {
     }
 }
 
-fn set_writer(summary: &mut Summary, key: Key, lease: Lease) {
-    if lease.state & 4 != 0 {
-        summary.writers.insert(key);
+fn set_member(keys: &mut BTreeSet<Key>, key: Key, is_one: bool) {
+    if is_one {
+        keys.insert(key);
     } else {
-        summary.writers.remove(&key);
+        keys.remove(&key);
     }
 }

@@ -1,5 +1,5 @@
 // A file server written by hand in plain Rust, for bench/server.rs, over the tables of plain_lists.rs or of
-// plain_records.rs.
+// plain_records.rs. It tries each held request again in each pass.
 
 type Key = (u8, [u8; 16]);
 
@@ -33,6 +33,11 @@ struct Lease { state: u8, broken_to: Option<u8> }
 
 const NONE: Lease = Lease { state: 0, broken_to: None };
 
+impl Lease {
+    // Whether a write under another key isn't ready before the lease is broken.
+    fn hinders_writes(self) -> bool { self.state != 0 && self.broken_to != Some(0) }
+}
+
 fn granted(state: u8) -> u8 { if state & 1 == 1 { state & 7 } else { 0 } }
 
 #[allow(dead_code)]
@@ -56,6 +61,7 @@ impl Open {
 #[derive(Clone, Copy)]
 struct CreateAsk { lease: Option<([u8; 16], u8)>, durable: bool, reconnect: Option<u64> }
 
+#[derive(Clone)]
 struct Patch { offset: u32, bytes: Vec<u8> }
 
 enum FileRequest {
@@ -195,6 +201,7 @@ impl Server {
                 None => Finding::Fails(Status::FileClosed),
                 Some(one) if !one.access.writes() => Finding::Fails(Status::AccessDenied),
                 Some(_) if !fits => Finding::Fails(Status::InvalidParameter),
+                Some(one) if !self.tables.is_hindered(one.key(), one.file) => Finding::Needs(Vec::new()),
                 Some(one) => Finding::Needs(self.wants(Wish::Nothing, one.key(), one.file)),
             },
             Ask::Close { fid } => match self.connected(client, fid) {

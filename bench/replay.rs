@@ -3,6 +3,7 @@
 use std::env;
 use std::fmt::Write;
 use std::fs;
+use std::io::{self, Write as _};
 use std::process::exit;
 
 include!("plain_server.rs");
@@ -25,7 +26,10 @@ enum Event {
 
 struct Pending { number: u64, patch: Patch }
 
-struct Live { fid: u64, belief: u8, handles: u32, reads: u32, base: Option<Vec<u8>>, unsent: Vec<Pending> }
+// The file as last known, the buffered writes that aren't sent, and what was seen of both: the file with so many of these.
+struct Known { base: Option<Vec<u8>>, unsent: Vec<Pending>, seen: Option<(Rc<Vec<u8>>, usize)> }
+
+struct Live { fid: u64, belief: u8, handles: u32, reads: u32, known: Known }
 
 enum Phase { Closed, Opening, Live(Live) }
 
@@ -41,20 +45,51 @@ struct World {
     facts: Vec<Fact>,
 }
 
-fn copy(patch: &Patch) -> Patch { Patch { offset: patch.offset, bytes: patch.bytes.clone() } }
+// How many bytes of a record's text gather before they are written.
+const BLOCK: usize = 65_536;
 
-fn with_unanswered(mut view: Vec<u8>, sent: &[Pending], unsent: &[Pending]) -> Vec<u8> {
-    for write in sent.iter().chain(unsent) {
+fn with_writes<'a>(mut view: Vec<u8>, writes: impl Iterator<Item = &'a Pending>) -> Rc<Vec<u8>> {
+    for write in writes {
         write.patch.apply(&mut view);
     }
-    view
+    Rc::new(view)
+}
+
+impl Known {
+    fn learn(&mut self, base: Option<Vec<u8>>) {
+        self.seen = None;
+        self.base = base;
+    }
+
+    fn change(&mut self, patch: &Patch) {
+        self.seen = None;
+        if let Some(base) = &mut self.base {
+            patch.apply(base);
+        }
+    }
+
+    // The file with the unanswered writes; reads in turn share it where none of them is sent.
+    fn view(&mut self, sent: &[Pending]) -> Option<Rc<Vec<u8>>> {
+        let base = self.base.as_ref()?;
+        if !sent.is_empty() {
+            return Some(with_writes(base.clone(), sent.iter().chain(&self.unsent)));
+        }
+        let bytes = match &self.seen {
+            Some((bytes, count)) if *count == self.unsent.len() => Rc::clone(bytes),
+            Some((bytes, count)) => with_writes(bytes.to_vec(), self.unsent[*count..].iter()),
+            None => with_writes(base.clone(), self.unsent.iter()),
+        };
+        self.seen = Some((Rc::clone(&bytes), self.unsent.len()));
+        Some(bytes)
+    }
 }
 
 fn send(live: &mut Live, sent: &mut Vec<Pending>, queue: &mut VecDeque<Request>) {
-    for write in live.unsent.drain(..) {
-        queue.push_back(Request::Write { fid: live.fid, number: write.number, patch: copy(&write.patch) });
-        sent.push(write);
+    for write in &live.known.unsent {
+        queue.push_back(Request::Write { fid: live.fid, number: write.number, patch: write.patch.clone() });
     }
+    live.known.seen = None;
+    sent.append(&mut live.known.unsent);
 }
 
 impl Machine {
@@ -86,11 +121,8 @@ impl Machine {
 
     fn read(&mut self, client: u8, file: u8, queue: &mut VecDeque<Request>, facts: &mut Vec<Fact>) {
         let Some((live, sent)) = self.handle(file) else { return };
-        match &live.base {
-            Some(base) => {
-                let bytes = with_unanswered(base.clone(), sent, &live.unsent);
-                facts.push(Fact::CachedRead(client, file, bytes));
-            }
+        match live.known.view(sent) {
+            Some(bytes) => facts.push(Fact::CachedRead(client, file, bytes)),
             None => {
                 queue.push_back(Request::Read { fid: live.fid });
                 live.reads += 1;
@@ -105,11 +137,11 @@ impl Machine {
             return;
         }
         let buffered = live.belief & 4 != 0;
-        facts.push(Fact::Wrote(client, file, number, copy(&patch), buffered));
+        facts.push(Fact::Wrote(client, file, number, patch.clone(), buffered));
         if buffered {
-            live.unsent.push(Pending { number, patch });
+            live.known.unsent.push(Pending { number, patch });
         } else {
-            queue.push_back(Request::Write { fid: live.fid, number, patch: copy(&patch) });
+            queue.push_back(Request::Write { fid: live.fid, number, patch: patch.clone() });
             sent.push(Pending { number, patch });
         }
         self.last_number = number;
@@ -142,7 +174,8 @@ impl Machine {
         }
         let known = contexts[24..40] == entry.key && contexts[44] & 2 == 0;
         let belief = if known { contexts[40] & 7 } else { 0 };
-        entry.phase = Phase::Live(Live { fid, belief, handles: 1, reads: 0, base: None, unsent: Vec::new() });
+        let known = Known { base: None, unsent: Vec::new(), seen: None };
+        entry.phase = Phase::Live(Live { fid, belief, handles: 1, reads: 0, known });
         facts.push(Fact::Believes(client, file, belief));
     }
 
@@ -152,7 +185,7 @@ impl Machine {
                 if live.fid == fid && live.reads > 0 {
                     live.reads -= 1;
                     if live.belief & 1 != 0 {
-                        live.base = Some(bytes);
+                        live.known.learn(Some(bytes));
                     }
                     return;
                 }
@@ -164,8 +197,8 @@ impl Machine {
         for entry in &mut self.entries {
             if let Some(place) = entry.sent.iter().position(|write| write.number == number) {
                 let write = entry.sent.remove(place);
-                if let Phase::Live(Live { base: Some(base), .. }) = &mut entry.phase {
-                    write.patch.apply(base);
+                if let Phase::Live(live) = &mut entry.phase {
+                    live.known.change(&write.patch);
                 }
                 facts.push(Fact::Settled(client, number, true));
                 return;
@@ -183,7 +216,7 @@ impl Machine {
         }
         live.belief = left;
         if left & 1 == 0 {
-            live.base = None;
+            live.known.learn(None);
         }
         if live.handles == 0 && left & 2 == 0 {
             queue.push_back(Request::Close { fid: live.fid });
@@ -377,15 +410,26 @@ fn main() {
     for event in events {
         world.step(event);
     }
-    let mut record = String::new();
-    for fact in &world.facts {
-        push_fact(&mut record, fact);
-    }
     let mut judge = Judge::default();
-    for fact in world.facts {
+    for fact in &world.facts {
         if judge.verdict.is_none() {
-            judge.take(fact);
+            judge.take(fact.clone());
         }
     }
-    println!("{record}# {}", judge.verdict.unwrap_or_else(|| String::from("safe")));
+    let verdict = judge.verdict.unwrap_or_else(|| String::from("safe"));
+    if write_record(&world.facts, &verdict).is_err() {
+        exit(1);
+    }
+}
+
+fn write_record(facts: &[Fact], verdict: &str) -> io::Result<()> {
+    let (mut text, mut out) = (String::new(), io::stdout().lock());
+    for fact in facts {
+        push_fact(&mut text, fact);
+        if text.len() >= BLOCK {
+            out.write_all(text.as_bytes())?;
+            text.clear();
+        }
+    }
+    writeln!(out, "{text}# {verdict}")
 }

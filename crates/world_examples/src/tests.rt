@@ -1,3 +1,4 @@
+mod reads;
 mod runs;
 mod verdicts;
 mod words;
@@ -27,11 +28,14 @@ fn a_judge_tells_a_verdict_at_any_time(rt: HostRuntime) -> Result<(), Fail> {
         rule: Rule::FreshCachedReads,
     };
     let mut judge = Judge::new(alloc);
+    let mut in_place = Judge::new(alloc);
     assert_eq!(rt; judge.verdict(), Verdict::Safe);
     for (place, fact) in facts.iter().enumerate() {
         judge = judge.take(fact)?;
+        in_place.add(fact)?;
         let verdict = if place < 5 { Verdict::Safe } else { stale };
         assert_eq!(rt; judge.verdict(), verdict);
+        assert_eq!(rt; in_place.verdict(), verdict);
     }
     Ok(())
 }

@@ -9,8 +9,8 @@ use lease_world::{Event, RunFault, Setup, Verdict, judge, run, run_with_messages
 use std::alloc::Global;
 use std::test::Fail;
 
-// So many files, and so many clients of whose ClientGuids each has another first byte.
-fn setup(alloc: Global, files: u8, clients: u8) -> Result<Setup, Fail> {
+/// So many files, and so many clients of whose ClientGuids each has another first byte.
+pub fn setup(alloc: Global, files: u8, clients: u8) -> Result<Setup, Fail> {
     let mut setup = Setup {
         files: Vec::new(alloc),
         clients: Vec::new(alloc),
@@ -30,7 +30,8 @@ fn setup(alloc: Global, files: u8, clients: u8) -> Result<Setup, Fail> {
     Ok(setup)
 }
 
-fn open(client: u8, want: u32) -> Event {
+/// The client opens the first file, and asks for the lease state that the wire's number names.
+pub fn open(client: u8, want: u32) -> Event {
     Event::App(
         ClientNo(client),
         Command::Open {
@@ -43,7 +44,8 @@ fn open(client: u8, want: u32) -> Event {
     )
 }
 
-fn write(alloc: Global, client: u8, byte: u8) -> Result<Event, Fail> {
+/// The client writes this byte at the beginning of the first file.
+pub fn write(alloc: Global, client: u8, byte: u8) -> Result<Event, Fail> {
     let patch = patch(alloc, 0, &[byte])?;
     let file = FileNo(1);
     Ok(Event::App(ClientNo(client), Command::Write { file, patch }))
