@@ -124,9 +124,9 @@ fn write_facts<O: Write>(
     requires { HasGathered (O.contents out.old) (O.contents out.old) gathered.old [] }
     ensures { MatchResult result
         (λ _. HasGathered (O.contents out.old) (O.contents out.new) gathered.new
-            (record_with_messages recorded.now.facts.items recorded.now.messages.items))
+        (record_with_messages recorded.now.facts.items recorded.now.messages.items))
         (λ failure. (rest : List ℕ) → IsUnwritten failure (O.contents out.old) (O.contents out.new)
-            (record_with_messages recorded.now.facts.items recorded.now.messages.items ++ rest)) }
+        (record_with_messages recorded.now.facts.items recorded.now.messages.items ++ rest)) }
 {
     let mut left = recorded.messages.as_slice();
     for fact in recorded.facts.as_slice() {

@@ -54,8 +54,8 @@ patched_byte_by : (base : List ℕ) (o : ℕ) (d : List ℕ) (position : ℕ) (w
     → get_or (patch base write.patch) position 0 ≡ seen_byte base (layer_of position write) position
 patched_byte_by base o [] position write offset bytes =
     rw (bytes, offset) (
-      let none : (nat_le o position && nat_lt position (o + 0)) ≡ false = grind arith in
-      rw none refl)
+    let none : (nat_le o position && nat_lt position (o + 0)) ≡ false = grind arith in
+    rw none refl)
 patched_byte_by base o (b ∷ d) position write offset bytes =
     rw (bytes, offset) (get_or-written base o (b ∷ d) position
     ∙ by_cover (nat_le o position && nat_lt position (o + length (b ∷ d))))
@@ -257,7 +257,7 @@ lays_one offset place position number bytes layer first old new is put so_far =
           ∙ ap (λ (ls : List Layer). record { number = number; byte = slice_index bytes place } ∷ ls) (so_far ∙ rw before refl)))
       | inr other ↦
           let same : (nat_le offset position && nat_lt position (offset + (place + 1)))
-              ≡ (nat_le offset position && nat_lt position (offset + place)) = grind (arith, other) in
+          ≡ (nat_le offset position && nat_lt position (offset + place)) = grind (arith, other) in
           put ∙ (rw (other, same) so_far)
     ]
 
@@ -277,7 +277,7 @@ layers_next : (test : ℕ → Bool) (position n : ℕ) (writes : List Waiting) (
     → filter (λ layer. test layer.number) (layers_at position (take (n + 1) writes))
     ≡ (if passes then layer_of position write else []) ++ filter (λ layer. test layer.number) (layers_at position (take n writes))
 layers_next test position n writes write passes inside is e =
-    ap (λ (ws : List Waiting). filter (λ layer. test layer.number) (layers_at position ws)) 
+    ap (λ (ws : List Waiting). filter (λ layer. test layer.number) (layers_at position ws))
     (ap (λ (k : ℕ). take k writes) (add-one n) ∙ take_more writes n write inside is)
     ∙ (ap (λ (ls : List Layer). filter (λ layer. test layer.number) ls) (layers_push position (take n writes) write)
     ∙ (filter-append (λ layer. test layer.number) (layer_of position write) (layers_at position (take n writes))
@@ -355,4 +355,3 @@ shows_rest base bytes stacks at k same long covered at-is k-min is =
         let on : bytes_eq (drop (length stacks) bytes) (drop k base) ≡ true =
         (bytes_eq-Decides (drop (length stacks) bytes) (drop k base)).1 (equal shows) in
         let c : ⊥ = cc in absurd c
-
