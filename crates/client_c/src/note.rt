@@ -96,7 +96,7 @@ impl ClientNote {
                 ..ClientNote::NOTHING
             },
             Note::CachedRead(file, bytes) => ClientNote {
-                length: bytes.len() as u64,
+                length: bytes.as_slice().len() as u64,
                 kind: 4,
                 file: file.0,
                 ..ClientNote::NOTHING
