@@ -1,6 +1,6 @@
 -- Writes by the positions that they cover, and the bytes that they make.
-use Rattle.std.proofs.Common.{◌≡◌, ◌≢◌, ◌≤◌, ◌<◌, ℕ, zero, suc, ◌+◌, ◌-◌, max, Bool, true, false, cond, List, [], ◌∷◌, ◌++◌, length, take, drop, length-drop, min, add-one, get_or, refl, sym, ap, subst, ◌∙◌, arith, inl, inr}
-use Rattle.std.specs.Prelude.{◌==◌, ◌&&◌, not, if◌then◌else◌, nat_le, nat_lt, filter, slice_index, bytes_eq, MatchBool}
+use Rattle.std.proofs.Common.{◌≡◌, ◌≢◌, ◌≤◌, ◌<◌, ℕ, zero, suc, ◌+◌, ◌-◌, max, Bool, true, false, cond, List, [], ◌∷◌, ◌++◌, length, take, drop, length-drop, min, add-one, get_or, refl, sym, ap, ◌∙◌, arith, inl, inr}
+use Rattle.std.specs.Prelude.{◌==◌, ◌&&◌, if◌then◌else◌, nat_le, nat_lt, filter, slice_index, bytes_eq, MatchBool}
 use Rattle.std.proofs.lemmas.Bool.{cases_Bool, cases_lt}
 use Rattle.std.proofs.lemmas.Grind.{same_number_lists}
 use Rattle.std.proofs.lemmas.List.{append_assoc, append-nil, take_all, get_or-drop}
@@ -11,7 +11,7 @@ use Rattle.lease_state.specs.declared.patch.Patch.{Patch}
 use Rattle.lease_state.proofs.ContentLemmas.{length-written, get_or-written}
 use Rattle.lease_world.specs.declared.judging.covers.Layer.{Layer}
 use Rattle.lease_world.specs.judge.Before.{patches_waiting}
-use Rattle.lease_world.specs.judge.Covers.{layer_of, layers_at, stack_in, seen_byte, Shows, ShowsCovered, IsOpenOnTop, IsUncovered, EndsCovered}
+use Rattle.lease_world.specs.judge.Covers.{layer_of, layers_at, stack_in, seen_byte, Shows, ShowsCovered, IsOpenOnTop, EndsCovered}
 use Rattle.lease_world.specs.judge.Seen.{Waiting}
 
 -- ---- layers of several writes

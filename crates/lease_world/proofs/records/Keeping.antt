@@ -1,7 +1,7 @@
 -- What is kept of a file for a client, over facts that change the file or the client.
 use Rattle.std.proofs.Common.{◌≡◌, ℕ, suc, ◌≤◌, Bool, true, false, List, [], ◌∷◌, ◌++◌, Option, Some, None, length, refl, sym, ap, ◌∙◌, arith}
 use Rattle.std.specs.Prelude.{◌==◌, if◌then◌else◌, is_some, unwrap_or, nat_lt}
-use Rattle.std.proofs.lemmas.List.{take-append-le, length-append}
+use Rattle.std.proofs.lemmas.List.{take-append-le}
 use Rattle.lease_state.specs.Content.{patches}
 use Rattle.lease_state.specs.declared.patch.Patch.{Patch}
 use Rattle.lease_world.specs.judge.Before.{before, patches_of}

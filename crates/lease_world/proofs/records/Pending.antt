@@ -1,19 +1,14 @@
 -- Writes that wait for an answer, where one is settled.
-use Rattle.std.proofs.Common.{◌≡◌, ℕ, Bool, true, false, cond, List, [], ◌∷◌, ◌++◌, Option, Some, None, refl, sym, ap, ◌∙◌, arith, inl, inr}
+use Rattle.std.proofs.Common.{◌≡◌, ℕ, Bool, true, false, cond, List, [], ◌∷◌, ◌++◌, refl, sym, ◌∙◌, arith}
 use Rattle.std.specs.Prelude.{◌==◌, ◌&&◌, ◌||◌, not, if◌then◌else◌, filter}
-use Rattle.std.specs.Option.{option_map}
-use Rattle.std.proofs.lemmas.Bool.{cases_Bool}
 use Rattle.std.proofs.lemmas.List.{append-nil}
 use Rattle.std.proofs.lemmas.List.Elements.{filter-append}
-use Rattle.lease_state.specs.declared.patch.Patch.{Patch}
 use Rattle.lease_model.specs.client.Commands.{Settlement}
 use Rattle.lease_model.specs.records.Facts.{Fact}
 use Rattle.lease_model.specs.records.Past.{is_settled}
-use Rattle.lease_model.specs.records.Safe.{EachFact, WellFormed}
 use Rattle.lease_world.specs.declared.judging.covers.Layer.{Layer}
-use Rattle.lease_world.specs.judge.Seen.{SeenWrite, Waiting, accepted_as}
-use Rattle.lease_world.specs.judge.Told.{pending, write_of, is_unsettled}
-use Rattle.lease_world.proofs.records.Writes.{new_where_same, accepted_file}
+use Rattle.lease_world.specs.judge.Seen.{Waiting}
+use Rattle.lease_world.specs.judge.Told.{pending, is_unsettled}
 
 pub self : (n : ℕ) → (n == n) ≡ true
 self n = grind arith

@@ -1,5 +1,5 @@
 -- What is known of a client that is given a write, is told of one, has one accepted, or believes something.
-use Rattle.std.proofs.Common.{◌≡◌, ℕ, ◌+◌, ◌≤◌, Bool, true, false, List, [], ◌∷◌, ◌++◌, Option, Some, None, length, refl, sym, ap, ◌∙◌, arith}
+use Rattle.std.proofs.Common.{◌≡◌, ℕ, ◌+◌, ◌≤◌, Bool, true, false, List, [], ◌∷◌, ◌++◌, Option, length, refl, sym, ap, ◌∙◌, arith}
 use Rattle.std.specs.Prelude.{◌==◌, ◌&&◌, ◌||◌, not, if◌then◌else◌, filter}
 use Rattle.std.specs.Option.{option_map}
 use Rattle.std.proofs.lemmas.List.{append_assoc}
@@ -15,7 +15,7 @@ use Rattle.lease_world.specs.judge.Covers.{layer_of, layers_at, stack_in}
 use Rattle.lease_world.specs.judge.Knows.{KnowsCache, KnowsClient}
 use Rattle.lease_world.specs.judge.Seen.{SeenClient, SeenCache, SeenWrite, Waiting, cache_in, write_in, has_settled, accepted_as}
 use Rattle.lease_world.specs.judge.Told.{write_of, pending, is_unsettled}
-use Rattle.lease_world.proofs.records.Caches.{cache_over, filter-agree, pending-agree}
+use Rattle.lease_world.proofs.records.Caches.{cache_over, pending-agree}
 use Rattle.lease_world.proofs.records.Others.{client_over}
 use Rattle.lease_world.proofs.records.Covered.{layers_kept, layers_push}
 use Rattle.lease_world.proofs.records.Pending.{self, filter-and, unsettled-more, pending-settled}

@@ -1,5 +1,5 @@
 -- How what is kept of a client and a file is brought up to a place.
-use Rattle.std.specs.Prelude.{◌≡◌, ⊤, ℕ, ◌+◌, Bool, true, false, Option, Some, None, List, [], ◌++◌, unwrap_or, length, drop, filter, MatchBool}
+use Rattle.std.specs.Prelude.{◌≡◌, ℕ, ◌+◌, Bool, Option, Some, List, [], ◌++◌, unwrap_or, length, drop, filter, MatchBool}
 use Rattle.lease_state.specs.Content.{patches}
 use Rattle.lease_world.specs.judge.Before.{before, patches_of}
 use Rattle.lease_world.specs.judge.Covers.{layers_at, stack_in, IsUncovered, EndsCovered, Shows}

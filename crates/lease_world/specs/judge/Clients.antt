@@ -5,7 +5,7 @@ use Rattle.lease_state.specs.declared.patch.Patch.{Patch}
 use Rattle.lease_model.specs.values.Lists.{is_empty}
 use Rattle.lease_state.specs.State.{State}
 use Rattle.lease_world.specs.judge.Caches.{IsShown}
-use Rattle.lease_world.specs.judge.Seen.{SeenFile, SeenWrite, SeenWrites, SeenCache, SeenClient, Numbers, cache_in, write_by, write_at, write_in, has_settled, accepted_as}
+use Rattle.lease_world.specs.judge.Seen.{SeenFile, SeenWrite, SeenWrites, SeenCache, SeenClient, Numbers, cache_in, write_by, write_at, has_settled, accepted_as}
 
 -- there is a message that was sent since it joined and not taken
 abbrev pub can_take : SeenClient → Bool
