@@ -2,8 +2,9 @@
 //!
 //! `leasecheck ack HEX` prints the acknowledgment that a lease break notification asks for, and
 //! `leasecheck show KIND HEX` what create contexts or a break message hold. The whole text is made
-//! before anything is written; a refusal is one line on standard error, and mostly a second one that
-//! says more of it. So
+//! before anything is written, but for the record of a run, which is written in blocks once all of it
+//! is there and judged. A refusal is one line on standard error, and mostly a second one that says
+//! more of it. So
 //!
 //! ```text
 //! leasecheck show ack 2400000000000000000102030405060708090a0b0c0d0e0f030000000000000000000000
