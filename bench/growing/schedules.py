@@ -80,9 +80,9 @@ def large_cached_reads(n: int) -> str:
 
 
 SCHEDULES = [
-    Family('replay-held-creates', 'replay', held_creates, 32, 'lease',
+    Family('replay-held-creates', 'replay', held_creates, 300, 'lease',
            facts={'sent 1': 2, f'sent {HOLDERS + 2}': 1}),
-    Family('replay-writes-that-break', 'replay', writes_that_break, 64, 'lease',
+    Family('replay-writes-that-break', 'replay', writes_that_break, 300, 'lease',
            facts={'sent 1': 2, 'changed 1 2': 1}),
     Family('replay-buffered-then-read', 'replay', buffered_then_read, 400, 'write',
            facts={'wrote 1 1': 1, 'cachedread 1 1 61': 1}),
