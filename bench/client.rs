@@ -1,8 +1,9 @@
 // The same work as crates/client_bench, written by hand in plain Rust, for bench/client: a client of one file
-// with the parts that this work needs, and for reads two plain copies of the file.
+// with the parts that this work needs, and for each read a plain copy of the file and one more hold on it.
 use std::env;
 use std::hint::black_box;
 use std::process::exit;
+use std::rc::Rc;
 
 const SIZE: usize = 1_048_576;
 
@@ -186,11 +187,11 @@ fn write_many(count: u32) -> u64 {
 }
 
 fn read_many(count: u32) -> u64 {
-    let file = black_box(vec![7u8; SIZE]);
+    let file = black_box(Rc::new(vec![7u8; SIZE]));
     let mut sum = 0u64;
     for _ in 0..count {
-        let answer = black_box(file.clone());
-        let note = black_box(file.clone());
+        let answer = black_box(file.to_vec());
+        let note = black_box(Rc::clone(&file));
         sum = sum.wrapping_add(answer.len() as u64);
         drop(note);
     }
