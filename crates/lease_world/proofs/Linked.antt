@@ -9,22 +9,7 @@ use Rattle.lease_world.specs.declared.judging.covers.Cover.{Cover}
 use Rattle.lease_world.specs.declared.judging.covers.Layer.{Layer}
 use Rattle.lease_world.specs.judge.Covers.{stack_in, seen_byte, layers_of, layers_from, layers_under, IsOpenOnTop, IsUncovered, EndsCovered, AreLinked, AreTops}
 use Rattle.lease_world.specs.judge.Seen.{Numbers, is_among, is_open}
-use Rattle.lease_world.proofs.Places.{suc_same}
-
-get-push : {X : Type 0} (xs : List X) (x : X) (n : ℕ)
-    → slice_get (xs ++ x ∷ []) n ≡ (if n == length xs then Some x else slice_get xs n)
-get-push [] x zero = refl
-get-push [] x (suc n) = grind arith
-get-push (y ∷ xs) x zero = grind arith
-get-push (y ∷ xs) x (suc n) = suc_same n (length xs) (Some x) (slice_get xs n) _ (get-push xs x n)
-
-get-set : {X : Type 0} (xs : List X) (k : ℕ) (x : X) (n : ℕ) → k < length xs
-    → slice_get (slice_set xs k x) n ≡ (if n == k then Some x else slice_get xs n)
-get-set [] k x n inside = absurd (omega arith)
-get-set (y ∷ xs) zero x zero inside = refl
-get-set (y ∷ xs) zero x (suc n) inside = grind arith
-get-set (y ∷ xs) (suc k) x zero inside = grind arith
-get-set (y ∷ xs) (suc k) x (suc n) inside = suc_same n k (Some x) (slice_get xs n) _ (get-set xs k x n (omega arith))
+use Rattle.lease_world.proofs.Places.{get-put, get-push}
 
 get_within : {X : Type 0} (xs : List X) (n : ℕ) (x : X) → slice_get xs n ≡ Some x → n < length xs
 get_within [] n x e = let c : ⊥ = cc in absurd c
@@ -34,7 +19,8 @@ get_within (y ∷ xs) (suc n) x e = let rest = get_within xs n x e in omega (ari
 -- ---- the layers from a cover down
 
 same_layers : (under other : ℕ → List Layer) (found : Option Cover)
-    → ((cover : Cover) → found ≡ Some cover → under cover.below ≡ other cover.below) → layers_of under found ≡ layers_of other found
+    → ((cover : Cover) → found ≡ Some cover → under cover.below ≡ other cover.below)
+    → layers_of under found ≡ layers_of other found
 same_layers under other None same = refl
 same_layers under other (Some cover) same = ap (λ (ls : List Layer). cover.layer ∷ ls) (same cover refl)
 
@@ -77,16 +63,19 @@ unfolding layers_from
 under_last covers one place linked inside at =
     rw (at ∙ add-one (length covers)) (at_last (length covers) refl)
   where
-    at_last : (n : ℕ) → n ≡ length covers → layers_under (covers ++ one ∷ []) (suc n) ≡ one.layer ∷ layers_under covers one.below
+    at_last : (n : ℕ) → n ≡ length covers
+        → layers_under (covers ++ one ∷ []) (suc n) ≡ one.layer ∷ layers_under covers one.below
     at_last n is =
         let here : (n == length covers) ≡ true = grind (arith, is) in
         let found : slice_get (covers ++ one ∷ []) n ≡ Some one = get-push covers one n ∙ rw here refl in
         ap (λ (o : Option Cover). layers_of (layers_from n (covers ++ one ∷ [])) o) found
         ∙ ap (λ (ls : List Layer). one.layer ∷ ls)
-        (later_cover covers one n one.below linked inside ∙ more_fuel covers n one.below one.below linked (omega (arith, is, inside)) (omega arith))
+        (later_cover covers one n one.below linked inside
+        ∙ more_fuel covers n one.below one.below linked (omega (arith, is, inside)) (omega arith))
 
 -- the layers from a cover down are its own and those under it
-pub under_cover : (covers : List Cover) (place : ℕ) (cover : Cover) → AreLinked covers → slice_get covers place ≡ Some cover
+pub under_cover : (covers : List Cover) (place : ℕ) (cover : Cover) → AreLinked covers
+    → slice_get covers place ≡ Some cover
     → layers_under covers (suc place) ≡ cover.layer ∷ layers_under covers cover.below
 unfolding layers_from
 under_cover covers place cover linked is =
@@ -98,7 +87,8 @@ pub none_under : (covers : List Cover) → layers_under covers 0 ≡ []
 unfolding layers_from
 none_under covers = refl
 
-pub linked_more : (covers : List Cover) (one : Cover) → AreLinked covers → one.below ≤ length covers → AreLinked (covers ++ one ∷ [])
+pub linked_more : (covers : List Cover) (one : Cover) → AreLinked covers → one.below ≤ length covers
+    → AreLinked (covers ++ one ∷ [])
 linked_more covers one linked inside place cover is =
     elim (cases_Bool (place == length covers)) [
       | inl here ↦
@@ -139,7 +129,7 @@ pub stack_set : (covers : List Cover) (tops : List ℕ) (place top position : �
     ≡ (if position == place then layers_under covers top else stack_in (map (layers_under covers) tops) position)
 stack_set covers tops place top position inside =
     stack_found covers (slice_set tops place top) position
-    ∙ (ap (found_under covers) (get-set tops place top position inside)
+    ∙ (ap (found_under covers) (get-put tops place top position inside)
     ∙ (by_case (position == place) ∙ rw (sym (stack_found covers tops position)) refl))
   where
     by_case : (b : Bool) → found_under covers (if b then Some top else slice_get tops position)
@@ -148,7 +138,8 @@ stack_set covers tops place top position inside =
     by_case false = refl
 
 -- the same tops among more covers
-pub stack_later : (covers : List Cover) (one : Cover) (tops : List ℕ) (position : ℕ) → AreLinked covers → AreTops covers tops
+pub stack_later : (covers : List Cover) (one : Cover) (tops : List ℕ) (position : ℕ) → AreLinked covers
+    → AreTops covers tops
     → stack_in (map (layers_under (covers ++ one ∷ [])) tops) position ≡ stack_in (map (layers_under covers) tops) position
 stack_later covers one tops position linked inside =
     stack_found (covers ++ one ∷ []) tops position
@@ -170,17 +161,19 @@ tops_more covers tops inside position top is =
       | inr other ↦ inside position top (sym (get-push tops 0 position ∙ rw other refl) ∙ is)
     ]
 
-pub tops_set : (covers : List Cover) (tops : List ℕ) (place top : ℕ) → place < length tops → top ≤ length covers → AreTops covers tops
+pub tops_set : (covers : List Cover) (tops : List ℕ) (place top : ℕ) → place < length tops → top ≤ length covers
+    → AreTops covers tops
     → AreTops covers (slice_set tops place top)
 tops_set covers tops place top at low inside position other is =
     elim (cases_Bool (position == place)) [
       | inl here ↦
-          let same : Some top ≡ Some other = sym (get-set tops place top position at ∙ rw here refl) ∙ is in
+          let same : Some top ≡ Some other = sym (get-put tops place top position at ∙ rw here refl) ∙ is in
           let it : top ≡ other = cc in omega (arith, it, low)
-      | inr apart ↦ inside position other (sym (get-set tops place top position at ∙ rw apart refl) ∙ is)
+      | inr apart ↦ inside position other (sym (get-put tops place top position at ∙ rw apart refl) ∙ is)
     ]
 
-pub tops_later : (covers : List Cover) (one : Cover) (tops : List ℕ) → AreTops covers tops → AreTops (covers ++ one ∷ []) tops
+pub tops_later : (covers : List Cover) (one : Cover) (tops : List ℕ) → AreTops covers tops
+    → AreTops (covers ++ one ∷ []) tops
 tops_later covers one tops inside position top is =
     let low = inside position top is in let longer = length-append covers (one ∷ []) in omega (arith, low, longer)
 
@@ -188,14 +181,17 @@ tops_later covers one tops inside position top is =
 
 -- the cover at a place above 0
 pub top_cover : (covers : List Cover) (top : ℕ) (other : Cover) → AreLinked covers → 0 < top → top ≤ length covers
-    → (layers_under covers top ≡ (get_or covers (top - 1) other).layer ∷ layers_under covers (get_or covers (top - 1) other).below)
+    → (layers_under covers top
+    ≡ (get_or covers (top - 1) other).layer ∷ layers_under covers (get_or covers (top - 1) other).below)
     × ((get_or covers (top - 1) other).below < top)
 top_cover covers top other linked some inside =
     let cover : Cover = get_or covers (top - 1) other in
     let place : suc (top - 1) ≡ top = omega (arith, some) in
-    let found : slice_get covers (top - 1) ≡ Some cover = slice_get-get_or covers (top - 1) other (omega (arith, some, inside)) in
+    let found : slice_get covers (top - 1) ≡ Some cover =
+    slice_get-get_or covers (top - 1) other (omega (arith, some, inside)) in
     let low = linked (top - 1) cover found in (
-      subst (λ (n : ℕ). layers_under covers n ≡ cover.layer ∷ layers_under covers cover.below) place (under_cover covers (top - 1) cover linked found),
+      subst (λ (n : ℕ). layers_under covers n ≡ cover.layer ∷ layers_under covers cover.below) place
+          (under_cover covers (top - 1) cover linked found),
       omega (arith, low, some),
     )
 
@@ -204,7 +200,8 @@ one_settled : (settled : Numbers) (layer : Layer) (layers : List Layer) → is_a
 one_settled settled layer layers e = rw e refl
 
 -- the cover's write is settled: what lies under it is as good
-pub goes_down : (settled : Numbers) (covers : List Cover) (first top : ℕ) (other : Cover) → AreLinked covers → 0 < top → top ≤ length covers
+pub goes_down : (settled : Numbers) (covers : List Cover) (first top : ℕ) (other : Cover) → AreLinked covers → 0 < top
+    → top ≤ length covers
     → is_among (get_or covers (top - 1) other).layer.number settled ≡ true
     → filter (is_open settled) (layers_under covers top) ≡ filter (is_open settled) (layers_under covers first)
     → ((get_or covers (top - 1) other).below ≤ length covers)
@@ -220,7 +217,8 @@ goes_down settled covers first top other linked some inside off so_far =
     )
 
 -- the cover's write isn't settled
-pub stays_open : (settled : Numbers) (covers : List Cover) (first top : ℕ) (other : Cover) → AreLinked covers → 0 < top → top ≤ length covers
+pub stays_open : (settled : Numbers) (covers : List Cover) (first top : ℕ) (other : Cover) → AreLinked covers → 0 < top
+    → top ≤ length covers
     → is_among (get_or covers (top - 1) other).layer.number settled ≡ false
     → filter (is_open settled) (layers_under covers top) ≡ filter (is_open settled) (layers_under covers first)
     → IsUncovered (is_open settled) (layers_under covers first) (layers_under covers top)
@@ -242,14 +240,16 @@ nothing_on_top settled covers first top none so_far =
 -- ---- positions at the end
 
 -- positions that nothing covers are dropped
-pub stack_take : (covers : List Cover) (tops : List ℕ) (count position : ℕ) → ((n : ℕ) → count ≤ n → get_or tops n 0 ≡ 0)
+pub stack_take : (covers : List Cover) (tops : List ℕ) (count position : ℕ)
+    → ((n : ℕ) → count ≤ n → get_or tops n 0 ≡ 0)
     → stack_in (map (layers_under covers) (take count tops)) position ≡ stack_in (map (layers_under covers) tops) position
 stack_take covers [] zero position none = refl
 stack_take covers [] (suc count) position none = refl
 stack_take covers (top ∷ tops) zero zero none =
     sym (ap (λ (n : ℕ). layers_under covers n) (none 0 (omega arith)) ∙ none_under covers)
 stack_take covers (top ∷ tops) zero (suc position) none =
-    let rest = stack_take covers tops zero position (λ n le. none (suc n) (omega arith)) in nothing_first covers tops position ∙ rest
+    let rest = stack_take covers tops zero position (λ n le. none (suc n) (omega arith)) in
+    nothing_first covers tops position ∙ rest
   where
     nothing_first : (covers : List Cover) (tops : List ℕ) (position : ℕ)
         → [] ≡ stack_in (map (layers_under covers) (take 0 tops)) position
@@ -270,7 +270,8 @@ tops_take covers tops count inside position top is = inside position top (taken 
     taken (y ∷ xs) (suc count) (suc n) x e = taken xs count n x e
 
 -- the last position that is left has a layer
-pub ends_covered : (covers : List Cover) (tops : List ℕ) (count : ℕ) → AreLinked covers → AreTops covers tops → count ≤ length tops
+pub ends_covered : (covers : List Cover) (tops : List ℕ) (count : ℕ) → AreLinked covers → AreTops covers tops
+    → count ≤ length tops
     → (count ≡ 0) ⊎ (get_or tops (count - 1) 0 ≢ 0) → EndsCovered (map (layers_under covers) (take count tops))
 ends_covered covers tops count linked inside within (inl none) =
     inl (length_map (take count tops) ∙ (length-take-le count tops within ∙ none))
@@ -283,10 +284,13 @@ ends_covered covers tops count linked inside within (inr some) = elim (cases_lt 
   | inl more ↦ inr (λ empty.
       let top : ℕ = get_or tops (count - 1) 0 in
       let found : slice_get tops (count - 1) ≡ Some top = slice_get-get_or tops (count - 1) 0 (omega (arith, more, within)) in
-      let size : length (map (layers_under covers) (take count tops)) ≡ count = length_map (take count tops) ∙ length-take-le count tops within in
+      let size : length (map (layers_under covers) (take count tops)) ≡ count = length_map (take count tops)
+      ∙ length-take-le count tops within in
       let low = inside (count - 1) top found in
-      let stack = top_cover covers top (record { layer = record { number = 0; byte = 0 }; below = 0 }) linked (not_none top some) low in
-      let here = stack_at covers (take count tops) (count - 1) top (still_there tops count (count - 1) top (omega (arith, more)) found) in
+      let stack = top_cover covers top (record { layer = record { number = 0; byte = 0 }; below = 0 }) linked
+      (not_none top some) low in
+      let here = stack_at covers (take count tops) (count - 1) top
+      (still_there tops count (count - 1) top (omega (arith, more)) found) in
       let none = subst (λ (n : ℕ). stack_in (map (layers_under covers) (take count tops)) (n - 1) ≡ []) size empty in
       let nothing = sym stack.0 ∙ (sym here ∙ none) in
       let c : ⊥ = cc in absurd c)
@@ -300,7 +304,8 @@ ends_covered covers tops count linked inside within (inr some) = elim (cases_lt 
     not_none zero some = absurd (some refl)
     not_none (suc n) some = omega arith
 
-    still_there : (xs : List ℕ) (count n x : ℕ) → n < count → slice_get xs n ≡ Some x → slice_get (take count xs) n ≡ Some x
+    still_there : (xs : List ℕ) (count n x : ℕ) → n < count → slice_get xs n ≡ Some x
+        → slice_get (take count xs) n ≡ Some x
     still_there xs zero n x lt e = absurd (omega (arith, lt))
     still_there [] (suc count) n x lt e = e
     still_there (y ∷ xs) (suc count) zero x lt e = e
@@ -309,46 +314,58 @@ ends_covered covers tops count linked inside within (inr some) = elim (cases_lt 
 -- ---- a layer more
 
 -- one layer more on top of a position
-pub stack_cover : (covers : List Cover) (tops : List ℕ) (layer : Layer) (place below count position : ℕ) → AreLinked covers → AreTops covers tops
-    → place < length tops → below ≡ get_or tops place below → count ≡ length covers + 1
-    → stack_in (map (layers_under (covers ++ record { layer = layer; below = below } ∷ [])) (slice_set tops place count)) position
+pub stack_cover : (covers : List Cover) (tops : List ℕ) (layer : Layer) (place below count position : ℕ)
+    → AreLinked covers → AreTops covers tops → place < length tops → below ≡ get_or tops place below
+    → count ≡ length covers + 1
+    → stack_in (map (layers_under (covers ++ record { layer = layer; below = below } ∷ []))
+    (slice_set tops place count)) position
     ≡ (if position == place then layer ∷ stack_in (map (layers_under covers) tops) position
     else stack_in (map (layers_under covers) tops) position)
 stack_cover covers tops layer place below count position linked inside within is next =
     let one : Cover = record { layer = layer; below = below } in
-    let found : slice_get tops place ≡ Some below = slice_get-get_or tops place below within ∙ ap (λ (n : ℕ). Some n) (sym is) in
+    let found : slice_get tops place ≡ Some below = slice_get-get_or tops place below within
+    ∙ ap (λ (n : ℕ). Some n) (sym is) in
     stack_set (covers ++ one ∷ []) tops place count position within
-    ∙ (ap (λ (ls : List Layer). if position == place then ls else stack_in (map (layers_under (covers ++ one ∷ [])) tops) position)
+    ∙ (ap (λ (ls : List Layer).
+    if position == place then ls else stack_in (map (layers_under (covers ++ one ∷ [])) tops) position)
     (under_last covers one count linked (inside place below found) next)
-    ∙ (ap (λ (ls : List Layer). if position == place then layer ∷ layers_under covers below else ls) (stack_later covers one tops position linked inside)
+    ∙ (ap (λ (ls : List Layer). if position == place then layer ∷ layers_under covers below else ls)
+    (stack_later covers one tops position linked inside)
     ∙ by_case (position == place) (λ same. let at : position ≡ place = grind (arith, same) in
     sym (stack_at covers tops position below (ap (λ (n : ℕ). slice_get tops n) at ∙ found)))))
   where
     by_case : (b : Bool) → (b ≡ true → layers_under covers below ≡ stack_in (map (layers_under covers) tops) position)
         → (if b then layer ∷ layers_under covers below else stack_in (map (layers_under covers) tops) position)
-        ≡ (if b then layer ∷ stack_in (map (layers_under covers) tops) position else stack_in (map (layers_under covers) tops) position)
+        ≡ (if b then layer ∷ stack_in (map (layers_under covers) tops) position
+        else stack_in (map (layers_under covers) tops) position)
     by_case true same = ap (λ (ls : List Layer). layer ∷ ls) (same refl)
     by_case false same = refl
 
-pub linked_cover : (covers : List Cover) (tops : List ℕ) (layer : Layer) (place below : ℕ) → AreLinked covers → AreTops covers tops
-    → place < length tops → below ≡ get_or tops place below → AreLinked (covers ++ record { layer = layer; below = below } ∷ [])
+pub linked_cover : (covers : List Cover) (tops : List ℕ) (layer : Layer) (place below : ℕ) → AreLinked covers
+    → AreTops covers tops → place < length tops → below ≡ get_or tops place below
+    → AreLinked (covers ++ record { layer = layer; below = below } ∷ [])
 linked_cover covers tops layer place below linked inside within is =
     linked_more covers (record { layer = layer; below = below }) linked
     (inside place below (slice_get-get_or tops place below within ∙ ap (λ (n : ℕ). Some n) (sym is)))
 
-pub tops_cover : (covers : List Cover) (tops : List ℕ) (layer : Layer) (place below count : ℕ) → AreTops covers tops → place < length tops
-    → count ≡ length covers + 1 → AreTops (covers ++ record { layer = layer; below = below } ∷ []) (slice_set tops place count)
+pub tops_cover : (covers : List Cover) (tops : List ℕ) (layer : Layer) (place below count : ℕ) → AreTops covers tops
+    → place < length tops → count ≡ length covers + 1
+    → AreTops (covers ++ record { layer = layer; below = below } ∷ [])
+    (slice_set tops place count)
 tops_cover covers tops layer place below count inside within next =
     let one : Cover = record { layer = layer; below = below } in
     let longer = length-append covers (one ∷ []) in
     tops_set (covers ++ one ∷ []) tops place count within (omega (arith, next, longer)) (tops_later covers one tops inside)
 
 -- the byte at a position
-pub byte_here : (covers : List Cover) (tops : List ℕ) (base : List ℕ) (position top : ℕ) (other : Cover) → AreLinked covers → AreTops covers tops
+pub byte_here : (covers : List Cover) (tops : List ℕ) (base : List ℕ) (position top : ℕ) (other : Cover)
+    → AreLinked covers → AreTops covers tops
     → position < length tops → top ≡ get_or tops position top → 0 < top
-    → (get_or covers (top - 1) other).layer.byte ≡ seen_byte base (stack_in (map (layers_under covers) tops) position) position
+    → (get_or covers (top - 1) other).layer.byte
+    ≡ seen_byte base (stack_in (map (layers_under covers) tops) position) position
 byte_here covers tops base position top other linked inside within is some =
-    let found : slice_get tops position ≡ Some top = slice_get-get_or tops position top within ∙ ap (λ (n : ℕ). Some n) (sym is) in
+    let found : slice_get tops position ≡ Some top = slice_get-get_or tops position top within
+    ∙ ap (λ (n : ℕ). Some n) (sym is) in
     ap (λ (ls : List Layer). seen_byte base ls position)
     (sym (stack_at covers tops position top found ∙ (top_cover covers top other linked some (inside position top found)).0))
 
@@ -356,17 +373,20 @@ pub byte_under : (covers : List Cover) (tops : List ℕ) (base : List ℕ) (posi
     → top ≡ get_or tops position top → top ≡ 0
     → get_or base position 0 ≡ seen_byte base (stack_in (map (layers_under covers) tops) position) position
 byte_under covers tops base position top within is none =
-    let found : slice_get tops position ≡ Some top = slice_get-get_or tops position top within ∙ ap (λ (n : ℕ). Some n) (sym is) in
+    let found : slice_get tops position ≡ Some top = slice_get-get_or tops position top within
+    ∙ ap (λ (n : ℕ). Some n) (sym is) in
     ap (λ (ls : List Layer). seen_byte base ls position)
     (sym (stack_at covers tops position top found ∙ (ap (λ (n : ℕ). layers_under covers n) none ∙ none_under covers)))
 
 -- ---- one position more is uncovered
 
-pub uncovers_one : (settled : Numbers) (covers : List Cover) (first now : List ℕ) (position top result n : ℕ) → position < length now
+pub uncovers_one : (settled : Numbers) (covers : List Cover) (first now : List ℕ) (position top result n : ℕ)
+    → position < length now
     → top ≡ get_or now position top → IsUncovered (is_open settled) (layers_under covers top) (layers_under covers result)
     → ((k : ℕ) → k < position → IsUncovered (is_open settled) (stack_in (map (layers_under covers) first) k)
     (stack_in (map (layers_under covers) now) k))
-    → ((k : ℕ) → position ≤ k → stack_in (map (layers_under covers) now) k ≡ stack_in (map (layers_under covers) first) k)
+    → ((k : ℕ) → position ≤ k
+    → stack_in (map (layers_under covers) now) k ≡ stack_in (map (layers_under covers) first) k)
     → n < position + 1
     → IsUncovered (is_open settled) (stack_in (map (layers_under covers) first) n)
     (stack_in (map (layers_under covers) (slice_set now position result)) n)
@@ -376,17 +396,21 @@ uncovers_one settled covers first now position top result n inside is uncovers d
   where
     here : n ≡ position → layers_under covers top ≡ stack_in (map (layers_under covers) first) n
     here at =
-        sym (stack_at covers now n top (ap (λ (k : ℕ). slice_get now k) at ∙ (slice_get-get_or now position top inside ∙ ap (λ (k : ℕ). Some k) (sym is))))
+        sym (stack_at covers now n top (ap (λ (k : ℕ). slice_get now k) at
+        ∙ (slice_get-get_or now position top inside ∙ ap (λ (k : ℕ). Some k) (sym is))))
         ∙ rest n (omega (arith, at))
 
-    by_case : (b : Bool) → (n == position) ≡ b → IsUncovered (is_open settled) (stack_in (map (layers_under covers) first) n)
+    by_case : (b : Bool) → (n == position) ≡ b
+        → IsUncovered (is_open settled) (stack_in (map (layers_under covers) first) n)
         (if b then layers_under covers result else stack_in (map (layers_under covers) now) n)
     by_case true e =
-        subst (λ (ls : List Layer). IsUncovered (is_open settled) ls (layers_under covers result)) (here (grind (arith, e))) uncovers
+        subst (λ (ls : List Layer). IsUncovered (is_open settled) ls (layers_under covers result))
+        (here (grind (arith, e))) uncovers
     by_case false e = done n (grind (arith, e, below))
 
 pub leaves_rest : (covers : List Cover) (first now : List ℕ) (position result n : ℕ) → position < length now
-    → ((k : ℕ) → position ≤ k → stack_in (map (layers_under covers) now) k ≡ stack_in (map (layers_under covers) first) k)
+    → ((k : ℕ) → position ≤ k
+    → stack_in (map (layers_under covers) now) k ≡ stack_in (map (layers_under covers) first) k)
     → position + 1 ≤ n
     → stack_in (map (layers_under covers) (slice_set now position result)) n ≡ stack_in (map (layers_under covers) first) n
 leaves_rest covers first now position result n inside rest above =
@@ -394,10 +418,12 @@ leaves_rest covers first now position result n inside rest above =
     stack_set covers now position result n inside ∙ (rw other refl ∙ rest n (omega (arith, above)))
 
 -- where no position is left, each is as it was or uncovered
-pub all_uncovered : (settled : Numbers) (covers : List Cover) (first now : List ℕ) (position n : ℕ) → length now ≤ position
+pub all_uncovered : (settled : Numbers) (covers : List Cover) (first now : List ℕ) (position n : ℕ)
+    → length now ≤ position
     → ((k : ℕ) → k < position → IsUncovered (is_open settled) (stack_in (map (layers_under covers) first) k)
     (stack_in (map (layers_under covers) now) k))
-    → ((k : ℕ) → position ≤ k → stack_in (map (layers_under covers) now) k ≡ stack_in (map (layers_under covers) first) k)
+    → ((k : ℕ) → position ≤ k
+    → stack_in (map (layers_under covers) now) k ≡ stack_in (map (layers_under covers) first) k)
     → IsUncovered (is_open settled) (stack_in (map (layers_under covers) first) n) (stack_in (map (layers_under covers) now) n)
 all_uncovered settled covers first now position n past done rest = elim (cases_lt n position) [
   | inl below ↦ done n below
@@ -413,13 +439,17 @@ all_uncovered settled covers first now position n past done rest = elim (cases_l
     nothing (x ∷ xs) zero past = absurd (omega (arith, past))
     nothing (x ∷ xs) (suc k) past = nothing xs k (omega (arith, past))
 
-pub truncated : (settled : Numbers) (covers : List Cover) (old now left : List ℕ) (count position : ℕ) → left ≡ take count now
+pub truncated : (settled : Numbers) (covers : List Cover) (old now left : List ℕ) (count position : ℕ)
+    → left ≡ take count now
     → ((n : ℕ) → count ≤ n → get_or now n 0 ≡ 0)
-    → IsUncovered (is_open settled) (stack_in (map (layers_under covers) old) position) (stack_in (map (layers_under covers) now) position)
-    → IsUncovered (is_open settled) (stack_in (map (layers_under covers) old) position) (stack_in (map (layers_under covers) left) position)
+    → IsUncovered (is_open settled) (stack_in (map (layers_under covers) old) position)
+    (stack_in (map (layers_under covers) now) position)
+    → IsUncovered (is_open settled) (stack_in (map (layers_under covers) old) position)
+    (stack_in (map (layers_under covers) left) position)
 truncated settled covers old now left count position is none uncovers =
     subst (λ (ls : List Layer). IsUncovered (is_open settled) (stack_in (map (layers_under covers) old) position) ls)
-    (sym (ap (λ (xs : List ℕ). stack_in (map (layers_under covers) xs) position) is ∙ stack_take covers now count position none)) uncovers
+    (sym (ap (λ (xs : List ℕ). stack_in (map (layers_under covers) xs) position) is
+    ∙ stack_take covers now count position none)) uncovers
 
 -- with no position left it doesn't matter what the covers are
 pub cleared : (covers other : List Cover) (left : List ℕ) (position : ℕ) → length left ≡ 0

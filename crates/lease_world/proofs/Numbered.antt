@@ -1,5 +1,5 @@
 -- Writes by their numbers.
-use Rattle.std.proofs.Common.{◌≡◌, ℕ, ◌+◌, ◌-◌, ◌<◌, ◌≤◌, zero, suc, Bool, true, false, List, [], ◌∷◌, ◌++◌, Some, None, length, get_or, refl, sym, ap, ◌∙◌, arith}
+use Rattle.std.proofs.Common.{◌≡◌, ℕ, ◌+◌, ◌-◌, ◌<◌, ◌≤◌, Bool, true, false, List, [], ◌∷◌, ◌++◌, Some, None, length, get_or, refl, sym, ap, ◌∙◌, arith}
 use Rattle.std.specs.List.{slice_get, slice_set}
 use Rattle.std.specs.Option.{option_map}
 use Rattle.std.specs.Prelude.{if◌then◌else◌, ◌==◌, ◌&&◌, nat_lt, nat_le}
@@ -7,24 +7,7 @@ use Rattle.std.proofs.lemmas.List.{length-append, length-set}
 use Rattle.std.proofs.lemmas.Option.{slice_get-get_or}
 use Rattle.lease_world.specs.judge.Clients.{HasWrites}
 use Rattle.lease_world.specs.judge.Seen.{SeenWrite, SeenClient, unseen_client, no_writes, client_in, write_in, is_first, write_at, write_by}
-use Rattle.lease_world.proofs.Places.{suc_same, past_the_end}
-
--- ---- lists
-
-get-put : {X : Type 0} (xs : List X) (k : ℕ) (x : X) (n : ℕ) → k < length xs
-    → slice_get (slice_set xs k x) n ≡ (if n == k then Some x else slice_get xs n)
-get-put [] k x n inside = absurd (omega arith)
-get-put (y ∷ xs) zero x zero inside = refl
-get-put (y ∷ xs) zero x (suc n) inside = grind arith
-get-put (y ∷ xs) (suc k) x zero inside = grind arith
-get-put (y ∷ xs) (suc k) x (suc n) inside = suc_same n k (Some x) (slice_get xs n) _ (get-put xs k x n (omega arith))
-
-get-push : {X : Type 0} (xs : List X) (x : X) (n : ℕ)
-    → slice_get (xs ++ x ∷ []) n ≡ (if n == length xs then Some x else slice_get xs n)
-get-push [] x zero = refl
-get-push [] x (suc n) = grind arith
-get-push (y ∷ xs) x zero = grind arith
-get-push (y ∷ xs) x (suc n) = suc_same n (length xs) (Some x) (slice_get xs n) _ (get-push xs x n)
+use Rattle.lease_world.proofs.Places.{get-put, get-push, past_the_end}
 
 -- ---- writes
 

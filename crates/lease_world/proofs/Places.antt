@@ -1,5 +1,5 @@
 -- Lists by numbers, where a number past the end has a value of its own.
-use Rattle.std.proofs.Common.{◌≡◌, ℕ, ◌<◌, ◌≤◌, zero, suc, List, [], ◌∷◌, ◌++◌, length, get_or, cond, refl, arith}
+use Rattle.std.proofs.Common.{◌≡◌, ℕ, ◌<◌, ◌≤◌, zero, suc, List, [], ◌∷◌, ◌++◌, Some, length, get_or, cond, refl, arith}
 use Rattle.std.specs.List.{slice_get, slice_set}
 use Rattle.std.specs.Ordering.{is_eq, nat_cmp}
 use Rattle.std.proofs.lemmas.Bool.Decides.{nat_tests}
@@ -33,6 +33,23 @@ value_put other (one ∷ xs) zero x (suc n) inside = grind arith
 value_put other (one ∷ xs) (suc k) x zero inside = grind arith
 value_put other (one ∷ xs) (suc k) x (suc n) inside =
     suc_same n k x (unwrap_or (slice_get xs n) other) _ (value_put other xs k x n (omega arith))
+
+-- the same where nothing stands past the end
+pub get-put : {X : Type 0} (xs : List X) (k : ℕ) (x : X) (n : ℕ) → k < length xs
+    → slice_get (slice_set xs k x) n ≡ (if n == k then Some x else slice_get xs n)
+get-put [] k x n inside = absurd (omega arith)
+get-put (y ∷ xs) zero x zero inside = refl
+get-put (y ∷ xs) zero x (suc n) inside = grind arith
+get-put (y ∷ xs) (suc k) x zero inside = grind arith
+get-put (y ∷ xs) (suc k) x (suc n) inside = suc_same n k (Some x) (slice_get xs n) _ (get-put xs k x n (omega arith))
+
+-- one more value comes last
+pub get-push : {X : Type 0} (xs : List X) (x : X) (n : ℕ)
+    → slice_get (xs ++ x ∷ []) n ≡ (if n == length xs then Some x else slice_get xs n)
+get-push [] x zero = refl
+get-push [] x (suc n) = grind arith
+get-push (y ∷ xs) x zero = grind arith
+get-push (y ∷ xs) x (suc n) = suc_same n (length xs) (Some x) (slice_get xs n) _ (get-push xs x n)
 
 -- past the end is what other numbers have
 pub past_the_end : {X : Type 0} (other : X) (xs : List X) (n : ℕ) → length xs ≤ n
