@@ -19,7 +19,7 @@ use Rattle.lease_laws.proofs.world.Runs.{stepped_server}
 use Rattle.lease_coherence.specs.Agreement.{ClosedOpensStayClosed}
 use Rattle.lease_coherence.proofs.beliefs.WriteCaches.{HasBeliefs, beliefs_carried, run_beliefs}
 use Rattle.lease_coherence.proofs.moves.Deeds.{HasDeeds, IsSource, step_deed}
-use Rattle.lease_coherence.proofs.moves.Events.{IsMoved, Both, carried_both, after_moves, come_back, reply_gone}
+use Rattle.lease_coherence.proofs.moves.Events.{IsMoved, Both, carried_both, after_moves, come_back, reply_gone, Move}
 use Rattle.lease_coherence.proofs.moves.Frames.{from_source, lease_put_rest}
 use Rattle.lease_coherence.proofs.names.Names.{open_parts}
 
@@ -117,26 +117,23 @@ stepped_gone id world c step g = subst (IsGoneFrom id) (sym (stepped_server worl
 
 gone_moves : (id : ℕ) → IsMoved HasBeliefs (IsGone id)
 unfolding opens_dropped opens_disconnected client_forgotten key_expired joined requests_sent with_opens
-gone_moves id = record {
-  step = λ world step v next g. step_deed world (IsGone id) (deeds_gone id world g) step next;
-  cut = λ world c v up g.
-      let left = fewer_gone id world.server (is_lost world.server c) g in
-      same_gone id (with_opens world.server (without (is_lost world.server c) world.server.opens)) _
-      (itself world.server.last_id)
-      (λ one there. changed_by (disconnected c) (lost_same c) (without (is_lost world.server c) world.server.opens) one there)
-      left;
-  timer = λ world c file v on breaks g.
-      let left = fewer_gone id world.server (has_key (machine_key world c file)) g in
-      record { given = left.given; none = left.none };
-  scavenge = λ world file_id v g. fewer_gone id world.server (is_left_behind file_id) g;
-  connect = λ world c v down g. stepped_gone id (come_back world c) c (connection_made (world.clients c))
-      (record { given = g.given; none = g.none });
-  command = λ world c command v g. stepped_gone id world c (commanded (world.clients c) command) g;
-  take = λ world c reply queue v first g.
-      stepped_gone id (reply_gone world c queue) c (taken (world.clients c) reply) g;
-  notice = λ world c v cut g. stepped_gone id _ c (noticed (world.clients c)) g;
-  stray = λ world c request v up g. g;
-}
+gone_moves id world (Move.Step step) next v g = step_deed world (IsGone id) (deeds_gone id world g) step next
+gone_moves id world (Move.Cut c) up v g = let left = fewer_gone id world.server (is_lost world.server c) g in
+    same_gone id (with_opens world.server (without (is_lost world.server c) world.server.opens)) _
+    (itself world.server.last_id)
+    (λ one there. changed_by (disconnected c) (lost_same c) (without (is_lost world.server c) world.server.opens) one there)
+    left
+gone_moves id world (Move.Expire c file) (on, breaks) v g =
+    let left = fewer_gone id world.server (has_key (machine_key world c file)) g in
+    record { given = left.given; none = left.none }
+gone_moves id world (Move.Scavenge file_id) may v g = fewer_gone id world.server (is_left_behind file_id) g
+gone_moves id world (Move.Connect c) down v g = stepped_gone id (come_back world c) c (connection_made (world.clients c))
+    (record { given = g.given; none = g.none })
+gone_moves id world (Move.Commanded c command) may v g = stepped_gone id world c (commanded (world.clients c) command) g
+gone_moves id world (Move.Take c reply queue) first v g =
+    stepped_gone id (reply_gone world c queue) c (taken (world.clients c) reply) g
+gone_moves id world (Move.Notice c) cut v g = stepped_gone id _ c (noticed (world.clients c)) g
+gone_moves id world (Move.Stray c request) up v g = g
 
 pub closed_opens_stay_closed : ClosedOpensStayClosed
 closed_opens_stay_closed setup events more client id given none =

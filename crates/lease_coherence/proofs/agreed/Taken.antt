@@ -25,7 +25,7 @@ use Rattle.lease_coherence.proofs.fresh.Clients.{sound_live}
 use Rattle.lease_coherence.proofs.fresh.Runs.{HasFresh, fresh_carried}
 use Rattle.lease_coherence.proofs.fresh.Words.{IsRelayed, places_of}
 use Rattle.lease_coherence.proofs.late.Facts.{run_late}
-use Rattle.lease_coherence.proofs.moves.Events.{IsCarried, reply_gone, reply_taken}
+use Rattle.lease_coherence.proofs.moves.Events.{IsCarried, reply_gone, reply_taken, Move}
 use Rattle.lease_coherence.proofs.moves.Frames.{stepped_past, stepped_replies}
 use Rattle.lease_coherence.proofs.records.Later.{past_noted}
 use Rattle.lease_coherence.proofs.writes.Answered.{ground_of}
@@ -102,7 +102,7 @@ all_taken V k c [] world v e = record {
 }
 all_taken V k c (reply ∷ queue) world v e =
     let one = reply_taken world c reply queue in
-    let rest = all_taken V k c queue one (k.take world c reply queue v e v) (left_behind_it world c reply queue) in record {
+    let rest = all_taken V k c queue one (k world (Move.Take c reply queue) e v) (left_behind_it world c reply queue) in record {
       new = rest.new;
       known = rest.known;
       is = then_taken world one rest.new c reply queue (one_taken world c reply queue) rest.is;

@@ -20,7 +20,7 @@ use Rattle.lease_laws.proofs.client.Thin.{put_same, put_other}
 use Rattle.lease_laws.proofs.server.Lists.{either, clash}
 use Rattle.lease_laws.proofs.world.Runs.{stepped_server}
 use Rattle.lease_coherence.proofs.moves.Deeds.{HasDeeds, IsSource, step_deed}
-use Rattle.lease_coherence.proofs.moves.Events.{Ground, IsMoved, reply_gone, come_back}
+use Rattle.lease_coherence.proofs.moves.Events.{Ground, IsMoved, reply_gone, come_back, Move}
 use Rattle.lease_coherence.proofs.moves.Frames.{from_source, lease_put_rest, stepped_past}
 use Rattle.lease_coherence.proofs.records.Later.{past_noted}
 
@@ -95,14 +95,13 @@ stepped_contents world client step h file = ap (λ (s : Server). s.contents file
 
 pub contents_moves : IsMoved Ground HasContents
 unfolding joined key_expired opens_dropped with_opens opens_disconnected client_forgotten requests_sent content_of
-contents_moves = record {
-  step = λ world step g next h. step_deed world HasContents (deeds_contents world h) step next;
-  cut = λ world client g up h. h;
-  timer = λ world client file g on breaks h. h;
-  scavenge = λ world file_id g h. h;
-  connect = λ world client g down h. stepped_contents (come_back world client) client _ h;
-  command = λ world client command g h. stepped_contents world client _ h;
-  take = λ world client reply queue g first h. stepped_contents (reply_gone world client queue) client _ h;
-  notice = λ world client g cut h. stepped_contents (record world { links = put world.links client Link.Down }) client _ h;
-  stray = λ world client request g up h. h;
-}
+contents_moves world (Move.Step step) next g h = step_deed world HasContents (deeds_contents world h) step next
+contents_moves world (Move.Cut client) up g h = h
+contents_moves world (Move.Expire client file) (on, breaks) g h = h
+contents_moves world (Move.Scavenge file_id) may g h = h
+contents_moves world (Move.Connect client) down g h = stepped_contents (come_back world client) client _ h
+contents_moves world (Move.Commanded client command) may g h = stepped_contents world client _ h
+contents_moves world (Move.Take client reply queue) first g h = stepped_contents (reply_gone world client queue) client _ h
+contents_moves world (Move.Notice client) cut g h =
+    stepped_contents (record world { links = put world.links client Link.Down }) client _ h
+contents_moves world (Move.Stray client request) up g h = h

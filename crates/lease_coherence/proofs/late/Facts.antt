@@ -26,7 +26,7 @@ use Rattle.lease_coherence.proofs.fresh.Reads.{first_reads}
 use Rattle.lease_coherence.proofs.late.Runs.{HasLate, ground_in, late_carried}
 use Rattle.lease_coherence.proofs.late.Words.{WriteSafe}
 use Rattle.lease_coherence.proofs.moves.Deeds.{HasDeeds, IsSource, step_deed}
-use Rattle.lease_coherence.proofs.moves.Events.{IsMoved, Both, carried_both, runs_have, come_back, reply_gone}
+use Rattle.lease_coherence.proofs.moves.Events.{IsMoved, Both, carried_both, runs_have, come_back, reply_gone, Move}
 use Rattle.lease_coherence.proofs.moves.Frames.{from_source, stepped_past}
 use Rattle.lease_coherence.proofs.names.Names.{open_parts}
 use Rattle.lease_coherence.proofs.order.Sends.{off_past}
@@ -106,20 +106,20 @@ stepped_none world client step l = subst (EachFact NoLateWrite) (sym (stepped_pa
 
 none_moves : IsMoved HasLate NoneLate
 unfolding requests_sent
-none_moves = record {
-  step = λ world step v next l. step_deed world NoneLate (deeds_none world v l) step next;
-  cut = λ world client v up l. (tt, l);
-  timer = λ world client file v on breaks l. (tt, l);
-  scavenge = λ world file_id v l. l;
-  connect = λ world client v down l.
-      stepped_none (come_back world client) client (connection_made (world.clients client)) (tt, l);
-  command = λ world client command v l. stepped_none world client (commanded (world.clients client) command) l;
-  take = λ world client reply queue v first l.
-      stepped_none (reply_gone world client queue) client (taken (world.clients client) reply) (tt, l);
-  notice = λ world client v cut l. stepped_none (record world { links = put world.links client Link.Down }) client
-      (noticed (world.clients client)) l;
-  stray = λ world client request v up l. (tt, l);
-}
+none_moves world (Move.Step step) next v l = step_deed world NoneLate (deeds_none world v l) step next
+none_moves world (Move.Cut client) up v l = (tt, l)
+none_moves world (Move.Expire client file) (on, breaks) v l = (tt, l)
+none_moves world (Move.Scavenge file_id) may v l = l
+none_moves world (Move.Connect client) down v l =
+    stepped_none (come_back world client) client (connection_made (world.clients client)) (tt, l)
+none_moves world (Move.Commanded client command) may v l =
+    stepped_none world client (commanded (world.clients client) command) l
+none_moves world (Move.Take client reply queue) first v l =
+    stepped_none (reply_gone world client queue) client (taken (world.clients client) reply) (tt, l)
+none_moves world (Move.Notice client) cut v l =
+    stepped_none (record world { links = put world.links client Link.Down }) client
+    (noticed (world.clients client)) l
+none_moves world (Move.Stray client request) up v l = (tt, l)
 
 -- ---- runs
 

@@ -1,6 +1,6 @@
 -- What the moves of worlds keep, every event keeps.
 use Rattle.std.proofs.Common.{◌≡◌, ℕ, Bool, true, false, List, [], ◌∷◌, Option, Some, None, refl, sym, ap, ◌∙◌, subst}
-use Rattle.std.specs.Prelude.{if◌then◌else◌}
+use Rattle.std.specs.Prelude.{⊤, if◌then◌else◌}
 use Rattle.std.specs.List.{list_any}
 use Rattle.lease_model.specs.client.Commanded.{commanded}
 use Rattle.lease_model.specs.client.Commands.{Command}
@@ -96,51 +96,57 @@ noticed_by world client =
 abbrev pub strayed : World → ℕ → Request → World
 strayed world client request = requests_sent (happened world (Fact.Strayed client)) client (request ∷ [])
 
+-- ---- any move
+
+pub data Move : Type 0 where
+  Step : (step : SmallStep) → Move
+  Cut : (client : ℕ) → Move
+  Expire : (client file : ℕ) → Move
+  Scavenge : (file_id : ℕ) → Move
+  Connect : (client : ℕ) → Move
+  Commanded : (client : ℕ) (command : Command) → Move
+  Take : (client : ℕ) (reply : Reply) (queue : List Reply) → Move
+  Notice : (client : ℕ) → Move
+  Stray : (client : ℕ) (request : Request) → Move
+
+abbrev pub MayMove : World → Move → Type 0
+MayMove world (Move.Step step) = IsNext world step
+MayMove world (Move.Cut client) = world.links client ≡ Link.Up
+MayMove world (Move.Expire client file) =
+    (has_file world.server file ≡ true) × (breaking world.server (machine_key world client file) ≡ true)
+MayMove world (Move.Scavenge file_id) = ⊤
+MayMove world (Move.Connect client) = world.links client ≡ Link.Down
+MayMove world (Move.Commanded client command) = ⊤
+MayMove world (Move.Take client reply queue) = world.replies client ≡ reply ∷ queue
+MayMove world (Move.Notice client) = world.links client ≡ Link.Cut
+MayMove world (Move.Stray client request) = world.links client ≡ Link.Up
+
+abbrev pub moved_by : World → Move → World
+moved_by world (Move.Step step) = moved world step
+moved_by world (Move.Cut client) = cut_off world client
+moved_by world (Move.Expire client file) = timed_out world client file
+moved_by world (Move.Scavenge file_id) = left_behind world file_id
+moved_by world (Move.Connect client) = connected world client
+moved_by world (Move.Commanded client command) = stepped_in world client (commanded (world.clients client) command)
+moved_by world (Move.Take client reply queue) = reply_taken world client reply queue
+moved_by world (Move.Notice client) = noticed_by world client
+moved_by world (Move.Stray client request) = strayed world client request
+
 -- P is kept wherever V is known
-pub record IsMoved (V : World → Type 0) (P : World → Type 0) : Type 0 where
-  pub step : (world : World) (step : SmallStep) → V world → IsNext world step → P world → P (moved world step)
-  pub cut : (world : World) (client : ℕ) → V world → world.links client ≡ Link.Up → P world
-      → P (cut_off world client)
-  pub timer : (world : World) (client file : ℕ) → V world → has_file world.server file ≡ true
-      → breaking world.server (machine_key world client file) ≡ true → P world → P (timed_out world client file)
-  pub scavenge : (world : World) (file_id : ℕ) → V world → P world → P (left_behind world file_id)
-  pub connect : (world : World) (client : ℕ) → V world → world.links client ≡ Link.Down → P world
-      → P (connected world client)
-  pub command : (world : World) (client : ℕ) (command : Command) → V world → P world
-      → P (stepped_in world client (commanded (world.clients client) command))
-  pub take : (world : World) (client : ℕ) (reply : Reply) (queue : List Reply) → V world
-      → world.replies client ≡ reply ∷ queue → P world → P (reply_taken world client reply queue)
-  pub notice : (world : World) (client : ℕ) → V world → world.links client ≡ Link.Cut → P world
-      → P (noticed_by world client)
-  pub stray : (world : World) (client : ℕ) (request : Request) → V world → world.links client ≡ Link.Up → P world
-      → P (strayed world client request)
+abbrev pub IsMoved : (World → Type 0) → (World → Type 0) → Type 0
+IsMoved V P = (world : World) (move : Move) → MayMove world move → V world → P world → P (moved_by world move)
+
+-- what is kept where it is known itself
+abbrev pub IsCarried : (World → Type 0) → Type 0
+IsCarried V = (world : World) (move : Move) → MayMove world move → V world → V (moved_by world move)
 
 -- ---- one after the other
 
 abbrev pub Both : (World → Type 0) → (World → Type 0) → World → Type 0
 Both V P world = V world × P world
 
--- what is kept where it is known itself
-abbrev pub IsCarried : (World → Type 0) → Type 0
-IsCarried V = IsMoved V V
-
 pub carried_both : (V P : World → Type 0) → IsCarried V → IsMoved V P → IsCarried (Both V P)
-carried_both V P v p = record {
-  step = λ world step b next both. (v.step world step b.0 next both.0, p.step world step b.0 next both.1);
-  cut = λ world client b up both. (v.cut world client b.0 up both.0, p.cut world client b.0 up both.1);
-  timer = λ world client file b on breaks both.
-      (v.timer world client file b.0 on breaks both.0, p.timer world client file b.0 on breaks both.1);
-  scavenge = λ world file_id b both. (v.scavenge world file_id b.0 both.0, p.scavenge world file_id b.0 both.1);
-  connect = λ world client b down both.
-      (v.connect world client b.0 down both.0, p.connect world client b.0 down both.1);
-  command = λ world client command b both.
-      (v.command world client command b.0 both.0, p.command world client command b.0 both.1);
-  take = λ world client reply queue b first both.
-      (v.take world client reply queue b.0 first both.0, p.take world client reply queue b.0 first both.1);
-  notice = λ world client b cut both. (v.notice world client b.0 cut both.0, p.notice world client b.0 cut both.1);
-  stray = λ world client request b up both.
-      (v.stray world client request b.0 up both.0, p.stray world client request b.0 up both.1);
-}
+carried_both V P v p world move may both = (v world move may both.0, p world move may both.0 both.1)
 
 -- ---- calls
 
@@ -165,7 +171,7 @@ quiet_call V k world call f w other v = go call other v
         let due = none_due go.steps world (go.are_own ∙ none) in
         subst (λ p. V (served world p)) (sym go.lead)
         (subst (λ b. V (served b (steps_taken go.steps (call_begun world.server c)))) due.1
-        (steps_keep V (λ u step x next. k.step u step x next x) go.steps world (call_begun world.server c)
+        (steps_keep V (λ u step x next. k u (Move.Step step) next x) go.steps world (call_begun world.server c)
         go.are_guarded go.are_in_turn due.0
         (subst V (sym (nothing_given world (call_begun world.server c) (call_begun-silent world.server c))) v)))
 
@@ -193,7 +199,7 @@ request_call V k world client request queue f w up first v =
     (receive world.server client request))) (ap (λ (q : List Request). rest_of q) first)
     (subst (λ p. V (served (popped world client) p)) (sym go.lead)
     (subst (λ b. V (served b (steps_taken go.steps (begun world.server)))) due.1
-    (steps_keep V (λ u step x next. k.step u step x next x) go.steps world (begun world.server)
+    (steps_keep V (λ u step x next. k u (Move.Step step) next x) go.steps world (begun world.server)
     go.are_guarded go.are_in_turn due.0 v)))
 
 -- ---- events
@@ -222,7 +228,7 @@ server_takes_moves V ground k world client (request ∷ queue) e at =
 client_takes_moves : (V : World → Type 0) → IsCarried V → (world : World) (client : ℕ) (queue : List Reply)
     → world.replies client ≡ queue → V world → V (client_takes world client queue)
 client_takes_moves V k world client [] e v = v
-client_takes_moves V k world client (reply ∷ queue) e v = k.take world client reply queue v e v
+client_takes_moves V k world client (reply ∷ queue) e v = k world (Move.Take client reply queue) e v
 
 -- a choice that was made
 pub chosen : {X : Type 0} (b : Bool) (x y : X) → b ≡ true → (if b then x else y) ≡ x
@@ -249,14 +255,14 @@ cut_moves V ground k world client Link.Up e at =
     (subst (λ (s : Server). V (record lost { server = s }))
     (sym (ap (λ (p : Progress). p.server) (chosen (world.server.present client) _ (begun world.server)
     ((g.tied client).present ∙ ap is_up e))))
-    (k.cut world client at.holds e at.holds))
+    (k world (Move.Cut client) e at.holds))
 cut_moves V ground k world client Link.Down e at = at.holds
 cut_moves V ground k world client Link.Cut e at = at.holds
 
 notice_moves : (V : World → Type 0) → IsCarried V → (world : World) (client : ℕ) (link : Link)
     → world.links client ≡ link → V world → V (notice_over world client link)
 unfolding link_noticed
-notice_moves V k world client Link.Cut e v = k.notice world client v e v
+notice_moves V k world client Link.Cut e v = k world (Move.Notice client) e v
 notice_moves V k world client Link.Down e v = v
 notice_moves V k world client Link.Up e v = v
 
@@ -270,7 +276,7 @@ connect_moves V ground k world client Link.Down e v =
     subst (λ (p : Progress). V (stepped_in (served back p) client (connection_made (world.clients client))))
     (sym (not_chosen (world.server.present client) (begun world.server) (joined client (begun world.server))
     ((g.tied client).present ∙ ap is_up e)))
-    (k.connect world client v e v)
+    (k world (Move.Connect client) e v)
 connect_moves V ground k world client Link.Up e v = v
 connect_moves V ground k world client Link.Cut e v = v
 
@@ -286,7 +292,7 @@ timer_moves V ground k world client file on breaks at =
     (λ request c never. absurd (cc))
     (subst (λ (s : Server). V (record (happened world (Fact.Expired client file)) { server = s }))
     (sym (ap (λ (p : Progress). p.server) (chosen (is_breaking (world.server.leases key)) _ (begun world.server) breaks)))
-    (k.timer world client file at.holds on breaks at.holds))
+    (k world (Move.Expire client file) (on, breaks) at.holds))
 
 scavenge_moves : (V : World → Type 0) → ((world : World) → V world → Ground world) → IsCarried V
     → (world : World) (found : Option ℕ) → IsAt V world → V (scavenged world found)
@@ -296,19 +302,19 @@ scavenge_moves V ground k world (Some file_id) at =
     quiet_call V k world (Call.Scavenge file_id) g.fine at.waits (λ request c never. absurd (cc))
     (if_cases (λ p. V (record world { server = p.server })) (list_any (is_left_behind file_id) world.server.opens)
     (opens_dropped (is_left_behind file_id) (begun world.server)) (begun world.server)
-    (λ there. k.scavenge world file_id at.holds at.holds) (λ gone. at.holds))
+    (λ there. k world (Move.Scavenge file_id) tt at.holds) (λ gone. at.holds))
 
 strayed_moves : (V : World → Type 0) → IsCarried V → (world : World) (client : ℕ) (request : Request) (link : Link)
     → world.links client ≡ link → V world → V (strayed_over world client request link)
 unfolding strayed_over
-strayed_moves V k world client request Link.Up e v = k.stray world client request v e v
+strayed_moves V k world client request Link.Up e v = k world (Move.Stray client request) e v
 strayed_moves V k world client request Link.Down e v = v
 strayed_moves V k world client request Link.Cut e v = v
 
 applied_moves : (V : World → Type 0) → ((world : World) → V world → Ground world) → IsCarried V
     → (world : World) (event : Event) → IsAt V world → V (applied world event)
 unfolding applied
-applied_moves V ground k world (Event.App client command) at = k.command world client command at.holds at.holds
+applied_moves V ground k world (Event.App client command) at = k world (Move.Commanded client command) tt at.holds
 applied_moves V ground k world (Event.ServerTakes client) at =
     server_takes_moves V ground k world client (world.requests client) refl at
 applied_moves V ground k world (Event.ClientTakes client) at =

@@ -43,7 +43,7 @@ use Rattle.lease_laws.proofs.world.FileIds.{IsCounted, told, all_delivered_past,
 use Rattle.lease_laws.proofs.world.Kept.{IsOfWorld, served-server, served-clients}
 use Rattle.lease_laws.proofs.world.Links.{by_client, carried, all_tied, served_links, stepped_tied, stepped_online, sent_tied, relinked, first_linked}
 use Rattle.lease_laws.proofs.world.Runs.{stepped_server, stepped_clients}
-use Rattle.lease_coherence.proofs.moves.Events.{Ground, chosen, IsCarried, cut_off, timed_out, left_behind, come_back, connected, reply_gone, reply_taken, noticed_by, strayed}
+use Rattle.lease_coherence.proofs.moves.Events.{Ground, chosen, IsCarried, cut_off, timed_out, left_behind, come_back, connected, reply_gone, reply_taken, noticed_by, strayed, Move}
 use Rattle.lease_coherence.proofs.moves.Moves.{IsNext, rest_of, popped, taken_off, moved}
 
 -- ---- steps of the server
@@ -415,17 +415,15 @@ stray_ground world client request g = record {
 }
 
 pub ground_carried : IsCarried Ground
-ground_carried = record {
-  step = λ world step g next again. moved_ground world step g next;
-  cut = λ world client g up again. cut_ground world client g up;
-  timer = λ world client file g on breaks again. timer_ground world client file g breaks;
-  scavenge = λ world file_id g again. scavenge_ground world file_id g;
-  connect = λ world client g down again. connect_ground world client g down;
-  command = λ world client command g again. command_ground world client command g;
-  take = λ world client reply queue g first again. take_ground world client reply queue g first;
-  notice = λ world client g cut again. notice_ground world client g cut;
-  stray = λ world client request g up again. stray_ground world client request g;
-}
+ground_carried world (Move.Step step) next g = moved_ground world step g next
+ground_carried world (Move.Cut client) up g = cut_ground world client g up
+ground_carried world (Move.Expire client file) (on, breaks) g = timer_ground world client file g breaks
+ground_carried world (Move.Scavenge file_id) may g = scavenge_ground world file_id g
+ground_carried world (Move.Connect client) down g = connect_ground world client g down
+ground_carried world (Move.Commanded client command) may g = command_ground world client command g
+ground_carried world (Move.Take client reply queue) first g = take_ground world client reply queue g first
+ground_carried world (Move.Notice client) cut g = notice_ground world client g cut
+ground_carried world (Move.Stray client request) up g = stray_ground world client request g
 
 pub first_ground : (setup : Setup) → Ground (first_world setup)
 unfolding first_world

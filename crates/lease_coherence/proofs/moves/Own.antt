@@ -37,7 +37,7 @@ use Rattle.lease_laws.proofs.world.Links.{by_client, stepped_links}
 use Rattle.lease_laws.proofs.world.Runs.{stepped_server, stepped_clients}
 use Rattle.lease_coherence.specs.Creates.{held_by}
 use Rattle.lease_coherence.proofs.moves.Deeds.{IsRefusedAck, HasDeeds, IsSource, step_deed, told_to, granted_in, reconnected_in, changed_in, without_opens, leased_in, held_in}
-use Rattle.lease_coherence.proofs.moves.Events.{Ground, IsMoved, cut_off, timed_out, come_back, connected, reply_gone, reply_taken, noticed_by, strayed}
+use Rattle.lease_coherence.proofs.moves.Events.{Ground, IsMoved, cut_off, timed_out, come_back, connected, reply_gone, reply_taken, noticed_by, strayed, Move}
 use Rattle.lease_coherence.proofs.moves.Foreign.{free_no_writer, change_no_writer, change_no_reader, off_sound, false_not, IsUnmoved, unmoved_same, unmoved_then, apart, key_client, filter_last, filter_twice, unmoved_off, off_ground, unmoved_told, unmoved_popped, unmoved_held, unmoved_without, unmoved_leased, unmoved_granted, unmoved_mapped, unmoved_content}
 use Rattle.lease_coherence.proofs.moves.Frames.{stepped_past, stepped_requests, stepped_replies}
 use Rattle.lease_coherence.proofs.moves.Ground.{moved_past}
@@ -414,38 +414,39 @@ stray_all V A k world client request v a c good = either (client == c)
 pub own_moves : (V : World → Type 0) (A : World → ℕ → Type 0) → ((world : World) → V world → Ground world)
     → IsOwnMoved V A → IsMoved V (OfGood A)
 unfolding opens_dropped
-own_moves V A ground k = record {
-  step = λ world step v next a c good. step_deed world (ForAll A world) (deeds_all V A ground k world v a) step next c
-      ((later_told world.past (step_taken step (begun world.server)).outs).strayed c
-      (subst (λ past. has_strayed c past ≡ false) (moved_past world step) good));
-  cut = λ world client v up a. moved_all V A k world (cut_off world client) client v a
-      (later_fact world.past (Fact.Dropped client)) (λ g x. k.cut world client v g up x)
-      (λ c ne. unmoved_cut world client c (ground world v) ne);
-  timer = λ world client file v on breaks a. moved_all V A k world (timed_out world client file) client v a
-      (later_fact world.past (Fact.Expired client file)) (λ g x. k.timer world client file v g on breaks x)
-      (λ c ne. unmoved_timer world client file c (ground world v) ne);
-  scavenge = λ world file_id v a c good. k.dropped world c (is_left_behind file_id) v good
-      (λ one e. not_parts one.connected (and_parts (one.file_id == file_id) (not one.connected) e).1) (a c good);
-  connect = λ world client v down a. moved_all V A k world (connected world client) client v a
-      (then_later world.past (come_back world client).past (connected world client).past
-      (later_fact world.past (Fact.Joined client)) (stepped_later (come_back world client) client _))
-      (λ g x. k.connect world client v g down x)
-      (λ c ne. unmoved_then world (come_back world client) _ c (unmoved_back world client c ne)
-      (unmoved_stepped (come_back world client) client _ c ne));
-  command = λ world client command v a. moved_all V A k world _ client v a
-      (stepped_later world client (commanded (world.clients client) command))
-      (λ g x. k.command world client command v g x) (λ c ne. unmoved_stepped world client _ c ne);
-  take = λ world client reply queue v first a. moved_all V A k world (reply_taken world client reply queue) client v a
-      (then_later world.past (reply_gone world client queue).past (reply_taken world client reply queue).past
-      (later_fact world.past (Fact.Took client)) (stepped_later (reply_gone world client queue) client _))
-      (λ g x. k.take world client reply queue v g first x)
-      (λ c ne. unmoved_then world (reply_gone world client queue) _ c (unmoved_gone world client queue c ne)
-      (unmoved_stepped (reply_gone world client queue) client _ c ne));
-  notice = λ world client v cut a. moved_all V A k world (noticed_by world client) client v a
-      (stepped_later (record world { links = put world.links client Link.Down }) client _)
-      (λ g x. k.notice world client v g cut x)
-      (λ c ne. unmoved_then world (record world { links = put world.links client Link.Down }) _ c
-      (unmoved_link world client Link.Down c ne)
-      (unmoved_stepped (record world { links = put world.links client Link.Down }) client _ c ne));
-  stray = λ world client request v up a. stray_all V A k world client request v a;
-}
+own_moves V A ground k world (Move.Step step) next v a =
+    λ c good. step_deed world (ForAll A world) (deeds_all V A ground k world v a) step next c
+    ((later_told world.past (step_taken step (begun world.server)).outs).strayed c
+    (subst (λ past. has_strayed c past ≡ false) (moved_past world step) good))
+own_moves V A ground k world (Move.Cut client) up v a = moved_all V A k world (cut_off world client) client v a
+    (later_fact world.past (Fact.Dropped client)) (λ g x. k.cut world client v g up x)
+    (λ c ne. unmoved_cut world client c (ground world v) ne)
+own_moves V A ground k world (Move.Expire client file) (on, breaks) v a =
+    moved_all V A k world (timed_out world client file) client v a
+    (later_fact world.past (Fact.Expired client file)) (λ g x. k.timer world client file v g on breaks x)
+    (λ c ne. unmoved_timer world client file c (ground world v) ne)
+own_moves V A ground k world (Move.Scavenge file_id) may v a = λ c good. k.dropped world c (is_left_behind file_id) v good
+    (λ one e. not_parts one.connected (and_parts (one.file_id == file_id) (not one.connected) e).1) (a c good)
+own_moves V A ground k world (Move.Connect client) down v a = moved_all V A k world (connected world client) client v a
+    (then_later world.past (come_back world client).past (connected world client).past
+    (later_fact world.past (Fact.Joined client)) (stepped_later (come_back world client) client _))
+    (λ g x. k.connect world client v g down x)
+    (λ c ne. unmoved_then world (come_back world client) _ c (unmoved_back world client c ne)
+    (unmoved_stepped (come_back world client) client _ c ne))
+own_moves V A ground k world (Move.Commanded client command) may v a = moved_all V A k world _ client v a
+    (stepped_later world client (commanded (world.clients client) command))
+    (λ g x. k.command world client command v g x) (λ c ne. unmoved_stepped world client _ c ne)
+own_moves V A ground k world (Move.Take client reply queue) first v a =
+    moved_all V A k world (reply_taken world client reply queue) client v a
+    (then_later world.past (reply_gone world client queue).past (reply_taken world client reply queue).past
+    (later_fact world.past (Fact.Took client)) (stepped_later (reply_gone world client queue) client _))
+    (λ g x. k.take world client reply queue v g first x)
+    (λ c ne. unmoved_then world (reply_gone world client queue) _ c (unmoved_gone world client queue c ne)
+    (unmoved_stepped (reply_gone world client queue) client _ c ne))
+own_moves V A ground k world (Move.Notice client) cut v a = moved_all V A k world (noticed_by world client) client v a
+    (stepped_later (record world { links = put world.links client Link.Down }) client _)
+    (λ g x. k.notice world client v g cut x)
+    (λ c ne. unmoved_then world (record world { links = put world.links client Link.Down }) _ c
+    (unmoved_link world client Link.Down c ne)
+    (unmoved_stepped (record world { links = put world.links client Link.Down }) client _ c ne))
+own_moves V A ground k world (Move.Stray client request) up v a = stray_all V A k world client request v a

@@ -31,7 +31,7 @@ use Rattle.lease_laws.proofs.world.Runs.{stepped_server, stepped_clients}
 use Rattle.lease_coherence.specs.Names.{Each, IsNamed, IsNamedAt, IsNamedEntry, IsNamedOnFile, IsNamedReply, IsNamedRequest, IsOwnOpen}
 use Rattle.lease_coherence.specs.Parts.{NothingIsFalselyDone}
 use Rattle.lease_coherence.proofs.moves.Deeds.{step_deed}
-use Rattle.lease_coherence.proofs.moves.Events.{Ground, IsMoved, Both, carried_both, runs_have, cut_off, timed_out, left_behind, come_back, reply_gone, strayed}
+use Rattle.lease_coherence.proofs.moves.Events.{Ground, IsMoved, Both, carried_both, runs_have, cut_off, timed_out, left_behind, come_back, reply_gone, strayed, Move}
 use Rattle.lease_coherence.proofs.moves.Frames.{stepped_past, stepped_requests, stepped_replies}
 use Rattle.lease_coherence.proofs.moves.Ground.{ground_carried, first_ground, moved_past}
 use Rattle.lease_coherence.proofs.moves.Moves.{IsNext, moved}
@@ -281,30 +281,29 @@ stepped_true world client call same named t =
 
 pub true_moves : IsMoved Ground HasTrueNames
 unfolding noticed connection_made all_turned requests_sent
-true_moves = record {
-  step = λ world step g next t. moved_true world step g next t;
-  cut = λ world client g up t. (cut_named world client t.0, (tt, t.1));
-  timer = λ world client file g on breaks t. (timer_named world client file t.0, (tt, t.1));
-  scavenge = λ world file_id g t. (scavenge_named world file_id t.0, t.1);
-  connect = λ world client g down t. stepped_true (come_back world client) client ClientCall.Connected refl
-      (λ good. tt) (back_named world client t.0, (tt, t.1));
-  command = λ world client command g t. stepped_true world client (ClientCall.Commanded command)
-      (commanded-stays (world.clients client) command).guid (λ good. tt) t;
-  take = λ world client reply queue g first t. stepped_true (reply_gone world client queue) client
-      (ClientCall.Taken reply) (taken-stays (world.clients client) reply).guid
-      (λ good. let later = later_fact world.past (Fact.Took client) in
-      (replies_later client world.past (Fact.Took client ∷ world.past) (reply ∷ queue) later
-      (subst (Each (IsNamedReply client world.past)) first (t.0 client (later.strayed client good)).replies)).0)
-      (gone_named world client reply queue first t.0, (tt, t.1));
-  notice = λ world client g cut t. stepped_true (record world { links = put world.links client Link.Down }) client
-      ClientCall.Noticed refl (λ good. tt) (
-        λ c good. let m = t.0 c good in
-            at_later world (record world { links = put world.links client Link.Down }) c (later_same world.past) refl
-            m.requests m.held m.opens m.replies m,
-        t.1,
-      );
-  stray = λ world client request g up t. (strayed_named world client request t.0, (tt, t.1));
-}
+true_moves world (Move.Step step) next g t = moved_true world step g next t
+true_moves world (Move.Cut client) up g t = (cut_named world client t.0, (tt, t.1))
+true_moves world (Move.Expire client file) (on, breaks) g t = (timer_named world client file t.0, (tt, t.1))
+true_moves world (Move.Scavenge file_id) may g t = (scavenge_named world file_id t.0, t.1)
+true_moves world (Move.Connect client) down g t = stepped_true (come_back world client) client ClientCall.Connected refl
+    (λ good. tt) (back_named world client t.0, (tt, t.1))
+true_moves world (Move.Commanded client command) may g t = stepped_true world client (ClientCall.Commanded command)
+    (commanded-stays (world.clients client) command).guid (λ good. tt) t
+true_moves world (Move.Take client reply queue) first g t = stepped_true (reply_gone world client queue) client
+    (ClientCall.Taken reply) (taken-stays (world.clients client) reply).guid
+    (λ good. let later = later_fact world.past (Fact.Took client) in
+    (replies_later client world.past (Fact.Took client ∷ world.past) (reply ∷ queue) later
+    (subst (Each (IsNamedReply client world.past)) first (t.0 client (later.strayed client good)).replies)).0)
+    (gone_named world client reply queue first t.0, (tt, t.1))
+true_moves world (Move.Notice client) cut g t =
+    stepped_true (record world { links = put world.links client Link.Down }) client
+    ClientCall.Noticed refl (λ good. tt) (
+      λ c good. let m = t.0 c good in
+          at_later world (record world { links = put world.links client Link.Down }) c (later_same world.past) refl
+          m.requests m.held m.opens m.replies m,
+      t.1,
+    )
+true_moves world (Move.Stray client request) up g t = (strayed_named world client request t.0, (tt, t.1))
 
 -- ---- where runs begin, and every run
 

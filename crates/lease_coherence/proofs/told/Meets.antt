@@ -24,7 +24,7 @@ use Rattle.lease_coherence.proofs.beliefs.Words.{is_created, is_ack_break}
 use Rattle.lease_coherence.proofs.clients.Takes.{any_reply, is_live}
 use Rattle.lease_coherence.proofs.covered.Moves.{FailsGone}
 use Rattle.lease_coherence.proofs.covered.Runs.{counted_of}
-use Rattle.lease_coherence.proofs.moves.Events.{reply_taken}
+use Rattle.lease_coherence.proofs.moves.Events.{reply_taken, Move}
 use Rattle.lease_coherence.proofs.told.Clients.{IsParkedBreak, TakeLives, takes_live, whole_of}
 use Rattle.lease_coherence.proofs.told.Lone.{AfterLone, HasLones, NoneCreated, holds_handles, is_lone_break, lones_carried}
 use Rattle.lease_coherence.proofs.told.Runs.{known_here, live_not_failed}
@@ -227,7 +227,7 @@ will_meet c file lowered (reply ∷ queue) world w first met =
     waits_on : IsWaitingFor world c file lowered → world.replies c ≡ reply ∷ queue
         → IsWaitingFor (reply_taken world c reply queue) c file lowered
     waits_on w first = record {
-      known = lones_carried.take world c reply queue w.known first w.known;
+      known = lones_carried world (Move.Take c reply queue) first w.known;
       good = one.strayed ∙ w.good;
       up = ap (λ (l : ℕ → Link). is_up (l c)) one.links ∙ w.up;
       fresh = still_fresh world (reply_taken world c reply queue) c (reply ∷ []) one file w.fresh;

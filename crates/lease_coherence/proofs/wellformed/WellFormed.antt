@@ -35,7 +35,7 @@ use Rattle.lease_laws.proofs.world.Links.{by_client, stepped_links}
 use Rattle.lease_laws.proofs.world.Runs.{stepped_server, stepped_clients}
 use Rattle.lease_coherence.specs.Parts.{RunsAreWellFormed}
 use Rattle.lease_coherence.proofs.moves.Deeds.{HasDeeds, IsSource, step_deed}
-use Rattle.lease_coherence.proofs.moves.Events.{Ground, IsMoved, Both, carried_both, runs_have, reply_gone, come_back}
+use Rattle.lease_coherence.proofs.moves.Events.{Ground, IsMoved, Both, carried_both, runs_have, reply_gone, come_back, Move}
 use Rattle.lease_coherence.proofs.moves.Frames.{from_source, lease_put_rest, stepped_past}
 use Rattle.lease_coherence.proofs.moves.Ground.{ground_carried, first_ground}
 use Rattle.lease_coherence.proofs.records.Later.{later_fact, later_noted, past_noted}
@@ -314,40 +314,41 @@ put_up links client link c up = by_client
 
 pub well_moves : IsMoved Ground IsWell
 unfolding joined key_expired opens_dropped with_opens opens_disconnected client_forgotten is_well_formed has_number requests_sent has_joined noticed connection_made all_turned
-well_moves = record {
-  step = λ world step g next w. step_deed world IsWell (deeds_well world g w) step next;
-  cut = λ world client g up w. plain_well world.past (Fact.Dropped client) world.clients world.links
-      (put world.links client Link.Cut) world.server _ refl refl (λ c n. refl)
-      (λ c u. ⊎_elim (λ was. inl was) (λ now. absurd (true≢false (sym now.1)))
-      (put_up world.links client Link.Cut c u)) w;
-  timer = λ world client file g on breaks w. more_well world.past (Fact.Expired client file) world.clients world.links
-      world.server _ refl (w.started file on) (λ c n. refl) w;
-  scavenge = λ world file_id g w. server_well world.past world.clients world.links world.server _ refl w;
-  connect = λ world client g down w. stepped_well (come_back world client) client ClientCall.Connected g.clients refl
-      (plain_well world.past (Fact.Joined client) world.clients world.links (put world.links client Link.Up)
-      world.server _ refl refl (λ c n. refl)
-      (λ c u. ⊎_elim (λ was. inl was)
-      (λ now. inr (true_or (client == c) (has_joined c world.past)
-      (eq-eqb client c (sym now.0))))
-      (put_up world.links client Link.Up c u)) w);
-  command = λ world client command g w. stepped_well world client (ClientCall.Commanded command) g.clients
-      (commanded-stays (world.clients client) command).files w;
-  take = λ world client reply queue g first w. stepped_well (reply_gone world client queue) client
-      (ClientCall.Taken reply) g.clients (taken-stays (world.clients client) reply).files
-      (more_well world.past (Fact.Took client) world.clients world.links world.server world.server refl
-      (took_formed world client reply queue g first w) (λ c n. refl) w);
-  notice = λ world client g cut w. stepped_well (record world { links = put world.links client Link.Down }) client
-      ClientCall.Noticed g.clients refl (record {
-        facts = w.facts;
-        started = w.started;
-        files = w.files;
-        joined_so = λ c u. ⊎_elim (λ was. w.joined_so c was) (λ now. absurd (true≢false (sym now.1)))
-            (put_up world.links client Link.Down c u);
-        numbers = w.numbers;
-      });
-  stray = λ world client request g up w. more_well world.past (Fact.Strayed client) world.clients world.links
-      world.server world.server refl refl (λ c n. refl) w;
-}
+well_moves world (Move.Step step) next g w = step_deed world IsWell (deeds_well world g w) step next
+well_moves world (Move.Cut client) up g w = plain_well world.past (Fact.Dropped client) world.clients world.links
+    (put world.links client Link.Cut) world.server _ refl refl (λ c n. refl)
+    (λ c u. ⊎_elim (λ was. inl was) (λ now. absurd (true≢false (sym now.1)))
+    (put_up world.links client Link.Cut c u)) w
+well_moves world (Move.Expire client file) (on, breaks) g w =
+    more_well world.past (Fact.Expired client file) world.clients world.links
+    world.server _ refl (w.started file on) (λ c n. refl) w
+well_moves world (Move.Scavenge file_id) may g w = server_well world.past world.clients world.links world.server _ refl w
+well_moves world (Move.Connect client) down g w =
+    stepped_well (come_back world client) client ClientCall.Connected g.clients refl
+    (plain_well world.past (Fact.Joined client) world.clients world.links (put world.links client Link.Up)
+    world.server _ refl refl (λ c n. refl)
+    (λ c u. ⊎_elim (λ was. inl was)
+    (λ now. inr (true_or (client == c) (has_joined c world.past)
+    (eq-eqb client c (sym now.0))))
+    (put_up world.links client Link.Up c u)) w)
+well_moves world (Move.Commanded client command) may g w = stepped_well world client (ClientCall.Commanded command) g.clients
+    (commanded-stays (world.clients client) command).files w
+well_moves world (Move.Take client reply queue) first g w = stepped_well (reply_gone world client queue) client
+    (ClientCall.Taken reply) g.clients (taken-stays (world.clients client) reply).files
+    (more_well world.past (Fact.Took client) world.clients world.links world.server world.server refl
+    (took_formed world client reply queue g first w) (λ c n. refl) w)
+well_moves world (Move.Notice client) cut g w =
+    stepped_well (record world { links = put world.links client Link.Down }) client
+    ClientCall.Noticed g.clients refl (record {
+      facts = w.facts;
+      started = w.started;
+      files = w.files;
+      joined_so = λ c u. ⊎_elim (λ was. w.joined_so c was) (λ now. absurd (true≢false (sym now.1)))
+          (put_up world.links client Link.Down c u);
+      numbers = w.numbers;
+    })
+well_moves world (Move.Stray client request) up g w = more_well world.past (Fact.Strayed client) world.clients world.links
+    world.server world.server refl refl (λ c n. refl) w
 
 -- ---- where runs begin
 

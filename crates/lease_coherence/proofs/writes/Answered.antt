@@ -51,17 +51,7 @@ known_by world v c good = record {
 
 -- what is kept where less is known is kept where more is
 pub moved_under : (V W P : World → Type 0) → ((world : World) → V world → W world) → IsMoved W P → IsMoved V P
-moved_under V W P weaker m = record {
-  step = λ world step v next p. m.step world step (weaker world v) next p;
-  cut = λ world client v up p. m.cut world client (weaker world v) up p;
-  timer = λ world client file v on breaks p. m.timer world client file (weaker world v) on breaks p;
-  scavenge = λ world file_id v p. m.scavenge world file_id (weaker world v) p;
-  connect = λ world client v down p. m.connect world client (weaker world v) down p;
-  command = λ world client command v p. m.command world client command (weaker world v) p;
-  take = λ world client reply queue v first p. m.take world client reply queue (weaker world v) first p;
-  notice = λ world client v cut p. m.notice world client (weaker world v) cut p;
-  stray = λ world client request v up p. m.stray world client request (weaker world v) up p;
-}
+moved_under V W P weaker m world move may v p = m world move may (weaker world v) p
 
 pub records_carried : IsCarried HasRecords
 records_carried = carried_both HasBeliefs IsWell beliefs_carried

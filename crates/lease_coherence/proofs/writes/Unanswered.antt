@@ -33,7 +33,7 @@ use Rattle.lease_laws.proofs.world.Runs.{stepped_clients}
 use Rattle.lease_coherence.proofs.clients.Commands.{HasCommands, any_command, sent_of}
 use Rattle.lease_coherence.proofs.clients.Files.{among_numbers}
 use Rattle.lease_coherence.proofs.clients.Takes.{HasTakes, any_reply}
-use Rattle.lease_coherence.proofs.moves.Events.{Ground, IsMoved, come_back, reply_gone}
+use Rattle.lease_coherence.proofs.moves.Events.{Ground, IsMoved, come_back, reply_gone, Move}
 use Rattle.lease_coherence.proofs.moves.Frames.{stepped_past}
 use Rattle.lease_coherence.proofs.moves.Ground.{moved_clients, moved_past}
 use Rattle.lease_coherence.proofs.moves.Shift.{append_none}
@@ -478,21 +478,21 @@ stepped_writes world c call s files h d file known =
 
 pub writes_moves : IsMoved Ground HasWrites
 unfolding open_writes requests_sent noticed connection_made all_turned joined
-writes_moves = record {
-  step = λ world step g next h c file known. ap (open_writes c file) (moved_past world step)
-      ∙ told_writes c file world.past (step_taken step (begun world.server)).outs
-      ∙ h c file (ap (λ (t : ℕ → Client). knows_file (t c) file) (sym (moved_clients world step)) ∙ known)
-      ∙ ap (λ (t : ℕ → Client). unanswered_in ((t c).entries file)) (sym (moved_clients world step));
-  cut = λ world client g up h. h;
-  timer = λ world client file g on breaks h. h;
-  scavenge = λ world file_id g h. h;
-  connect = λ world client g down h.
-      stepped_writes (come_back world client) client ClientCall.Connected (g.clients client) refl h;
-  command = λ world client command g h. stepped_writes world client (ClientCall.Commanded command) (g.clients client)
-      (commanded-stays (world.clients client) command).files h;
-  take = λ world client reply queue g first h. stepped_writes (reply_gone world client queue) client
-      (ClientCall.Taken reply) (g.clients client) (taken-stays (world.clients client) reply).files h;
-  notice = λ world client g cut h. stepped_writes (record world { links = put world.links client Link.Down }) client
-      ClientCall.Noticed (g.clients client) refl h;
-  stray = λ world client request g up h. h;
-}
+writes_moves world (Move.Step step) next g h = λ c file known. ap (open_writes c file) (moved_past world step)
+    ∙ told_writes c file world.past (step_taken step (begun world.server)).outs
+    ∙ h c file (ap (λ (t : ℕ → Client). knows_file (t c) file) (sym (moved_clients world step)) ∙ known)
+    ∙ ap (λ (t : ℕ → Client). unanswered_in ((t c).entries file)) (sym (moved_clients world step))
+writes_moves world (Move.Cut client) up g h = h
+writes_moves world (Move.Expire client file) (on, breaks) g h = h
+writes_moves world (Move.Scavenge file_id) may g h = h
+writes_moves world (Move.Connect client) down g h =
+    stepped_writes (come_back world client) client ClientCall.Connected (g.clients client) refl h
+writes_moves world (Move.Commanded client command) may g h =
+    stepped_writes world client (ClientCall.Commanded command) (g.clients client)
+    (commanded-stays (world.clients client) command).files h
+writes_moves world (Move.Take client reply queue) first g h = stepped_writes (reply_gone world client queue) client
+    (ClientCall.Taken reply) (g.clients client) (taken-stays (world.clients client) reply).files h
+writes_moves world (Move.Notice client) cut g h =
+    stepped_writes (record world { links = put world.links client Link.Down }) client
+    ClientCall.Noticed (g.clients client) refl h
+writes_moves world (Move.Stray client request) up g h = h
