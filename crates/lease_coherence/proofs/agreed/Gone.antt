@@ -91,7 +91,8 @@ deeds_gone id world g = record {
   reconnected = λ off c file access share ask file_id source again on waits.
       let was = off_gone id world off c _ source g in
       same_gone id off.server (record off.server { opens = map (connected_again file_id) off.server.opens })
-      (itself off.server.last_id) (λ one there. changed_by (connected_again file_id) (again_same file_id) off.server.opens one there)
+      (itself off.server.last_id) (λ one there. changed_by (connected_again file_id) (again_same file_id) off.server.opens one
+      there)
       was;
   read = λ off c file_id one source found may. off_gone id world off c _ source g;
   changed = λ off c file_id number patch one source found may. let was = off_gone id world off c _ source g in

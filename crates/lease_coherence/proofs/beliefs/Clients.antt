@@ -375,10 +375,14 @@ takes_believe machine = record {
   reconnected = λ at file_id answer parted is. granted_takes machine at file_id answer _ _ refl tt (λ w. inl refl);
   promoted = λ at file_id answer live asked is asks. granted_takes machine at file_id answer _ _ refl (tt, tt)
       (λ w. promoted_from (lease_key machine.guid at) live (machine.entries at).phase is answer.lease w);
-  not_opened = λ at status access share is. same_takes machine (Reply.CreateFailed at status) at _ tt (λ now e. never_live (machine.entries at).phase Phase.Closed refl now e);
-  not_reconnected = λ at status parted is. same_takes machine (Reply.CreateFailed at status) at _ tt (λ now e. never_live (machine.entries at).phase Phase.Closed refl now e);
-  not_promoted = λ at status live asked is asks. same_takes machine (Reply.CreateFailed at status) at _ tt (λ now e. was_same (machine.entries at).phase live _ is refl now e);
-  read = λ at file_id bytes live is id some. same_takes machine (Reply.ReadDone file_id bytes) at _ tt (λ now e. was_same (machine.entries at).phase live _ is refl now e);
+  not_opened = λ at status access share is. same_takes machine (Reply.CreateFailed at status) at _ tt
+      (λ now e. never_live (machine.entries at).phase Phase.Closed refl now e);
+  not_reconnected = λ at status parted is. same_takes machine (Reply.CreateFailed at status) at _ tt
+      (λ now e. never_live (machine.entries at).phase Phase.Closed refl now e);
+  not_promoted = λ at status live asked is asks. same_takes machine (Reply.CreateFailed at status) at _ tt
+      (λ now e. was_same (machine.entries at).phase live _ is refl now e);
+  read = λ at file_id bytes live is id some. same_takes machine (Reply.ReadDone file_id bytes) at _ tt
+      (λ now e. was_same (machine.entries at).phase live _ is refl now e);
   not_read = λ at file_id status live is id some. read_failed_takes machine at file_id status live is;
   written = λ at file_id number has known. same_takes machine (Reply.WriteDone file_id number) at _ tt
       (with_same (machine.entries at).phase _ (machine.entries at).phase refl);

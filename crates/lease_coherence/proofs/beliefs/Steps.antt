@@ -90,7 +90,8 @@ step_anchor world new c file machine step is on s fresh before known =
     ∙ acks_append key (world.requests c) step.requests in
     ⊎_elim
     (λ zero. ⊎_elim (λ none. inl (same ∙ zeros (acks key (world.requests c)) (acks key step.requests) zero none))
-    (λ (l : AnchorsLive (world.clients c) file step). inr (live_anchored world new c file machine step.requests is l.live l.was fresh s l.till)) (on file))
+    (λ (l : AnchorsLive (world.clients c) file step). inr (live_anchored world new c file machine step.requests is l.live l.was
+    fresh s l.till)) (on file))
     (λ a. ⊎_elim (λ zero. absurd (none_one (acks key (world.requests c)) zero a.one))
     (λ (x : IsAnchored world c file). inr (anchored_in world new c file machine step.requests is x.file_id x.opened
     (open_behind key x.file_id (world.requests c) step.requests a.one x.till) x.held)) known.anchor)

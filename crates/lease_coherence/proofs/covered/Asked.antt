@@ -101,7 +101,8 @@ first_asked world off c file request source asked on_file = ⊎_elim
       ap (λ n. as_requests (held_by c (world.server.held n)) ++ world.requests c) (sym (on_file h))
           ∙ ap (λ l. as_requests (held_by c l) ++ world.requests c) h.held
           ∙ asked_among c h.before h.behind (held_of c request) (world.requests c) (eq-eqb c c refl)
-          ∙ ap (λ (l : List Held). as_requests l ++ Request.OnFile request ∷ (as_requests (held_by c h.behind) ++ world.requests c))
+          ∙ ap (λ (l : List Held). as_requests l ++ Request.OnFile request ∷
+          (as_requests (held_by c h.behind) ++ world.requests c))
           (none_behind c h.before h.in_turn),
     ))
     source.from

@@ -251,7 +251,8 @@ refusal_closes off c (FileRequest.Close id) status may x there by up =
 
 -- a file is changed
 pub changed_covered : (off : World) (c file id number : ℕ) (patch : Patch)
-    → IsLeftCovered off c (Request.OnFile (FileRequest.Write id number patch)) → HasCovered (changed_in off c file id number patch) c
+    → IsLeftCovered off c (Request.OnFile (FileRequest.Write id number patch))
+    → HasCovered (changed_in off c file id number patch) c
 changed_covered off c file id number patch h =
     let new = changed_in off c file id number patch in
     let reply = Reply.WriteDone id number in
@@ -345,7 +346,8 @@ again_from off c id y there = if_cases (λ x. IsFrom off x) (y.file_id == id) (r
 
 pub reconnected_covered : (off : World) (c file : ℕ) (access : Access) (share : Share) (ask : CreateAsk) (id : ℕ)
     → KnowsIds off c → was_opened id file c off.past ≡ true
-    → IsLeftCovered off c (Request.OnFile (FileRequest.Create file access share (Some ask))) → HasCovered (reconnected_in off c file ask id) c
+    → IsLeftCovered off c (Request.OnFile (FileRequest.Create file access share (Some ask)))
+    → HasCovered (reconnected_in off c file ask id) c
 reconnected_covered off c file access share ask id ids opened h = record {
   covers = λ x there by up fresh. let m = among_map (connected_again id) x off.server.opens there in
       covered x m.0 m.1 m.2 by up fresh;

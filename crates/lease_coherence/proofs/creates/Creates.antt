@@ -462,7 +462,8 @@ creates_move = record {
       (reconnected_reply off.server c file ask file_id) v.0 source refl refl refl refl refl (λ f. refl) a;
   read = λ world off c file_id one v good source found may a.
       replied_at world off (told_to off c (Reply.ReadDone file_id (off.server.contents one.file))) c
-      (FileRequest.Read file_id) (Reply.ReadDone file_id (off.server.contents one.file)) v.0 source refl refl refl refl refl (λ f. refl) a;
+      (FileRequest.Read file_id) (Reply.ReadDone file_id (off.server.contents one.file)) v.0 source refl refl refl refl refl
+      (λ f. refl) a;
   changed = λ world off c file_id number patch one v good source found may a.
       replied_at world off (changed_in off c one.file file_id number patch) c
       (FileRequest.Write file_id number patch) (Reply.WriteDone file_id number) v.0 source refl refl refl refl refl (λ f. refl) a;

@@ -120,7 +120,8 @@ commands_count client = record {
       (λ other. close_none other live.file_id live.unsent) (sym (phase_idle client file live is.is_so idle));
   cached = λ file live base is reads has other. refl;
   read = λ file live is idle. quiet_turn client file _ (λ other. plus_zero) (sym (ap has_asked is.is_so));
-  buffered = λ file live patch is fits caches. wrote_counts client file _ Answer.Done [] (next_write client patch true) (λ other. refl)
+  buffered = λ file live patch is fits caches. wrote_counts client file _ Answer.Done [] (next_write client patch true)
+      (λ other. refl)
       (sym (ap has_asked is.is_so));
   written = λ file live patch is fits sends. wrote_counts client file _ Answer.Waiting
       (Request.OnFile (FileRequest.Write live.file_id (client.last_number + 1) patch) ∷ [])

@@ -325,7 +325,8 @@ never_passed machine notice s why file live is own = ⊎_elim
     (ap (λ f. is_live (machine.entries f).phase) (eqb-true file other.0 same) ∙ other.2))
     (λ apart. clash (bytes_eq (lease_key machine.guid file) (lease_key machine.guid other.0))
     (ap (bytes_eq (lease_key machine.guid file))
-    ((bytes_eq-Decides (lease_key machine.guid other.0) notice.key).0 (found_so machine (is_key_of machine notice.key) other.0 other.1))
+    ((bytes_eq-Decides (lease_key machine.guid other.0) notice.key).0 (found_so machine (is_key_of machine notice.key) other.0
+    other.1))
     ∙ own)
     (keys_apart machine.guid file other.0 (λ same. clash (file == other.0) (eq-eqb file other.0 same) apart)))) why
 
@@ -373,7 +374,8 @@ passed_plain c machine past (Reply.CloseFailed file_id status) s why due file =
 passed_plain c machine past (Reply.Break None) s why due file = record { reads = λ e. refl; same = λ e old new f. f }
 passed_plain c machine past (Reply.Break (Some notice)) s why due file = record {
   reads = λ e. let l = live_read (machine.entries file).phase e in
-      rw (not_true (bytes_eq (lease_key machine.guid file) notice.key) (λ own. never_passed machine notice s why file l.0 l.1 own))
+      rw (not_true (bytes_eq (lease_key machine.guid file) notice.key) (λ own. never_passed machine notice s why file l.0 l.1
+          own))
       refl;
   same = λ e old new f. f;
 }

@@ -245,7 +245,8 @@ unfolding content_of
 opened_content at file client past = refl
 
 -- what the queue tells where a grant stands at its end, of the file itself and of others
-pub created_bound : (key : List ℕ) (at file file_id : ℕ) (asked : List ℕ) (left : Bool) (lease : Lease) (durable : Bool) (P : Type 0)
+pub created_bound : (key : List ℕ) (at file file_id : ℕ) (asked : List ℕ) (left : Bool) (lease : Lease) (durable : Bool)
+    (P : Type 0)
     → ((file == at) ≡ true → given_reads key left
     (Some (record { key = asked; state = lease.state; in_progress = is_breaking lease })) ≡ true → P)
     → ((file == at) ≡ false → left ≡ true → P)
@@ -308,14 +309,16 @@ granted_asked off c file access share ask asked named t at fresh low f =
     (λ other. f.bound reads)))
     (either (file == at)
     (λ same. either (is_breaking (off.server.leases key))
-    (λ breaks. inl (created_bound own at file (off.server.last_id + 1) asked.key left lease (ask.durable && lease.state.handle) (left ≡ true)
+    (λ breaks. inl (created_bound own at file (off.server.last_id + 1) asked.key left lease (ask.durable && lease.state.handle)
+    (left ≡ true)
     (λ s e. busy_left own asked.key left (is_breaking lease) lease.state
     (ap is_breaking (grant_breaking off.server key file asked.state breaks) ∙ breaks) e) (λ a e. e)))
     (λ settled. inr (settled_none own at (off.server.leases (machine_key off c at)) ((off.clients c).entries at).phase
     (off.requests c) (off.replies c)
     (ap (λ k. is_breaking (off.server.leases k)) (key_same off c file at asked named same) ∙ settled)
     (t.files at fresh).believed)))
-    (λ apart. inl (created_bound own at file (off.server.last_id + 1) asked.key left lease (ask.durable && lease.state.handle) (left ≡ true)
+    (λ apart. inl (created_bound own at file (off.server.last_id + 1) asked.key left lease (ask.durable && lease.state.handle)
+    (left ≡ true)
     (λ same e. clash (file == at) same apart) (λ a e. e))))) f
   where
     still_bound : machine_key off c at ≡ key_of c asked.key
@@ -437,7 +440,8 @@ broken_fresh world key lease lowered file ends low f =
     }) (plain_told c world.past) low file
     (still_sends world new c world.past reply file tt refl
     (λ e. put_key-cases (λ (l : Lease). (ends_as l).read ≡ true) world.server.leases key lease (machine_key world c file)
-    (λ mine. ap (λ (s : State). s.read) ends ∙ told_read own ((bytes_eq-Decides own key.bytes).1 (ap (λ (k : Key). k.bytes) mine)) left e)
+    (λ mine. ap (λ (s : State). s.read) ends ∙ told_read own ((bytes_eq-Decides own key.bytes).1 (ap (λ (k : Key). k.bytes) mine))
+    left e)
     (λ other. f.bound (left_read own left e)))
     (inl (λ e. left_read own left e))) f
   where

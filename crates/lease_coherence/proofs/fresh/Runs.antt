@@ -374,7 +374,8 @@ take_fresh world c reply queue up first file takes due quiet f =
       bound = λ e. f.bound (ap (λ q. reads_after key file reads q) first ∙ fewer e);
       acks_read = each_append (AckReads key end) (world.requests c) step.requests
           (each_weaker (AckReads key (left_reads world c file)) (AckReads key end) (world.requests c)
-          (acks_fewer key (left_reads world c file) end (λ e. ap (λ q. reads_after key file reads q) first ∙ fewer e)) f.acks_read)
+          (acks_fewer key (left_reads world c file) end (λ e. ap (λ q. reads_after key file reads q) first ∙ fewer e))
+          f.acks_read)
           after.acks;
     }))
 
@@ -416,7 +417,8 @@ connect_fresh world c g down file =
       bound = λ reads. absurd (true≢false (sym reads ∙ dark));
       acks_read = subst (λ q. Each (AckReads (file_key back c file) (belief_in phase).read) (q ++ step.requests))
           (sym ((g.tied c).requests is_off))
-          (all_about (file_key back c file) (belief_in phase).read step.requests (each_flat IsAboutFile turn (numbers_to machine.files)
+          (all_about (file_key back c file) (belief_in phase).read step.requests
+          (each_flat IsAboutFile turn (numbers_to machine.files)
           (λ f. about f (machine.entries f).sent (machine.entries f).phase)));
     }))
   where

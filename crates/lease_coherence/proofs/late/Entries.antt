@@ -220,7 +220,8 @@ record IsGrantTaken (world : World) (c file : ℕ) (sent : List Pending) : Type 
 
 grant_taken : (world : World) (c : ℕ) (client : Client) (file file_id : ℕ) (answer : CreateAnswer)
     → client.guid ≡ (world.clients c).guid → knows_file client file ≡ true
-    → IsTakenSafe world c client (Reply.Created file file_id (Some answer)) → (given_state (lease_key client.guid file) answer.lease).write ≡ true → (x : Open) → Among x world.server.opens
+    → IsTakenSafe world c client (Reply.Created file file_id (Some answer))
+    → (given_state (lease_key client.guid file) answer.lease).write ≡ true → (x : Open) → Among x world.server.opens
     → x.client ≡ c → x.file_id ≡ file_id → IsGrantTaken world c file (client.entries file).sent
 grant_taken world c client file file_id answer guid known t write x there by id =
     let w = subst (λ g. (given_state (lease_key g file) answer.lease).write ≡ true) guid write in

@@ -184,7 +184,8 @@ acks_like world new c like ids [] n a = tt
 acks_like world new c like ids (Request.OnFile request ∷ queue) n a = acks_like world new c like ids queue n.1 a
 acks_like world new c like ids (Request.Acknowledge given ∷ queue) n a = (
   λ file. ⊎_elim
-      (λ keeps. inl (subst (λ key. AckKeeps key (Request.Acknowledge given)) (sym (same_key world new c like.machine file)) keeps))
+      (λ keeps. inl (subst (λ key. AckKeeps key (Request.Acknowledge given)) (sym (same_key world new c like.machine file))
+      keeps))
       (λ none. inr (not_buffered_like world new c file like ids queue n.1 none)) (a.0 file),
   acks_like world new c like ids queue n.1 a.1,
 )

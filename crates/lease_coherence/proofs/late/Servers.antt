@@ -258,7 +258,8 @@ held_write P c number (one ∷ held) each some = if_cases
       where
         both : (a b : ℕ) → a ≡ 0 → b ≡ 0 → a + b ≡ 0
         both a b e f = omega (arith, e, f)
-    by_count (suc n) e own not_none rest = write_in P number one.request (each one (inl refl) own) (λ none. never n (sym e ∙ none))
+    by_count (suc n) e own not_none rest = write_in P number one.request (each one (inl refl) own)
+        (λ none. never n (sym e ∙ none))
       where
         never : (m : ℕ) → suc m ≡ 0 → ⊥
         never m e = omega (arith, e)

@@ -77,7 +77,8 @@ IsSafeAt world c = (file : ℕ)
 
 abbrev pub NotBuffered : World → ℕ → ℕ → Request → Type 0
 NotBuffered world c file (Request.OnFile (FileRequest.Write file_id number patch)) = (x : Open)
-    → Among x world.server.opens → x.client ≡ c → x.file_id ≡ file_id → x.file ≡ file → has_buffered c file number world.past ≡ false
+    → Among x world.server.opens → x.client ≡ c → x.file_id ≡ file_id → x.file ≡ file
+    → has_buffered c file number world.past ≡ false
 NotBuffered world c file request = ⊤
 
 -- one that gives writes up has no buffered write of its file behind it
@@ -230,7 +231,8 @@ write_like world new c like ids file_id file number opened holds safe x there by
     let on = ids.on file_id file opened w.was w.there (w.id ∙ id) in
     let at : x.file ≡ file = sym w.file ∙ on.0 in
     let old : IsSafeWrite c file number world.past (holds_write world c file) =
-    subst (λ f. IsSafeWrite c f number world.past (holds_write world c f)) on.0 (safe w.was w.there (w.client ∙ by) (w.id ∙ id)) in
+    subst (λ f. IsSafeWrite c f number world.past (holds_write world c f)) on.0
+    (safe w.was w.there (w.client ∙ by) (w.id ∙ id)) in
     subst (λ f. IsSafeWrite c f number new.past (holds_write new c f)) (sym at) (record {
       held = λ b. let was = sym (like.past.buffered file number) ∙ b in
           holds was x there (sym w.client ∙ on.1) at (old.held was);
@@ -239,7 +241,8 @@ write_like world new c like ids file_id file number opened holds safe x there by
 
 pub plain_like : (world new : World) (c : ℕ) → IsLike world new c → KnowsIds world c → (file_id file number : ℕ)
     → was_opened file_id file c world.past ≡ true
-    → ((x : Open) → Among x world.server.opens → x.client ≡ c → x.file_id ≡ file_id → has_buffered c x.file number world.past ≡ false)
+    → ((x : Open) → Among x world.server.opens → x.client ≡ c → x.file_id ≡ file_id
+    → has_buffered c x.file number world.past ≡ false)
     → (x : Open) → Among x new.server.opens → x.client ≡ c → x.file_id ≡ file_id → has_buffered c x.file number new.past ≡ false
 plain_like world new c like ids file_id file number opened plain x there by id =
     let w = like.from x there by (subst (λ n. n ≤ world.server.last_id) (sym id) (ids.low file_id file opened)) in

@@ -348,10 +348,12 @@ write_failed_named : (client : ℕ) (machine : Client) (past : List Fact) (file 
 unfolding closed_by_server
 write_failed_named client machine past file file_id number status Phase.Closed names is =
     turned_named client machine past file _ names
-    (record { sent = each_without (WasWritten client file past) number (sent_of machine file) (names file).sent; phase = tt }) tt (tt, tt)
+    (record { sent = each_without (WasWritten client file past) number (sent_of machine file) (names file).sent; phase = tt }) tt
+    (tt, tt)
 write_failed_named client machine past file file_id number status (Phase.Opening access share) names is =
     turned_named client machine past file _ names
-    (record { sent = each_without (WasWritten client file past) number (sent_of machine file) (names file).sent; phase = tt }) tt (tt, tt)
+    (record { sent = each_without (WasWritten client file past) number (sent_of machine file) (names file).sent; phase = tt }) tt
+    (tt, tt)
 write_failed_named client machine past file file_id number status (Phase.Live live) names is =
     let left = each_without (WasWritten client file past) number (sent_of machine file) (names file).sent in
     if_cases (λ turn. IsStepNamed client machine past (turned machine file turn))

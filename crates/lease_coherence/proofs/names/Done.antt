@@ -204,7 +204,8 @@ strayed_named world client request n c good =
     let m = n c (later.strayed c good) in
     at_later world (strayed world client request) c later refl
     (either (client == c)
-    (λ same. clash (has_strayed c (Fact.Strayed client ∷ world.past)) (true_or (client == c) (has_strayed c world.past) same) good)
+    (λ same. clash (has_strayed c (Fact.Strayed client ∷ world.past)) (true_or (client == c) (has_strayed c world.past) same)
+    good)
     (λ apart. subst (Each (IsNamedRequest c (world.clients c).guid world.past))
     (sym (put_other world.requests client _ c (λ e. clash (client == c) (eq-eqb client c (sym e)) apart))) m.requests))
     m.held m.opens (replies_later c world.past _ (world.replies c) later m.replies) m

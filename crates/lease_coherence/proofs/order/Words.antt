@@ -67,7 +67,8 @@ abbrev pub IsOpenIn : List Request → Request → Type 0
 IsOpenIn before (Request.OnFile (FileRequest.Write file_id number patch)) = Each (IsNoClose file_id) before
 IsOpenIn before request = ⊤
 
-no_write_of : (file_id : ℕ) (before behind : List Request) → Each (IsOpenIn (Request.OnFile (FileRequest.Close file_id) ∷ before)) behind
+no_write_of : (file_id : ℕ) (before behind : List Request)
+    → Each (IsOpenIn (Request.OnFile (FileRequest.Close file_id) ∷ before)) behind
     → Each (IsNoWrite file_id) behind
 no_write_of file_id before [] each = tt
 no_write_of file_id before (Request.OnFile (FileRequest.Write other number patch) ∷ behind) each =

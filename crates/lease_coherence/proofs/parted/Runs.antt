@@ -442,9 +442,11 @@ pub untouched_moves : IsOwnMoved HasStructure IsUntouched
 untouched_moves = record {
   unmoved = λ world new c v good u a. unmoved_untouched world new c u (v.0.0.1.0 c good) (ids_in world v c) a;
   refused = λ world off c request status v good source may a.
-      told_untouched off c (refusal_of request status) (off_named_at world off v c request good source) (off_untouched world off c request source a);
+      told_untouched off c (refusal_of request status) (off_named_at world off v c request good source)
+          (off_untouched world off c request source a);
   full = λ world off c file access share ask v good source a.
-      told_untouched off c (Reply.CreateFailed file Status.InsufficientResources) (off_named_at world off v c _ good source) (off_untouched world off c _ source a);
+      told_untouched off c (Reply.CreateFailed file Status.InsufficientResources) (off_named_at world off v c _ good source)
+          (off_untouched world off c _ source a);
   granted = λ world off c file access share ask v good source none on free a.
       let request = FileRequest.Create file access share (Some ask) in
       let own = own_create world off c file access share ask source (v.0.0.1.0 c good) in
@@ -458,7 +460,8 @@ untouched_moves = record {
       reconnected_untouched off c file ask file_id (off_named_at world off v c _ good source)
       (off_untouched world off c _ source a);
   read = λ world off c file_id one v good source found may a.
-      told_untouched off c (Reply.ReadDone file_id (off.server.contents one.file)) (off_named_at world off v c _ good source) (off_untouched world off c _ source a);
+      told_untouched off c (Reply.ReadDone file_id (off.server.contents one.file)) (off_named_at world off v c _ good source)
+          (off_untouched world off c _ source a);
   changed = λ world off c file_id number patch one v good source found may a.
       changed_untouched off c one.file file_id number patch (off_named_at world off v c _ good source)
       (off_untouched world off c _ source a);
@@ -476,9 +479,11 @@ untouched_moves = record {
       (within_writes given.state lowered within (form_writes given.state w))) a;
   hold = λ world file one v good oldest may turn a. a;
   dropped = λ world c test v good away a. dropped_untouched world c test (v.0.0.1.0 c good) a;
-  lower = λ world key lowered v good may light a. leased_untouched world key _ (break_notice key (world.server.leases key).state lowered) (v.0.0.1.0 key.client good)
+  lower = λ world key lowered v good may light a. leased_untouched world key _
+      (break_notice key (world.server.leases key).state lowered) (v.0.0.1.0 key.client good)
       (λ w. within_writes lowered (world.server.leases key).state may.is_lowered.is_part w) a;
-  begin = λ world key lowered v good may heavy a. leased_untouched world key _ (break_notice key (world.server.leases key).state lowered) (v.0.0.1.0 key.client good)
+  begin = λ world key lowered v good may heavy a. leased_untouched world key _
+      (break_notice key (world.server.leases key).state lowered) (v.0.0.1.0 key.client good)
       (λ w. w) a;
   cut = λ world c v good up a. cut_untouched world c;
   timer = λ world c file v good on breaks a. timer_untouched world c file (v.0.0.1.0 c good) a;

@@ -160,15 +160,19 @@ commands_part machine = record {
   refused = λ refusal file. same_parts false (machine.entries file).phase;
   opening = λ file terms is on. put_parts false machine file _ tt;
   added = λ file live is. put_parts false machine file _ (λ off. record { live = live; is = is.is_so; id = refl });
-  asked = λ file live terms is idle some. put_parts false machine file _ (λ off. record { live = live; is = is.is_so; id = refl });
+  asked = λ file live terms is idle some. put_parts false machine file _
+      (λ off. record { live = live; is = is.is_so; id = refl });
   anew = λ file live terms is idle none. put_parts false machine file _ tt;
   fewer = λ file live is more. put_parts false machine file _ (λ off. record { live = live; is = is.is_so; id = refl });
-  parked = λ file live is idle done stays. put_parts false machine file _ (λ off. record { live = live; is = is.is_so; id = refl });
+  parked = λ file live is idle done stays. put_parts false machine file _
+      (λ off. record { live = live; is = is.is_so; id = refl });
   closed = λ file live is idle done goes. put_parts false machine file _ tt;
   cached = λ file live base is reads has f. same_parts false (machine.entries f).phase;
   read = λ file live is idle. put_parts false machine file _ (λ off. record { live = live; is = is.is_so; id = refl });
-  buffered = λ file live patch is fits caches. put_parts false machine file _ (λ off. record { live = live; is = is.is_so; id = refl });
-  written = λ file live patch is fits sends. put_parts false machine file _ (λ off. record { live = live; is = is.is_so; id = refl });
+  buffered = λ file live patch is fits caches. put_parts false machine file _
+      (λ off. record { live = live; is = is.is_so; id = refl });
+  written = λ file live patch is fits sends. put_parts false machine file _
+      (λ off. record { live = live; is = is.is_so; id = refl });
   flushed = λ file live is. put_parts false machine file _ (λ off. record { live = live; is = is.is_so; id = refl });
 }
 
@@ -186,7 +190,8 @@ with_parts old write (Phase.Offline parted) is = is
 with_parts old write (Phase.Reconnecting parted) is = is
 
 break_parts : (machine : Client) (file : ℕ) (notice : BreakNotice) (live : LiveEntry)
-    → StepParts true machine (turned machine file (break_turn live (sent_of machine file) notice (meet live.belief notice.lowered)))
+    → StepParts true machine (turned machine file (break_turn live (sent_of machine file) notice
+    (meet live.belief notice.lowered)))
 unfolding break_turn parked_closed belief_lowered turned
 break_parts machine file notice live = if_cases (λ (t : Turn). StepParts true machine (turned machine file t))
     (live.handles == 0 && (live.belief.handle && not (meet live.belief notice.lowered).handle)) _ _

@@ -400,7 +400,8 @@ takes_stand world c queue all = record {
         phase = (given.stands, given.not_closed);
         given = unanswered file
             (promoted_turn live (sent_of (world.clients c) file) asked file_id answer.durable
-            (promoted_belief (lease_key (world.clients c).guid file) live.belief answer.lease)).entry.phase queue (last (ap has_asked is ∙ ap is_some asks)).answers;
+            (promoted_belief (lease_key (world.clients c).guid file) live.belief answer.lease)).entry.phase queue
+            (last (ap has_asked is ∙ ap is_some asks)).answers;
         again = inl refl;
         asks = (tt, tt);
         closes = inr (record {

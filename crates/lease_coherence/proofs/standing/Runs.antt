@@ -308,7 +308,8 @@ connect_standing world c g down =
   where
     fits_at : (file : ℕ) (phase : Phase) → ((world.clients c).entries file).phase ≡ phase
         → Each (AskFits (connection_made (world.clients c)).client)
-        (connect_turn (world.clients c) file ((world.clients c).entries file).sent ((world.clients c).entries file).phase).requests
+        (connect_turn (world.clients c) file ((world.clients c).entries file).sent
+        ((world.clients c).entries file).phase).requests
     fits_at file Phase.Closed is = subst (λ p. Each (AskFits (connection_made (world.clients c)).client)
         (connect_turn (world.clients c) file ((world.clients c).entries file).sent p).requests) (sym is) tt
     fits_at file (Phase.Opening access share) is = subst (λ p. Each (AskFits (connection_made (world.clients c)).client)

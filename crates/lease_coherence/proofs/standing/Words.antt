@@ -74,7 +74,8 @@ asked_held P world file one oldest a = let p = asked_popped P world one.client a
   held = λ at x b own. ⊎_elim (λ old. a.held at x old own)
       (λ new. ⊎_elim (λ old. a.held file x old own)
       (λ last. ⊎_elim (λ same. subst (λ (h : Held). P (Request.OnFile h.request)) (sym same)
-      (head_of P (world.requests one.client) oldest.queue (Request.OnFile one.request) oldest.is_first a.queued)) (λ none. absurd none) last)
+      (head_of P (world.requests one.client) oldest.queue (Request.OnFile one.request) oldest.is_first a.queued))
+      (λ none. absurd none) last)
       (among_append x (world.server.held file) (one ∷ []) new.1))
       (among_put world.server.held file (world.server.held file ++ one ∷ []) at x b);
 }

@@ -337,7 +337,8 @@ acks_sent : (key : List ℕ) (notice : BreakNotice) (state : State) (writes : Li
     → is_ack_break key (Reply.Break (Some notice)) ≡ true → acks key (writes ++ acknowledgment notice state) ≡ 0 → ⊥
 acks_sent key notice state writes about is = if_cases (λ q. acks key (writes ++ q) ≡ 0 → ⊥) notice.ack_required
     (Request.Acknowledge (Some (record { key = notice.key; state = state })) ∷ []) []
-    (λ asked e. one_more (acks key writes) (acks key (Request.Acknowledge (Some (record { key = notice.key; state = state })) ∷ []))
+    (λ asked e. one_more (acks key writes) (acks key (Request.Acknowledge (Some (record { key = notice.key; state = state })) ∷
+    []))
     (sym (acks_append key writes _) ∙ e) (ap (λ b. one_if b + 0) own))
     (λ plain. clash notice.ack_required (and_parts notice.ack_required (bytes_eq key notice.key) is).0 plain)
   where
@@ -357,7 +358,8 @@ break_told machine s at notice live own is whole queue file asked m met =
     if_cases (λ (turn : Turn). IsToldStill machine (turned machine at turn) queue file)
     (live.handles == 0 && (live.belief.handle && not new.handle)) _ _
     (λ parked. either (file == at)
-    (λ here. let e = eqb-true file at here in inr (inr (subst (λ f. IsClosing machine (turned machine at (parked_closed live (sent_of machine at))) f) (sym e) (record {
+    (λ here. let e = eqb-true file at here in inr (inr (subst (λ f. IsClosing machine
+    (turned machine at (parked_closed live (sent_of machine at))) f) (sym e) (record {
       live = live;
       was = is;
       idle = parked_idle live (and_parts _ _ parked).0 (sound_live machine at live s is).asking_with_handles;

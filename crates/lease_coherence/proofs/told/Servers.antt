@@ -197,7 +197,8 @@ granted_told world off c file access share ask asked e named source g on t =
       breaks = breaks_before;
       opens = λ at breaks closed x there has. ⊎_elim
           (λ old. (closed x (subst (λ (l : List Open). Among x l) same.0 old) has, tt))
-          (λ last. ⊎_elim (λ is. absurd (new_open_closed at breaks closed (subst (λ o. has_key (machine_key world c at) o ≡ true) is has)))
+          (λ last. ⊎_elim (λ is. absurd (new_open_closed at breaks closed
+          (subst (λ o. has_key (machine_key world c at) o ≡ true) is has)))
           (λ none. absurd none) last)
           (among_append x off.server.opens (one ∷ []) there);
     }) t
@@ -371,7 +372,8 @@ begin_told world key lowered may heavy own h t = kept_told world new c refl
     begun file fresh same =
         let phase = ((world.clients key.client).entries file).phase in
         let asks : is_ack_break (file_key world key.client file) reply ≡ true =
-        and_both (needs_acknowledgment (world.server.leases key).state) (bytes_eq (file_key world key.client file) key.bytes) heavy
+        and_both (needs_acknowledgment (world.server.leases key).state) (bytes_eq (file_key world key.client file) key.bytes)
+            heavy
         ((bytes_eq-Decides (file_key world key.client file) key.bytes).1 (ap (λ (k : Key). k.bytes) same)) in
         either (is_live phase)
         (λ live. inr (inl (subst (HasMet (file_key world key.client file) file (is_live phase)) (sym sent)

@@ -108,7 +108,8 @@ read_failed_fine : (client : Client) (file : ℕ) (live : LiveEntry) (status : S
     (turned client file (read_failed_turn live (sent_of client file) status)).notes
 unfolding read_failed_turn closed_by_server
 read_failed_fine client file live status known = turned_fine client file _ known
-    (if_cases (λ (t : Turn). EachNote IsSettling t.settled) (is_file_closed status) _ _ (λ gone. settles Settlement.Failed live.unsent) (λ there. tt))
+    (if_cases (λ (t : Turn). EachNote IsSettling t.settled) (is_file_closed status) _ _
+    (λ gone. settles Settlement.Failed live.unsent) (λ there. tt))
 
 pub write_failed_settles : (file_id number : ℕ) (status : Status) (sent : List Pending) (phase : Phase)
     → EachNote IsSettling (write_failed_in file_id number status sent phase).settled
@@ -140,7 +141,8 @@ takes_fine client s = record {
   broken = λ file notice live at is. turned_fine client file _
       (found_known client (is_key_of client notice.key) file at)
       (break_settles live (sent_of client file) notice (meet live.belief notice.lowered));
-  opened = λ file file_id answer access share is. turned_fine client file _ (open_known file (λ e. no_opening access share (sym is ∙ e))) tt;
+  opened = λ file file_id answer access share is. turned_fine client file _
+      (open_known file (λ e. no_opening access share (sym is ∙ e))) tt;
   reconnected = λ file file_id answer parted is. turned_fine client file _
       (open_known file (λ e. no_parted parted (sym is ∙ e)))
       (either_settles (first_belief client file answer).write Settlement.Lost parted.writes);

@@ -287,7 +287,8 @@ found_adds : (c : ℕ) (client : Client) (past : List Fact) → IsKnownBy c clie
 found_adds c client past k file used turn at sent none = turned_adds c client past (λ number. one_if (used == number)) file turn
     (λ number own. ap (λ l. numbered_in number l + one_if (used == number)) sent
     ∙ numbered_without number used (sent_of client file) at
-    ∙ plus_none (numbered_in number (sent_of client file)) ∙ ap (λ q. numbered_in number (sent_of client file) + writes number q) (sym none))
+    ∙ plus_none (numbered_in number (sent_of client file)) ∙ ap (λ q. numbered_in number (sent_of client file) + writes number q)
+    (sym none))
     (λ other number ne own. zero_else (used == number) (λ same. ne_used number (eqb-true used number same) other ne own)
     ∙ ap (λ q. writes number q) (sym none))
   where
@@ -333,7 +334,8 @@ passed_adds c client past reply why low file number known own after = record {
         → numbered_in number (client.entries file).sent ≡ 0
     not_sent used absent same = none_numbered number (client.entries file).sent
         (subst (λ n. list_any (is_numbered n) (client.entries file).sent ≡ false) same
-        (not_true (has_sent client used file) (λ has. clash (has_sent client used file) has (never_found client (has_sent client used) file known absent))))
+        (not_true (has_sent client used file) (λ has. clash (has_sent client used file) has
+        (never_found client (has_sent client used) file known absent))))
 
     settle : (used : ℕ) → file_where client (has_sent client used) ≡ None
         → one_if (used == number) ≤ numbered_in number (client.entries file).sent → one_if (used == number) ≡ 0
