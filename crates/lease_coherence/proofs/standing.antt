@@ -3,4 +3,5 @@ pub mod Clients
 pub mod Runs
 pub mod Servers
 pub mod Standing
+pub mod Structure
 pub mod Words

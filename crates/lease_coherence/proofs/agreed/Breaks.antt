@@ -78,7 +78,7 @@ breaking_is_answered setup events client good up file fresh breaks =
     (λ x. ⊎_elim
     (λ met. let l = some_state (lease_of world client file).broken_to breaks in
     inl (is_told world client file l.0 (run_lones setup events) good up fresh l.1 met))
-    (λ closed. let y = breaking_open world.server (machine_key world client file) (v.0.0.0.0.0.0.0).fine.sound breaks in
+    (λ closed. let y = breaking_open world.server (machine_key world client file) (v.0.0.0.0.ground).fine.sound breaks in
     inr (inr (record {
       one = y.0;
       there = y.1;
@@ -140,6 +140,6 @@ good_clients_are_timely setup events client good =
     let world = after (first_world setup) events in
     let parts = and_parts (not (has_strayed client world.past)) (is_served client world.past) good in record {
       honest = not_parts (has_strayed client world.past) parts.0;
-      up = (((run_answers setup events).0.0.0.0.0.0.0).tied client).served parts.1;
+      up = (((run_answers setup events).0.0.0.0.ground).tied client).served parts.1;
       timers = λ file. timely setup events client file parts.1;
     }

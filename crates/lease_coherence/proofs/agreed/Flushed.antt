@@ -199,7 +199,7 @@ flushed_before_closes setup events c allowed good up file fresh id before behind
           (each_one (IsNoWrite id) behind (Request.OnFile (FileRequest.Write id number patch)) o.0 there);
       unsent = λ live at same. never_asked world c file id
           (subst (NotClosed world c) same (not_closed world c file live
-          (subst (PhaseStands world c file) at ((v.0.0.0.0.0.0.0.1 c good up).phases file))))
+          (subst (PhaseStands world c file) at ((v.0.0.0.0.0.0.0.opens c good up).phases file))))
           (subst (Among (Request.OnFile (FileRequest.Close id))) (sym is)
           (among_behind (Request.OnFile (FileRequest.Close id)) before (Request.OnFile (FileRequest.Close id) ∷ behind)
           (inl refl)));

@@ -139,7 +139,7 @@ gone_moves id world (Move.Stray c request) up v g = g
 pub closed_opens_stay_closed : ClosedOpensStayClosed
 closed_opens_stay_closed setup events more client id given none =
     let world = after (first_world setup) events in
-    let g = (after_moves (Both HasBeliefs (IsGone id)) (λ w v. v.0.0.0.0.0)
+    let g = (after_moves (Both HasBeliefs (IsGone id)) (λ w v. v.0.0.ground)
     (carried_both HasBeliefs (IsGone id) beliefs_carried (gone_moves id)) world more (run_counted setup events)
     (run_beliefs setup events, record { given = given; none = none })).1 in
     by_found (after world more).server g (connected_open (after world more).server client id) refl

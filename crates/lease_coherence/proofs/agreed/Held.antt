@@ -58,7 +58,7 @@ writers_are_not_held setup events c good file writes =
     let world = after (first_world setup) events in
     let v = run_answers setup events in
     let s = servers_of_runs setup events in
-    none_held world c file s.0 s.1 (v.0.0.0.0.0.0.1.0 c good) writes
+    none_held world c file s.0 s.1 (v.0.0.0.0.named c good) writes
 
 pub believers_are_not_held : OfRuns (Timely BelieversAreNotHeld)
 believers_are_not_held setup events c good up file fresh live is writes =

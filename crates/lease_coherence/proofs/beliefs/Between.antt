@@ -412,8 +412,8 @@ after_last world (first ∷ events) event = after_last (happens world first) eve
 
 reached : (setup : Setup) (events : List Event) → IsReached (after (first_world setup) events)
 reached setup events = let v = run_beliefs setup events in record {
-  sound = v.0.0.0.0.clients;
-  online = v.0.0.0.0.online;
+  sound = v.0.ground.clients;
+  online = v.0.ground.online;
   cache = after_one_write_cache setup events;
   agrees = beliefs_of_runs setup events;
 }

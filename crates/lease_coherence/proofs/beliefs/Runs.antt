@@ -31,7 +31,6 @@ use Rattle.lease_coherence.proofs.moves.Events.{reply_gone, reply_taken}
 use Rattle.lease_coherence.proofs.moves.Foreign.{IsUnmoved, off_sound}
 use Rattle.lease_coherence.proofs.moves.Own.{IsOwnMoved}
 use Rattle.lease_coherence.proofs.names.Names.{off_named}
-use Rattle.lease_coherence.proofs.standing.AllRuns.{HasStructure}
 use Rattle.lease_coherence.proofs.standing.Runs.{link_of, standing_moves, was_up, gone_standing}
 use Rattle.lease_coherence.proofs.beliefs.Acked.{failed_trusted, done_trusted, held_trusted}
 use Rattle.lease_coherence.proofs.beliefs.Anchors.{AnchorsOn, commands_anchor, takes_anchor}
@@ -42,6 +41,7 @@ use Rattle.lease_coherence.proofs.beliefs.Sent.{refusal_bare, told_trusted, chan
 use Rattle.lease_coherence.proofs.beliefs.Steps.{IsKnown, step_trusted, connect_trusted}
 use Rattle.lease_coherence.proofs.beliefs.Trust.{file_key, IsAnchored, IsTrustedFor, HasTrust, IsUpTrusted, anchor_same}
 use Rattle.lease_coherence.proofs.beliefs.Words.{acks, LowersWell, OpenTillAck, IsBelieved}
+use Rattle.lease_coherence.proofs.standing.Structure.{HasStructure}
 
 -- ---- what others do
 
@@ -143,15 +143,15 @@ trust_moves = record {
       (off_trust world off c _ source (a (link_of world off c _ source up)));
   granted = λ world off c file access share ask v good source none on free a up.
       let request = FileRequest.Create file access share (Some ask) in
-      let own = own_create world off c file access share ask source (v.0.0.1.0 c good) in
+      let own = own_create world off c file access share ask source (v.named c good) in
       granted_trusted off c file access share ask own.lease own.asks own.key
-      (off_sound world off c request source v.0.0.0.fine.sound) free
+      (off_sound world off c request source v.ground.fine.sound) free
       (off_trust world off c request source (a (link_of world off c request source up)));
   reconnected = λ world off c file access share ask file_id v good source again on waits a up.
       let request = FileRequest.Create file access share (Some ask) in
-      let own = own_create world off c file access share ask source (v.0.0.1.0 c good) in
+      let own = own_create world off c file access share ask source (v.named c good) in
       reconnected_trusted off c file ask file_id own.lease own.asks own.key
-      (off_sound world off c request source v.0.0.0.fine.sound)
+      (off_sound world off c request source v.ground.fine.sound)
       (off_trust world off c request source (a (link_of world off c request source up)));
   read = λ world off c file_id one v good source found may a up.
       told_trusted off c (Reply.ReadDone file_id (off.server.contents one.file)) tt
@@ -161,8 +161,8 @@ trust_moves = record {
       (off_trust world off c _ source (a (link_of world off c _ source up)));
   closed = λ world off c file_id one v good source found a up.
       closed_trusted world off c file_id source
-      (standing_moves.closed world off c file_id one v.0 good source found (v.1 c good) up)
-      (λ x there by. (off_named world off c (FileRequest.Close file_id) c source (v.0.0.1.0 c good)).0.opens x
+      (standing_moves.closed world off c file_id one v good source found (v.opens c good) up)
+      (λ x there by. (off_named world off c (FileRequest.Close file_id) c source (v.named c good)).0.opens x
       (left_there off (λ other. other.file_id == file_id) x there) by)
       (a (link_of world off c _ source up));
   ack_failed = λ world c given status v good oldest why a up. failed_trusted world c given status oldest (a up);
@@ -170,15 +170,15 @@ trust_moves = record {
       done_trusted world c given oldest (a up);
   hold = λ world file one v good oldest may turn a up. held_trusted world file one oldest (a up);
   dropped = λ world c test v good away a up. dropped_trusted world c test away
-      (standing_moves.dropped world c test v.0 good away (v.1 c good) up)
-      (λ x there by. (v.0.0.1.0 c good).opens x (left_there world test x there) by) (a up);
+      (standing_moves.dropped world c test v good away (v.opens c good) up)
+      (λ x there by. (v.named c good).opens x (left_there world test x there) by) (a up);
   lower = λ world key lowered v good may light a up. lower_trusted world key lowered may light (a up);
   begin = λ world key lowered v good may heavy a up. begin_trusted world key lowered may (a up);
   cut = λ world c v good up a on. absurd (true≢false (sym on ∙ ap is_up (put_same world.links c Link.Cut)));
   timer = λ world c file v good on breaks a up. timer_trusted world c file
-      (standing_moves.timer world c file v.0 good on breaks (v.1 c good) up)
-      (λ x there by. (v.0.0.1.0 c good).opens x there by) (a up);
-  connect = λ world c v good down a up. connect_trusted world c v.0.0.0 down;
+      (standing_moves.timer world c file v good on breaks (v.opens c good) up)
+      (λ x there by. (v.named c good).opens x there by) (a up);
+  connect = λ world c v good down a up. connect_trusted world c v.ground down;
   command = λ world c command v good a up.
       let machine = world.clients c in
       let was = was_up world c (commanded machine command) up in
@@ -188,11 +188,11 @@ trust_moves = record {
       (λ file b. any_command machine (BelievesOn machine) (commands_believe machine) command file
       (world.server.leases (machine_key world c file)) (world.requests c) (world.replies c) b)
       t.lowered (λ file fresh. let x = t.files file fresh in record { believed = x.believed; anchor = x.anchor })
-      (v.1 c good was);
+      (v.opens c good was);
   take = λ world c reply queue v good first a up.
       let was : is_up (world.links c) ≡ true =
       was_up (reply_gone world c queue) c (taken (world.clients c) reply) up in
-      take_trusted world c reply queue first was (v.1 c good was) (a was);
+      take_trusted world c reply queue first was (v.opens c good was) (a was);
   notice = λ world c v good cut a on. absurd (true≢false (sym on
       ∙ ap (λ (l : ℕ → Link). is_up (l c)) (stepped_links (record world { links = put world.links c Link.Down }) c
       (noticed (world.clients c)))

@@ -14,23 +14,24 @@ use Rattle.lease_coherence.specs.Standing.{IsOpenFor, IsStandingAt, PhaseStands}
 use Rattle.lease_coherence.proofs.moves.Events.{IsCarried, Both, carried_both, runs_have}
 use Rattle.lease_coherence.proofs.moves.Foreign.{key_client}
 use Rattle.lease_coherence.proofs.moves.Own.{OfGood, own_moves}
-use Rattle.lease_coherence.proofs.standing.AllRuns.{HasStructure, structure_carried, first_structure}
+use Rattle.lease_coherence.proofs.standing.AllRuns.{structure_carried, first_structure}
 use Rattle.lease_coherence.proofs.beliefs.Runs.{trust_moves}
 use Rattle.lease_coherence.proofs.beliefs.Trust.{IsUpTrusted, open_has_key}
+use Rattle.lease_coherence.proofs.standing.Structure.{HasStructure}
 
 abbrev pub HasBeliefs : World → Type 0
 HasBeliefs = Both HasStructure (OfGood IsUpTrusted)
 
 pub beliefs_carried : IsCarried HasBeliefs
 beliefs_carried = carried_both HasStructure (OfGood IsUpTrusted) structure_carried
-    (own_moves HasStructure IsUpTrusted (λ world all. all.0.0.0) trust_moves)
+    (own_moves HasStructure IsUpTrusted (λ world all. all.ground) trust_moves)
 
 pub first_beliefs : (setup : Setup) → HasBeliefs (first_world setup)
 unfolding first_world
 first_beliefs setup = (first_structure setup, λ client good up. absurd (true≢false (sym up)))
 
 pub run_beliefs : (setup : Setup) (events : List Event) → HasBeliefs (after (first_world setup) events)
-run_beliefs setup events = runs_have HasBeliefs (λ world all. all.0.0.0.0) beliefs_carried setup
+run_beliefs setup events = runs_have HasBeliefs (λ world all. all.0.ground) beliefs_carried setup
     (first_beliefs setup) events
 
 -- ---- two clients in one world
@@ -66,16 +67,16 @@ pub one_writer : (world : World) → HasBeliefs world → (file c other : ℕ) �
     → belief (world.clients other) file ≡ nothing_cached
 one_writer world v file c other ne good up fresh w fine on unexpired =
     let writer = writer_live ((world.clients c).entries file).phase w in
-    let mine = live_open world c file writer.0 writer.1 fresh (v.0.1 c good up) in
-    let n = v.0.0.0.1.0 c good in
+    let mine = live_open world c file writer.0 writer.1 fresh (v.0.opens c good up) in
+    let n = v.0.named c good in
     let has = open_has_key world c file (writer.0).file_id mine (n.opens mine.one mine.there mine.by) in
     let trusted = (v.1 c good up).files file fresh in
     let held = trusted.believed.own writer.0 writer.1
     (subst (λ p. (belief_in p).write ≡ true) writer.1 w) in
     never_live ((world.clients other).entries file).phase (λ live is.
-    let theirs = live_open world other file live is unexpired (v.0.1 other fine on) in
+    let theirs = live_open world other file live is unexpired (v.0.opens other fine on) in
     ne (sym theirs.by ∙ sym (key_client (machine_key world c file) theirs.one
-    (v.0.0.0.0.fine.sound.one_writer (machine_key world c file) mine.one theirs.one held.1 mine.there has theirs.there
+    (v.0.ground.fine.sound.one_writer (machine_key world c file) mine.one theirs.one held.1 mine.there has theirs.there
     (theirs.on_file ∙ sym mine.on_file)))))
 
 -- ---- after each event
@@ -89,9 +90,9 @@ after_one_write_cache setup events file client other ne good w fine =
     let others = and_parts (not (has_strayed other world.past)) (is_served other world.past) fine in
     beliefs_of_runs setup events other file
     ∙ one_writer world v file client other ne (not_parts (has_strayed client world.past) parts.0)
-    ((v.0.0.0.0.tied client).served parts.1) (timely setup events client file parts.1)
+    ((v.0.ground.tied client).served parts.1) (timely setup events client file parts.1)
     (ap (λ (s : State). s.write) (sym (beliefs_of_runs setup events client file)) ∙ w)
-    (not_parts (has_strayed other world.past) others.0) ((v.0.0.0.0.tied other).served others.1)
+    (not_parts (has_strayed other world.past) others.0) ((v.0.ground.tied other).served others.1)
     (timely setup events other file others.1)
   where
     timely : (setup : Setup) (events : List Event) (c file : ℕ)

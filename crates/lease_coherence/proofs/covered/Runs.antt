@@ -460,10 +460,10 @@ take_covered world c reply queue first up counted k h =
 pub known_for : (world : World) → HasBeliefs world → (c : ℕ) → has_strayed c world.past ≡ false
     → is_up (world.links c) ≡ true → IsKnownFor world c
 known_for world v c good up = record {
-  ground = v.0.0.0.0;
-  names = v.0.0.0.1.0 c good;
-  ids = ids_of world c (record { last = (v.0.0.0.0).counted.last; opens = (v.0.0.0.0).counted.opens });
-  stands = v.0.1 c good up;
+  ground = v.0.ground;
+  names = v.0.named c good;
+  ids = ids_of world c (record { last = v.0.ground.counted.last; opens = v.0.ground.counted.opens });
+  stands = v.0.opens c good up;
 }
 
 off_left : (world off : World) → HasBeliefs world → (c : ℕ) (request : FileRequest) → IsSource world off c request
@@ -473,7 +473,7 @@ off_left world off v c request source a up =
 
 off_known : (world off : World) → HasBeliefs world → (c : ℕ) (request : FileRequest) → IsSource world off c request
     → KnowsIds off c
-off_known world off v c request source = ids_of off c (off_counted world off c request source v.0.0.0.0)
+off_known world off v c request source = ids_of off c (off_counted world off c request source v.0.ground)
 
 pub covered_moves : IsOwnMoved HasWhole IsUpCovered
 covered_moves = record {
@@ -491,7 +491,7 @@ covered_moves = record {
       (off_left world off v.0 c request source a up);
   reconnected = λ world off c file access share ask file_id v good source again on waits a up.
       let request = FileRequest.Create file access share (Some ask) in
-      let own = (off_named world off c request c source (v.0.0.0.0.1.0 c good)).1 refl in
+      let own = (off_named world off c request c source (v.0.0.named c good)).1 refl in
       reconnected_covered off c file access share ask file_id (off_known world off v.0 c request source)
       (own.again file_id again) (off_left world off v.0 c request source a up);
   read = λ world off c file_id one v good source found may a up.
@@ -510,7 +510,7 @@ covered_moves = record {
   ack_done = λ world c given lowered v good oldest there breaks within a up.
       leased_covered (popped world c) (key_of c given.key) _ (Request.Acknowledge (Some given)) (done_reply given)
       (λ x. tt) tt (ack_left world c (Some given) oldest (a up));
-  hold = λ world file one v good oldest may turn a up. held_covered world file one oldest turn v.0.0.0.0.0 (a up);
+  hold = λ world file one v good oldest may turn a up. held_covered world file one oldest turn v.0.0.ground (a up);
   dropped = λ world c test v good away a up. dropped_covered world c test (a up);
   lower = λ world key lowered v good may light a up. leased_covered world key _ (Request.Acknowledge None)
       (break_notice key (world.server.leases key).state lowered) (λ x. tt) tt (all_left world key.client (a up));
@@ -518,7 +518,7 @@ covered_moves = record {
       (break_notice key (world.server.leases key).state lowered) (λ x. tt) tt (all_left world key.client (a up));
   cut = λ world c v good up a on. absurd (true≢false (sym on ∙ ap is_up (put_same world.links c Link.Cut)));
   timer = λ world c file v good on breaks a up. timer_covered world c file (a up);
-  connect = λ world c v good down a up. connect_covered world c v.0.0.0.0.0 down;
+  connect = λ world c v good down a up. connect_covered world c v.0.0.ground down;
   command = λ world c command v good a up.
       let machine = world.clients c in
       let was = was_up world c (commanded machine command) up in
@@ -527,12 +527,12 @@ covered_moves = record {
       (later_same world.past) (any_command machine (StepUses machine) (commands_use machine) command)
       (known_for world v.0 c good was) h.uses h.fails
       (λ x there by on fresh. any_command machine (StepCovers machine) (commands_cover machine) command x.file x.file_id
-      (asked_of world c x.file) (world.replies c) (quiet_of world c x.file (v.0.0.0.1 c good was x.file))
+      (asked_of world c x.file) (world.replies c) (quiet_of world c x.file (v.0.0.creates c good was x.file))
       (h.covers x there by on fresh));
   take = λ world c reply queue v good first a up.
       let was : is_up (world.links c) ≡ true =
       was_up (reply_gone world c queue) c (taken (world.clients c) reply) up in
-      take_covered world c reply queue first was (v.0.0.0.1 c good was) (known_for world v.0 c good was) (a was);
+      take_covered world c reply queue first was (v.0.0.creates c good was) (known_for world v.0 c good was) (a was);
   notice = λ world c v good cut a on. absurd (true≢false (sym on
       ∙ ap (λ (l : ℕ → Link). is_up (l c)) (stepped_links (record world { links = put world.links c Link.Down }) c
       (noticed (world.clients c)))
@@ -546,7 +546,7 @@ HasCover = Both HasWhole (OfGood IsUpCovered)
 
 pub cover_carried : IsCarried HasCover
 cover_carried = carried_both HasWhole (OfGood IsUpCovered) whole_carried
-    (own_moves HasWhole IsUpCovered (λ world all. all.0.0.0.0.0) covered_moves)
+    (own_moves HasWhole IsUpCovered (λ world all. all.0.0.ground) covered_moves)
 
 pub first_cover : (setup : Setup) → HasCover (first_world setup)
 unfolding first_world

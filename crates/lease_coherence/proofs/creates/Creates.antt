@@ -44,9 +44,9 @@ use Rattle.lease_coherence.proofs.moves.Frames.{lease_put_rest, stepped_requests
 use Rattle.lease_coherence.proofs.moves.Moves.{IsOldest, rest_of, popped}
 use Rattle.lease_coherence.proofs.moves.Own.{IsOwnMoved}
 use Rattle.lease_coherence.proofs.moves.Shift.{append_none}
-use Rattle.lease_coherence.proofs.names.Done.{HasTrueNames}
 use Rattle.lease_coherence.proofs.names.Words.{reply_later}
 use Rattle.lease_coherence.proofs.records.Later.{later_fact}
+use Rattle.lease_coherence.proofs.standing.Structure.{HasStructure}
 
 -- the same queues and the same entries
 same_counts : (world new : World) (c : ℕ) → new.links c ≡ world.links c → new.clients c ≡ world.clients c
@@ -436,40 +436,37 @@ unmoved_at world new c u a = same_counts world new c u.link u.machine
     ∙ ap (λ (q : List Reply). creates file (world.requests c) + held_creates file (held_by c (world.server.held file))
     + answers file q) u.replies) a
 
-abbrev pub HasNames : World → Type 0
-HasNames = Both Ground HasTrueNames
-
-pub creates_move : IsOwnMoved HasNames IsCountedAt
+pub creates_move : IsOwnMoved HasStructure IsCountedAt
 unfolding with_opens key_expired opens_dropped
 creates_move = record {
   unmoved = λ world new c v good u a. unmoved_at world new c u a;
   refused = λ world off c request status v good source may a.
-      replied_at world off (told_to off c (refusal_of request status)) c request (refusal_of request status) v.0 source
+      replied_at world off (told_to off c (refusal_of request status)) c request (refusal_of request status) v.ground source
       refl refl refl refl refl (λ file. refusal_answers file request status) a;
   full = λ world off c file access share ask v good source a.
       replied_at world off (told_to off c (Reply.CreateFailed file Status.InsufficientResources)) c
-      (FileRequest.Create file access share (Some ask)) (Reply.CreateFailed file Status.InsufficientResources) v.0 source
+      (FileRequest.Create file access share (Some ask)) (Reply.CreateFailed file Status.InsufficientResources) v.ground source
       refl refl refl refl refl (λ f. refl) a;
   granted = λ world off c file access share ask v good source none on free a.
       let lease = lease_after off.server c file ask.lease in
       replied_at world off (granted_in off c file access share ask lease) c
-      (FileRequest.Create file access share (Some ask)) (granted_reply off.server file ask lease) v.0 source
+      (FileRequest.Create file access share (Some ask)) (granted_reply off.server file ask lease) v.ground source
       refl refl refl
       (lease_put_rest off.server c ask.lease (lease_after off.server c file ask.lease)
       (λ s. s.held ≡ off.server.held) (λ l. refl)) refl (λ f. refl) a;
   reconnected = λ world off c file access share ask file_id v good source again on waits a.
       replied_at world off (reconnected_in off c file ask file_id) c (FileRequest.Create file access share (Some ask))
-      (reconnected_reply off.server c file ask file_id) v.0 source refl refl refl refl refl (λ f. refl) a;
+      (reconnected_reply off.server c file ask file_id) v.ground source refl refl refl refl refl (λ f. refl) a;
   read = λ world off c file_id one v good source found may a.
       replied_at world off (told_to off c (Reply.ReadDone file_id (off.server.contents one.file))) c
-      (FileRequest.Read file_id) (Reply.ReadDone file_id (off.server.contents one.file)) v.0 source refl refl refl refl refl
+      (FileRequest.Read file_id) (Reply.ReadDone file_id (off.server.contents one.file)) v.ground source refl refl refl refl refl
       (λ f. refl) a;
   changed = λ world off c file_id number patch one v good source found may a.
       replied_at world off (changed_in off c one.file file_id number patch) c
-      (FileRequest.Write file_id number patch) (Reply.WriteDone file_id number) v.0 source refl refl refl refl refl (λ f. refl) a;
+      (FileRequest.Write file_id number patch) (Reply.WriteDone file_id number) v.ground source refl refl refl refl refl (λ f. refl) a;
   closed = λ world off c file_id one v good source found a.
       replied_at world off (told_to (without_opens off (λ other. other.file_id == file_id)) c (Reply.Closed file_id)) c
-      (FileRequest.Close file_id) (Reply.Closed file_id) v.0 source refl refl refl refl refl
+      (FileRequest.Close file_id) (Reply.Closed file_id) v.ground source refl refl refl refl refl
       (λ f. refl) a;
   ack_failed = λ world c given status v good oldest why a. told_at world (told_to (popped world c) c (Reply.AckFailed status)) c
       (Reply.AckFailed status) refl refl
@@ -492,13 +489,13 @@ creates_move = record {
       (λ f. refl) a;
   cut = λ world c v good up a on file. absurd (true≢false (sym on ∙ ap is_up (put_same world.links c Link.Cut)));
   timer = λ world c file v good on breaks a. same_counts world (timed_out world c file) c refl refl (λ f. refl) a;
-  connect = λ world c v good down a. connect_at world c v.0 down;
+  connect = λ world c v good down a. connect_at world c v.ground down;
   command = λ world c command v good a. command_at world c (commanded (world.clients c) command)
       (any_command (world.clients c) (IsCountedStep (world.clients c) none_answered)
       (commands_count (world.clients c)) command) a;
-  take = λ world c reply queue v good first a. take_at world c reply queue v.0 first
+  take = λ world c reply queue v good first a. take_at world c reply queue v.ground first
       (reply_later c world.past (Fact.Took c ∷ world.past) (later_fact world.past (Fact.Took c)) reply
-      (subst (Each (IsNamedReply c world.past)) first ((v.1.0 c good).replies)).0) a;
+      (subst (Each (IsNamedReply c world.past)) first ((v.named c good).replies)).0) a;
   notice = λ world c v good cut a on file. absurd (true≢false (sym on
       ∙ ap (λ (l : ℕ → Link). is_up (l c)) (stepped_links (record world { links = put world.links c Link.Down }) c
       (noticed (world.clients c)))

@@ -52,7 +52,7 @@ up_in world v c good up = record {
   names = names_in world v c good;
   known = known_by world v.0.0.0.0 c good;
   ids = ids_in world v c;
-  stands = v.0.0.0.0.0.0.1 c good up;
+  stands = v.0.0.0.0.0.0.opens c good up;
   trust = v.0.0.0.0.0.1 c good up;
 }
 

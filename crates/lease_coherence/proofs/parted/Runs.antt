@@ -59,8 +59,9 @@ use Rattle.lease_coherence.proofs.moves.Own.{IsOwnMoved, OfGood, own_moves}
 use Rattle.lease_coherence.proofs.names.Names.{off_named, off_counted}
 use Rattle.lease_coherence.proofs.names.Words.{each_rest}
 use Rattle.lease_coherence.proofs.parted.Words.{UntouchedUnder, PhaseUntouched, IsUntouched, own_changed, own_opened, sent_touched, expired_touched, joined_touched, took_touched, just_lost, noted_touched, under_by, phase_by, PartedBy, StepParts, commands_part, takes_part}
-use Rattle.lease_coherence.proofs.standing.AllRuns.{HasStructure, structure_carried, first_structure}
+use Rattle.lease_coherence.proofs.standing.AllRuns.{structure_carried, first_structure}
 use Rattle.lease_coherence.proofs.standing.Words.{asked_off}
+use Rattle.lease_coherence.proofs.standing.Structure.{HasStructure}
 
 -- ---- the same client and link
 
@@ -373,7 +374,7 @@ connect_untouched world c a =
 -- ---- all moves
 
 ids_in : (world : World) → HasStructure world → (c : ℕ) → KnowsIds world c
-ids_in world v c = ids_of world c (record { last = (v.0.0.0).counted.last; opens = (v.0.0.0).counted.opens })
+ids_in world v c = ids_of world c (record { last = (v.ground).counted.last; opens = (v.ground).counted.opens })
 
 -- a link with something on its way is up
 takes_up : (world : World) → Ground world → (c : ℕ) (reply : Reply) (queue : List Reply)
@@ -388,7 +389,7 @@ takes_up world g c reply queue first = either (is_up (world.links c)) (λ up. up
 present_up : (world off : World) → HasStructure world → (c : ℕ) (request : FileRequest) → IsSource world off c request
     → (is_up (world.links c) ≡ true) × (is_up (off.links c) ≡ true)
 present_up world off v c request source =
-    let up = sym ((v.0.0.0).tied c).present ∙ source.up in
+    let up = sym ((v.ground).tied c).present ∙ source.up in
     (up, from_source world off c request (λ o. is_up (o.links c) ≡ true) source up (λ file left. up))
 
 same_phase : (world off : World) (c : ℕ) (request : FileRequest) → IsSource world off c request → (file : ℕ)
@@ -424,7 +425,7 @@ popped_named world c n = record {
 
 off_named_at : (world off : World) → HasStructure world → (c : ℕ) (request : FileRequest) → has_strayed c world.past ≡ false
     → IsSource world off c request → IsNamedAt off c
-off_named_at world off v c request good source = (off_named world off c request c source (v.0.0.1.0 c good)).0
+off_named_at world off v c request good source = (off_named world off c request c source (v.named c good)).0
 
 -- what is within a state holds writes only where it does
 within_writes : (one other : State) → is_state_within one other ≡ true → one.write ≡ true → other.write ≡ true
@@ -440,7 +441,7 @@ form_writes state = if_cases (λ (s : State). s.write ≡ true → state.write �
 
 pub untouched_moves : IsOwnMoved HasStructure IsUntouched
 untouched_moves = record {
-  unmoved = λ world new c v good u a. unmoved_untouched world new c u (v.0.0.1.0 c good) (ids_in world v c) a;
+  unmoved = λ world new c v good u a. unmoved_untouched world new c u (v.named c good) (ids_in world v c) a;
   refused = λ world off c request status v good source may a.
       told_untouched off c (refusal_of request status) (off_named_at world off v c request good source)
           (off_untouched world off c request source a);
@@ -449,12 +450,12 @@ untouched_moves = record {
           (off_untouched world off c _ source a);
   granted = λ world off c file access share ask v good source none on free a.
       let request = FileRequest.Create file access share (Some ask) in
-      let own = own_create world off c file access share ask source (v.0.0.1.0 c good) in
+      let own = own_create world off c file access share ask source (v.named c good) in
       let up = present_up world off v c request source in
       granted_untouched world off c file access share ask own.lease own.asks own.key up.1
-      (ids_of off c (off_counted world off c request source v.0.0.0)) (off_named_at world off v c request good source)
-      (λ parted is. none_parted world off c file access share ask v.0.0.0 source none (v.0.1 c good up.0 file)
-      (v.1 c good up.0) parted (same_phase world off c request source file parted is))
+      (ids_of off c (off_counted world off c request source v.ground)) (off_named_at world off v c request good source)
+      (λ parted is. none_parted world off c file access share ask v.ground source none (v.creates c good up.0 file)
+      (v.opens c good up.0) parted (same_phase world off c request source file parted is))
       (off_untouched world off c request source a);
   reconnected = λ world off c file access share ask file_id v good source again on waits a.
       reconnected_untouched off c file ask file_id (off_named_at world off v c _ good source)
@@ -471,22 +472,22 @@ untouched_moves = record {
       (still_named off c test (off_named_at world off v c _ good source))
       (dropped_untouched off c test (off_named_at world off v c _ good source) (off_untouched world off c _ source a));
   ack_failed = λ world c given status v good oldest why a.
-      told_untouched (popped world c) c (Reply.AckFailed status) (popped_named world c (v.0.0.1.0 c good)) a;
+      told_untouched (popped world c) c (Reply.AckFailed status) (popped_named world c (v.named c good)) a;
   ack_done = λ world c given lowered v good oldest there breaks within a.
-      leased_untouched (popped world c) (key_of c given.key) _ (done_reply given) (popped_named world c (v.0.0.1.0 c good))
+      leased_untouched (popped world c) (key_of c given.key) _ (done_reply given) (popped_named world c (v.named c good))
       (λ w. within_writes lowered (world.server.leases (key_of c given.key)).state
-      (((v.0.0.0).fine.sound.lawful (key_of c given.key)).is_broken_so lowered breaks).is_part
+      (((v.ground).fine.sound.lawful (key_of c given.key)).is_broken_so lowered breaks).is_part
       (within_writes given.state lowered within (form_writes given.state w))) a;
   hold = λ world file one v good oldest may turn a. a;
-  dropped = λ world c test v good away a. dropped_untouched world c test (v.0.0.1.0 c good) a;
+  dropped = λ world c test v good away a. dropped_untouched world c test (v.named c good) a;
   lower = λ world key lowered v good may light a. leased_untouched world key _
-      (break_notice key (world.server.leases key).state lowered) (v.0.0.1.0 key.client good)
+      (break_notice key (world.server.leases key).state lowered) (v.named key.client good)
       (λ w. within_writes lowered (world.server.leases key).state may.is_lowered.is_part w) a;
   begin = λ world key lowered v good may heavy a. leased_untouched world key _
-      (break_notice key (world.server.leases key).state lowered) (v.0.0.1.0 key.client good)
+      (break_notice key (world.server.leases key).state lowered) (v.named key.client good)
       (λ w. w) a;
   cut = λ world c v good up a. cut_untouched world c;
-  timer = λ world c file v good on breaks a. timer_untouched world c file (v.0.0.1.0 c good) a;
+  timer = λ world c file v good on breaks a. timer_untouched world c file (v.named c good) a;
   connect = λ world c v good down a. connect_untouched world c a;
   command = λ world c command v good a.
       let machine = world.clients c in
@@ -497,7 +498,7 @@ untouched_moves = record {
       (any_command machine (StepParts false machine) (commands_part machine) command file) p) a;
   take = λ world c reply queue v good first a.
       let machine = world.clients c in
-      let up = takes_up world v.0.0.0 c reply queue first in
+      let up = takes_up world v.ground c reply queue first in
       stepped_untouched world (reply_gone world c queue) c (taken machine reply) refl refl (taken-stays machine reply).guid
       (λ file. took_touched c c file world.past)
       (λ file p. parts_untouched world world.links c file true (machine.entries file).phase
@@ -513,7 +514,7 @@ HasParted = Both HasStructure (OfGood IsUntouched)
 
 pub run_parted : (setup : Setup) (events : List Event) → HasParted (after (first_world setup) events)
 unfolding first_world new_client
-run_parted setup events = runs_have HasParted (λ world all. all.0.0.0.0)
+run_parted setup events = runs_have HasParted (λ world all. all.0.ground)
     (carried_both HasStructure (OfGood IsUntouched) structure_carried
-    (own_moves HasStructure IsUntouched (λ world all. all.0.0.0) untouched_moves)) setup
+    (own_moves HasStructure IsUntouched (λ world all. all.ground) untouched_moves)) setup
     (first_structure setup, λ client good file. tt) events

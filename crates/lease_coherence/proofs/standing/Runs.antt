@@ -33,7 +33,7 @@ use Rattle.lease_coherence.specs.Names.{Each}
 use Rattle.lease_coherence.specs.Standing.{AllAsked, AskFits, FitsPhase, GivenWell, IsNoClose, IsStandingAt, IsUpStanding, NotClosed, PhaseStands, Stands, again_of}
 use Rattle.lease_coherence.proofs.clients.Commands.{any_command}
 use Rattle.lease_coherence.proofs.clients.Takes.{any_reply}
-use Rattle.lease_coherence.proofs.creates.Creates.{HasNames, none_held, off_rest, stepped_machine}
+use Rattle.lease_coherence.proofs.creates.Creates.{none_held, off_rest, stepped_machine}
 use Rattle.lease_coherence.proofs.moves.Deeds.{IsSource, done_reply}
 use Rattle.lease_coherence.proofs.moves.Moves.{popped}
 use Rattle.lease_coherence.proofs.moves.Events.{Ground, Both, come_back, connected, reply_gone}
@@ -46,6 +46,7 @@ use Rattle.lease_coherence.proofs.standing.Clients.{IsNoCreate, IsNoAnswer, IsLa
 use Rattle.lease_coherence.proofs.standing.Servers.{told_standing, refusal_plain, off_standing, granted_standing, reconnected_standing, closed_standing, dropped_standing, leased_standing, changed_standing, popped_standing, held_standing, timer_standing, unmoved_standing}
 use Rattle.lease_coherence.proofs.standing.Standing.{step_standing}
 use Rattle.lease_coherence.proofs.standing.Words.{asked_off, head_of}
+use Rattle.lease_coherence.proofs.standing.Structure.{HasStructure}
 
 -- ---- no other create is under way
 
@@ -396,10 +397,7 @@ pub link_of : (world off : World) (c : ℕ) (request : FileRequest) → IsSource
 link_of world off c request source up =
     ap (λ (l : ℕ → Link). is_up (l c)) (sym (off_rest world off c request source).1.0) ∙ up
 
-abbrev pub HasCreates : World → Type 0
-HasCreates = Both HasNames (OfGood IsCountedAt)
-
-pub standing_moves : IsOwnMoved HasCreates IsUpStanding
+pub standing_moves : IsOwnMoved HasStructure IsUpStanding
 standing_moves = record {
   unmoved = λ world new c v good u a up.
       unmoved_standing world new c u (a (ap is_up (sym u.link) ∙ up));
@@ -411,8 +409,8 @@ standing_moves = record {
       (off_standing world off c _ source (a (link_of world off c _ source up)));
   granted = λ world off c file access share ask v good source none on free a up.
       let s = a (link_of world off c (FileRequest.Create file access share (Some ask)) source up) in
-      granted_standing off c file access share ask (off_counted world off c _ source v.0.0)
-      (off_named world off c (FileRequest.Create file access share (Some ask)) c source (v.0.1.0 c good)).0
+      granted_standing off c file access share ask (off_counted world off c _ source v.ground)
+      (off_named world off c (FileRequest.Create file access share (Some ask)) c source (v.named c good)).0
       (fits_off world off c (FileRequest.Create file access share (Some ask)) source s) none
       (off_standing world off c (FileRequest.Create file access share (Some ask)) source s);
   reconnected = λ world off c file access share ask file_id v good source again on waits a up.
@@ -439,13 +437,13 @@ standing_moves = record {
   begin = λ world key lowered v good may heavy a up.
       leased_standing world key _ (break_notice key (world.server.leases key).state lowered) tt (a up);
   cut = λ world c v good up a on. absurd (true≢false (sym on ∙ ap is_up (put_same world.links c Link.Cut)));
-  timer = λ world c file v good on breaks a up. timer_standing world c file (v.0.1.0 c good) (a up);
-  connect = λ world c v good down a up. connect_standing world c v.0.0 down;
+  timer = λ world c file v good on breaks a up. timer_standing world c file (v.named c good) (a up);
+  connect = λ world c v good down a up. connect_standing world c v.ground down;
   command = λ world c command v good a up.
       let was = was_up world c (commanded (world.clients c) command) up in
       let s = a was in
       step_standing world c (commanded (world.clients c) command) was
-      (commanded-stays (world.clients c) command).guid (v.0.1.0 c good)
+      (commanded-stays (world.clients c) command).guid (v.named c good)
       (any_command (world.clients c) (StepStands world c (world.replies c))
       (commands_stand world c (world.replies c) (entries_of world c s)) command) s;
   take = λ world c reply queue v good first a up.
@@ -454,11 +452,11 @@ standing_moves = record {
       let s = gone_standing world c reply queue first (a was) in
       let left : gone.replies c ≡ queue = put_same world.replies c queue in
       step_standing gone c (taken (world.clients c) reply) was (taken-stays (world.clients c) reply).guid
-      (gone_named world c reply queue first v.0.1.0 c (strayed_after world c good))
+      (gone_named world c reply queue first v.named c (strayed_after world c good))
       (subst (λ q. StepStands gone c q (taken (world.clients c) reply)) (sym left)
       (any_reply (world.clients c) (TakeStands gone c queue)
       (takes_stand gone c queue (subst (AllEntries gone c) left (entries_of gone c s))) reply
-      (first_given world c reply queue first (a was)) (answers_last world c reply queue v.0.0 was (v.1 c good) first))) s;
+      (first_given world c reply queue first (a was)) (answers_last world c reply queue v.ground was (v.creates c good) first))) s;
   notice = λ world c v good cut a on. absurd (true≢false (sym on
       ∙ ap (λ (l : ℕ → Link). is_up (l c)) (stepped_links (record world { links = put world.links c Link.Down }) c
       (noticed (world.clients c)))

@@ -270,7 +270,7 @@ lone_moves = record {
       (Reply.CreateFailed file Status.InsufficientResources) refl refl (λ at e. e) (λ key. refl)
       (off_lone world off c (FileRequest.Create file access share (Some ask)) source a);
   granted = λ world off c file access share ask v good source none on free a.
-      let own = own_create world off c file access share ask source (v.0.0.0.0.0.0.1.0 c good) in
+      let own = own_create world off c file access share ask source (v.0.0.0.0.named c good) in
       granted_lone off c file access share ask own.lease own.asks own.key
       (off_lone world off c (FileRequest.Create file access share (Some ask)) source a);
   reconnected = λ world off c file access share ask file_id v good source again on waits a.
@@ -294,7 +294,7 @@ lone_moves = record {
   ack_done = λ world c given lowered v good oldest there breaks within a.
       put_lone (popped world c) (key_of c given.key) (record { state = granted_form_of given.state; broken_to = None })
       (done_reply given) (λ h. handles_within lowered (world.server.leases (key_of c given.key)).state
-      ((v.0.0.0.0.0.0.0.fine.sound.lawful (key_of c given.key)).is_broken_so lowered breaks).is_part
+      ((v.0.0.0.0.ground.fine.sound.lawful (key_of c given.key)).is_broken_so lowered breaks).is_part
       (handles_within given.state lowered within (form_handles given.state h)))
       (λ bytes is. absurd (true≢false (sym is))) a;
   hold = λ world file one v good oldest may turn a. a;
@@ -333,9 +333,9 @@ HasLones = Both HasAnswers (OfGood HasLone)
 
 pub lones_carried : IsCarried HasLones
 lones_carried = carried_both HasAnswers (OfGood HasLone) answers_carried
-    (own_moves HasAnswers HasLone (λ world all. all.0.0.0.0.0.0.0) lone_moves)
+    (own_moves HasAnswers HasLone (λ world all. all.0.0.0.0.ground) lone_moves)
 
 pub run_lones : (setup : Setup) (events : List Event) → HasLones (after (first_world setup) events)
 unfolding first_world after
-run_lones setup events = runs_have HasLones (λ world all. all.0.0.0.0.0.0.0.0) lones_carried setup
+run_lones setup events = runs_have HasLones (λ world all. all.0.0.0.0.0.ground) lones_carried setup
     (run_answers setup [], λ client good file. tt) events

@@ -270,7 +270,7 @@ take_within world c reply queue v good first up w =
     (subst (Each LowersFormed) (sym left) formed.1)
     (λ file fresh. subst (IsWithinFor (file_key world c file) file (world.server.leases (machine_key world c file))
     ((taken machine reply).client.entries file).phase (world.requests c ++ (taken machine reply).requests)) (sym left)
-    (any_reply machine (TakesWithin machine) (takes_stay machine (v.0.0.0.0.clients c)) reply formed.0 file
+    (any_reply machine (TakesWithin machine) (takes_stay machine (v.0.ground.clients c)) reply formed.0 file
     (world.server.leases (machine_key world c file)) (world.requests c) queue
     (subst (IsBelieved (file_key world c file) file (world.server.leases (machine_key world c file))
     ((world.clients c).entries file).phase (world.requests c)) first (t.files file fresh).believed)
@@ -321,16 +321,16 @@ within_moves = record {
   granted = λ world off c file access share ask v good source none on free a up.
       let request = FileRequest.Create file access share (Some ask) in
       let was = link_of world off c request source up in
-      let own = own_create world off c file access share ask source (v.0.0.0.1.0 c good) in
+      let own = own_create world off c file access share ask source (v.0.named c good) in
       granted_within off c file access share ask own.lease own.asks own.key
-      (off_sound world off c request source v.0.0.0.0.fine.sound)
+      (off_sound world off c request source v.0.ground.fine.sound)
       (off_trust world off c request source (v.1 c good was)) (off_within world off c request source (a was));
   reconnected = λ world off c file access share ask file_id v good source again on waits a up.
       let request = FileRequest.Create file access share (Some ask) in
       let was = link_of world off c request source up in
-      let own = own_create world off c file access share ask source (v.0.0.0.1.0 c good) in
+      let own = own_create world off c file access share ask source (v.0.named c good) in
       reconnected_within off c file ask file_id own.lease own.asks own.key
-      (off_sound world off c request source v.0.0.0.0.fine.sound)
+      (off_sound world off c request source v.0.ground.fine.sound)
       (off_trust world off c request source (v.1 c good was)) (off_within world off c request source (a was));
   read = λ world off c file_id one v good source found may a up.
       let request = FileRequest.Read file_id in
@@ -346,8 +346,8 @@ within_moves = record {
       let request = FileRequest.Close file_id in
       let was = link_of world off c request source up in
       closed_within off c file_id
-      (standing_moves.closed world off c file_id one v.0.0 good source found (v.0.1 c good) up)
-      (λ x there by. (off_named world off c request c source (v.0.0.0.1.0 c good)).0.opens x
+      (standing_moves.closed world off c file_id one v.0 good source found (v.0.opens c good) up)
+      (λ x there by. (off_named world off c request c source (v.0.named c good)).0.opens x
       (left_there off (λ other. other.file_id == file_id) x there) by)
       (trust_moves.closed world off c file_id one v.0 good source found (v.1 c good) up)
       (off_within world off c request source (a was));
@@ -358,21 +358,21 @@ within_moves = record {
       done_within world c given oldest (v.1 c good up) (a up);
   hold = λ world file one v good oldest may turn a up. held_within world file one (a up);
   dropped = λ world c test v good away a up. dropped_within world c test
-      (standing_moves.dropped world c test v.0.0 good away (v.0.1 c good) up)
-      (λ x there by. (v.0.0.0.1.0 c good).opens x (left_there world test x there) by)
+      (standing_moves.dropped world c test v.0 good away (v.0.opens c good) up)
+      (λ x there by. (v.0.named c good).opens x (left_there world test x there) by)
       (trust_moves.dropped world c test v.0 good away (v.1 c good) up) (a up);
   lower = λ world key lowered v good may light a up.
       lower_within world key lowered may light (v.1 key.client good up) (a up);
   begin = λ world key lowered v good may heavy a up. begin_within world key lowered may (v.1 key.client good up) (a up);
   cut = λ world c v good up a on. absurd (true≢false (sym on ∙ ap is_up (put_same world.links c Link.Cut)));
   timer = λ world c file v good on breaks a up. timer_within world c file
-      (standing_moves.timer world c file v.0.0 good on breaks (v.0.1 c good) up)
-      (λ x there by. (v.0.0.0.1.0 c good).opens x
+      (standing_moves.timer world c file v.0 good on breaks (v.0.opens c good) up)
+      (λ x there by. (v.0.named c good).opens x
       (timer_there world c file x there) by)
       (trust_moves.timer world c file v.0 good on breaks (v.1 c good) up) (a up);
   connect = λ world c v good down a up.
       connect_within world c (trust_moves.connect world c v.0 good down (v.1 c good) up)
-      (connect_idle world c v.0.0.0.0 down);
+      (connect_idle world c v.0.ground down);
   command = λ world c command v good a up.
       let machine = world.clients c in
       let was = was_up world c (commanded machine command) up in
@@ -397,7 +397,7 @@ HasWhole = Both HasBeliefs (OfGood IsUpWithin)
 
 pub whole_carried : IsCarried HasWhole
 whole_carried = carried_both HasBeliefs (OfGood IsUpWithin) beliefs_carried
-    (own_moves HasBeliefs IsUpWithin (λ world all. all.0.0.0.0) within_moves)
+    (own_moves HasBeliefs IsUpWithin (λ world all. all.0.ground) within_moves)
 
 pub first_whole : (setup : Setup) → HasWhole (first_world setup)
 unfolding first_world

@@ -34,11 +34,11 @@ abbrev pub HasRecords : World → Type 0
 HasRecords = Both HasBeliefs IsWell
 
 pub ground_of : (world : World) → HasRecords world → Ground world
-ground_of world v = v.0.0.0.0.0
+ground_of world v = v.0.0.ground
 
 pub names_of : (world : World) → HasRecords world → (c : ℕ)
     → has_strayed c world.past ≡ false → IsNamedAt world c
-names_of world v c good = v.0.0.0.0.1.0 c good
+names_of world v c good = v.0.0.named c good
 
 -- a client by the record
 pub known_by : (world : World) → HasRecords world → (c : ℕ)
@@ -55,7 +55,7 @@ moved_under V W P weaker m world move may v p = m world move may (weaker world v
 
 pub records_carried : IsCarried HasRecords
 records_carried = carried_both HasBeliefs IsWell beliefs_carried
-    (moved_under HasBeliefs Ground IsWell (λ world v. v.0.0.0.0) well_moves)
+    (moved_under HasBeliefs Ground IsWell (λ world v. v.0.ground) well_moves)
 
 -- ---- the layer
 
