@@ -1,4 +1,6 @@
+pub mod AllRuns
 pub mod Clients
+pub mod Leases
 pub mod Lone
 pub mod Meets
 pub mod Moves

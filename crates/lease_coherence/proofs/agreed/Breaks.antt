@@ -20,8 +20,8 @@ use Rattle.lease_coherence.proofs.fresh.Reads.{timely}
 use Rattle.lease_coherence.proofs.told.Lone.{run_lones}
 use Rattle.lease_coherence.proofs.told.Meets.{is_told}
 use Rattle.lease_coherence.proofs.told.Moves.{breaking_open}
-use Rattle.lease_coherence.proofs.told.Runs.{run_answers}
 use Rattle.lease_coherence.proofs.within.Words.{AckFit, IsAckFit}
+use Rattle.lease_coherence.proofs.told.AllRuns.{run_leases}
 
 -- ---- what counts say stands in the queue
 
@@ -71,21 +71,21 @@ some_state (Some lowered) e = (lowered, refl)
 pub breaking_is_answered : OfRuns (Timely BreakingIsAnswered)
 breaking_is_answered setup events client good up file fresh breaks =
     let world = after (first_world setup) events in
-    let v = run_answers setup events in
+    let v = run_leases setup events in
     let key = file_key world client file in
     ⊎_elim
     (λ some. let a = acked key (world.requests client) some in inr (inl (record { state = a.0; sent = a.1 })))
     (λ x. ⊎_elim
     (λ met. let l = some_state (lease_of world client file).broken_to breaks in
     inl (is_told world client file l.0 (run_lones setup events) good up fresh l.1 met))
-    (λ closed. let y = breaking_open world.server (machine_key world client file) (v.0.0.0.0.ground).fine.sound breaks in
+    (λ closed. let y = breaking_open world.server (machine_key world client file) v.structure.ground.fine.sound breaks in
     inr (inr (record {
       one = y.0;
       there = y.1;
       under = y.2;
       asked = close_asked file (y.0).file_id (asked_of world client file) (closed y.0 y.1 y.2);
     }))) x)
-    (v.1 client good up file fresh breaks)
+    (v.told client good up file fresh breaks)
 
 -- one of them, where it stands
 pub each_one : {X : Type 0} (P : X → Type 0) (xs : List X) (x : X) → Each P xs → Among x xs → P x
@@ -95,7 +95,7 @@ each_one P (y ∷ ys) x each there = ⊎_elim (λ same. subst P (sym same) each.
 pub acknowledgments_are_due : OfRuns (Timely AcknowledgmentsAreDue)
 acknowledgments_are_due setup events client good up file fresh state sent =
     let world = after (first_world setup) events in
-    let w = ((run_answers setup events).0.0.1 client good up).files file fresh in
+    let w = ((run_leases setup events).within client good up).files file fresh in
     let key = file_key world client file in
     let phase = ((world.clients client).entries file).phase in
     let fit : AckFit key (lease_of world client file) phase (acknowledgment_of key state) =
@@ -122,9 +122,9 @@ within_of one other reads writes handles = and_both _ _
 pub beliefs_are_held : OfRuns (Timely BeliefsAreHeld)
 beliefs_are_held setup events client good up file fresh live is =
     let world = after (first_world setup) events in
-    let v = run_answers setup events in
-    let w = ((v.0.0.1 client good up).files file fresh).own live is in
-    let b = ((v.0.0.0.1 client good up).files file fresh).believed in
+    let v = run_leases setup events in
+    let w = ((v.within client good up).files file fresh).own live is in
+    let b = ((v.beliefs client good up).files file fresh).believed in
     let state = (lease_of world client file).state in
     let whole : (live.belief.read ≡ true → state.read ≡ true) → is_state_within live.belief state ≡ true =
     λ reads. within_of live.belief state reads (λ x. (b.own live is x).1) (λ h. (w.0 h).1) in
@@ -140,6 +140,6 @@ good_clients_are_timely setup events client good =
     let world = after (first_world setup) events in
     let parts = and_parts (not (has_strayed client world.past)) (is_served client world.past) good in record {
       honest = not_parts (has_strayed client world.past) parts.0;
-      up = (((run_answers setup events).0.0.0.0.ground).tied client).served parts.1;
+      up = (((run_leases setup events).structure.ground).tied client).served parts.1;
       timers = λ file. timely setup events client file parts.1;
     }

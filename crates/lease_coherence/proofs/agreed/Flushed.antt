@@ -121,7 +121,7 @@ none_unsent world v c file state before behind good up fresh is gives (Phase.Ope
 none_unsent world v c file state before behind good up fresh is gives (Phase.Live live) at =
     let key = file_key world c file in
     let sound = sound_live (world.clients c) file live ((ground_in world v.0).clients c) at in
-    let b = ((v.0.0.0.0.0.0.1 c good up).files file fresh).believed in
+    let b = ((v.0.0.0.0.0.0.beliefs c good up).files file fresh).believed in
     either live.belief.write
     (λ writes. ⊎_elim
     (λ zero. absurd (never_zero key state before behind (ap (acks key) (sym is) ∙ zero)))
@@ -199,7 +199,7 @@ flushed_before_closes setup events c allowed good up file fresh id before behind
           (each_one (IsNoWrite id) behind (Request.OnFile (FileRequest.Write id number patch)) o.0 there);
       unsent = λ live at same. never_asked world c file id
           (subst (NotClosed world c) same (not_closed world c file live
-          (subst (PhaseStands world c file) at ((v.0.0.0.0.0.0.0.opens c good up).phases file))))
+          (subst (PhaseStands world c file) at ((v.0.0.0.0.0.0.structure.opens c good up).phases file))))
           (subst (Among (Request.OnFile (FileRequest.Close id))) (sym is)
           (among_behind (Request.OnFile (FileRequest.Close id)) before (Request.OnFile (FileRequest.Close id) ∷ behind)
           (inl refl)));

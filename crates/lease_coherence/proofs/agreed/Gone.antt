@@ -17,11 +17,12 @@ use Rattle.lease_laws.proofs.server.Lists.{if_cases, among_append, among_filter,
 use Rattle.lease_laws.proofs.world.FileIds.{run_counted}
 use Rattle.lease_laws.proofs.world.Runs.{stepped_server}
 use Rattle.lease_coherence.specs.Agreement.{ClosedOpensStayClosed}
-use Rattle.lease_coherence.proofs.beliefs.WriteCaches.{HasBeliefs, beliefs_carried, run_beliefs}
 use Rattle.lease_coherence.proofs.moves.Deeds.{HasDeeds, IsSource, step_deed}
 use Rattle.lease_coherence.proofs.moves.Events.{IsMoved, Both, carried_both, after_moves, come_back, reply_gone, Move}
 use Rattle.lease_coherence.proofs.moves.Frames.{from_source, lease_put_rest}
 use Rattle.lease_coherence.proofs.names.Names.{open_parts}
+use Rattle.lease_coherence.proofs.told.AllRuns.{leases_carried, run_leases}
+use Rattle.lease_coherence.proofs.told.Leases.{HasLeases}
 
 -- no open has a FileId that was given
 pub record IsGoneFrom (id : ℕ) (server : Server) : Type 0 where
@@ -116,7 +117,7 @@ deeds_gone id world g = record {
 stepped_gone : (id : ℕ) (world : World) (c : ℕ) (step : Step) → IsGone id world → IsGone id (stepped_in world c step)
 stepped_gone id world c step g = subst (IsGoneFrom id) (sym (stepped_server world c step)) g
 
-gone_moves : (id : ℕ) → IsMoved HasBeliefs (IsGone id)
+gone_moves : (id : ℕ) → IsMoved HasLeases (IsGone id)
 unfolding opens_dropped opens_disconnected client_forgotten key_expired joined requests_sent with_opens
 gone_moves id world (Move.Step step) next v g = step_deed world (IsGone id) (deeds_gone id world g) step next
 gone_moves id world (Move.Cut c) up v g = let left = fewer_gone id world.server (is_lost world.server c) g in
@@ -139,9 +140,9 @@ gone_moves id world (Move.Stray c request) up v g = g
 pub closed_opens_stay_closed : ClosedOpensStayClosed
 closed_opens_stay_closed setup events more client id given none =
     let world = after (first_world setup) events in
-    let g = (after_moves (Both HasBeliefs (IsGone id)) (λ w v. v.0.0.ground)
-    (carried_both HasBeliefs (IsGone id) beliefs_carried (gone_moves id)) world more (run_counted setup events)
-    (run_beliefs setup events, record { given = given; none = none })).1 in
+    let g = (after_moves (Both HasLeases (IsGone id)) (λ w v. v.0.structure.ground)
+    (carried_both HasLeases (IsGone id) leases_carried (gone_moves id)) world more (run_counted setup events)
+    (run_leases setup events, record { given = given; none = none })).1 in
     by_found (after world more).server g (connected_open (after world more).server client id) refl
   where
     by_found : (server : Server) → IsGoneFrom id server → (found : Option Open) → connected_open server client id ≡ found

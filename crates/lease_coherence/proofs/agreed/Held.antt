@@ -24,8 +24,8 @@ use Rattle.lease_coherence.proofs.late.Held.{about_asks, first_of, none_waits}
 use Rattle.lease_coherence.proofs.late.Words.{HeldPlain}
 use Rattle.lease_coherence.proofs.order.Words.{none_behind, WriteStands, WriteStandsOn}
 use Rattle.lease_coherence.proofs.told.Moves.{open_place}
-use Rattle.lease_coherence.proofs.told.Runs.{run_answers}
 use Rattle.lease_coherence.proofs.writes.Answered.{names_of}
+use Rattle.lease_coherence.proofs.told.AllRuns.{run_leases}
 
 -- a lease that holds writes has an open
 writing_open : (server : _) (key : _) → IsSound server → (server.leases key).state.write ≡ true
@@ -56,13 +56,13 @@ none_held world c file sound waits names writes = either (is_behind c (world.ser
 pub writers_are_not_held : OfRuns WritersAreNotHeld
 writers_are_not_held setup events c good file writes =
     let world = after (first_world setup) events in
-    let v = run_answers setup events in
+    let v = run_leases setup events in
     let s = servers_of_runs setup events in
-    none_held world c file s.0 s.1 (v.0.0.0.0.named c good) writes
+    none_held world c file s.0 s.1 (v.structure.named c good) writes
 
 pub believers_are_not_held : OfRuns (Timely BelieversAreNotHeld)
 believers_are_not_held setup events c good up file fresh live is writes =
-    let b = (((run_answers setup events).0.0.0.1 c good up).files file fresh).believed in
+    let b = (((run_leases setup events).beliefs c good up).files file fresh).believed in
     writers_are_not_held setup events c good file (b.own live is writes).1
 
 pub held_writes_are_through : OfAllowedRuns (Timely HeldWritesAreThrough)

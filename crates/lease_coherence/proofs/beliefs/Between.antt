@@ -34,10 +34,11 @@ use Rattle.lease_laws.proofs.world.Links.{by_client}
 use Rattle.lease_laws.proofs.world.Runs.{stepped_clients}
 use Rattle.lease_coherence.specs.Parts.{RunsHaveOneWriteCache}
 use Rattle.lease_coherence.proofs.moves.Shift.{append_none}
-use Rattle.lease_coherence.proofs.beliefs.WriteCaches.{after_one_write_cache, run_beliefs}
+use Rattle.lease_coherence.proofs.beliefs.WriteCaches.{after_one_write_cache}
 use Rattle.lease_coherence.proofs.moves.Frames.{stepped_past}
 use Rattle.lease_coherence.proofs.records.Later.{past_noted}
 use Rattle.lease_coherence.proofs.wellformed.Notes.{EachNote, IsFineNote, call_fine}
+use Rattle.lease_coherence.proofs.told.AllRuns.{run_leases}
 
 -- ---- facts that say nothing of beliefs, and make no client good
 
@@ -411,9 +412,9 @@ after_last world [] event = refl
 after_last world (first ∷ events) event = after_last (happens world first) events event
 
 reached : (setup : Setup) (events : List Event) → IsReached (after (first_world setup) events)
-reached setup events = let v = run_beliefs setup events in record {
-  sound = v.0.ground.clients;
-  online = v.0.ground.online;
+reached setup events = let v = run_leases setup events in record {
+  sound = v.structure.ground.clients;
+  online = v.structure.ground.online;
   cache = after_one_write_cache setup events;
   agrees = beliefs_of_runs setup events;
 }

@@ -11,28 +11,10 @@ use Rattle.lease_laws.proofs.server.Lists.{clash, and_parts, not_parts, not_true
 use Rattle.lease_laws.proofs.world.Beliefs.{beliefs_of_runs}
 use Rattle.lease_laws.proofs.world.Timers.{timers_are_told}
 use Rattle.lease_coherence.specs.Standing.{IsOpenFor, IsStandingAt, PhaseStands}
-use Rattle.lease_coherence.proofs.moves.Events.{IsCarried, Both, carried_both, runs_have}
 use Rattle.lease_coherence.proofs.moves.Foreign.{key_client}
-use Rattle.lease_coherence.proofs.moves.Own.{OfGood, own_moves}
-use Rattle.lease_coherence.proofs.standing.AllRuns.{structure_carried, first_structure}
-use Rattle.lease_coherence.proofs.beliefs.Runs.{trust_moves}
-use Rattle.lease_coherence.proofs.beliefs.Trust.{IsUpTrusted, open_has_key}
-use Rattle.lease_coherence.proofs.standing.Structure.{HasStructure}
-
-abbrev pub HasBeliefs : World → Type 0
-HasBeliefs = Both HasStructure (OfGood IsUpTrusted)
-
-pub beliefs_carried : IsCarried HasBeliefs
-beliefs_carried = carried_both HasStructure (OfGood IsUpTrusted) structure_carried
-    (own_moves HasStructure IsUpTrusted (λ world all. all.ground) trust_moves)
-
-pub first_beliefs : (setup : Setup) → HasBeliefs (first_world setup)
-unfolding first_world
-first_beliefs setup = (first_structure setup, λ client good up. absurd (true≢false (sym up)))
-
-pub run_beliefs : (setup : Setup) (events : List Event) → HasBeliefs (after (first_world setup) events)
-run_beliefs setup events = runs_have HasBeliefs (λ world all. all.0.ground) beliefs_carried setup
-    (first_beliefs setup) events
+use Rattle.lease_coherence.proofs.beliefs.Trust.{open_has_key}
+use Rattle.lease_coherence.proofs.told.AllRuns.{run_leases}
+use Rattle.lease_coherence.proofs.told.Leases.{HasLeases}
 
 -- ---- two clients in one world
 
@@ -59,7 +41,7 @@ never_live (Phase.Live live) never = absurd (never live refl)
 never_live (Phase.Offline parted) never = refl
 never_live (Phase.Reconnecting parted) never = refl
 
-pub one_writer : (world : World) → HasBeliefs world → (file c other : ℕ) → other ≢ c
+pub one_writer : (world : World) → HasLeases world → (file c other : ℕ) → other ≢ c
     → has_strayed c world.past ≡ false → is_up (world.links c) ≡ true
     → world.server.expired (machine_key world c file) ≡ false → (belief (world.clients c) file).write ≡ true
     → has_strayed other world.past ≡ false → is_up (world.links other) ≡ true
@@ -67,16 +49,16 @@ pub one_writer : (world : World) → HasBeliefs world → (file c other : ℕ) �
     → belief (world.clients other) file ≡ nothing_cached
 one_writer world v file c other ne good up fresh w fine on unexpired =
     let writer = writer_live ((world.clients c).entries file).phase w in
-    let mine = live_open world c file writer.0 writer.1 fresh (v.0.opens c good up) in
-    let n = v.0.named c good in
+    let mine = live_open world c file writer.0 writer.1 fresh (v.structure.opens c good up) in
+    let n = v.structure.named c good in
     let has = open_has_key world c file (writer.0).file_id mine (n.opens mine.one mine.there mine.by) in
-    let trusted = (v.1 c good up).files file fresh in
+    let trusted = (v.beliefs c good up).files file fresh in
     let held = trusted.believed.own writer.0 writer.1
     (subst (λ p. (belief_in p).write ≡ true) writer.1 w) in
     never_live ((world.clients other).entries file).phase (λ live is.
-    let theirs = live_open world other file live is unexpired (v.0.opens other fine on) in
+    let theirs = live_open world other file live is unexpired (v.structure.opens other fine on) in
     ne (sym theirs.by ∙ sym (key_client (machine_key world c file) theirs.one
-    (v.0.ground.fine.sound.one_writer (machine_key world c file) mine.one theirs.one held.1 mine.there has theirs.there
+    (v.structure.ground.fine.sound.one_writer (machine_key world c file) mine.one theirs.one held.1 mine.there has theirs.there
     (theirs.on_file ∙ sym mine.on_file)))))
 
 -- ---- after each event
@@ -85,14 +67,14 @@ pub after_one_write_cache : (setup : Setup) (events : List Event) → OneWriteCa
 unfolding is_good
 after_one_write_cache setup events file client other ne good w fine =
     let world = after (first_world setup) events in
-    let v = run_beliefs setup events in
+    let v = run_leases setup events in
     let parts = and_parts (not (has_strayed client world.past)) (is_served client world.past) good in
     let others = and_parts (not (has_strayed other world.past)) (is_served other world.past) fine in
     beliefs_of_runs setup events other file
     ∙ one_writer world v file client other ne (not_parts (has_strayed client world.past) parts.0)
-    ((v.0.ground.tied client).served parts.1) (timely setup events client file parts.1)
+    ((v.structure.ground.tied client).served parts.1) (timely setup events client file parts.1)
     (ap (λ (s : State). s.write) (sym (beliefs_of_runs setup events client file)) ∙ w)
-    (not_parts (has_strayed other world.past) others.0) ((v.0.ground.tied other).served others.1)
+    (not_parts (has_strayed other world.past) others.0) ((v.structure.ground.tied other).served others.1)
     (timely setup events other file others.1)
   where
     timely : (setup : Setup) (events : List Event) (c file : ℕ)

@@ -37,7 +37,6 @@ use Rattle.lease_coherence.specs.Names.{Each, IsNamedAt, IsNamedPhase}
 use Rattle.lease_coherence.specs.Standing.{AllAsked, IsNoClose, IsStandingAt, GivenWell, PhaseStands}
 use Rattle.lease_coherence.proofs.beliefs.Closed.{left_there}
 use Rattle.lease_coherence.proofs.beliefs.Steps.{AsksCreate, connect_idle}
-use Rattle.lease_coherence.proofs.beliefs.WriteCaches.{HasBeliefs}
 use Rattle.lease_coherence.proofs.clients.Commands.{any_command}
 use Rattle.lease_coherence.proofs.clients.Takes.{any_reply}
 use Rattle.lease_coherence.proofs.covered.Asked.{popped_closed, held_closed}
@@ -63,7 +62,7 @@ use Rattle.lease_coherence.proofs.records.Later.{IsLater, later_same, later_then
 use Rattle.lease_coherence.proofs.standing.Runs.{link_of, fits_of, was_up}
 use Rattle.lease_coherence.proofs.standing.Standing.{IsStepped, step_of}
 use Rattle.lease_coherence.proofs.standing.Words.{asked_weaker, asked_popped, asked_held, asked_unmoved}
-use Rattle.lease_coherence.proofs.within.Runs.{HasWhole, whole_carried, first_whole}
+use Rattle.lease_coherence.proofs.told.Leases.{HasLeases}
 
 -- ---- what others do
 
@@ -457,60 +456,60 @@ take_covered world c reply queue first up counted k h =
 
 -- ---- all moves
 
-pub known_for : (world : World) → HasBeliefs world → (c : ℕ) → has_strayed c world.past ≡ false
+pub known_for : (world : World) → HasLeases world → (c : ℕ) → has_strayed c world.past ≡ false
     → is_up (world.links c) ≡ true → IsKnownFor world c
 known_for world v c good up = record {
-  ground = v.0.ground;
-  names = v.0.named c good;
-  ids = ids_of world c (record { last = v.0.ground.counted.last; opens = v.0.ground.counted.opens });
-  stands = v.0.opens c good up;
+  ground = v.structure.ground;
+  names = v.structure.named c good;
+  ids = ids_of world c (record { last = v.structure.ground.counted.last; opens = v.structure.ground.counted.opens });
+  stands = v.structure.opens c good up;
 }
 
-off_left : (world off : World) → HasBeliefs world → (c : ℕ) (request : FileRequest) → IsSource world off c request
+off_left : (world off : World) → HasLeases world → (c : ℕ) (request : FileRequest) → IsSource world off c request
     → IsUpCovered world c → is_up (off.links c) ≡ true → IsLeftCovered off c (Request.OnFile request)
 off_left world off v c request source a up =
     off_covered world off c request source (a (link_of world off c request source up))
 
-off_known : (world off : World) → HasBeliefs world → (c : ℕ) (request : FileRequest) → IsSource world off c request
+off_known : (world off : World) → HasLeases world → (c : ℕ) (request : FileRequest) → IsSource world off c request
     → KnowsIds off c
-off_known world off v c request source = ids_of off c (off_counted world off c request source v.0.ground)
+off_known world off v c request source = ids_of off c (off_counted world off c request source v.structure.ground)
 
-pub covered_moves : IsOwnMoved HasWhole IsUpCovered
+pub covered_moves : IsOwnMoved HasLeases IsUpCovered
 covered_moves = record {
   unmoved = λ world new c v good u a up. unmoved_covered world new c u (a (ap is_up (sym u.link) ∙ up));
-  refused = λ world off c request status v good source may a up. let h = off_left world off v.0 c request source a up in
+  refused = λ world off c request status v good source may a up. let h = off_left world off v c request source a up in
       told_covered off c (Request.OnFile request) (refusal_of request status)
       (refusal_gone off c request status may h.used) (refusal_closes off c request status may) h;
   full = λ world off c file access share ask v good source a up.
       let request = FileRequest.Create file access share (Some ask) in
       told_covered off c (Request.OnFile request) (Reply.CreateFailed file Status.InsufficientResources) tt
-      (λ x there by on. tt) (off_left world off v.0 c request source a up);
+      (λ x there by on. tt) (off_left world off v c request source a up);
   granted = λ world off c file access share ask v good source none on free a up.
       let request = FileRequest.Create file access share (Some ask) in
-      granted_covered off c file access share ask _ (off_known world off v.0 c request source)
-      (off_left world off v.0 c request source a up);
+      granted_covered off c file access share ask _ (off_known world off v c request source)
+      (off_left world off v c request source a up);
   reconnected = λ world off c file access share ask file_id v good source again on waits a up.
       let request = FileRequest.Create file access share (Some ask) in
-      let own = (off_named world off c request c source (v.0.0.named c good)).1 refl in
-      reconnected_covered off c file access share ask file_id (off_known world off v.0 c request source)
-      (own.again file_id again) (off_left world off v.0 c request source a up);
+      let own = (off_named world off c request c source (v.structure.named c good)).1 refl in
+      reconnected_covered off c file access share ask file_id (off_known world off v c request source)
+      (own.again file_id again) (off_left world off v c request source a up);
   read = λ world off c file_id one v good source found may a up.
       let request = FileRequest.Read file_id in
       told_covered off c (Request.OnFile request) (Reply.ReadDone file_id (off.server.contents one.file)) tt
-      (λ x there by on. tt) (off_left world off v.0 c request source a up);
+      (λ x there by on. tt) (off_left world off v c request source a up);
   changed = λ world off c file_id number patch one v good source found may a up.
       let request = FileRequest.Write file_id number patch in
-      changed_covered off c one.file file_id number patch (off_left world off v.0 c request source a up);
+      changed_covered off c one.file file_id number patch (off_left world off v c request source a up);
   closed = λ world off c file_id one v good source found a up.
       let request = FileRequest.Close file_id in
-      closed_covered off c file_id (off_left world off v.0 c request source a up);
+      closed_covered off c file_id (off_left world off v c request source a up);
   ack_failed = λ world c given status v good oldest why a up.
       told_covered (popped world c) c (Request.Acknowledge given) (Reply.AckFailed status) tt (λ x there by on. tt)
       (ack_left world c given oldest (a up));
   ack_done = λ world c given lowered v good oldest there breaks within a up.
       leased_covered (popped world c) (key_of c given.key) _ (Request.Acknowledge (Some given)) (done_reply given)
       (λ x. tt) tt (ack_left world c (Some given) oldest (a up));
-  hold = λ world file one v good oldest may turn a up. held_covered world file one oldest turn v.0.0.ground (a up);
+  hold = λ world file one v good oldest may turn a up. held_covered world file one oldest turn v.structure.ground (a up);
   dropped = λ world c test v good away a up. dropped_covered world c test (a up);
   lower = λ world key lowered v good may light a up. leased_covered world key _ (Request.Acknowledge None)
       (break_notice key (world.server.leases key).state lowered) (λ x. tt) tt (all_left world key.client (a up));
@@ -518,36 +517,23 @@ covered_moves = record {
       (break_notice key (world.server.leases key).state lowered) (λ x. tt) tt (all_left world key.client (a up));
   cut = λ world c v good up a on. absurd (true≢false (sym on ∙ ap is_up (put_same world.links c Link.Cut)));
   timer = λ world c file v good on breaks a up. timer_covered world c file (a up);
-  connect = λ world c v good down a up. connect_covered world c v.0.0.ground down;
+  connect = λ world c v good down a up. connect_covered world c v.structure.ground down;
   command = λ world c command v good a up.
       let machine = world.clients c in
       let was = was_up world c (commanded machine command) up in
       let h = a was in
       step_covered world world c (commanded machine command) was (commanded-stays machine command).guid refl refl refl
       (later_same world.past) (any_command machine (StepUses machine) (commands_use machine) command)
-      (known_for world v.0 c good was) h.uses h.fails
+      (known_for world v c good was) h.uses h.fails
       (λ x there by on fresh. any_command machine (StepCovers machine) (commands_cover machine) command x.file x.file_id
-      (asked_of world c x.file) (world.replies c) (quiet_of world c x.file (v.0.0.creates c good was x.file))
+      (asked_of world c x.file) (world.replies c) (quiet_of world c x.file (v.structure.creates c good was x.file))
       (h.covers x there by on fresh));
   take = λ world c reply queue v good first a up.
       let was : is_up (world.links c) ≡ true =
       was_up (reply_gone world c queue) c (taken (world.clients c) reply) up in
-      take_covered world c reply queue first was (v.0.0.creates c good was) (known_for world v.0 c good was) (a was);
+      take_covered world c reply queue first was (v.structure.creates c good was) (known_for world v c good was) (a was);
   notice = λ world c v good cut a on. absurd (true≢false (sym on
       ∙ ap (λ (l : ℕ → Link). is_up (l c)) (stepped_links (record world { links = put world.links c Link.Down }) c
       (noticed (world.clients c)))
       ∙ ap is_up (put_same world.links c Link.Down)));
 }
-
--- ---- all runs
-
-abbrev pub HasCover : World → Type 0
-HasCover = Both HasWhole (OfGood IsUpCovered)
-
-pub cover_carried : IsCarried HasCover
-cover_carried = carried_both HasWhole (OfGood IsUpCovered) whole_carried
-    (own_moves HasWhole IsUpCovered (λ world all. all.0.0.ground) covered_moves)
-
-pub first_cover : (setup : Setup) → HasCover (first_world setup)
-unfolding first_world
-first_cover setup = (first_whole setup, λ client good up. absurd (true≢false (sym up)))

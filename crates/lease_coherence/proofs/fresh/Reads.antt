@@ -35,7 +35,6 @@ use Rattle.lease_laws.proofs.world.Kept.{served-clients}
 use Rattle.lease_laws.proofs.world.Timers.{timers_are_told}
 use Rattle.lease_coherence.specs.Parts.{InRuns}
 use Rattle.lease_coherence.proofs.beliefs.Between.{after_last, append_last}
-use Rattle.lease_coherence.proofs.beliefs.WriteCaches.{first_beliefs}
 use Rattle.lease_coherence.proofs.clients.Commands.{IsEntry, sent_of}
 use Rattle.lease_coherence.proofs.fresh.Runs.{HasFresh, fresh_carried}
 use Rattle.lease_coherence.proofs.moves.Shift.{append_none}
@@ -47,6 +46,7 @@ use Rattle.lease_coherence.proofs.wellformed.WellFormed.{first_well}
 use Rattle.lease_coherence.proofs.writes.Answered.{ground_of, moved_under}
 use Rattle.lease_coherence.proofs.writes.Noted.{IsPlainNote, LeavesWrites, TellsWrites}
 use Rattle.lease_coherence.proofs.writes.Unanswered.{call_tells_writes, HasWrites, writes_moves}
+use Rattle.lease_coherence.proofs.told.AllRuns.{first_leases}
 
 -- ---- all that is known along a run
 
@@ -68,7 +68,7 @@ unfolding first_world after new_client
 first_reads setup allowed = (
   (
     (
-      ((first_beliefs setup, first_well setup allowed), λ c good up. absurd (true≢false (sym up))),
+      ((first_leases setup, first_well setup allowed), λ c good up. absurd (true≢false (sym up))),
       contents_are_told setup [] allowed,
     ),
     λ c good up. absurd (true≢false (sym up)),

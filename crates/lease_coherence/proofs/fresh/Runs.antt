@@ -465,7 +465,7 @@ due_of : (world : World) (c : ℕ) (reply : Reply) (queue : List Reply) → HasS
     → has_strayed c world.past ≡ false → is_up (world.links c) ≡ true → world.replies c ≡ reply ∷ queue
     → IsDueTo c (world.clients c) world.past reply
 due_of world c reply queue v good up first = record {
-  asked = λ file. low _ _ _ _ _ (v.0.0.0.0.creates c good up file) (ap (λ (q : List Reply). answers file q) first);
+  asked = λ file. low _ _ _ _ _ (v.0.0.0.structure.creates c good up file) (ap (λ (q : List Reply). answers file q) first);
   sent = λ file number known own.
       low _ _ _ _ _ ((v.0.1 c good up).counts file number known own) (ap (λ (q : List Reply). settling number q) first);
 }
@@ -496,7 +496,7 @@ fresh_moves = record {
       let own = (off_named world off c request c source (names_of world v.0.0 c good)).1 refl in
       let before : off.server.expired (machine_key off c at) ≡ false = granted_was off c file access share ask at fresh in
       granted_fresh off c file access share ask own.lease own.asks own.key
-      (off_trust world off c request source (v.0.0.0.1 c good was)) at before
+      (off_trust world off c request source (v.0.0.0.beliefs c good was)) at before
       (off_low world off c request source (low_of world (ground_of world v.0.0) c was))
       (off_fresh_in world off c at request source (a was at (off_fresh world off c at request source before)));
   reconnected = λ world off c file access share ask file_id v good source again on waits a up at fresh.
@@ -504,7 +504,7 @@ fresh_moves = record {
       let was = link_of world off c request source up in
       let own = (off_named world off c request c source (names_of world v.0.0 c good)).1 refl in
       reconnected_fresh off c file ask file_id own.lease own.asks own.key
-      (off_trust world off c request source (v.0.0.0.1 c good was)) at fresh
+      (off_trust world off c request source (v.0.0.0.beliefs c good was)) at fresh
       (off_low world off c request source (low_of world (ground_of world v.0.0) c was))
       (off_fresh_in world off c at request source (a was at (off_fresh world off c at request source fresh)));
   read = λ world off c file_id one v good source found may a up file fresh.
@@ -520,7 +520,7 @@ fresh_moves = record {
   closed = λ world off c file_id one v good source found a up file fresh.
       let was = link_of world off c _ source up in
       closed_fresh off c file_id file
-      (standing_moves.closed world off c file_id one v.0.0.0.0 good source found (v.0.0.0.0.opens c good) up)
+      (standing_moves.closed world off c file_id one v.0.0.0.structure good source found (v.0.0.0.structure.opens c good) up)
       (λ x there by. (off_named world off c (FileRequest.Close file_id) c source (names_of world v.0.0 c good)).0.opens x
       (left_there off (λ other. other.file_id == file_id) x there) by)
       fresh (off_low world off c _ source (low_of world (ground_of world v.0.0) c was))
@@ -533,7 +533,7 @@ fresh_moves = record {
   hold = λ world at one v good oldest may turn a up file fresh.
       popped_fresh world one.client file (a up file fresh);
   dropped = λ world c test v good away a up file fresh. dropped_fresh world c test file
-      (standing_moves.dropped world c test v.0.0.0.0 good away (v.0.0.0.0.opens c good) up)
+      (standing_moves.dropped world c test v.0.0.0.structure good away (v.0.0.0.structure.opens c good) up)
       (λ x there by. own_of world v c good x (left_there world test x there) by) fresh (a up file fresh);
   lower = λ world key lowered v good may light a up file fresh.
       broken_fresh world key (record { state = lowered; broken_to = None }) lowered file refl
@@ -543,7 +543,7 @@ fresh_moves = record {
       refl (low_of world (ground_of world v.0.0) key.client up) (a up file fresh);
   cut = λ world c v good up a on. absurd (true≢false (sym on ∙ ap is_up (put_same world.links c Link.Cut)));
   timer = λ world c at v good on breaks a up file fresh. timer_fresh world c at file
-      (standing_moves.timer world c at v.0.0.0.0 good on breaks (v.0.0.0.0.opens c good) up)
+      (standing_moves.timer world c at v.0.0.0.structure good on breaks (v.0.0.0.structure.opens c good) up)
       (own_of world v c good) fresh (a up file (timer_was world c at file fresh));
   connect = λ world c v good down a up file fresh. connect_fresh world c (ground_of world v.0.0) down file;
   command = λ world c command v good a up file fresh.
@@ -560,7 +560,7 @@ fresh_moves = record {
       (any_reply machine (TakesFresh c machine world.past)
       (takes_fresh c machine world.past ((ground_of world v.0.0).clients c) (known_by world v.0.0 c good)) reply)
       (due_of world c reply queue v good was first)
-      (quiet_behind world c file reply queue first (v.0.0.0.1 c good was) before) (a was file before);
+      (quiet_behind world c file reply queue first (v.0.0.0.beliefs c good was) before) (a was file before);
   notice = λ world c v good cut a on. absurd (true≢false (sym on
       ∙ ap (λ (l : ℕ → Link). is_up (l c)) (stepped_links (record world { links = put world.links c Link.Down }) c
       (noticed (world.clients c)))

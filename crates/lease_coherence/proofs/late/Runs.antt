@@ -52,8 +52,8 @@ up_in world v c good up = record {
   names = names_in world v c good;
   known = known_by world v.0.0.0.0 c good;
   ids = ids_in world v c;
-  stands = v.0.0.0.0.0.0.opens c good up;
-  trust = v.0.0.0.0.0.1 c good up;
+  stands = v.0.0.0.0.0.structure.opens c good up;
+  trust = v.0.0.0.0.0.beliefs c good up;
 }
 
 off_ids : (world off : World) → HasOrder world → (c : ℕ) (request : FileRequest) → IsSource world off c request

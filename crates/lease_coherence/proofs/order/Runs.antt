@@ -485,12 +485,12 @@ order_moves = record {
       stepped_order world c (commanded (world.clients c) command) was
       (commanded-stays (world.clients c) command).guid
       (any_command (world.clients c) (SendsInOrder (world.clients c)) (commands_send (world.clients c)) command)
-      (v.0.0.0.0.0.opens c good was) (live_opened world c (names_of world v.0.0.0 c good)) (a was);
+      (v.0.0.0.0.structure.opens c good was) (live_opened world c (names_of world v.0.0.0 c good)) (a was);
   take = λ world c reply queue v good first a up.
       let gone = reply_gone world c queue in
       let machine = world.clients c in
       let was : is_up (world.links c) ≡ true = was_up gone c (taken machine reply) up in
-      let s = v.0.0.0.0.0.opens c good was in
+      let s = v.0.0.0.0.structure.opens c good was in
       stepped_order gone c (taken machine reply) was (taken-stays machine reply).guid
       (any_reply machine (λ r step. SendsInOrder machine step) (takes_send machine) reply)
       (gone_standing world c reply queue first s)

@@ -42,7 +42,8 @@ use Rattle.lease_coherence.proofs.moves.Events.{Both, IsCarried, carried_both, r
 use Rattle.lease_coherence.proofs.moves.Frames.{from_source, stepped_replies}
 use Rattle.lease_coherence.proofs.moves.Moves.{popped}
 use Rattle.lease_coherence.proofs.moves.Own.{IsOwnMoved, OfGood, own_moves}
-use Rattle.lease_coherence.proofs.told.Runs.{HasAnswers, answers_carried, run_answers}
+use Rattle.lease_coherence.proofs.told.AllRuns.{leases_carried, run_leases}
+use Rattle.lease_coherence.proofs.told.Leases.{HasLeases}
 
 -- ---- one file
 
@@ -258,7 +259,7 @@ timer_leases world c file key e =
 
 -- ---- all moves
 
-pub lone_moves : IsOwnMoved HasAnswers HasLone
+pub lone_moves : IsOwnMoved HasLeases HasLone
 lone_moves = record {
   unmoved = λ world new c v good u a. stays_lone world new c (ap (λ (m : Client). m.guid) u.machine) u.replies
       (λ file e. ap (λ (l : Lease). l.state.handle) (sym (u.leases (machine_key world c file) refl)) ∙ e) a;
@@ -270,7 +271,7 @@ lone_moves = record {
       (Reply.CreateFailed file Status.InsufficientResources) refl refl (λ at e. e) (λ key. refl)
       (off_lone world off c (FileRequest.Create file access share (Some ask)) source a);
   granted = λ world off c file access share ask v good source none on free a.
-      let own = own_create world off c file access share ask source (v.0.0.0.0.named c good) in
+      let own = own_create world off c file access share ask source (v.structure.named c good) in
       granted_lone off c file access share ask own.lease own.asks own.key
       (off_lone world off c (FileRequest.Create file access share (Some ask)) source a);
   reconnected = λ world off c file access share ask file_id v good source again on waits a.
@@ -294,7 +295,7 @@ lone_moves = record {
   ack_done = λ world c given lowered v good oldest there breaks within a.
       put_lone (popped world c) (key_of c given.key) (record { state = granted_form_of given.state; broken_to = None })
       (done_reply given) (λ h. handles_within lowered (world.server.leases (key_of c given.key)).state
-      ((v.0.0.0.0.ground.fine.sound.lawful (key_of c given.key)).is_broken_so lowered breaks).is_part
+      ((v.structure.ground.fine.sound.lawful (key_of c given.key)).is_broken_so lowered breaks).is_part
       (handles_within given.state lowered within (form_handles given.state h)))
       (λ bytes is. absurd (true≢false (sym is))) a;
   hold = λ world file one v good oldest may turn a. a;
@@ -329,13 +330,13 @@ lone_moves = record {
 -- ---- all runs
 
 abbrev pub HasLones : World → Type 0
-HasLones = Both HasAnswers (OfGood HasLone)
+HasLones = Both HasLeases (OfGood HasLone)
 
 pub lones_carried : IsCarried HasLones
-lones_carried = carried_both HasAnswers (OfGood HasLone) answers_carried
-    (own_moves HasAnswers HasLone (λ world all. all.0.0.0.0.ground) lone_moves)
+lones_carried = carried_both HasLeases (OfGood HasLone) leases_carried
+    (own_moves HasLeases HasLone (λ world v. v.structure.ground) lone_moves)
 
 pub run_lones : (setup : Setup) (events : List Event) → HasLones (after (first_world setup) events)
 unfolding first_world after
-run_lones setup events = runs_have HasLones (λ world all. all.0.0.0.0.0.ground) lones_carried setup
-    (run_answers setup [], λ client good file. tt) events
+run_lones setup events = runs_have HasLones (λ world v. v.0.structure.ground) lones_carried setup
+    (run_leases setup [], λ client good file. tt) events

@@ -103,7 +103,7 @@ parked_asks world c file lowered reply queue w first b =
     let v = w.known in
     let key = file_key world c file in
     let phase = ((world.clients c).entries file).phase in
-    let held = ((((v.0.0.0.1 c w.good w.up).files file w.fresh).own b.live b.was).0 b.handles).1 in
+    let held = ((((v.0.within c w.good w.up).files file w.fresh).own b.live b.was).0 b.handles).1 in
     either (b.notice).ack_required
     (λ asks. and_both (is_live phase) (is_ack_break key reply) (ap is_live b.was)
     (ap (is_ack_break key) b.is ∙ and_both (b.notice).ack_required (bytes_eq key (b.notice).key) asks b.own))
@@ -116,7 +116,7 @@ parked_asks world c file lowered reply queue w first b =
     none_behind = none_granted file queue (rest (creates file (asked_of world c file)) (answer_of file reply)
         (answers file queue) (asked_by (world.clients c) file)
         (subst (λ q. creates file (asked_of world c file) + answers file q ≡ asked_by (world.clients c) file) first
-        (counted_of world c file ((known_here world w.known.0.0 c w.good w.up).counted file)))
+        (counted_of world c file ((known_here world w.known.0 c w.good w.up).counted file)))
         (ap one_if (ap has_asked b.was ∙ b.idle)))
       where
         rest : (a x b n : ℕ) → a + (x + b) ≡ n → n ≡ 0 → b ≡ 0
@@ -162,7 +162,7 @@ meets_now world c file lowered reply queue w first live is =
       tells = sym w.breaking ∙ told b.notice (subst (TellsState (file_key world c file) (lease_of world c file).broken_to) b.is
           (head (subst (BreaksTell (file_key world c file) file (lease_of world c file).broken_to
           (is_live ((world.clients c).entries file).phase)) first
-          ((w.known.0.0.0.1 c w.good w.up).files file w.fresh).breaks)))
+          ((w.known.0.within c w.good w.up).files file w.fresh).breaks)))
           (and_both (b.notice).ack_required (bytes_eq (file_key world c file) (b.notice).key) b.asks
           ((bytes_eq-Decides (file_key world c file) (b.notice).key).1 (sym b.key_is)));
       live = l.0;
@@ -207,7 +207,7 @@ will_meet c file lowered (reply ∷ queue) world w first met =
         → ((is_live ((world.clients c).entries file).phase || is_created file reply) ≡ true
         → is_live ((taken (world.clients c) reply).client.entries file).phase ≡ true)
         ⊎ IsParkedBreak (world.clients c) reply file
-    lives w first = let k = known_here world w.known.0.0 c w.good w.up in
+    lives w first = let k = known_here world w.known.0 c w.good w.up in
         any_reply (world.clients c) (TakeLives (world.clients c)) (takes_live (world.clients c) (k.ground.clients c)) reply
         (whole_of c world.past reply (named_head (subst (Each (IsNamedReply c world.past)) first k.names.replies)))
         queue file (asked_of world c file)

@@ -31,7 +31,7 @@ use Rattle.lease_coherence.proofs.beliefs.Words.{acks, acks_append}
 use Rattle.lease_coherence.proofs.clients.Commands.{any_command}
 use Rattle.lease_coherence.proofs.clients.Takes.{any_reply, is_live}
 use Rattle.lease_coherence.proofs.covered.Moves.{FailsGone, HasCovered}
-use Rattle.lease_coherence.proofs.covered.Runs.{HasCover, cover_carried, first_cover, counted_of, quiet_of, not_failed}
+use Rattle.lease_coherence.proofs.covered.Runs.{counted_of, quiet_of, not_failed}
 use Rattle.lease_coherence.proofs.covered.Words.{ClosedBefore, closed_more, never_granted, NotFailed}
 use Rattle.lease_coherence.proofs.moves.Deeds.{IsSource}
 use Rattle.lease_coherence.proofs.moves.Events.{Ground, IsCarried, Both, carried_both, runs_have, come_back, connected, reply_gone, reply_taken}
@@ -46,6 +46,7 @@ use Rattle.lease_coherence.proofs.told.Clients.{StepTold, commands_told, whole_o
 use Rattle.lease_coherence.proofs.told.Moves.{ClosedIn, ToldBy, HasTold, IsUpTold, told_map, kept_told, breaking_open, breaking_up, open_place, off_server}
 use Rattle.lease_coherence.proofs.told.Servers.{replied_told, refused_told, changed_told, closed_told, dropped_told, timer_told, granted_told, reconnected_told, lower_told, begin_told, failed_told, done_told, held_told}
 use Rattle.lease_coherence.proofs.told.Words.{HasMet, met_more, IsClosing}
+use Rattle.lease_coherence.proofs.told.Leases.{HasLeases}
 
 -- ---- what others do
 
@@ -260,20 +261,20 @@ take_told world c reply queue first up k t =
 
 -- ---- all moves
 
-pub known_here : (world : World) → HasCover world → (c : ℕ) → has_strayed c world.past ≡ false
+pub known_here : (world : World) → HasLeases world → (c : ℕ) → has_strayed c world.past ≡ false
     → is_up (world.links c) ≡ true → IsKnownHere world c
 known_here world v c good up = record {
-  ground = v.0.0.0.ground;
-  names = v.0.0.0.named c good;
-  counted = v.0.0.0.creates c good up;
-  stands = v.0.0.0.opens c good up;
-  covered = v.1 c good up;
+  ground = v.structure.ground;
+  names = v.structure.named c good;
+  counted = v.structure.creates c good up;
+  stands = v.structure.opens c good up;
+  covered = v.covered c good up;
 }
 
-off_own : (world off : World) → HasCover world → (c : ℕ) (request : FileRequest) → has_strayed c world.past ≡ false
+off_own : (world off : World) → HasLeases world → (c : ℕ) (request : FileRequest) → has_strayed c world.past ≡ false
     → IsSource world off c request → (x : Open) → Among x off.server.opens → x.client ≡ c
     → IsOwnOpen (world.clients c).guid x
-off_own world off v c request good source x there by = (v.0.0.0.named c good).opens x
+off_own world off v c request good source x there by = (v.structure.named c good).opens x
     (subst (λ (l : List Open). Among x l) (off_server world off c request source).0 there) by
 
 off_file : (world off : World) (c : ℕ) (request : FileRequest) → IsSource world off c request → (file : ℕ)
@@ -281,11 +282,11 @@ off_file : (world off : World) (c : ℕ) (request : FileRequest) → IsSource wo
 off_file world off c request source file = from_source world off c request
     (λ o. has_file o.server file ≡ true → has_file world.server file ≡ true) source (λ e. e) (λ at left e. e)
 
-pub told_moves : IsOwnMoved HasCover IsUpTold
+pub told_moves : IsOwnMoved HasLeases IsUpTold
 told_moves = record {
   unmoved = λ world new c v good u a up. unmoved_told world new c u (a (ap is_up (sym u.link) ∙ up));
   refused = λ world off c request status v good source may a up.
-      refused_told world off c request status source (off_sound world off c request source (v.0.0.0.ground).fine.sound)
+      refused_told world off c request status source (off_sound world off c request source (v.structure.ground).fine.sound)
       (off_own world off v c request good source) may (a (link_of world off c request source up));
   full = λ world off c file access share ask v good source a up.
       replied_told world off c (FileRequest.Create file access share (Some ask))
@@ -293,10 +294,10 @@ told_moves = record {
       (a (link_of world off c _ source up));
   granted = λ world off c file access share ask v good source none on free a up.
       let request = FileRequest.Create file access share (Some ask) in
-      let own = own_create world off c file access share ask source (v.0.0.0.named c good) in
+      let own = own_create world off c file access share ask source (v.structure.named c good) in
       let same = from_source world off c request (λ o. o.clients ≡ world.clients) source refl (λ at left. refl) in
       granted_told world off c file access share ask own.lease own.asks
-      (own.key ∙ ap (λ (m : ℕ → Client). lease_key (m c).guid file) same) source v.0.0.0.ground
+      (own.key ∙ ap (λ (m : ℕ → Client). lease_key (m c).guid file) same) source v.structure.ground
       (off_file world off c request source file on) (a (link_of world off c request source up));
   reconnected = λ world off c file access share ask file_id v good source again on waits a up.
       reconnected_told world off c file access share ask file_id source (a (link_of world off c _ source up));
@@ -308,17 +309,17 @@ told_moves = record {
   closed = λ world off c file_id one v good source found a up.
       closed_told world off c file_id source (a (link_of world off c _ source up));
   ack_failed = λ world c given status v good oldest why a up.
-      failed_told world c given status oldest why (v.0.0.0.ground).fine.sound (v.0.1 c good up) (a up);
+      failed_told world c given status oldest why (v.structure.ground).fine.sound (v.within c good up) (a up);
   ack_done = λ world c given lowered v good oldest there breaks within a up. done_told world c given oldest (a up);
-  hold = λ world file one v good oldest may turn a up. held_told world file one oldest turn v.0.0.0.ground
-      (v.0.0.0.named one.client good).opens (a up);
+  hold = λ world file one v good oldest may turn a up. held_told world file one oldest turn v.structure.ground
+      (v.structure.named one.client good).opens (a up);
   dropped = λ world c test v good away a up. dropped_told world c test (a up);
   lower = λ world key lowered v good may light a up. lower_told world key lowered (a up);
   begin = λ world key lowered v good may heavy a up. begin_told world key lowered may heavy
-      (v.0.0.0.named key.client good).opens (v.1 key.client good up) (a up);
+      (v.structure.named key.client good).opens (v.covered key.client good up) (a up);
   cut = λ world c v good up a on. absurd (true≢false (sym on ∙ ap is_up (put_same world.links c Link.Cut)));
   timer = λ world c file v good on breaks a up. timer_told world c file (a up);
-  connect = λ world c v good down a up. connect_told world c v.0.0.0.ground down;
+  connect = λ world c v good down a up. connect_told world c v.structure.ground down;
   command = λ world c command v good a up.
       let machine = world.clients c in
       let was = was_up world c (commanded machine command) up in
@@ -333,18 +334,3 @@ told_moves = record {
       (noticed (world.clients c)))
       ∙ ap is_up (put_same world.links c Link.Down)));
 }
-
--- ---- all runs
-
--- all that is known of beliefs and breaks
-abbrev pub HasAnswers : World → Type 0
-HasAnswers = Both HasCover (OfGood IsUpTold)
-
-pub answers_carried : IsCarried HasAnswers
-answers_carried = carried_both HasCover (OfGood IsUpTold) cover_carried
-    (own_moves HasCover IsUpTold (λ world all. all.0.0.0.ground) told_moves)
-
-pub run_answers : (setup : Setup) (events : List Event) → HasAnswers (after (first_world setup) events)
-unfolding first_world
-run_answers setup events = runs_have HasAnswers (λ world all. all.0.0.0.0.ground) answers_carried setup
-    (first_cover setup, λ client good up. absurd (true≢false (sym up))) events

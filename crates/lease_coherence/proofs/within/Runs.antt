@@ -36,7 +36,6 @@ use Rattle.lease_coherence.proofs.beliefs.Sent.{refusal_bare, off_trust}
 use Rattle.lease_coherence.proofs.beliefs.Steps.{IsIdle, connect_idle}
 use Rattle.lease_coherence.proofs.beliefs.Trust.{file_key, HasTrust, nothing_stands}
 use Rattle.lease_coherence.proofs.beliefs.Words.{IsBelieved}
-use Rattle.lease_coherence.proofs.beliefs.WriteCaches.{HasBeliefs, beliefs_carried, first_beliefs}
 use Rattle.lease_coherence.proofs.clients.Commands.{any_command}
 use Rattle.lease_coherence.proofs.clients.Takes.{any_reply}
 use Rattle.lease_coherence.proofs.moves.Deeds.{told_to, held_in, without_opens}
@@ -53,6 +52,7 @@ use Rattle.lease_coherence.proofs.within.Clients.{StaysWithin, commands_stay, Ta
 use Rattle.lease_coherence.proofs.within.Leases.{plain_more, gone_more}
 use Rattle.lease_coherence.proofs.within.Moves.{HasWithin, IsUpWithin, told_within, changed_within, popped_within, off_within, granted_within, reconnected_within, lower_within, begin_within, done_within}
 use Rattle.lease_coherence.proofs.within.Words.{LowersFormed, IsWithinFor}
+use Rattle.lease_coherence.proofs.told.Leases.{HasLeases}
 
 -- ---- what others do
 
@@ -257,7 +257,7 @@ step_stays world c step up guid formed stays = record {
         (world.server.leases (machine_key world c file)) (step.client.entries file).phase
         (world.requests c ++ step.requests) (r c)) (sym (stepped_replies world c step)) w))))
 
-take_within : (world : World) (c : ℕ) (reply : Reply) (queue : List Reply) → HasBeliefs world
+take_within : (world : World) (c : ℕ) (reply : Reply) (queue : List Reply) → HasLeases world
     → has_strayed c world.past ≡ false → world.replies c ≡ reply ∷ queue → is_up (world.links c) ≡ true
     → HasWithin world c → HasWithin (reply_taken world c reply queue) c
 take_within world c reply queue v good first up w =
@@ -265,12 +265,12 @@ take_within world c reply queue v good first up w =
     let machine = world.clients c in
     let left : gone.replies c ≡ queue = put_same world.replies c queue in
     let formed : Each LowersFormed (reply ∷ queue) = subst (Each LowersFormed) first w.formed in
-    let t = v.1 c good up in
+    let t = v.beliefs c good up in
     step_stays gone c (taken machine reply) up (taken-stays machine reply).guid
     (subst (Each LowersFormed) (sym left) formed.1)
     (λ file fresh. subst (IsWithinFor (file_key world c file) file (world.server.leases (machine_key world c file))
     ((taken machine reply).client.entries file).phase (world.requests c ++ (taken machine reply).requests)) (sym left)
-    (any_reply machine (TakesWithin machine) (takes_stay machine (v.0.ground.clients c)) reply formed.0 file
+    (any_reply machine (TakesWithin machine) (takes_stay machine (v.structure.ground.clients c)) reply formed.0 file
     (world.server.leases (machine_key world c file)) (world.requests c) queue
     (subst (IsBelieved (file_key world c file) file (world.server.leases (machine_key world c file))
     ((world.clients c).entries file).phase (world.requests c)) first (t.files file fresh).believed)
@@ -307,72 +307,72 @@ timer_there world c file one there =
 
 -- ---- all moves
 
-pub within_moves : IsOwnMoved HasBeliefs IsUpWithin
+pub within_moves : IsOwnMoved HasLeases IsUpWithin
 within_moves = record {
   unmoved = λ world new c v good u a up. unmoved_within world new c u (a (ap is_up (sym u.link) ∙ up));
   refused = λ world off c request status v good source may a up. let was = link_of world off c request source up in
       told_within off c (refusal_of request status) (refusal_bare request status)
-      (off_trust world off c request source (v.1 c good was)) (off_within world off c request source (a was));
+      (off_trust world off c request source (v.beliefs c good was)) (off_within world off c request source (a was));
   full = λ world off c file access share ask v good source a up.
       let request = FileRequest.Create file access share (Some ask) in
       let was = link_of world off c request source up in
       told_within off c (Reply.CreateFailed file Status.InsufficientResources) tt
-      (off_trust world off c request source (v.1 c good was)) (off_within world off c request source (a was));
+      (off_trust world off c request source (v.beliefs c good was)) (off_within world off c request source (a was));
   granted = λ world off c file access share ask v good source none on free a up.
       let request = FileRequest.Create file access share (Some ask) in
       let was = link_of world off c request source up in
-      let own = own_create world off c file access share ask source (v.0.named c good) in
+      let own = own_create world off c file access share ask source (v.structure.named c good) in
       granted_within off c file access share ask own.lease own.asks own.key
-      (off_sound world off c request source v.0.ground.fine.sound)
-      (off_trust world off c request source (v.1 c good was)) (off_within world off c request source (a was));
+      (off_sound world off c request source v.structure.ground.fine.sound)
+      (off_trust world off c request source (v.beliefs c good was)) (off_within world off c request source (a was));
   reconnected = λ world off c file access share ask file_id v good source again on waits a up.
       let request = FileRequest.Create file access share (Some ask) in
       let was = link_of world off c request source up in
-      let own = own_create world off c file access share ask source (v.0.named c good) in
+      let own = own_create world off c file access share ask source (v.structure.named c good) in
       reconnected_within off c file ask file_id own.lease own.asks own.key
-      (off_sound world off c request source v.0.ground.fine.sound)
-      (off_trust world off c request source (v.1 c good was)) (off_within world off c request source (a was));
+      (off_sound world off c request source v.structure.ground.fine.sound)
+      (off_trust world off c request source (v.beliefs c good was)) (off_within world off c request source (a was));
   read = λ world off c file_id one v good source found may a up.
       let request = FileRequest.Read file_id in
       let was = link_of world off c request source up in
       told_within off c (Reply.ReadDone file_id (off.server.contents one.file)) tt
-      (off_trust world off c request source (v.1 c good was)) (off_within world off c request source (a was));
+      (off_trust world off c request source (v.beliefs c good was)) (off_within world off c request source (a was));
   changed = λ world off c file_id number patch one v good source found may a up.
       let request = FileRequest.Write file_id number patch in
       let was = link_of world off c request source up in
       changed_within off c one.file file_id number patch
-      (off_trust world off c request source (v.1 c good was)) (off_within world off c request source (a was));
+      (off_trust world off c request source (v.beliefs c good was)) (off_within world off c request source (a was));
   closed = λ world off c file_id one v good source found a up.
       let request = FileRequest.Close file_id in
       let was = link_of world off c request source up in
       closed_within off c file_id
-      (standing_moves.closed world off c file_id one v.0 good source found (v.0.opens c good) up)
-      (λ x there by. (off_named world off c request c source (v.0.named c good)).0.opens x
+      (standing_moves.closed world off c file_id one v.structure good source found (v.structure.opens c good) up)
+      (λ x there by. (off_named world off c request c source (v.structure.named c good)).0.opens x
       (left_there off (λ other. other.file_id == file_id) x there) by)
-      (trust_moves.closed world off c file_id one v.0 good source found (v.1 c good) up)
+      (trust_moves.closed world off c file_id one v.structure good source found (v.beliefs c good) up)
       (off_within world off c request source (a was));
   ack_failed = λ world c given status v good oldest why a up.
       told_within (popped world c) c (Reply.AckFailed status) tt
-      (popped_trust world c given oldest (v.1 c good up)) (popped_within world c (a up));
+      (popped_trust world c given oldest (v.beliefs c good up)) (popped_within world c (a up));
   ack_done = λ world c given lowered v good oldest there breaks within a up.
-      done_within world c given oldest (v.1 c good up) (a up);
+      done_within world c given oldest (v.beliefs c good up) (a up);
   hold = λ world file one v good oldest may turn a up. held_within world file one (a up);
   dropped = λ world c test v good away a up. dropped_within world c test
-      (standing_moves.dropped world c test v.0 good away (v.0.opens c good) up)
-      (λ x there by. (v.0.named c good).opens x (left_there world test x there) by)
-      (trust_moves.dropped world c test v.0 good away (v.1 c good) up) (a up);
+      (standing_moves.dropped world c test v.structure good away (v.structure.opens c good) up)
+      (λ x there by. (v.structure.named c good).opens x (left_there world test x there) by)
+      (trust_moves.dropped world c test v.structure good away (v.beliefs c good) up) (a up);
   lower = λ world key lowered v good may light a up.
-      lower_within world key lowered may light (v.1 key.client good up) (a up);
-  begin = λ world key lowered v good may heavy a up. begin_within world key lowered may (v.1 key.client good up) (a up);
+      lower_within world key lowered may light (v.beliefs key.client good up) (a up);
+  begin = λ world key lowered v good may heavy a up. begin_within world key lowered may (v.beliefs key.client good up) (a up);
   cut = λ world c v good up a on. absurd (true≢false (sym on ∙ ap is_up (put_same world.links c Link.Cut)));
   timer = λ world c file v good on breaks a up. timer_within world c file
-      (standing_moves.timer world c file v.0 good on breaks (v.0.opens c good) up)
-      (λ x there by. (v.0.named c good).opens x
+      (standing_moves.timer world c file v.structure good on breaks (v.structure.opens c good) up)
+      (λ x there by. (v.structure.named c good).opens x
       (timer_there world c file x there) by)
-      (trust_moves.timer world c file v.0 good on breaks (v.1 c good) up) (a up);
+      (trust_moves.timer world c file v.structure good on breaks (v.beliefs c good) up) (a up);
   connect = λ world c v good down a up.
-      connect_within world c (trust_moves.connect world c v.0 good down (v.1 c good) up)
-      (connect_idle world c v.0.ground down);
+      connect_within world c (trust_moves.connect world c v.structure good down (v.beliefs c good) up)
+      (connect_idle world c v.structure.ground down);
   command = λ world c command v good a up.
       let machine = world.clients c in
       let was = was_up world c (commanded machine command) up in
@@ -389,16 +389,3 @@ within_moves = record {
       (noticed (world.clients c)))
       ∙ ap is_up (put_same world.links c Link.Down)));
 }
-
--- ---- all runs
-
-abbrev pub HasWhole : World → Type 0
-HasWhole = Both HasBeliefs (OfGood IsUpWithin)
-
-pub whole_carried : IsCarried HasWhole
-whole_carried = carried_both HasBeliefs (OfGood IsUpWithin) beliefs_carried
-    (own_moves HasBeliefs IsUpWithin (λ world all. all.0.ground) within_moves)
-
-pub first_whole : (setup : Setup) → HasWhole (first_world setup)
-unfolding first_world
-first_whole setup = (first_beliefs setup, λ client good up. absurd (true≢false (sym up)))

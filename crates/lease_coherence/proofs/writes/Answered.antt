@@ -17,7 +17,6 @@ use Rattle.lease_laws.proofs.server.Lists.{either, clash, not_true, among_behind
 use Rattle.lease_laws.proofs.server.PassWaits.{among_more}
 use Rattle.lease_coherence.specs.Creates.{held_by, one_if}
 use Rattle.lease_coherence.specs.Names.{IsNamedAt}
-use Rattle.lease_coherence.proofs.beliefs.WriteCaches.{HasBeliefs, beliefs_carried}
 use Rattle.lease_coherence.proofs.creates.Creates.{off_rest}
 use Rattle.lease_coherence.proofs.moves.Deeds.{IsSource, HasArrived, WasHeld, with_held}
 use Rattle.lease_coherence.proofs.moves.Events.{Ground, IsMoved, IsCarried, Both, carried_both}
@@ -27,18 +26,20 @@ use Rattle.lease_coherence.proofs.records.Once.{written_once, written_number}
 use Rattle.lease_coherence.proofs.wellformed.WellFormed.{IsWell, well_moves}
 use Rattle.lease_coherence.proofs.writes.Counts.{write_of, writes, held_writes, settles_of, settling, numbered_in, writes_left, writes_under_way, settling_last, held_writes_among}
 use Rattle.lease_coherence.proofs.writes.Steps.{IsKnownBy, IsOwnNumber}
+use Rattle.lease_coherence.proofs.told.AllRuns.{leases_carried}
+use Rattle.lease_coherence.proofs.told.Leases.{HasLeases}
 
 -- ---- what is known so far, with records that are well formed
 
 abbrev pub HasRecords : World → Type 0
-HasRecords = Both HasBeliefs IsWell
+HasRecords = Both HasLeases IsWell
 
 pub ground_of : (world : World) → HasRecords world → Ground world
-ground_of world v = v.0.0.ground
+ground_of world v = v.0.structure.ground
 
 pub names_of : (world : World) → HasRecords world → (c : ℕ)
     → has_strayed c world.past ≡ false → IsNamedAt world c
-names_of world v c good = v.0.0.named c good
+names_of world v c good = v.0.structure.named c good
 
 -- a client by the record
 pub known_by : (world : World) → HasRecords world → (c : ℕ)
@@ -54,8 +55,8 @@ pub moved_under : (V W P : World → Type 0) → ((world : World) → V world �
 moved_under V W P weaker m world move may v p = m world move may (weaker world v) p
 
 pub records_carried : IsCarried HasRecords
-records_carried = carried_both HasBeliefs IsWell beliefs_carried
-    (moved_under HasBeliefs Ground IsWell (λ world v. v.0.ground) well_moves)
+records_carried = carried_both HasLeases IsWell leases_carried
+    (moved_under HasLeases Ground IsWell (λ world v. v.structure.ground) well_moves)
 
 -- ---- the layer
 
