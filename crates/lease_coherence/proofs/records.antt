@@ -1,2 +1,4 @@
+pub mod AllRuns
+pub mod Known
 pub mod Later
 pub mod Once

@@ -25,7 +25,7 @@ use Rattle.lease_coherence.proofs.beliefs.Trust.{file_key}
 use Rattle.lease_coherence.proofs.beliefs.Words.{AckKeeps, acks}
 use Rattle.lease_coherence.proofs.fresh.Clients.{sound_live}
 use Rattle.lease_coherence.proofs.late.Facts.{run_late}
-use Rattle.lease_coherence.proofs.late.Runs.{HasLate, ground_in}
+use Rattle.lease_coherence.proofs.late.Runs.{ground_in}
 use Rattle.lease_coherence.proofs.late.Words.{NotBuffered, AcksKeep}
 use Rattle.lease_coherence.proofs.names.Words.{opened_once}
 use Rattle.lease_coherence.proofs.order.Words.{IsInOrder, IsNoWrite, AreOrdered, ordered_behind, WriteStands, WriteStandsOn}
@@ -34,6 +34,7 @@ use Rattle.lease_coherence.proofs.parted.Words.{PhaseUntouched}
 use Rattle.lease_coherence.proofs.records.Once.{buffered_written, written_once}
 use Rattle.lease_coherence.proofs.wellformed.WellFormed.{IsWell}
 use Rattle.lease_coherence.proofs.writes.Answered.{names_of}
+use Rattle.lease_coherence.proofs.records.Known.{HasRecord}
 
 -- ---- writes on their way
 
@@ -111,7 +112,7 @@ never_zero key state (Request.Acknowledge (Some given) ∷ before) behind e = ne
     right a b e = omega (arith, e)
 
 -- where one that gives writes up is on its way no write of the entry is unsent, and it keeps none
-none_unsent : (world : World) → HasLate world → (c file : ℕ) (state : State) (before behind : List Request)
+none_unsent : (world : World) → HasRecord world → (c file : ℕ) (state : State) (before behind : List Request)
     → has_strayed c world.past ≡ false → is_up (world.links c) ≡ true
     → world.server.expired (machine_key world c file) ≡ false
     → world.requests c ≡ before ++ acknowledgment_of (file_key world c file) state ∷ behind → state.write ≡ false
@@ -120,8 +121,8 @@ none_unsent world v c file state before behind good up fresh is gives Phase.Clos
 none_unsent world v c file state before behind good up fresh is gives (Phase.Opening access share) at = refl
 none_unsent world v c file state before behind good up fresh is gives (Phase.Live live) at =
     let key = file_key world c file in
-    let sound = sound_live (world.clients c) file live ((ground_in world v.0).clients c) at in
-    let b = ((v.0.0.0.0.0.0.beliefs c good up).files file fresh).believed in
+    let sound = sound_live (world.clients c) file live ((ground_in world v).clients c) at in
+    let b = ((v.leases.beliefs c good up).files file fresh).believed in
     either live.belief.write
     (λ writes. ⊎_elim
     (λ zero. absurd (never_zero key state before behind (ap (acks key) (sym is) ∙ zero)))
@@ -130,7 +131,7 @@ none_unsent world v c file state before behind good up fresh is gives (Phase.Liv
     b.answers)
     (λ none. sound.unsent_under_writes none)
 none_unsent world v c file state before behind good up fresh is gives (Phase.Offline parted) at =
-    let g = ground_in world v.0 in
+    let g = ground_in world v in
     clash (world.clients c).is_online (g.online c ∙ ap not (not_down (world.links c) up))
     (subst (IsSoundPhase (world.clients c).is_online ((world.clients c).entries file).sent) at ((g.clients c).entries file)).0
   where
@@ -140,21 +141,21 @@ none_unsent world v c file state before behind good up fresh is gives (Phase.Off
     not_down Link.Cut e = refl
 none_unsent world v c file state before behind good up fresh is gives (Phase.Reconnecting parted) at =
     absurd (never_zero (file_key world c file) state before behind
-    (ap (acks (file_key world c file)) (sym is) ∙ ((v.1 c good).up up).again file parted at))
+    (ap (acks (file_key world c file)) (sym is) ∙ ((v.late c good).up up).again file parted at))
 
 pub flushed_before_acknowledgments : OfAllowedRuns (Timely FlushedBeforeAcknowledgments)
 flushed_before_acknowledgments setup events c allowed good up file fresh state before behind is gives =
     let world = after (first_world setup) events in
     let v = (run_late setup events allowed).0 in
     let key = file_key world c file in
-    let a = ((v.1 c good).up up).acks_keep in
+    let a = ((v.late c good).up up).acks_keep in
     let first : AcksKeep world c (acknowledgment_of key state ∷ behind) = keeps_behind world c before
     (acknowledgment_of key state ∷ behind) (subst (AcksKeep world c) is a) in record {
       sent = none_buffered world c file behind (⊎_elim
           (λ keeps. clash state.write (keeps ((bytes_eq-Decides key key).1 refl)).0 gives) (λ none. none) (first.0 file))
           (λ request there. subst (Among request) (sym is) (among_behind request before
           (acknowledgment_of key state ∷ behind) (inr there)))
-          v.0.0.0.0.0.1 (names_of world v.0.0.0.0.0 c good) (v.0.1 c good up) fresh;
+          v.well (names_of world v c good) (v.order c good up) fresh;
       unsent = none_unsent world v c file state before behind good up fresh is gives ((world.clients c).entries file).phase refl;
     }
 
@@ -194,12 +195,12 @@ flushed_before_closes setup events c allowed good up file fresh id before behind
     let world = after (first_world setup) events in
     let v = (run_late setup events allowed).0 in
     let o : AreOrdered (Request.OnFile (FileRequest.Close id) ∷ behind) = ordered_behind before
-    (Request.OnFile (FileRequest.Close id) ∷ behind) (subst AreOrdered is ((v.0.1 c good up).ordered file)) in record {
+    (Request.OnFile (FileRequest.Close id) ∷ behind) (subst AreOrdered is ((v.order c good up).ordered file)) in record {
       sent = λ number patch there. written number patch
           (each_one (IsNoWrite id) behind (Request.OnFile (FileRequest.Write id number patch)) o.0 there);
       unsent = λ live at same. never_asked world c file id
           (subst (NotClosed world c) same (not_closed world c file live
-          (subst (PhaseStands world c file) at ((v.0.0.0.0.0.0.structure.opens c good up).phases file))))
+          (subst (PhaseStands world c file) at ((v.leases.structure.opens c good up).phases file))))
           (subst (Among (Request.OnFile (FileRequest.Close id))) (sym is)
           (among_behind (Request.OnFile (FileRequest.Close id)) before (Request.OnFile (FileRequest.Close id) ∷ behind)
           (inl refl)));

@@ -69,7 +69,7 @@ pub held_writes_are_through : OfAllowedRuns (Timely HeldWritesAreThrough)
 held_writes_are_through setup events c allowed good up file fresh id number patch there =
     let world = after (first_world setup) events in
     let v = (run_late setup events allowed).0 in
-    let names = names_of world v.0.0.0.0.0 c good in
+    let names = names_of world v c good in
     let held = of_held (FileRequest.Write id number patch) (held_by c (world.server.held file)) there in
     let one = held.0 in
     let in_held = among_filter (λ (x : Held). x.client == c) one (world.server.held file) held.1 in
@@ -77,12 +77,12 @@ held_writes_are_through setup events c allowed good up file fresh id number patc
     let named : WasWrittenOn c id number patch world.past =
     subst (IsNamedOnFile c (world.clients c).guid world.past) held.2 (names.held file one in_held.0 by) in
     let stands : WriteStandsOn world c id = subst (λ r. WriteStands world c (Request.OnFile r)) held.2
-    ((v.0.1 c good up).stands.held file one in_held.0 by) in
+    ((v.order c good up).stands.held file one in_held.0 by) in
     let plain : HeldPlain world c (Request.OnFile (FileRequest.Write id number patch)) =
-    subst (λ r. HeldPlain world c (Request.OnFile r)) held.2 (((v.1 c good).up up).held file one in_held.0 by) in
+    subst (λ r. HeldPlain world c (Request.OnFile r)) held.2 (((v.late c good).up up).held file one in_held.0 by) in
     not_true (has_buffered c file number world.past) (λ b.
     through world c file id number patch plain
-    (buffered_open world c file id number patch v.0.0.0.0.0.1 fresh named stands b) b)
+    (buffered_open world c file id number patch v.well fresh named stands b) b)
   where
     through : (world : World) (c file id number : ℕ) (patch : Patch)
         → HeldPlain world c (Request.OnFile (FileRequest.Write id number patch)) → IsOpenFor world c file id

@@ -22,13 +22,13 @@ use Rattle.lease_coherence.specs.Agreement.{OfAllowedRuns, Timely, taken_all, Is
 use Rattle.lease_coherence.proofs.beliefs.Trust.{file_key}
 use Rattle.lease_coherence.proofs.creates.Creates.{stepped_machine}
 use Rattle.lease_coherence.proofs.fresh.Clients.{sound_live}
-use Rattle.lease_coherence.proofs.fresh.Runs.{HasFresh, fresh_carried}
 use Rattle.lease_coherence.proofs.fresh.Words.{IsRelayed, places_of}
-use Rattle.lease_coherence.proofs.late.Facts.{run_late}
 use Rattle.lease_coherence.proofs.moves.Events.{IsCarried, reply_gone, reply_taken, Move}
 use Rattle.lease_coherence.proofs.moves.Frames.{stepped_past, stepped_replies}
 use Rattle.lease_coherence.proofs.records.Later.{past_noted}
 use Rattle.lease_coherence.proofs.writes.Answered.{ground_of}
+use Rattle.lease_coherence.proofs.records.Known.{HasRecord}
+use Rattle.lease_coherence.proofs.records.AllRuns.{record_carried, run_record}
 
 -- ---- taking replies
 
@@ -121,14 +121,14 @@ some_base : (live : LiveEntry) (bytes : List ℕ) → live.base ≡ Some bytes �
 some_base live bytes e f = cc
 
 -- a base where nothing is on its way
-resting_base : (world : World) → HasFresh world → (c file : ℕ) → has_strayed c world.past ≡ false
+resting_base : (world : World) → HasRecord world → (c file : ℕ) → has_strayed c world.past ≡ false
     → is_up (world.links c) ≡ true → world.server.expired (machine_key world c file) ≡ false → world.replies c ≡ []
     → (live : LiveEntry) → IsLive world c file live → (bytes : List ℕ) → live.base ≡ Some bytes
     → bytes ≡ world.server.contents file
 resting_base world v c file good up fresh empty live at bytes has =
     let phase = ((world.clients c).entries file).phase in
-    let f = v.1 c good up file fresh in
-    let sound = sound_live (world.clients c) file live ((ground_of world v.0.0.0).clients c) at in
+    let f = v.fresh c good up file fresh in
+    let sound = sound_live (world.clients c) file live ((ground_of world v).clients c) at in
     let reads : live.belief.read ≡ true = not_false live.belief.read
     (λ none. some_base live bytes has (sound.base_under_reads none)) in
     (f.base live at bytes has).same
@@ -137,12 +137,12 @@ resting_base world v c file good up fresh empty live at bytes has =
     (subst (λ q. IsRelayed c (file_key world c file) file world.past (belief_in phase).read f.old (places_of c world.past) q
     (content_of file world.past)) empty f.relay)
     (ap (λ p. (belief_in p).read) at ∙ reads))
-    ∙ sym (v.0.1 file)
+    ∙ sym (v.contents file)
 
 pub bases_are_current : OfAllowedRuns (Timely BasesAreCurrent)
 bases_are_current setup events c allowed good up file fresh live at bytes has =
     let world = after (first_world setup) events in
-    let t = all_taken HasFresh fresh_carried c (world.replies c) world (run_late setup events allowed).0.0.0 refl in
+    let t = all_taken HasRecord record_carried c (world.replies c) world (run_record setup events allowed) refl in
     resting_base t.new t.known c file (t.is.strayed ∙ good) (ap (λ (l : ℕ → Link). is_up (l c)) t.is.links ∙ up)
     (still_fresh world t.new c (world.replies c) t.is file fresh) t.empty live
     (ap (λ (m : Client). (m.entries file).phase) t.is.machine ∙ at) bytes has

@@ -20,7 +20,7 @@ use Rattle.lease_model.specs.server.State.{Server, Open, Held, Lease, has_key}
 use Rattle.lease_model.specs.values.Keys.{Key}
 use Rattle.lease_model.specs.values.Tables.{put}
 use Rattle.lease_model.specs.world.Events.{machine_key, stepped_in}
-use Rattle.lease_model.specs.world.World.{World, Link, Setup, first_world}
+use Rattle.lease_model.specs.world.World.{World, Link}
 use Rattle.lease_laws.specs.server.Laws.{Among}
 use Rattle.lease_laws.specs.server.SmallSteps.{SmallStep, IsInTurn}
 use Rattle.lease_laws.specs.world.FileIds.{was_opened}
@@ -48,11 +48,11 @@ use Rattle.lease_coherence.proofs.creates.Counts.{creates_append}
 use Rattle.lease_coherence.proofs.late.Likes.{ids_of}
 use Rattle.lease_coherence.proofs.late.Words.{KnowsIds}
 use Rattle.lease_coherence.proofs.moves.Deeds.{IsSource, told_to, held_in, leased_in, without_opens, done_reply}
-use Rattle.lease_coherence.proofs.moves.Events.{Ground, Both, IsCarried, carried_both, timed_out, come_back, connected, reply_gone, reply_taken}
+use Rattle.lease_coherence.proofs.moves.Events.{Ground, timed_out, come_back, connected, reply_gone, reply_taken}
 use Rattle.lease_coherence.proofs.moves.Foreign.{IsUnmoved}
 use Rattle.lease_coherence.proofs.moves.Frames.{stepped_past, stepped_replies}
 use Rattle.lease_coherence.proofs.moves.Moves.{IsOldest, popped}
-use Rattle.lease_coherence.proofs.moves.Own.{IsOwnMoved, OfGood, own_moves}
+use Rattle.lease_coherence.proofs.moves.Own.{IsOwnMoved}
 use Rattle.lease_coherence.proofs.names.Names.{off_named, off_counted, open_parts}
 use Rattle.lease_coherence.proofs.names.Words.{each_append, each_weaker}
 use Rattle.lease_coherence.proofs.order.Sends.{IsUnderLive}

@@ -38,7 +38,7 @@ use Rattle.lease_coherence.proofs.clients.Takes.{any_reply}
 use Rattle.lease_coherence.proofs.creates.Counts.{creates_append, answers_last, held_among, refusal_answers}
 use Rattle.lease_coherence.proofs.creates.Steps.{none_answered, IsCountedStep, IsCountedTake, commands_count, takes_count}
 use Rattle.lease_coherence.proofs.moves.Deeds.{IsSource, HasArrived, WasHeld, with_held, told_to, held_in, granted_in, reconnected_in, changed_in, without_opens, leased_in, granted_reply, reconnected_reply, done_reply}
-use Rattle.lease_coherence.proofs.moves.Events.{Ground, Both, timed_out, come_back, connected, reply_gone, reply_taken}
+use Rattle.lease_coherence.proofs.moves.Events.{Ground, timed_out, come_back, connected, reply_gone, reply_taken}
 use Rattle.lease_coherence.proofs.moves.Foreign.{IsUnmoved}
 use Rattle.lease_coherence.proofs.moves.Frames.{lease_put_rest, stepped_requests, stepped_replies}
 use Rattle.lease_coherence.proofs.moves.Moves.{IsOldest, rest_of, popped}

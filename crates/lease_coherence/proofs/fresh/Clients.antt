@@ -375,7 +375,7 @@ passed_plain c machine past (Reply.Break None) s why due file = record { reads =
 passed_plain c machine past (Reply.Break (Some notice)) s why due file = record {
   reads = λ e. let l = live_read (machine.entries file).phase e in
       rw (not_true (bytes_eq (lease_key machine.guid file) notice.key) (λ own. never_passed machine notice s why file l.0 l.1
-          own))
+      own))
       refl;
   same = λ e old new f. f;
 }

@@ -35,32 +35,23 @@ use Rattle.lease_coherence.proofs.beliefs.Grants.{grant_settled, grant_breaking}
 use Rattle.lease_coherence.proofs.beliefs.Leases.{settled_none}
 use Rattle.lease_coherence.proofs.beliefs.Sent.{is_bare}
 use Rattle.lease_coherence.proofs.beliefs.Trust.{file_key, HasTrust}
-use Rattle.lease_coherence.proofs.fresh.Contents.{HasContents, contents_moves}
+use Rattle.lease_coherence.proofs.fresh.Contents.{HasContents}
 use Rattle.lease_coherence.proofs.fresh.Sent.{IsFreshIn, IsToldTo, left_reads, IsToldIn, sent_fresh, bare_reads, is_still, still_sends}
 use Rattle.lease_coherence.proofs.fresh.Words.{given_reads, reads_by, AckReads, Follows, IsFreshFor}
 use Rattle.lease_coherence.proofs.moves.Deeds.{IsSource, told_to, granted_in, reconnected_in, changed_in, leased_in, granted_reply, reconnected_reply, done_reply}
-use Rattle.lease_coherence.proofs.moves.Events.{Ground, IsCarried, Both, carried_both}
+use Rattle.lease_coherence.proofs.moves.Events.{Ground}
 use Rattle.lease_coherence.proofs.moves.Frames.{from_source, lease_put_rest}
 use Rattle.lease_coherence.proofs.moves.Moves.{IsOldest, rest_of, popped}
 use Rattle.lease_coherence.proofs.moves.Spared.{ends_by, ends_as}
 use Rattle.lease_coherence.proofs.names.Names.{off_named, off_counted, open_parts}
 use Rattle.lease_coherence.proofs.names.Words.{each_rest, opened_once}
 use Rattle.lease_coherence.proofs.records.Later.{later_same, later_fact}
-use Rattle.lease_coherence.proofs.writes.Answered.{ground_of, names_of, moved_under}
-use Rattle.lease_coherence.proofs.writes.Runs.{HasOnce, once_carried}
+use Rattle.lease_coherence.proofs.writes.Answered.{names_of}
+use Rattle.lease_coherence.proofs.records.Known.{HasRecord}
 
--- ---- what is known so far
-
-abbrev pub HasSeen : World → Type 0
-HasSeen = Both HasOnce HasContents
-
-pub seen_carried : IsCarried HasSeen
-seen_carried = carried_both HasOnce HasContents once_carried
-    (moved_under HasOnce Ground HasContents (λ world v. ground_of world v.0) contents_moves)
-
-pub own_of : (world : World) → HasSeen world → (c : ℕ) → has_strayed c world.past ≡ false
+pub own_of : (world : World) → HasRecord world → (c : ℕ) → has_strayed c world.past ≡ false
     → (one : Open) → Among one world.server.opens → one.client ≡ c → IsOwnOpen (world.clients c).guid one
-own_of world v c good one there by = (names_of world v.0.0 c good).opens one there by
+own_of world v c good one there by = (names_of world v c good).opens one there by
 
 pub low_of : (world : World) → Ground world → (c : ℕ) → is_up (world.links c) ≡ true
     → takings c world.past ≤ length (sendings c world.past)

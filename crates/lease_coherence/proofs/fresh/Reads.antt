@@ -1,12 +1,12 @@
 -- In every run a good client's cached reads are fresh.
-use Rattle.std.proofs.Common.{◌≡◌, inl, inr, ℕ, zero, suc, true, false, not, List, [], ◌∷◌, ◌++◌, Option, Some, None, refl, sym, ap, ap₂, ◌∙◌, subst, true≢false}
+use Rattle.std.proofs.Common.{◌≡◌, inl, inr, ℕ, zero, suc, true, false, not, List, [], ◌∷◌, ◌++◌, Option, Some, None, refl, sym, ap, ap₂, ◌∙◌, subst}
 use Rattle.std.specs.Prelude.{if◌then◌else◌, slice_get, reverse}
 use Rattle.std.specs.List.{list_all}
 use Rattle.std.proofs.lemmas.List.{reverse-reverse}
 use Rattle.lease_state.specs.Content.{patches}
 use Rattle.lease_model.specs.client.Calls.{ClientCall, client_called}
 use Rattle.lease_model.specs.client.Commands.{Note}
-use Rattle.lease_model.specs.client.State.{Client, LiveEntry, Phase, new_client, patches_of, view}
+use Rattle.lease_model.specs.client.State.{Client, LiveEntry, Phase, patches_of, view}
 use Rattle.lease_model.specs.client.Step.{Step}
 use Rattle.lease_model.specs.messages.Replies.{Reply, Out}
 use Rattle.lease_model.specs.messages.Requests.{Request}
@@ -22,7 +22,7 @@ use Rattle.lease_model.specs.world.Allowed.{is_allowed_setup}
 use Rattle.lease_model.specs.world.Events.{Event, served, stepped_in, server_takes, client_takes, link_cut, cut_over, link_noticed, notice_over, link_connected, connect_over, machine_key, timer_expired, scavenged, strayed_over, applied, client_of, happens, after}
 use Rattle.lease_model.specs.world.World.{World, Setup, Link, first_world, has_client, happened, requests_sent, fact_of, starts_from}
 use Rattle.lease_laws.specs.client.Laws.{IsSoundClient, unsent_in}
-use Rattle.lease_laws.specs.records.Runs.{is_start, open_writes}
+use Rattle.lease_laws.specs.records.Runs.{is_start}
 use Rattle.lease_laws.specs.server.Laws.{Among}
 use Rattle.lease_laws.proofs.records.Content.{content_when_sent}
 use Rattle.lease_laws.proofs.records.Given.{runs_give_first}
@@ -30,57 +30,19 @@ use Rattle.lease_laws.proofs.records.Runs.{all_starts, all_reversed, runs_start_
 use Rattle.lease_laws.proofs.records.Writes.{writes_now}
 use Rattle.lease_laws.proofs.server.Lists.{if_cases, clash, and_parts, not_parts, not_true}
 use Rattle.lease_laws.proofs.world.FileIds.{told, all_delivered_past}
-use Rattle.lease_laws.proofs.world.InStep.{contents_are_told}
 use Rattle.lease_laws.proofs.world.Kept.{served-clients}
 use Rattle.lease_laws.proofs.world.Timers.{timers_are_told}
 use Rattle.lease_coherence.specs.Parts.{InRuns}
 use Rattle.lease_coherence.proofs.beliefs.Between.{after_last, append_last}
 use Rattle.lease_coherence.proofs.clients.Commands.{IsEntry, sent_of}
-use Rattle.lease_coherence.proofs.fresh.Runs.{HasFresh, fresh_carried}
 use Rattle.lease_coherence.proofs.moves.Shift.{append_none}
-use Rattle.lease_coherence.proofs.moves.Events.{Ground, IsCarried, Both, carried_both, runs_have}
 use Rattle.lease_coherence.proofs.moves.Frames.{stepped_past}
 use Rattle.lease_coherence.proofs.records.Later.{past_noted}
 use Rattle.lease_coherence.proofs.wellformed.Notes.{EachNote}
-use Rattle.lease_coherence.proofs.wellformed.WellFormed.{first_well}
-use Rattle.lease_coherence.proofs.writes.Answered.{ground_of, moved_under}
+use Rattle.lease_coherence.proofs.writes.Answered.{ground_of}
 use Rattle.lease_coherence.proofs.writes.Noted.{IsPlainNote, LeavesWrites, TellsWrites}
-use Rattle.lease_coherence.proofs.writes.Unanswered.{call_tells_writes, HasWrites, writes_moves}
-use Rattle.lease_coherence.proofs.told.AllRuns.{first_leases}
-
--- ---- all that is known along a run
-
-abbrev pub HasReads : World → Type 0
-HasReads = Both HasFresh HasWrites
-
-pub reads_carried : IsCarried HasReads
-reads_carried = carried_both HasFresh HasWrites fresh_carried
-    (moved_under HasFresh Ground HasWrites (λ world v. ground_of world v.0.0.0) writes_moves)
-
-no_writes : (c file : ℕ) (past : List Fact) → list_all is_start past ≡ true → open_writes c file past ≡ []
-unfolding open_writes
-no_writes c file [] all = refl
-no_writes c file (Fact.Start f bytes ∷ past) all = no_writes c file past all
-no_writes c file (_ ∷ past) all = let x : ⊥ = cc in absurd x
-
-pub first_reads : (setup : Setup) → is_allowed_setup setup ≡ true → HasReads (first_world setup)
-unfolding first_world after new_client
-first_reads setup allowed = (
-  (
-    (
-      ((first_leases setup, first_well setup allowed), λ c good up. absurd (true≢false (sym up))),
-      contents_are_told setup [] allowed,
-    ),
-    λ c good up. absurd (true≢false (sym up)),
-  ),
-  λ c file known. no_writes c file (reverse (starts_from 1 setup.files))
-      (all_reversed (starts_from 1 setup.files) [] (all_starts 1 setup.files) refl),
-)
-
-pub run_reads : (setup : Setup) (events : List Event) → is_allowed_setup setup ≡ true
-    → HasReads (after (first_world setup) events)
-run_reads setup events allowed = runs_have HasReads (λ world v. ground_of world v.0.0.0.0) reads_carried setup
-    (first_reads setup allowed) events
+use Rattle.lease_coherence.proofs.writes.Unanswered.{call_tells_writes}
+use Rattle.lease_coherence.proofs.records.AllRuns.{run_record}
 
 -- ---- a read from the cache
 
@@ -123,10 +85,10 @@ unfolding is_good
 read_is_fresh setup events allowed c at live base is has good =
     let world = after (first_world setup) events in
     let client = world.clients c in
-    let v = run_reads setup events allowed in
+    let v = run_record setup events allowed in
     let parts = and_parts (not (has_strayed c world.past)) (is_served c world.past) good in
-    let up = ((ground_of world v.0.0.0.0).tied c).served parts.1 in
-    let f = v.0.1 c (not_parts (has_strayed c world.past) parts.0) up at (timely setup events c at parts.1) in
+    let up = ((ground_of world v).tied c).served parts.1 in
+    let f = v.fresh c (not_parts (has_strayed c world.past) parts.0) up at (timely setup events c at parts.1) in
     let b = f.base live is.is_so base has in
     let place = (b.seen).place in (
       place,
@@ -136,7 +98,7 @@ read_is_fresh setup events allowed c at live base is has good =
           ∙ sym (content_when_sent c at world.past place (runs_start_first setup events)
           (sending_among c world.past place (b.seen).is_last)))
           (sym (writes_now c at world.past (runs_give_first setup events c)
-          ∙ ap patches_of (v.1 c at is.known ∙ ap (λ p. sent_of client at ++ unsent_in p) is.is_so))),
+          ∙ ap patches_of (v.writes c at is.known ∙ ap (λ p. sent_of client at ++ unsent_in p) is.is_so))),
     )
 
 -- ---- facts that are no reads
@@ -297,7 +259,7 @@ run_fresh setup allowed before (event ∷ events) a =
     (run_fresh setup allowed (before ++ event ∷ []) events
     (subst (λ (w : World). AllFresh w.past) (sym (after_last (first_world setup) before event))
     (happens_fresh (after (first_world setup) before) event
-    (ground_of (after (first_world setup) before) (run_reads setup before allowed).0.0.0.0).clients
+    (ground_of (after (first_world setup) before) (run_record setup before allowed)).clients
     (λ c at live base is has. read_is_fresh setup before allowed c at live base is has) a)))
 
 pub reads_are_fresh : InRuns FreshRead

@@ -48,10 +48,10 @@ use Rattle.lease_coherence.proofs.fresh.Sent.{IsFreshIn, IsUpFresh, left_reads, 
 use Rattle.lease_coherence.proofs.fresh.Takes.{takes_fresh}
 use Rattle.lease_coherence.proofs.fresh.Words.{reads_by, reads_after, reads_last, after_fewer, AckReads, acks_fewer, Follows, TellsBytes, IsRelayed, relayed_later, relayed_fewer, places_of, IsFreshFor}
 use Rattle.lease_coherence.proofs.moves.Deeds.{told_to, without_opens}
-use Rattle.lease_coherence.proofs.moves.Events.{Ground, IsCarried, Both, carried_both, timed_out, come_back, connected, reply_gone, reply_taken}
+use Rattle.lease_coherence.proofs.moves.Events.{Ground, timed_out, come_back, connected, reply_gone, reply_taken}
 use Rattle.lease_coherence.proofs.moves.Frames.{stepped_past, stepped_replies}
 use Rattle.lease_coherence.proofs.moves.Moves.{popped}
-use Rattle.lease_coherence.proofs.moves.Own.{IsOwnMoved, OfGood, own_moves}
+use Rattle.lease_coherence.proofs.moves.Own.{IsOwnMoved}
 use Rattle.lease_coherence.proofs.moves.Spared.{ends_as}
 use Rattle.lease_coherence.proofs.names.Names.{off_named}
 use Rattle.lease_coherence.proofs.names.Words.{each_append, each_weaker}
@@ -60,7 +60,8 @@ use Rattle.lease_coherence.proofs.standing.Runs.{link_of, was_up, each_flat, sta
 use Rattle.lease_coherence.proofs.standing.Standing.{step_of}
 use Rattle.lease_coherence.proofs.writes.Counts.{settling}
 use Rattle.lease_coherence.proofs.writes.Answered.{ground_of, names_of, known_by}
-use Rattle.lease_coherence.proofs.fresh.Moves.{HasSeen, seen_carried, own_of, low_of, popped_fresh, off_fresh_in, off_low, plain_told, told_fresh, refusal_still, read_fresh, changed_fresh, granted_was, granted_fresh, reconnected_fresh, acked_fresh, broken_fresh}
+use Rattle.lease_coherence.proofs.fresh.Moves.{own_of, low_of, popped_fresh, off_fresh_in, off_low, plain_told, told_fresh, refusal_still, read_fresh, changed_fresh, granted_was, granted_fresh, reconnected_fresh, acked_fresh, broken_fresh}
+use Rattle.lease_coherence.proofs.records.Known.{HasRecord}
 
 -- ---- opens that close
 
@@ -461,91 +462,91 @@ quiet_behind world c file reply queue first t fresh live asks =
     (is_live ((world.clients c).entries file).phase)) first (t.files file fresh).believed.breaks in
     ((b.0) live asks).no_grant
 
-due_of : (world : World) (c : ℕ) (reply : Reply) (queue : List Reply) → HasSeen world
+due_of : (world : World) (c : ℕ) (reply : Reply) (queue : List Reply) → HasRecord world
     → has_strayed c world.past ≡ false → is_up (world.links c) ≡ true → world.replies c ≡ reply ∷ queue
     → IsDueTo c (world.clients c) world.past reply
 due_of world c reply queue v good up first = record {
-  asked = λ file. low _ _ _ _ _ (v.0.0.0.structure.creates c good up file) (ap (λ (q : List Reply). answers file q) first);
+  asked = λ file. low _ _ _ _ _ (v.leases.structure.creates c good up file) (ap (λ (q : List Reply). answers file q) first);
   sent = λ file number known own.
-      low _ _ _ _ _ ((v.0.1 c good up).counts file number known own) (ap (λ (q : List Reply). settling number q) first);
+      low _ _ _ _ _ ((v.once c good up).counts file number known own) (ap (λ (q : List Reply). settling number q) first);
 }
   where
     low : (q x n b m : ℕ) → q + x ≡ b → x ≡ n + m → n ≤ b
     low q x n b m e f = omega (arith, e, f)
 
-pub fresh_moves : IsOwnMoved HasSeen IsUpFresh
+pub fresh_moves : IsOwnMoved HasRecord IsUpFresh
 unfolding with_opens
 fresh_moves = record {
   unmoved = λ world new c v good u a up file fresh.
-      unmoved_fresh world new c u (ground_of world v.0.0).fine.sound (own_of world v c good) file
+      unmoved_fresh world new c u (ground_of world v).fine.sound (own_of world v c good) file
       (a (ap is_up (sym u.link) ∙ up) file (sym (u.expired (machine_key world c file) refl)
       ∙ ap (λ (m : Client). new.server.expired (key_of c (lease_key m.guid file))) (sym u.machine) ∙ fresh));
   refused = λ world off c request status v good source may a up file fresh.
       let was = link_of world off c request source up in
       told_fresh off c (refusal_of request status) file (refusal_bare request status) (refusal_still request status)
-      (off_low world off c request source (low_of world (ground_of world v.0.0) c was))
+      (off_low world off c request source (low_of world (ground_of world v) c was))
       (off_fresh_in world off c file request source (a was file (off_fresh world off c file request source fresh)));
   full = λ world off c file access share ask v good source a up at fresh.
       let was = link_of world off c _ source up in
       told_fresh off c (Reply.CreateFailed file Status.InsufficientResources) at tt tt
-      (off_low world off c _ source (low_of world (ground_of world v.0.0) c was))
+      (off_low world off c _ source (low_of world (ground_of world v) c was))
       (off_fresh_in world off c at _ source (a was at (off_fresh world off c at _ source fresh)));
   granted = λ world off c file access share ask v good source none on free a up at fresh.
       let request = FileRequest.Create file access share (Some ask) in
       let was = link_of world off c request source up in
-      let own = (off_named world off c request c source (names_of world v.0.0 c good)).1 refl in
+      let own = (off_named world off c request c source (names_of world v c good)).1 refl in
       let before : off.server.expired (machine_key off c at) ≡ false = granted_was off c file access share ask at fresh in
       granted_fresh off c file access share ask own.lease own.asks own.key
-      (off_trust world off c request source (v.0.0.0.beliefs c good was)) at before
-      (off_low world off c request source (low_of world (ground_of world v.0.0) c was))
+      (off_trust world off c request source (v.leases.beliefs c good was)) at before
+      (off_low world off c request source (low_of world (ground_of world v) c was))
       (off_fresh_in world off c at request source (a was at (off_fresh world off c at request source before)));
   reconnected = λ world off c file access share ask file_id v good source again on waits a up at fresh.
       let request = FileRequest.Create file access share (Some ask) in
       let was = link_of world off c request source up in
-      let own = (off_named world off c request c source (names_of world v.0.0 c good)).1 refl in
+      let own = (off_named world off c request c source (names_of world v c good)).1 refl in
       reconnected_fresh off c file ask file_id own.lease own.asks own.key
-      (off_trust world off c request source (v.0.0.0.beliefs c good was)) at fresh
-      (off_low world off c request source (low_of world (ground_of world v.0.0) c was))
+      (off_trust world off c request source (v.leases.beliefs c good was)) at fresh
+      (off_low world off c request source (low_of world (ground_of world v) c was))
       (off_fresh_in world off c at request source (a was at (off_fresh world off c at request source fresh)));
   read = λ world off c file_id one v good source found may a up file fresh.
       let was = link_of world off c _ source up in
-      read_fresh world off c file_id one source (ground_of world v.0.0) v.1 found file
-      (off_low world off c _ source (low_of world (ground_of world v.0.0) c was))
+      read_fresh world off c file_id one source (ground_of world v) v.contents found file
+      (off_low world off c _ source (low_of world (ground_of world v) c was))
       (off_fresh_in world off c file _ source (a was file (off_fresh world off c file _ source fresh)));
   changed = λ world off c file_id number patch one v good source found may a up file fresh.
       let was = link_of world off c _ source up in
-      changed_fresh world off c file_id number patch one source (ground_of world v.0.0) (names_of world v.0.0 c good)
-      found file (off_low world off c _ source (low_of world (ground_of world v.0.0) c was))
+      changed_fresh world off c file_id number patch one source (ground_of world v) (names_of world v c good)
+      found file (off_low world off c _ source (low_of world (ground_of world v) c was))
       (off_fresh_in world off c file _ source (a was file (off_fresh world off c file _ source fresh)));
   closed = λ world off c file_id one v good source found a up file fresh.
       let was = link_of world off c _ source up in
       closed_fresh off c file_id file
-      (standing_moves.closed world off c file_id one v.0.0.0.structure good source found (v.0.0.0.structure.opens c good) up)
-      (λ x there by. (off_named world off c (FileRequest.Close file_id) c source (names_of world v.0.0 c good)).0.opens x
+      (standing_moves.closed world off c file_id one v.leases.structure good source found (v.leases.structure.opens c good) up)
+      (λ x there by. (off_named world off c (FileRequest.Close file_id) c source (names_of world v c good)).0.opens x
       (left_there off (λ other. other.file_id == file_id) x there) by)
-      fresh (off_low world off c _ source (low_of world (ground_of world v.0.0) c was))
+      fresh (off_low world off c _ source (low_of world (ground_of world v) c was))
       (off_fresh_in world off c file _ source (a was file (off_fresh world off c file _ source fresh)));
   ack_failed = λ world c given status v good oldest why a up file fresh.
-      told_fresh (popped world c) c (Reply.AckFailed status) file tt tt (low_of world (ground_of world v.0.0) c up)
+      told_fresh (popped world c) c (Reply.AckFailed status) file tt tt (low_of world (ground_of world v) c up)
       (popped_fresh world c file (a up file fresh));
   ack_done = λ world c given lowered v good oldest there breaks within a up file fresh.
-      acked_fresh world c given oldest file (low_of world (ground_of world v.0.0) c up) (a up file fresh);
+      acked_fresh world c given oldest file (low_of world (ground_of world v) c up) (a up file fresh);
   hold = λ world at one v good oldest may turn a up file fresh.
       popped_fresh world one.client file (a up file fresh);
   dropped = λ world c test v good away a up file fresh. dropped_fresh world c test file
-      (standing_moves.dropped world c test v.0.0.0.structure good away (v.0.0.0.structure.opens c good) up)
+      (standing_moves.dropped world c test v.leases.structure good away (v.leases.structure.opens c good) up)
       (λ x there by. own_of world v c good x (left_there world test x there) by) fresh (a up file fresh);
   lower = λ world key lowered v good may light a up file fresh.
       broken_fresh world key (record { state = lowered; broken_to = None }) lowered file refl
-      (low_of world (ground_of world v.0.0) key.client up) (a up file fresh);
+      (low_of world (ground_of world v) key.client up) (a up file fresh);
   begin = λ world key lowered v good may heavy a up file fresh.
       broken_fresh world key (record { state = (world.server.leases key).state; broken_to = Some lowered }) lowered file
-      refl (low_of world (ground_of world v.0.0) key.client up) (a up file fresh);
+      refl (low_of world (ground_of world v) key.client up) (a up file fresh);
   cut = λ world c v good up a on. absurd (true≢false (sym on ∙ ap is_up (put_same world.links c Link.Cut)));
   timer = λ world c at v good on breaks a up file fresh. timer_fresh world c at file
-      (standing_moves.timer world c at v.0.0.0.structure good on breaks (v.0.0.0.structure.opens c good) up)
+      (standing_moves.timer world c at v.leases.structure good on breaks (v.leases.structure.opens c good) up)
       (own_of world v c good) fresh (a up file (timer_was world c at file fresh));
-  connect = λ world c v good down a up file fresh. connect_fresh world c (ground_of world v.0.0) down file;
+  connect = λ world c v good down a up file fresh. connect_fresh world c (ground_of world v) down file;
   command = λ world c command v good a up file fresh.
       let was = was_up world c (commanded (world.clients c) command) up in
       command_fresh world c command was file (a was file
@@ -558,19 +559,11 @@ fresh_moves = record {
       let before = stepped_was gone c (taken machine reply) was (taken-stays machine reply).guid file fresh in
       take_fresh world c reply queue was first file
       (any_reply machine (TakesFresh c machine world.past)
-      (takes_fresh c machine world.past ((ground_of world v.0.0).clients c) (known_by world v.0.0 c good)) reply)
+      (takes_fresh c machine world.past ((ground_of world v).clients c) (known_by world v c good)) reply)
       (due_of world c reply queue v good was first)
-      (quiet_behind world c file reply queue first (v.0.0.0.beliefs c good was) before) (a was file before);
+      (quiet_behind world c file reply queue first (v.leases.beliefs c good was) before) (a was file before);
   notice = λ world c v good cut a on. absurd (true≢false (sym on
       ∙ ap (λ (l : ℕ → Link). is_up (l c)) (stepped_links (record world { links = put world.links c Link.Down }) c
       (noticed (world.clients c)))
       ∙ ap is_up (put_same world.links c Link.Down)));
 }
-
--- all that is known so far
-abbrev pub HasFresh : World → Type 0
-HasFresh = Both HasSeen (OfGood IsUpFresh)
-
-pub fresh_carried : IsCarried HasFresh
-fresh_carried = carried_both HasSeen (OfGood IsUpFresh) seen_carried
-    (own_moves HasSeen IsUpFresh (λ world v. ground_of world v.0.0) fresh_moves)

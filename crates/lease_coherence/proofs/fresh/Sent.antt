@@ -206,7 +206,7 @@ told_places : (c : ℕ) (past middle new : List Fact) → IsToldIn c past middle
     → takings c past ≤ length (sendings c past) → places_of c new ≡ places_of c past ++ middle ∷ []
 told_places c past middle new t low =
     ap₂ (λ n p. drop n p) (told_took c past middle new t) (told_sent c past middle new t) ∙ drop_low (takings c past)
-        (sendings c past) (middle ∷ []) low
+    (sendings c past) (middle ∷ []) low
 
 sent_content : (c file : ℕ) (middle : List Fact) → content_of file (Fact.Sent c ∷ middle) ≡ content_of file middle
 unfolding content_of

@@ -1,12 +1,11 @@
 -- No write is accepted late: each change in a record is of a write that nobody overtook.
-use Rattle.std.proofs.Common.{◌≡◌, ℕ, ◌+◌, false, true, true≢false, List, [], ◌∷◌, Some, refl, sym, ap, ◌∙◌, subst}
+use Rattle.std.proofs.Common.{◌≡◌, ℕ, ◌+◌, false, true, List, [], ◌∷◌, Some, refl, sym, ap, ◌∙◌, subst}
 use Rattle.std.proofs.lemmas.List.{reverse-reverse}
 use mathlib.Core.List.{reverse_aux}
 use Rattle.lease_state.specs.declared.patch.Patch.{Patch}
 use Rattle.lease_model.specs.client.Commanded.{commanded}
 use Rattle.lease_model.specs.client.Commands.{Note}
 use Rattle.lease_model.specs.client.Connection.{noticed, connection_made}
-use Rattle.lease_model.specs.client.State.{new_client}
 use Rattle.lease_model.specs.client.Step.{Step}
 use Rattle.lease_model.specs.client.Taken.{taken}
 use Rattle.lease_model.specs.messages.Requests.{FileRequest, Request}
@@ -14,7 +13,7 @@ use Rattle.lease_model.specs.records.Facts.{Fact}
 use Rattle.lease_model.specs.records.Past.{has_strayed, is_touched}
 use Rattle.lease_model.specs.records.Safe.{EachFact, NoLateWrite}
 use Rattle.lease_model.specs.server.Findings.{connected_open}
-use Rattle.lease_model.specs.server.State.{Open, new_server}
+use Rattle.lease_model.specs.server.State.{Open}
 use Rattle.lease_model.specs.values.Tables.{put}
 use Rattle.lease_model.specs.world.Allowed.{is_allowed_setup}
 use Rattle.lease_model.specs.world.Events.{Event, stepped_in, after}
@@ -22,8 +21,7 @@ use Rattle.lease_model.specs.world.World.{World, Setup, Link, first_world, start
 use Rattle.lease_laws.specs.server.Laws.{Among}
 use Rattle.lease_laws.proofs.server.Lists.{find_has}
 use Rattle.lease_coherence.specs.Parts.{InRuns}
-use Rattle.lease_coherence.proofs.fresh.Reads.{first_reads}
-use Rattle.lease_coherence.proofs.late.Runs.{HasLate, ground_in, late_carried}
+use Rattle.lease_coherence.proofs.late.Runs.{ground_in}
 use Rattle.lease_coherence.proofs.late.Words.{WriteSafe}
 use Rattle.lease_coherence.proofs.moves.Deeds.{HasDeeds, IsSource, step_deed}
 use Rattle.lease_coherence.proofs.moves.Events.{IsMoved, Both, carried_both, runs_have, come_back, reply_gone, Move}
@@ -32,6 +30,8 @@ use Rattle.lease_coherence.proofs.names.Names.{open_parts}
 use Rattle.lease_coherence.proofs.order.Sends.{off_past}
 use Rattle.lease_coherence.proofs.records.Later.{past_noted}
 use Rattle.lease_coherence.proofs.standing.Words.{asked_off}
+use Rattle.lease_coherence.proofs.records.AllRuns.{record_carried, first_record}
+use Rattle.lease_coherence.proofs.records.Known.{HasRecord}
 
 abbrev NoneLate : World → Type 0
 NoneLate world = EachFact NoLateWrite world.past
@@ -47,7 +47,7 @@ off_none : (world off : World) (c : ℕ) (request : FileRequest) → IsSource wo
     → NoneLate off
 off_none world off c request source l = subst (EachFact NoLateWrite) (sym (off_past world off c request source)) l
 
-change_clean : (world off : World) (c file_id number : ℕ) (patch : Patch) (one : Open) → HasLate world
+change_clean : (world off : World) (c file_id number : ℕ) (patch : Patch) (one : Open) → HasRecord world
     → IsSource world off c (FileRequest.Write file_id number patch) → connected_open off.server c file_id ≡ Some one
     → has_strayed c off.past ≡ false → is_touched c one.file number off.past ≡ false
 change_clean world off c file_id number patch one v source found good =
@@ -55,8 +55,8 @@ change_clean world off c file_id number patch one v source found good =
     let past = off_past world off c request source in
     let there = find_has _ one off.server.opens found in
     let parts = open_parts c file_id one there.1 in
-    let a = v.1 c (ap (has_strayed c) (sym past) ∙ good) in
-    let up = sym (((ground_in world v.0).tied c).present) ∙ source.up in
+    let a = v.late c (ap (has_strayed c) (sym past) ∙ good) in
+    let up = sym (((ground_in world v).tied c).present) ∙ source.up in
     let safe : WriteSafe world c (Request.OnFile request) =
     (asked_off (WriteSafe world c) world off c request source (a.up up).writes).1 in
     ap (is_touched c one.file number) past
@@ -64,7 +64,7 @@ change_clean world off c file_id number patch one v source found good =
 
 -- ---- steps of the server
 
-deeds_none : (world : World) → HasLate world → NoneLate world → HasDeeds world NoneLate
+deeds_none : (world : World) → HasRecord world → NoneLate world → HasDeeds world NoneLate
 deeds_none world v l = record {
   refused = λ off client request status source may. (tt, off_none world off client request source l);
   full = λ off client file access share ask source. (tt, off_none world off client _ source l);
@@ -104,7 +104,7 @@ stepped_none world client step l = subst (EachFact NoLateWrite) (sym (stepped_pa
 
 -- ---- all moves
 
-none_moves : IsMoved HasLate NoneLate
+none_moves : IsMoved HasRecord NoneLate
 unfolding requests_sent
 none_moves world (Move.Step step) next v l = step_deed world NoneLate (deeds_none world v l) step next
 none_moves world (Move.Cut client) up v l = (tt, l)
@@ -129,20 +129,15 @@ unfolding starts_from
 starts_none first [] past l = l
 starts_none first (bytes ∷ files) past l = starts_none (first + 1) files (Fact.Start first bytes ∷ past) (tt, l)
 
-first_all : (setup : Setup) → is_allowed_setup setup ≡ true → Both HasLate NoneLate (first_world setup)
-unfolding first_world new_server new_client
-first_all setup allowed = (
-  (
-    ((first_reads setup allowed).0, λ c good up. absurd (true≢false (sym up))),
-    λ c good. record { entries = λ file. tt; up = λ up. absurd (true≢false (sym up)) },
-  ),
-  starts_none 1 setup.files [] tt,
-)
+first_none : (setup : Setup) → NoneLate (first_world setup)
+unfolding first_world
+first_none setup = starts_none 1 setup.files [] tt
 
 pub run_late : (setup : Setup) (events : List Event) → is_allowed_setup setup ≡ true
-    → Both HasLate NoneLate (after (first_world setup) events)
-run_late setup events allowed = runs_have (Both HasLate NoneLate) (λ world v. ground_in world v.0.0)
-    (carried_both HasLate NoneLate late_carried none_moves) setup (first_all setup allowed) events
+    → Both HasRecord NoneLate (after (first_world setup) events)
+run_late setup events allowed = runs_have (Both HasRecord NoneLate) (λ world v. ground_in world v.0)
+    (carried_both HasRecord NoneLate record_carried none_moves) setup
+    (first_record setup allowed, first_none setup) events
 
 pub no_write_is_late : InRuns NoLateWrite
 no_write_is_late setup events allowed = subst (EachFact NoLateWrite)

@@ -77,7 +77,7 @@ granted_asked off c file access share ask asked named sound free ids n clean a =
     replied_late off new c reply (granted_like off c file access share ask asked lease) ids
     (λ at x there by on. put_key-cases (λ (l : Lease). holds_write off c at ≡ true → l.state.write ≡ true)
     off.server.leases key lease (machine_key off c at) (λ same h. still
-        (ap (λ k. (off.server.leases k).state.write) (sym same) ∙ h))
+    (ap (λ k. (off.server.leases k).state.write) (sym same) ∙ h))
     (λ other h. h)) n refl refl refl (put_same off.replies c (off.replies c ++ reply ∷ []))
     (λ up at known same x there by id. let mine = own_named off c file at asked named same in record {
       timely = λ gives. ap off.server.expired mine ∙ fresh at gives;

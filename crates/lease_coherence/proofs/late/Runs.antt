@@ -25,64 +25,64 @@ use Rattle.lease_coherence.proofs.late.Others.{unmoved_late}
 use Rattle.lease_coherence.proofs.late.Servers.{sent_clean}
 use Rattle.lease_coherence.proofs.late.Words.{IsSafeUp, IsNotLate, KnowsIds}
 use Rattle.lease_coherence.proofs.moves.Deeds.{IsSource}
-use Rattle.lease_coherence.proofs.moves.Events.{Ground, IsCarried, Both, carried_both}
+use Rattle.lease_coherence.proofs.moves.Events.{Ground}
 use Rattle.lease_coherence.proofs.moves.Foreign.{off_sound}
-use Rattle.lease_coherence.proofs.moves.Own.{IsOwnMoved, OfGood, own_moves}
+use Rattle.lease_coherence.proofs.moves.Own.{IsOwnMoved}
 use Rattle.lease_coherence.proofs.names.Names.{off_named, off_counted}
-use Rattle.lease_coherence.proofs.order.Runs.{HasOrder, order_carried}
 use Rattle.lease_coherence.proofs.standing.Runs.{link_of}
 use Rattle.lease_coherence.proofs.writes.Answered.{ground_of, names_of, known_by}
+use Rattle.lease_coherence.proofs.records.Known.{HasRecord}
 
 -- ---- what is known
 
-pub ground_in : (world : World) → HasOrder world → Ground world
-ground_in world v = ground_of world v.0.0.0.0
+pub ground_in : (world : World) → HasRecord world → Ground world
+ground_in world v = ground_of world v
 
-names_in : (world : World) → HasOrder world → (c : ℕ) → has_strayed c world.past ≡ false → IsNamedAt world c
-names_in world v c good = names_of world v.0.0.0.0 c good
+names_in : (world : World) → HasRecord world → (c : ℕ) → has_strayed c world.past ≡ false → IsNamedAt world c
+names_in world v c good = names_of world v c good
 
-ids_in : (world : World) → HasOrder world → (c : ℕ) → KnowsIds world c
+ids_in : (world : World) → HasRecord world → (c : ℕ) → KnowsIds world c
 ids_in world v c = let g = ground_in world v in
     ids_of world c (record { last = g.counted.last; opens = g.counted.opens })
 
-up_in : (world : World) → HasOrder world → (c : ℕ) → has_strayed c world.past ≡ false → is_up (world.links c) ≡ true
+up_in : (world : World) → HasRecord world → (c : ℕ) → has_strayed c world.past ≡ false → is_up (world.links c) ≡ true
     → IsKnownUp world c
 up_in world v c good up = record {
   ground = ground_in world v;
   names = names_in world v c good;
-  known = known_by world v.0.0.0.0 c good;
+  known = known_by world v c good;
   ids = ids_in world v c;
-  stands = v.0.0.0.0.0.structure.opens c good up;
-  trust = v.0.0.0.0.0.beliefs c good up;
+  stands = v.leases.structure.opens c good up;
+  trust = v.leases.beliefs c good up;
 }
 
-off_ids : (world off : World) → HasOrder world → (c : ℕ) (request : FileRequest) → IsSource world off c request
+off_ids : (world off : World) → HasRecord world → (c : ℕ) (request : FileRequest) → IsSource world off c request
     → KnowsIds off c
 off_ids world off v c request source = ids_of off c (off_counted world off c request source (ground_in world v))
 
-off_names : (world off : World) → HasOrder world → (c : ℕ) (request : FileRequest) → has_strayed c world.past ≡ false
+off_names : (world off : World) → HasRecord world → (c : ℕ) (request : FileRequest) → has_strayed c world.past ≡ false
     → IsSource world off c request → IsNamedAt off c
 off_names world off v c request good source = (off_named world off c request c source (names_in world v c good)).0
 
-off_in : (world off : World) → HasOrder world → (c : ℕ) (request : FileRequest) → has_strayed c world.past ≡ false
+off_in : (world off : World) → HasRecord world → (c : ℕ) (request : FileRequest) → has_strayed c world.past ≡ false
     → IsSource world off c request → IsNotLate world c → IsNotLate off c
 off_in world off v c request good source a =
     off_late world off c request source (ids_in world v c) (names_in world v c good) a
 
-clean_in : (world : World) → HasOrder world → (c : ℕ) → has_strayed c world.past ≡ false
+clean_in : (world : World) → HasRecord world → (c : ℕ) → has_strayed c world.past ≡ false
     → is_up (world.links c) ≡ true → IsSafeUp world c → SentClean world c
 clean_in world v c good up u = λ file known fresh write a none.
-    sent_clean world c u (v.0.0.0.1 c good up) (v.1 c good up).stands (names_in world v c good)
-    (known_by world v.0.0.0.0 c good) file known fresh write a none
+    sent_clean world c u (v.once c good up) (v.order c good up).stands (names_in world v c good)
+    (known_by world v c good) file known fresh write a none
 
-off_sent : (world off : World) → HasOrder world → (c : ℕ) (request : FileRequest) → has_strayed c world.past ≡ false
+off_sent : (world off : World) → HasRecord world → (c : ℕ) (request : FileRequest) → has_strayed c world.past ≡ false
     → IsSource world off c request → IsNotLate world c → is_up (off.links c) ≡ true → SentClean off c
 off_sent world off v c request good source a up =
     let was = link_of world off c request source up in
     off_clean world off c request source (clean_in world v c good was (a.up was))
 
 -- a link with something on its way is up
-sends_up : (world : World) → HasOrder world → (c : ℕ) (request : Request) (queue : List Request)
+sends_up : (world : World) → HasRecord world → (c : ℕ) (request : Request) (queue : List Request)
     → world.requests c ≡ request ∷ queue → is_up (world.links c) ≡ true
 sends_up world v c request queue first = either (is_up (world.links c)) (λ up. up)
     (λ down. absurd (some request queue (sym first ∙ ((ground_in world v).tied c).requests down)))
@@ -90,7 +90,7 @@ sends_up world v c request queue first = either (is_up (world.links c)) (λ up. 
     some : (r : Request) (q : List Request) → r ∷ q ≡ [] → ⊥
     some r q e = cc
 
-takes_up : (world : World) → HasOrder world → (c : ℕ) (reply : Reply) (queue : List Reply)
+takes_up : (world : World) → HasRecord world → (c : ℕ) (reply : Reply) (queue : List Reply)
     → world.replies c ≡ reply ∷ queue → is_up (world.links c) ≡ true
 takes_up world v c reply queue first = either (is_up (world.links c)) (λ up. up)
     (λ down. absurd (some reply queue (sym first ∙ ((ground_in world v).tied c).replies down)))
@@ -100,17 +100,17 @@ takes_up world v c reply queue first = either (is_up (world.links c)) (λ up. up
 
 -- ---- all moves
 
-own_create : (world off : World) → HasOrder world → (c file : ℕ) (access : Access) (share : Share) (ask : CreateAsk)
+own_create : (world off : World) → HasRecord world → (c file : ℕ) (access : Access) (share : Share) (ask : CreateAsk)
     → has_strayed c world.past ≡ false → IsSource world off c (FileRequest.Create file access share (Some ask))
     → IsOwnCreate c (off.clients c).guid off.past file ask
 own_create world off v c file access share ask good source =
     (off_named world off c (FileRequest.Create file access share (Some ask)) c source (names_in world v c good)).1 refl
 
-sound_off : (world off : World) → HasOrder world → (c : ℕ) (request : FileRequest) → IsSource world off c request
+sound_off : (world off : World) → HasRecord world → (c : ℕ) (request : FileRequest) → IsSource world off c request
     → IsSound off.server
 sound_off world off v c request source = off_sound world off c request source (ground_in world v).fine.sound
 
-pub late_moves : IsOwnMoved HasOrder IsNotLate
+pub late_moves : IsOwnMoved HasRecord IsNotLate
 late_moves = record {
   unmoved = λ world new c v good u a. unmoved_late world new c u (names_in world v c good) (ids_in world v c)
       (λ up file fresh. ((up_in world v c good up).trust.files file fresh).believed.given) a;
@@ -164,7 +164,7 @@ late_moves = record {
   connect = λ world c v good down a.
       connect_late world c (ground_in world v) down (ids_in world v c) (names_in world v c good) a;
   command = λ world c command v good a.
-      command_late world c command (known_by world v.0.0.0.0 c good) (λ up. up_in world v c good up) a;
+      command_late world c command (known_by world v c good) (λ up. up_in world v c good up) a;
   take = λ world c reply queue v good first a. let up = takes_up world v c reply queue first in
       take_late world c reply queue first up (up_in world v c good up) a;
   notice = λ world c v good cut a. notice_late world c a;
@@ -174,11 +174,3 @@ late_moves = record {
     online_by Link.Up up = refl
     online_by Link.Cut up = refl
     online_by Link.Down up = absurd (true≢false (sym up))
-
--- all that is known
-abbrev pub HasLate : World → Type 0
-HasLate = Both HasOrder (OfGood IsNotLate)
-
-pub late_carried : IsCarried HasLate
-late_carried = carried_both HasOrder (OfGood IsNotLate) order_carried
-    (own_moves HasOrder IsNotLate ground_in late_moves)

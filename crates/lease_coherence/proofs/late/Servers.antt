@@ -40,8 +40,7 @@ use Rattle.lease_coherence.proofs.names.Words.{each_rest, opened_once}
 use Rattle.lease_coherence.proofs.order.Words.{WriteStands, WriteStandsOn}
 use Rattle.lease_coherence.proofs.standing.Words.{asked_off, asked_popped}
 use Rattle.lease_coherence.proofs.writes.Counts.{write_of, writes, held_writes, settling, numbered_in, writes_left}
-use Rattle.lease_coherence.proofs.writes.Answered.{IsSentOnce}
-use Rattle.lease_coherence.proofs.writes.Steps.{IsKnownBy}
+use Rattle.lease_coherence.proofs.writes.Steps.{IsKnownBy, IsSentOnce}
 
 -- ---- entries
 

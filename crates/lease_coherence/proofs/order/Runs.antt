@@ -38,13 +38,12 @@ use Rattle.lease_coherence.specs.Standing.{AllAsked, IsNoClose, NotClosed, Stand
 use Rattle.lease_coherence.proofs.clients.Commands.{any_command}
 use Rattle.lease_coherence.proofs.clients.Takes.{any_reply}
 use Rattle.lease_coherence.proofs.creates.Creates.{none_held}
-use Rattle.lease_coherence.proofs.fresh.Runs.{HasFresh, fresh_carried}
 use Rattle.lease_coherence.proofs.moves.Deeds.{IsSource, HasArrived, WasHeld, told_to, held_in, granted_in, reconnected_in, changed_in, without_opens, leased_in, done_reply}
-use Rattle.lease_coherence.proofs.moves.Events.{Ground, IsCarried, Both, carried_both, timed_out, come_back, connected, reply_gone}
+use Rattle.lease_coherence.proofs.moves.Events.{Ground, timed_out, come_back, connected, reply_gone}
 use Rattle.lease_coherence.proofs.moves.Foreign.{IsUnmoved, apart, false_not, map_kept}
 use Rattle.lease_coherence.proofs.moves.Frames.{lease_put_rest, stepped_past}
 use Rattle.lease_coherence.proofs.moves.Moves.{IsOldest, rest_of, popped}
-use Rattle.lease_coherence.proofs.moves.Own.{IsOwnMoved, OfGood, own_moves}
+use Rattle.lease_coherence.proofs.moves.Own.{IsOwnMoved}
 use Rattle.lease_coherence.proofs.names.Names.{open_parts}
 use Rattle.lease_coherence.proofs.names.Words.{each_append, each_weaker}
 use Rattle.lease_coherence.specs.Agreement.{as_requests, asked_of}
@@ -56,6 +55,7 @@ use Rattle.lease_coherence.proofs.standing.Standing.{IsStepped, step_of, stands_
 use Rattle.lease_coherence.proofs.standing.Words.{asked_weaker, asked_popped, asked_held, asked_unmoved}
 use Rattle.lease_coherence.proofs.writes.Answered.{ground_of, names_of}
 use Rattle.lease_coherence.proofs.order.Sends.{UnderLive, SendsInOrder, sends, commands_send, takes_send, stands_later, same_order, off_order}
+use Rattle.lease_coherence.proofs.records.Known.{HasRecord}
 
 -- ---- an open that is closed
 
@@ -419,7 +419,7 @@ timer_stays : (world : World) (c at : ℕ) → IsNamedAt world c → (file id : 
     → Stands (timed_out world c at) c file id
 timer_stays world c at n file id s = timer_stands world c at n file id s
 
-pub order_moves : IsOwnMoved HasFresh IsUpInOrder
+pub order_moves : IsOwnMoved HasRecord IsUpInOrder
 unfolding with_opens key_expired opens_dropped
 order_moves = record {
   unmoved = λ world new c v good u a up. unmoved_order world new c u (a (ap is_up (sym u.link) ∙ up));
@@ -452,7 +452,7 @@ order_moves = record {
       (later_two off.past (Fact.Changed one.file c number patch) (Fact.Sent c)) (λ x own y z. z)
       (off_order world off c _ source (a (link_of world off c _ source up)));
   closed = λ world off c file_id one v good source found a up.
-      closed_order world off c file_id one source (ground_of world v.0.0.0) found
+      closed_order world off c file_id one source (ground_of world v) found
       (a (link_of world off c _ source up));
   ack_failed = λ world c given status v good oldest why a up.
       replied_order (popped world c) (told_to (popped world c) c (Reply.AckFailed status)) c refl refl refl refl
@@ -478,24 +478,24 @@ order_moves = record {
       (later_fact world.past (Fact.Sent key.client)) (λ one own y x. x) (a up);
   cut = λ world c v good up a on. absurd (true≢false (sym on ∙ ap is_up (put_same world.links c Link.Cut)));
   timer = λ world c at v good on breaks a up. same_order world (timed_out world c at) c refl refl
-      (later_fact world.past (Fact.Expired c at)) (timer_stays world c at (names_of world v.0.0.0 c good)) (a up);
-  connect = λ world c v good down a up. connect_order world c (ground_of world v.0.0.0) down;
+      (later_fact world.past (Fact.Expired c at)) (timer_stays world c at (names_of world v c good)) (a up);
+  connect = λ world c v good down a up. connect_order world c (ground_of world v) down;
   command = λ world c command v good a up.
       let was = was_up world c (commanded (world.clients c) command) up in
       stepped_order world c (commanded (world.clients c) command) was
       (commanded-stays (world.clients c) command).guid
       (any_command (world.clients c) (SendsInOrder (world.clients c)) (commands_send (world.clients c)) command)
-      (v.0.0.0.0.structure.opens c good was) (live_opened world c (names_of world v.0.0.0 c good)) (a was);
+      (v.leases.structure.opens c good was) (live_opened world c (names_of world v c good)) (a was);
   take = λ world c reply queue v good first a up.
       let gone = reply_gone world c queue in
       let machine = world.clients c in
       let was : is_up (world.links c) ≡ true = was_up gone c (taken machine reply) up in
-      let s = v.0.0.0.0.structure.opens c good was in
+      let s = v.leases.structure.opens c good was in
       stepped_order gone c (taken machine reply) was (taken-stays machine reply).guid
       (any_reply machine (λ r step. SendsInOrder machine step) (takes_send machine) reply)
       (gone_standing world c reply queue first s)
       (λ file live is. (later_fact world.past (Fact.Took c)).opened live.file_id file c
-      (live_opened world c (names_of world v.0.0.0 c good) file live is))
+      (live_opened world c (names_of world v c good) file live is))
       (same_order world gone c refl refl (later_fact world.past (Fact.Took c))
       (λ file id x. stands_by world gone c file id refl refl (λ one own y same z. z) x) (a was));
   notice = λ world c v good cut a on. absurd (true≢false (sym on
@@ -503,11 +503,3 @@ order_moves = record {
       (noticed (world.clients c)))
       ∙ ap is_up (put_same world.links c Link.Down)));
 }
-
--- all that is known so far
-abbrev pub HasOrder : World → Type 0
-HasOrder = Both HasFresh (OfGood IsUpInOrder)
-
-pub order_carried : IsCarried HasOrder
-order_carried = carried_both HasFresh (OfGood IsUpInOrder) fresh_carried
-    (own_moves HasFresh IsUpInOrder (λ world v. ground_of world v.0.0.0) order_moves)

@@ -444,10 +444,10 @@ untouched_moves = record {
   unmoved = λ world new c v good u a. unmoved_untouched world new c u (v.named c good) (ids_in world v c) a;
   refused = λ world off c request status v good source may a.
       told_untouched off c (refusal_of request status) (off_named_at world off v c request good source)
-          (off_untouched world off c request source a);
+      (off_untouched world off c request source a);
   full = λ world off c file access share ask v good source a.
       told_untouched off c (Reply.CreateFailed file Status.InsufficientResources) (off_named_at world off v c _ good source)
-          (off_untouched world off c _ source a);
+      (off_untouched world off c _ source a);
   granted = λ world off c file access share ask v good source none on free a.
       let request = FileRequest.Create file access share (Some ask) in
       let own = own_create world off c file access share ask source (v.named c good) in
@@ -462,7 +462,7 @@ untouched_moves = record {
       (off_untouched world off c _ source a);
   read = λ world off c file_id one v good source found may a.
       told_untouched off c (Reply.ReadDone file_id (off.server.contents one.file)) (off_named_at world off v c _ good source)
-          (off_untouched world off c _ source a);
+      (off_untouched world off c _ source a);
   changed = λ world off c file_id number patch one v good source found may a.
       changed_untouched off c one.file file_id number patch (off_named_at world off v c _ good source)
       (off_untouched world off c _ source a);

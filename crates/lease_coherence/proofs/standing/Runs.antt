@@ -36,9 +36,9 @@ use Rattle.lease_coherence.proofs.clients.Takes.{any_reply}
 use Rattle.lease_coherence.proofs.creates.Creates.{none_held, off_rest, stepped_machine}
 use Rattle.lease_coherence.proofs.moves.Deeds.{IsSource, done_reply}
 use Rattle.lease_coherence.proofs.moves.Moves.{popped}
-use Rattle.lease_coherence.proofs.moves.Events.{Ground, Both, come_back, connected, reply_gone}
+use Rattle.lease_coherence.proofs.moves.Events.{Ground, come_back, connected, reply_gone}
 use Rattle.lease_coherence.proofs.moves.Frames.{stepped_requests, stepped_replies}
-use Rattle.lease_coherence.proofs.moves.Own.{OfGood, IsOwnMoved}
+use Rattle.lease_coherence.proofs.moves.Own.{IsOwnMoved}
 use Rattle.lease_coherence.proofs.names.Done.{gone_named}
 use Rattle.lease_coherence.proofs.names.Names.{off_named, off_counted}
 use Rattle.lease_coherence.proofs.names.Words.{each_append, each_weaker}

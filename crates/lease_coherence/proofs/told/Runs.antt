@@ -13,8 +13,8 @@ use Rattle.lease_model.specs.server.Calls.{joined}
 use Rattle.lease_model.specs.server.Naming.{key_of}
 use Rattle.lease_model.specs.server.State.{Server, Open, is_breaking, has_file, has_key}
 use Rattle.lease_model.specs.values.Tables.{put}
-use Rattle.lease_model.specs.world.Events.{Event, machine_key, stepped_in, after}
-use Rattle.lease_model.specs.world.World.{World, Link, Setup, first_world}
+use Rattle.lease_model.specs.world.Events.{machine_key, stepped_in}
+use Rattle.lease_model.specs.world.World.{World, Link}
 use Rattle.lease_laws.specs.server.Laws.{Among, IsSound}
 use Rattle.lease_laws.specs.world.Links.{is_up}
 use Rattle.lease_laws.proofs.client.Forms.{commanded-stays, taken-stays}
@@ -34,10 +34,10 @@ use Rattle.lease_coherence.proofs.covered.Moves.{FailsGone, HasCovered}
 use Rattle.lease_coherence.proofs.covered.Runs.{counted_of, quiet_of, not_failed}
 use Rattle.lease_coherence.proofs.covered.Words.{ClosedBefore, closed_more, never_granted, NotFailed}
 use Rattle.lease_coherence.proofs.moves.Deeds.{IsSource}
-use Rattle.lease_coherence.proofs.moves.Events.{Ground, IsCarried, Both, carried_both, runs_have, come_back, connected, reply_gone, reply_taken}
+use Rattle.lease_coherence.proofs.moves.Events.{Ground, come_back, connected, reply_gone, reply_taken}
 use Rattle.lease_coherence.proofs.moves.Foreign.{IsUnmoved, key_client, off_sound}
 use Rattle.lease_coherence.proofs.moves.Frames.{from_source, stepped_replies}
-use Rattle.lease_coherence.proofs.moves.Own.{IsOwnMoved, OfGood, own_moves}
+use Rattle.lease_coherence.proofs.moves.Own.{IsOwnMoved}
 use Rattle.lease_coherence.specs.Agreement.{as_requests, asked_of}
 use Rattle.lease_coherence.proofs.order.Words.{append_three}
 use Rattle.lease_coherence.proofs.standing.Runs.{link_of, was_up}

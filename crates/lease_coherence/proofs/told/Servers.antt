@@ -373,7 +373,7 @@ begin_told world key lowered may heavy own h t = kept_told world new c refl
         let phase = ((world.clients key.client).entries file).phase in
         let asks : is_ack_break (file_key world key.client file) reply ≡ true =
         and_both (needs_acknowledgment (world.server.leases key).state) (bytes_eq (file_key world key.client file) key.bytes)
-            heavy
+        heavy
         ((bytes_eq-Decides (file_key world key.client file) key.bytes).1 (ap (λ (k : Key). k.bytes) same)) in
         either (is_live phase)
         (λ live. inr (inl (subst (HasMet (file_key world key.client file) file (is_live phase)) (sym sent)

@@ -17,7 +17,7 @@ use Rattle.lease_model.specs.values.Keys.{Key}
 use Rattle.lease_model.specs.values.Lists.{without}
 use Rattle.lease_model.specs.values.Tables.{put, put_key}
 use Rattle.lease_model.specs.world.Events.{machine_key, stepped_in}
-use Rattle.lease_model.specs.world.World.{World, Link, Setup, first_world}
+use Rattle.lease_model.specs.world.World.{World, Link}
 use Rattle.lease_model.specs.records.Past.{has_strayed}
 use Rattle.lease_laws.specs.server.Laws.{Among}
 use Rattle.lease_laws.specs.world.Links.{is_up}
@@ -39,11 +39,11 @@ use Rattle.lease_coherence.proofs.beliefs.Words.{IsBelieved}
 use Rattle.lease_coherence.proofs.clients.Commands.{any_command}
 use Rattle.lease_coherence.proofs.clients.Takes.{any_reply}
 use Rattle.lease_coherence.proofs.moves.Deeds.{told_to, held_in, without_opens}
-use Rattle.lease_coherence.proofs.moves.Events.{Both, IsCarried, carried_both, timed_out, connected, reply_gone, reply_taken}
+use Rattle.lease_coherence.proofs.moves.Events.{timed_out, connected, reply_gone, reply_taken}
 use Rattle.lease_coherence.proofs.moves.Foreign.{IsUnmoved, off_sound}
 use Rattle.lease_coherence.proofs.moves.Frames.{stepped_replies}
 use Rattle.lease_coherence.proofs.moves.Moves.{IsOldest, popped}
-use Rattle.lease_coherence.proofs.moves.Own.{IsOwnMoved, OfGood, own_moves}
+use Rattle.lease_coherence.proofs.moves.Own.{IsOwnMoved}
 use Rattle.lease_coherence.proofs.names.Names.{off_named}
 use Rattle.lease_coherence.proofs.names.Words.{each_append}
 use Rattle.lease_coherence.proofs.standing.Runs.{link_of, standing_moves, was_up}

@@ -198,8 +198,11 @@ tell_nowhere key file broken_to live (reply ∷ queue) e none = (
 pub no_acks_fit : (key : List ℕ) (lease : Lease) (phase : Phase) (queue : List Request) → acks key queue ≡ 0
     → Each (AckFit key lease phase) queue
 no_acks_fit key lease phase [] e = tt
-no_acks_fit key lease phase (Request.OnFile request ∷ queue) e = (tt, no_acks_fit key lease phase queue
-    (right (acks key queue) e))
+no_acks_fit key lease phase (Request.OnFile request ∷ queue) e = (
+  tt,
+  no_acks_fit key lease phase queue
+      (right (acks key queue) e),
+)
   where
     right : (n : ℕ) → 0 + n ≡ 0 → n ≡ 0
     right n e = omega (arith, e)

@@ -11,7 +11,6 @@ use Rattle.lease_model.specs.server.State.{Held}
 use Rattle.lease_model.specs.values.Tables.{put}
 use Rattle.lease_model.specs.world.World.{World}
 use Rattle.lease_laws.specs.server.Laws.{Among}
-use Rattle.lease_laws.specs.world.Links.{is_up}
 use Rattle.lease_laws.proofs.client.Thin.{put_same, put_other}
 use Rattle.lease_laws.proofs.server.Lists.{either, clash, not_true, among_behind}
 use Rattle.lease_laws.proofs.server.PassWaits.{among_more}
@@ -19,57 +18,35 @@ use Rattle.lease_coherence.specs.Creates.{held_by, one_if}
 use Rattle.lease_coherence.specs.Names.{IsNamedAt}
 use Rattle.lease_coherence.proofs.creates.Creates.{off_rest}
 use Rattle.lease_coherence.proofs.moves.Deeds.{IsSource, HasArrived, WasHeld, with_held}
-use Rattle.lease_coherence.proofs.moves.Events.{Ground, IsMoved, IsCarried, Both, carried_both}
+use Rattle.lease_coherence.proofs.moves.Events.{Ground, IsMoved}
 use Rattle.lease_coherence.proofs.moves.Ground.{among_put}
 use Rattle.lease_coherence.proofs.moves.Moves.{IsOldest, rest_of, popped}
 use Rattle.lease_coherence.proofs.records.Once.{written_once, written_number}
-use Rattle.lease_coherence.proofs.wellformed.WellFormed.{IsWell, well_moves}
 use Rattle.lease_coherence.proofs.writes.Counts.{write_of, writes, held_writes, settles_of, settling, numbered_in, writes_left, writes_under_way, settling_last, held_writes_among}
-use Rattle.lease_coherence.proofs.writes.Steps.{IsKnownBy, IsOwnNumber}
-use Rattle.lease_coherence.proofs.told.AllRuns.{leases_carried}
-use Rattle.lease_coherence.proofs.told.Leases.{HasLeases}
+use Rattle.lease_coherence.proofs.writes.Steps.{IsKnownBy, IsOwnNumber, IsSentOnce}
+use Rattle.lease_coherence.proofs.records.Known.{HasRecord}
 
 -- ---- what is known so far, with records that are well formed
 
-abbrev pub HasRecords : World → Type 0
-HasRecords = Both HasLeases IsWell
+pub ground_of : (world : World) → HasRecord world → Ground world
+ground_of world v = v.leases.structure.ground
 
-pub ground_of : (world : World) → HasRecords world → Ground world
-ground_of world v = v.0.structure.ground
-
-pub names_of : (world : World) → HasRecords world → (c : ℕ)
+pub names_of : (world : World) → HasRecord world → (c : ℕ)
     → has_strayed c world.past ≡ false → IsNamedAt world c
-names_of world v c good = v.0.structure.named c good
+names_of world v c good = v.leases.structure.named c good
 
 -- a client by the record
-pub known_by : (world : World) → HasRecords world → (c : ℕ)
+pub known_by : (world : World) → HasRecord world → (c : ℕ)
     → has_strayed c world.past ≡ false → IsKnownBy c (world.clients c) world.past
 known_by world v c good = record {
-  once = λ file other number patch bytes. written_once c file other number patch bytes world.past v.1.facts;
+  once = λ file other number patch bytes. written_once c file other number patch bytes world.past v.well.facts;
   names = (names_of world v c good).entries;
-  low = v.1.numbers c;
+  low = v.well.numbers c;
 }
 
 -- what is kept where less is known is kept where more is
 pub moved_under : (V W P : World → Type 0) → ((world : World) → V world → W world) → IsMoved W P → IsMoved V P
 moved_under V W P weaker m world move may v p = m world move may (weaker world v) p
-
-pub records_carried : IsCarried HasRecords
-records_carried = carried_both HasLeases IsWell leases_carried
-    (moved_under HasLeases Ground IsWell (λ world v. v.structure.ground) well_moves)
-
--- ---- the layer
-
-pub record IsSentOnce (world : World) (c : ℕ) : Type 0 where
-  pub counts : (file number : ℕ) → knows_file (world.clients c) file ≡ true
-      → IsOwnNumber c (world.clients c).last_number world.past file number
-      → writes_under_way world c file number ≡ numbered_in number ((world.clients c).entries file).sent
-  pub held_on : (at : ℕ) (one : Held) → Among one (world.server.held at) → one.client ≡ c
-      → (file_id number : ℕ) (patch : Patch) → one.request ≡ FileRequest.Write file_id number patch
-      → has_written c at number patch world.past ≡ true
-
-abbrev pub IsUpSentOnce : World → ℕ → Type 0
-IsUpSentOnce world c = is_up (world.links c) ≡ true → IsSentOnce world c
 
 -- ---- requests that are answered
 

@@ -42,12 +42,12 @@ use Rattle.lease_coherence.proofs.clients.Commands.{any_command}
 use Rattle.lease_coherence.proofs.clients.Takes.{any_reply}
 use Rattle.lease_coherence.proofs.creates.Creates.{up_link, stepped_machine, none_held}
 use Rattle.lease_coherence.proofs.moves.Deeds.{told_to, held_in, granted_in, reconnected_in, changed_in, without_opens, leased_in, granted_reply, reconnected_reply, done_reply}
-use Rattle.lease_coherence.proofs.moves.Events.{Ground, IsCarried, Both, carried_both, timed_out, come_back, connected, reply_gone, reply_taken}
+use Rattle.lease_coherence.proofs.moves.Events.{Ground, timed_out, come_back, connected, reply_gone, reply_taken}
 use Rattle.lease_coherence.proofs.moves.Foreign.{IsUnmoved}
 use Rattle.lease_coherence.proofs.moves.Frames.{lease_put_rest, stepped_past, stepped_requests, stepped_replies}
 use Rattle.lease_coherence.proofs.moves.Ground.{among_put}
 use Rattle.lease_coherence.proofs.moves.Moves.{IsOldest, rest_of, popped}
-use Rattle.lease_coherence.proofs.moves.Own.{IsOwnMoved, OfGood, own_moves}
+use Rattle.lease_coherence.proofs.moves.Own.{IsOwnMoved}
 use Rattle.lease_coherence.proofs.moves.Shift.{append_none}
 use Rattle.lease_coherence.proofs.names.Names.{open_parts}
 use Rattle.lease_coherence.proofs.names.Words.{entry_later, opened_once}
@@ -55,8 +55,9 @@ use Rattle.lease_coherence.proofs.records.Later.{later_fact, later_noted, past_n
 use Rattle.lease_coherence.proofs.standing.Runs.{link_of, was_up}
 use Rattle.lease_coherence.proofs.standing.Words.{head_of}
 use Rattle.lease_coherence.proofs.writes.Counts.{write_of, writes, held_writes, settles_of, settling, numbered_in, writes_under_way, writes_append, held_writes_among, refusal_settles}
-use Rattle.lease_coherence.proofs.writes.Steps.{IsKnownBy, IsOwnNumber, AddsUpWell, AddsUpTaken, no_answers, own_before, commands_add, takes_add}
-use Rattle.lease_coherence.proofs.writes.Answered.{HasRecords, ground_of, names_of, known_by, records_carried, IsSentOnce, IsUpSentOnce, own_counts, first_off, not_counted, same_once, answered_once, told_once, ack_off}
+use Rattle.lease_coherence.proofs.writes.Steps.{IsKnownBy, IsOwnNumber, AddsUpWell, AddsUpTaken, no_answers, own_before, commands_add, takes_add, IsSentOnce, IsUpSentOnce}
+use Rattle.lease_coherence.proofs.writes.Answered.{ground_of, names_of, known_by, own_counts, first_off, not_counted, same_once, answered_once, told_once, ack_off}
+use Rattle.lease_coherence.proofs.records.Known.{HasRecord}
 
 -- ---- a request is held
 
@@ -329,7 +330,7 @@ unmoved_once world new c u s = same_once world new c u.machine u.spared.written
     (among_filtered (λ h. h.client == c) one (new.server.held at) a (eq-eqb one.client c own)))).0 own file_id number
     patch is) s
 
-pub once_moves : IsOwnMoved HasRecords IsUpSentOnce
+pub once_moves : IsOwnMoved HasRecord IsUpSentOnce
 unfolding with_opens key_expired opens_dropped has_written
 once_moves = record {
   unmoved = λ world new c v good u a up. unmoved_once world new c u (a (ap is_up (sym u.link) ∙ up));
@@ -405,11 +406,3 @@ once_moves = record {
       (noticed (world.clients c)))
       ∙ ap is_up (put_same world.links c Link.Down)));
 }
-
--- all that is known so far
-abbrev pub HasOnce : World → Type 0
-HasOnce = Both HasRecords (OfGood IsUpSentOnce)
-
-pub once_carried : IsCarried HasOnce
-once_carried = carried_both HasRecords (OfGood IsUpSentOnce) records_carried
-    (own_moves HasRecords IsUpSentOnce ground_of once_moves)

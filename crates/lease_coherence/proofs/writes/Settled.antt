@@ -85,7 +85,7 @@ rising_above number low last (x ∷ pending) h e =
     let p = and_parts (nat_lt low x.number && nat_le x.number last) (are_rising x.number last pending) e in
     let up = (and_parts (nat_lt low x.number) (nat_le x.number last) p.0).0 in
     rw (not_true (x.number == number) (λ same. apart number low x.number h (is_above low x.number up)
-        (eqb-true x.number number same)))
+    (eqb-true x.number number same)))
     (rising_above number x.number last pending (more number low x.number h (is_above low x.number up)) p.1)
   where
     is_above : (a b : ℕ) → nat_lt a b ≡ true → a < b

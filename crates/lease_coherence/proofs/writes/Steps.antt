@@ -16,7 +16,7 @@ use Rattle.lease_model.specs.messages.Requests.{FileRequest, Request}
 use Rattle.lease_model.specs.records.Facts.{Fact}
 use Rattle.lease_model.specs.records.Past.{has_number, has_written}
 use Rattle.lease_model.specs.values.Tables.{put}
-use Rattle.lease_model.specs.world.World.{fact_of}
+use Rattle.lease_model.specs.world.World.{fact_of, World}
 use Rattle.lease_laws.specs.client.Laws.{TellNumbers}
 use Rattle.lease_laws.proofs.client.Thin.{put_same, put_other}
 use Rattle.lease_laws.proofs.server.Lists.{if_cases, either, clash, or_true, and_parts, not_true}
@@ -30,7 +30,10 @@ use Rattle.lease_coherence.proofs.moves.Shift.{append_none}
 use Rattle.lease_coherence.proofs.names.Clients.{HasNames}
 use Rattle.lease_coherence.proofs.records.Later.{past_noted}
 use Rattle.lease_coherence.proofs.records.Once.{IsOneWrite, written_number}
-use Rattle.lease_coherence.proofs.writes.Counts.{writes, settles_of, numbered_in, writes_append, numbered_append, writes_asked, numbered_without, none_numbered}
+use Rattle.lease_coherence.proofs.writes.Counts.{writes, settles_of, numbered_in, writes_append, numbered_append, writes_asked, numbered_without, none_numbered, writes_under_way}
+use Rattle.lease_model.specs.server.State.{Held}
+use Rattle.lease_laws.specs.world.Links.{is_up}
+use Rattle.lease_laws.specs.server.Laws.{Among}
 
 -- what is known of a client by its record
 pub record IsKnownBy (c : ℕ) (client : Client) (past : List Fact) : Type 0 where
@@ -437,3 +440,16 @@ takes_add c client past k = record {
   where
     zeros : 0 + 0 ≡ 0
     zeros = omega arith
+
+-- ---- the layer
+
+pub record IsSentOnce (world : World) (c : ℕ) : Type 0 where
+  pub counts : (file number : ℕ) → knows_file (world.clients c) file ≡ true
+      → IsOwnNumber c (world.clients c).last_number world.past file number
+      → writes_under_way world c file number ≡ numbered_in number ((world.clients c).entries file).sent
+  pub held_on : (at : ℕ) (one : Held) → Among one (world.server.held at) → one.client ≡ c
+      → (file_id number : ℕ) (patch : Patch) → one.request ≡ FileRequest.Write file_id number patch
+      → has_written c at number patch world.past ≡ true
+
+abbrev pub IsUpSentOnce : World → ℕ → Type 0
+IsUpSentOnce world c = is_up (world.links c) ≡ true → IsSentOnce world c
