@@ -150,7 +150,8 @@ not_elsewhere_at key (one ∷ opens) = with_access (access_of_bits one.access) (
   where
     with_access : (access : Option Access)
         → list_any (λ (o : Open). has_key key o && not (o.file == 1)) (opens_held opens) ≡ false
-        → list_any (λ (o : Open). has_key key o && not (o.file == 1)) (before_opens (open_with one access) (opens_held opens)) ≡ false
+        → list_any (λ (o : Open). has_key key o && not (o.file == 1)) (before_opens (open_with one access) (opens_held opens))
+        ≡ false
     with_access None later = later
     with_access (Some access) later =
         rw (never_and (is_key key one.client (bytes_if (is_set one.has_key) one.key)), later) refl
@@ -170,7 +171,8 @@ pub broken_first : (server : Server) (own : Option Key) (opens : List LeaseOpen)
 unfolding create_finding
 broken_first server own opens access share same conflicts wanted =
     let some : is_empty (handle_wants server own 1 access share)
-    ≡ not (list_any (is_wanted (NoHandles access share) server own) server.opens) = some_wanted (NoHandles access share) server own in
+    ≡ not (list_any (is_wanted (NoHandles access share) server own) server.opens) = some_wanted (NoHandles access share) server
+        own in
     rw (not_elsewhere own opens server same, conflicts, some, wanted) refl
 
 pub refused_at_once : (server : Server) (own : Option Key) (opens : List LeaseOpen) (access : Access) (share : Share)
@@ -180,7 +182,8 @@ pub refused_at_once : (server : Server) (own : Option Key) (opens : List LeaseOp
 unfolding create_finding
 refused_at_once server own opens access share same conflicts wanted =
     let some : is_empty (handle_wants server own 1 access share)
-    ≡ not (list_any (is_wanted (NoHandles access share) server own) server.opens) = some_wanted (NoHandles access share) server own in
+    ≡ not (list_any (is_wanted (NoHandles access share) server own) server.opens) = some_wanted (NoHandles access share) server
+        own in
     rw (not_elsewhere own opens server same, conflicts, some, wanted) refl
 
 pub without_conflict : (server : Server) (own : Option Key) (opens : List LeaseOpen) (access : Access) (share : Share)

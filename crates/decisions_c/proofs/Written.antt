@@ -14,7 +14,8 @@ use Rattle.decisions_c.specs.Tables.{lease_held, entry_fields}
 pub state_held : (s : State) → state_of_bits (bits_of_state s) ≡ s
 state_held s = eight s.read s.write s.handle
   where
-    eight : (r w h : Bool) → state_of_bits (bits_of_state (record { read = r; write = w; handle = h })) ≡ record { read = r; write = w; handle = h }
+    eight : (r w h : Bool) → state_of_bits (bits_of_state (record { read = r; write = w; handle = h }))
+        ≡ record { read = r; write = w; handle = h }
     eight false false false = refl
     eight false false true = refl
     eight false true false = refl
@@ -28,7 +29,8 @@ pub lease_is_held : (key : Key) (expired : Bool) (lease : Lease) → lease_held 
 lease_is_held key expired lease = by_parts lease.state lease.broken_to
   where
     by_parts : (state : State) (broken_to : Option State)
-        → lease_held (entry_fields key expired (record { state = state; broken_to = broken_to })) ≡ record { state = state; broken_to = broken_to }
+        → lease_held (entry_fields key expired (record { state = state; broken_to = broken_to }))
+        ≡ record { state = state; broken_to = broken_to }
     by_parts state None = rw (state_held state) refl
     by_parts state (Some lowered) = rw (state_held state, state_held lowered) refl
 
@@ -50,7 +52,8 @@ pub answered_by_all : (key : Key) (state : State) (lease : Lease)
     → IsAnsweredByAll key state lease (acknowledged_status state lease.broken_to) (lease_acknowledged state lease lease.broken_to)
 unfolding acknowledged
 answered_by_all key state lease server has same =
-    subst (λ (l : Lease). IsAnswered key state l (acknowledged_status state l.broken_to) (lease_acknowledged state l l.broken_to) server)
+    subst (λ (l : Lease). IsAnswered key state l (acknowledged_status state l.broken_to) (lease_acknowledged state l l.broken_to)
+    server)
     same
     (record {
       answer = rw has (judged_status key state (server.leases key).broken_to server);

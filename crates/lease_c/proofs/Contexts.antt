@@ -11,7 +11,8 @@ use Rattle.lease_wire.proofs.Items.{items_behind-fault, items_behind-last, items
 use Rattle.lease_c.specs.Context.{context_held, context_fields, fault_at, items_from}
 
 -- bytes behind a place, counted from the text's start
-part_at : (place offset count : ℕ) (text : List ℕ) → bytes_at (place + offset) count text ≡ bytes_at offset count (drop place text)
+part_at : (place offset count : ℕ) (text : List ℕ)
+    → bytes_at (place + offset) count text ≡ bytes_at offset count (drop place text)
 part_at place offset count text = ap (take count) (sym (drop-drop offset place text))
 
 data_at : (place offset count : ℕ) (text : List ℕ)
@@ -22,7 +23,8 @@ data_at place offset count text =
       | inr more ↦ rw (more.0) (part_at place offset count text)
     ]
 
-pub context_is_held : (place : ℕ) (text : List ℕ) → context_held place (context_fields place (drop place text)) text ≡ context_at place (drop place text)
+pub context_is_held : (place : ℕ) (text : List ℕ)
+    → context_held place (context_fields place (drop place text)) text ≡ context_at place (drop place text)
 unfolding context_at
 context_is_held place text =
     rw (
@@ -38,7 +40,8 @@ name_is_within place text here none =
     let left : length (drop place text) ≡ length text - place = length-drop place text in
     omega (arith, inside, left, here)
 
-data_end : (place offset count left : ℕ) → (count ≢ 0 → offset + count ≤ left) → (if count == 0 then 0 else place + offset) + count ≤ place + left
+data_end : (place offset count left : ℕ) → (count ≢ 0 → offset + count ≤ left)
+    → (if count == 0 then 0 else place + offset) + count ≤ place + left
 data_end place offset count left inside =
     elim (eqb_tells count 0) [
       | inl zero ↦ rw (zero.1) (omega arith)
@@ -82,6 +85,7 @@ items_are_read place text none =
           (items_behind-more place (drop place text) none more.1)
     ]
 
-pub fault_is_read : (place : ℕ) (text : List ℕ) (fault : WireFault) (context : ContextView) (next : ℕ) (others : List Item) → fault_at place text ≡ Some fault
+pub fault_is_read : (place : ℕ) (text : List ℕ) (fault : WireFault) (context : ContextView) (next : ℕ) (others : List Item)
+    → fault_at place text ≡ Some fault
     → items_from place text ≡ item_before (fault_at place text) context next others
 fault_is_read place text fault context next others e = rw e (items_behind-fault place (drop place text) fault e)

@@ -16,7 +16,8 @@ use Rattle.lease_c.specs.Messages.{notice_held, notice_fields, acknowledged_held
 pub state_held : (s : State) → state_of_bits (bits_of_state s) ≡ s
 state_held s = eight s.read s.write s.handle
   where
-    eight : (r w h : Bool) → state_of_bits (bits_of_state (record { read = r; write = w; handle = h })) ≡ record { read = r; write = w; handle = h }
+    eight : (r w h : Bool) → state_of_bits (bits_of_state (record { read = r; write = w; handle = h }))
+        ≡ record { read = r; write = w; handle = h }
     eight false false false = refl
     eight false false true = refl
     eight false true false = refl
@@ -43,16 +44,19 @@ pub ask_is_held : (other : Bool) (ask : CreateAsk) → ask_held (ask_fields othe
 ask_is_held other ask = by_parts ask.lease ask.durable ask.reconnect
   where
     by_parts : (lease : Option (LeaseKey × LeaseState)) (durable : Bool) (reconnect : Option FileId)
-        → ask_held (ask_fields other (ask_of (record { lease = lease; durable = durable; reconnect = reconnect }))) ≡ ask_of (record { lease = lease; durable = durable; reconnect = reconnect })
+        → ask_held (ask_fields other (ask_of (record { lease = lease; durable = durable; reconnect = reconnect })))
+        ≡ ask_of (record { lease = lease; durable = durable; reconnect = reconnect })
     by_parts None durable None = rw (flag_held durable) refl
     by_parts None durable (Some file_id) = rw (flag_held durable) refl
     by_parts (Some lease) durable None = rw (flag_held durable, state_held (state_of lease.1)) refl
     by_parts (Some lease) durable (Some file_id) = rw (flag_held durable, state_held (state_of lease.1)) refl
 
-pub answer_is_held : (other : Bool) (answer : CreateAnswer) → answer_held (answer_fields other (answer_of answer)) ≡ answer_of answer
+pub answer_is_held : (other : Bool) (answer : CreateAnswer)
+    → answer_held (answer_fields other (answer_of answer)) ≡ answer_of answer
 answer_is_held other answer = by_parts answer.lease answer.durable
   where
     by_parts : (lease : Option (LeaseKey × LeaseState × Bool)) (durable : Bool)
-        → answer_held (answer_fields other (answer_of (record { lease = lease; durable = durable }))) ≡ answer_of (record { lease = lease; durable = durable })
+        → answer_held (answer_fields other (answer_of (record { lease = lease; durable = durable })))
+        ≡ answer_of (record { lease = lease; durable = durable })
     by_parts None durable = rw (flag_held durable) refl
     by_parts (Some lease) durable = rw (flag_held durable, flag_held lease.2, state_held (state_of lease.1)) refl

@@ -33,7 +33,8 @@ open_live : (client : Client) (file : ℕ) (live : LiveEntry) (sent : List Pendi
     → client.entries file ≡ live_entry live sent
     → model.open_on_live client file live sent terms
     ≡ turned client file (rules.live_open_turn (lease_key client.guid file) file live sent terms)
-unfolding model.open_on_live model.handle_added model.open_other model.opened_anew model.more_asked rules.live_open_turn rules.handle_turn rules.other_turn rules.anew_turn rules.more_turn
+unfolding model.open_on_live model.handle_added model.open_other model.opened_anew model.more_asked rules.live_open_turn
+    rules.handle_turn rules.other_turn rules.anew_turn rules.more_turn
 open_live client file live sent terms e =
     let F : Turn → Step = turned client file in
     let refused : (r : Refusal) → refused_step client r ≡ F (rules.refused_turn (live_entry live sent) r) =
@@ -146,7 +147,8 @@ write_live : (client : Client) (file : ℕ) (live : LiveEntry) (sent : List Pend
     → client.entries file ≡ live_entry live sent
     → model.write_on_live client file live sent patch
     ≡ wrote client file (rules.write_turn file live sent client.last_number patch)
-unfolding model.write_on_live model.write_buffered model.write_sent rules.write_turn rules.taken_turn rules.buffered_turn rules.through_turn
+unfolding model.write_on_live model.write_buffered model.write_sent rules.write_turn rules.taken_turn rules.buffered_turn
+    rules.through_turn
 write_live client file live sent patch e =
     let F : Turn → Step = wrote client file in
     let refused : (r : Refusal) → refused_step client r ≡ F (rules.refused_turn (live_entry live sent) r) =

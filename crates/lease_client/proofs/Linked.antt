@@ -95,9 +95,11 @@ pub all_after : (known : Known) (online : Bool) (turn : ℕ → Entry → Turn) 
 unfolding all_turned
 all_after known online turn given leaves answer requests notes = record {
   client =
-      ap (λ n. with_table (client_of known) online n (numbered (closed_entry []) (entries_to turn known.entries (length known.entries))))
+      ap (λ n. with_table (client_of known) online n (numbered (closed_entry [])
+          (entries_to turn known.entries (length known.entries))))
       (length_to turn known.entries (length known.entries))
-      ∙ ap (λ (t : ℕ → Entry). with_table (client_of known) online (length known.entries) t) (all_entries turn known.entries leaves);
+      ∙ ap (λ (t : ℕ → Entry). with_table (client_of known) online (length known.entries) t)
+      (all_entries turn known.entries leaves);
   answer = answer;
   requests = requests;
   notes = notes;
@@ -186,7 +188,8 @@ pub linked_after : (known current final : Known) (link : Link) (given : Given) (
     → given.notes ≡ notes_to (link_turn link known.guid) (client_of known).entries k
     → IsAfter final given (linked (client_of known) link)
 linked_after known current final link given k is all stands answer requests notes =
-    let there : final ≡ record known { entries = entries_to (link_turn link known.guid) known.entries (length known.entries); is_online = is_made link } =
+    let there : final ≡ record known { entries = entries_to (link_turn link known.guid) known.entries (length known.entries);
+        is_online = is_made link } =
     stands ∙ rw (is, all) refl in
     rw (there, linked_is (client_of known) link)
     (all_after known (is_made link) (link_turn link known.guid) given (leaves_closed link known.guid)

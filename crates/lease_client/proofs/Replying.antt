@@ -49,7 +49,8 @@ promoted_within key old (Some given) free =
     let asked : given.in_progress ≡ true = opposite given.in_progress free in
     rw asked (within_self old)
 
-created_live : (key : List ℕ) (live : LiveEntry) (sent : List Pending) (file_id : ℕ) (answer : CreateAnswer) (asking : Option Asked)
+created_live : (key : List ℕ) (live : LiveEntry) (sent : List Pending) (file_id : ℕ) (answer : CreateAnswer)
+    (asking : Option Asked)
     → is_free answer.lease ≡ false
     → Lowers (live_entry live sent) (created_for key live sent file_id answer asking)
 unfolding model.promoted_turn
@@ -105,7 +106,8 @@ unfolding model.read_failed_turn model.closed_by_server
 not_read_lowers status sent Phase.Closed = refl
 not_read_lowers status sent (Phase.Opening access share) = refl
 not_read_lowers status sent (Phase.Live live) =
-    lower_if (live_entry live sent) (model.is_file_closed status) _ _ (closed_lowers live sent [] status live.asking) (within_self live.belief)
+    lower_if (live_entry live sent) (model.is_file_closed status) _ _ (closed_lowers live sent [] status live.asking)
+        (within_self live.belief)
 not_read_lowers status sent (Phase.Offline parted) = refl
 not_read_lowers status sent (Phase.Reconnecting parted) = refl
 
@@ -115,7 +117,8 @@ unfolding model.break_turn model.parked_closed model.belief_lowered
 broken_lowers notice sent Phase.Closed = refl
 broken_lowers notice sent (Phase.Opening access share) = refl
 broken_lowers notice sent (Phase.Live live) =
-    lower_if (live_entry live sent) (live.handles == 0 && (live.belief.handle && not (meet live.belief notice.lowered).handle)) _ _
+    lower_if (live_entry live sent) (live.handles == 0 && (live.belief.handle && not (meet live.belief notice.lowered).handle)) _
+        _
     refl (meet_within live.belief notice.lowered)
 broken_lowers notice sent (Phase.Offline parted) = refl
 broken_lowers notice sent (Phase.Reconnecting parted) = refl
@@ -170,7 +173,8 @@ created_rises client file file_id (Some answer) n other =
     (elim (either_free (file == n) (is_free answer.lease) other) [
       | inl apart ↦ turned_apart client file _ n apart
       | inr free ↦ turned_lower client file _
-          (created_lowers (lease_key client.guid file) file_id answer (client.entries file).sent (client.entries file).phase free) n
+          (created_lowers (lease_key client.guid file) file_id answer (client.entries file).sent (client.entries file).phase free)
+          n
     ])
 
 break_on_rises : (client : Client) (notice : BreakNotice) (n : ℕ)
@@ -211,7 +215,8 @@ not_read_on_rises client status n =
     (turned_lower client n (not_read_turn status (client.entries n))
     (not_read_lowers status (client.entries n).sent (client.entries n).phase))
 
-not_read_rises : (client : Client) (file_id : ℕ) (status : Status) → NoneRose client (model.read_failed client file_id status).client
+not_read_rises : (client : Client) (file_id : ℕ) (status : Status)
+    → NoneRose client (model.read_failed client file_id status).client
 unfolding model.read_failed
 not_read_rises client file_id status =
     found_none client (model.file_where client (is_read_under client file_id))
@@ -258,7 +263,8 @@ replies_raise client (Reply.AckFailed status) n other = quiet_none client n
 
 live_none : (live : LiveEntry) (sent : List Pending) → Lowers (live_entry live sent) (connection.live_noticed live sent)
 unfolding connection.live_noticed connection.live_parted
-live_none live sent = lower_if (live_entry live sent) live.durable _ _ (lower_if (live_entry live sent) live.belief.write _ _ refl refl) refl
+live_none live sent = lower_if (live_entry live sent) live.durable _ _ (lower_if (live_entry live sent) live.belief.write _ _ refl
+    refl) refl
 
 notice_lowers : (sent : List Pending) (phase : Phase)
     → Lowers (record { phase = phase; sent = sent }) (connection.notice_turn sent phase)

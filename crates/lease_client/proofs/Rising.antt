@@ -73,7 +73,8 @@ open_lowers online key file terms sent (Phase.Live live) =
     lower_if (live_entry live sent) (is_asking live) _ _ same
     (lower_if (live_entry live sent) (same_access terms.access live.access && same_share terms.share live.share) _ _
     (lower_if (live_entry live sent) (live.handles == count_limit) _ _ same same)
-    (lower_if (live_entry live sent) (live.handles == 0) _ _ refl (lower_if (live_entry live sent) (live.handles == count_limit) _ _ same same)))
+    (lower_if (live_entry live sent) (live.handles == 0) _ _ refl (lower_if (live_entry live sent) (live.handles == count_limit) _
+    _ same same)))
 open_lowers online key file terms sent (Phase.Offline parted) = refl
 open_lowers online key file terms sent (Phase.Reconnecting parted) = refl
 
@@ -99,7 +100,8 @@ read_sent_lowers : (sent : List Pending) (live : LiveEntry) → Lowers (live_ent
 unfolding rules.read_sent_turn
 read_sent_lowers sent live =
     let same = within_self live.belief in
-    lower_if (live_entry live sent) (is_asking live) _ _ same (lower_if (live_entry live sent) (live.reads == count_limit) _ _ same same)
+    lower_if (live_entry live sent) (is_asking live) _ _ same (lower_if (live_entry live sent) (live.reads == count_limit) _ _
+        same same)
 
 read_from_lowers : (file : ℕ) (sent : List Pending) (live : LiveEntry) (reads : Bool) (base : Option (List ℕ))
     → Lowers (live_entry live sent) (rules.read_from_turn file live sent reads base)

@@ -17,7 +17,8 @@ got_mapped f (x ∷ xs) zero one d got = cc
 got_mapped f (x ∷ xs) (suc place) one d got = got_mapped f xs place one d got
 
 pub put_back : (xs : List Known) (number : ℕ) (idle after : Known) → 1 ≤ number
-    → map client_of (slice_set (slice_set xs (number - 1) idle) (number - 1) after) ≡ with_client_at (map client_of xs) number (client_of after)
+    → map client_of (slice_set (slice_set xs (number - 1) idle) (number - 1) after)
+    ≡ with_client_at (map client_of xs) number (client_of after)
 put_back xs zero idle after some = absurd (omega (arith, some))
 put_back xs (suc place) idle after some =
     let at : suc place - 1 ≡ place = omega arith in
@@ -37,6 +38,7 @@ pub has_asked : (xs : List Known) (number place : ℕ) (asked : Asked) (client i
 has_asked xs number place asked client idle after old new some at is stepped one here =
     let same : one ≡ client_of client = client_here xs number client one (is ∙ ap (λ n. slice_index_or xs n client) at) here in (
       ap (λ n. map client_of (slice_set (slice_set xs n idle) n after)) at ∙ (put_back xs number idle after some
-          ∙ ap (λ c. with_client_at (map client_of xs) number c) (stepped.0 ∙ ap (λ c. (client_called c (call_of asked)).client) (sym same))),
+          ∙ ap (λ c. with_client_at (map client_of xs) number c) (stepped.0
+          ∙ ap (λ c. (client_called c (call_of asked)).client) (sym same))),
       stepped.1 ∙ ap (λ c. old ++ step_text number (other_of asked) (client_called c (call_of asked))) (sym same),
     )

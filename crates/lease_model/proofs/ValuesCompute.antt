@@ -8,5 +8,6 @@ use Rattle.lease_model.specs.values.Tables.{put, put_key, numbered}
 use Rattle.lease_model.specs.messages.FromBytes.{acknowledged_in, notice_in}
 
 unfoldable pub the_values : ⊤
-unfolding key_eq bytes_before key_before files_limit clients_limit events_limit last_file_number last_file_id last_write_number count_limit put put_key numbered acknowledged_in notice_in written
+unfolding key_eq bytes_before key_before files_limit clients_limit events_limit last_file_number last_file_id last_write_number
+    count_limit put put_key numbered acknowledged_in notice_in written
 the_values = tt

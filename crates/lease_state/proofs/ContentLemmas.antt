@@ -36,7 +36,8 @@ get_or-written x o d k =
 pub written_by_places : (x : List ℕ) (o : ℕ) (d all : List ℕ) → length all ≡ max (length x) (o + length d)
     → ((k : ℕ) → k < length all → get_or all k 0 ≡ byte_at x o d k) → all ≡ written x o d
 written_by_places x o d all long bytes =
-    same_number_lists all (written x o d) (long ∙ sym (length-written x o d)) (λ k within. bytes k within ∙ sym (get_or-written x o d k))
+    same_number_lists all (written x o d) (long ∙ sym (length-written x o d))
+        (λ k within. bytes k within ∙ sym (get_or-written x o d k))
 
 -- ---- zeros behind a list, then the bytes over it
 get_or-replicate_zero : (n k : ℕ) → let nothing : ℕ = 0 in get_or (replicate n 0) k nothing ≡ nothing
@@ -72,7 +73,8 @@ get_or-over x o d k room =
             | inr behind ↦
                 get_or-append_right d (drop (o + length d) x) (length d) (k - o) 0 refl (omega (arith, from, behind))
                 ∙ get_or-drop (o + length d) x (k - o - length d) 0
-                ∙ (let place : o + length d + (k - o - length d) ≡ k = omega (arith, from, behind) in ap (λ n. get_or x n 0) place)
+                ∙ (let place : o + length d + (k - o - length d)
+                ≡ k = omega (arith, from, behind) in ap (λ n. get_or x n 0) place)
                 ∙ sym (byte_at_behind x o d k behind)
           ]
     ]

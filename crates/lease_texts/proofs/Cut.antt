@@ -47,7 +47,8 @@ pieces_whole separator (byte ∷ bytes) none =
 
 -- ---- the place of the first separator
 
-pub separator_at : (separator : ℕ) (last : List (List ℕ)) (bytes : List ℕ) (k n : ℕ) → position (λ byte. byte == separator) bytes ≡ Some k
+pub separator_at : (separator : ℕ) (last : List (List ℕ)) (bytes : List ℕ) (k n : ℕ)
+    → position (λ byte. byte == separator) bytes ≡ Some k
     → n ≡ length bytes - (k + 1)
     → pieces separator last bytes ≡ take k bytes ∷ pieces separator last (take n (drop (k + 1) bytes))
 separator_at separator last bytes k n is rest =
@@ -77,7 +78,8 @@ pub pieces_some : (separator : ℕ) (bytes : List ℕ) → pieces separator ([] 
 unfolding pieces
 pieces_some separator [] = λ same. cc
 pieces_some separator (byte ∷ bytes) =
-    if_cases (λ all. all ≢ []) (byte == separator) ([] ∷ pieces separator ([] ∷ []) bytes) (longer byte (pieces separator ([] ∷ []) bytes))
+    if_cases (λ all. all ≢ []) (byte == separator) ([] ∷ pieces separator ([] ∷ []) bytes)
+        (longer byte (pieces separator ([] ∷ []) bytes))
     (λ _. λ same. cc) (λ _. longer_some byte (pieces separator ([] ∷ []) bytes))
 
 -- A number of the wire up to 7 names a state of that number.
@@ -93,7 +95,8 @@ bits_named (suc (suc (suc (suc (suc (suc (suc zero))))))) small = refl
 bits_named (suc (suc (suc (suc (suc (suc (suc (suc n)))))))) small = omega (arith, small)
 
 -- A text that is not empty and has no line feed is one line.
-pub lines_whole : (bytes : List ℕ) → bytes ≢ [] → ((i : ℕ) → i < length bytes → slice_index bytes i ≢ 10) → pieces 10 [] bytes ≡ bytes ∷ []
+pub lines_whole : (bytes : List ℕ) → bytes ≢ [] → ((i : ℕ) → i < length bytes → slice_index bytes i ≢ 10)
+    → pieces 10 [] bytes ≡ bytes ∷ []
 unfolding pieces longer
 lines_whole [] some none = absurd (some refl)
 lines_whole (byte ∷ []) some none =

@@ -2,7 +2,8 @@
 use Rattle.std.proofs.Common.{◌≡◌, ℕ, suc, List, [], ◌∷◌, length, arith}
 
 -- what holds of every first cell with n cells behind it holds of every list of one cell more
-first_cell : (P : List ℕ → Type 0) (n : ℕ) → ((x : ℕ) (xs : List ℕ) → length xs ≡ n → P (x ∷ xs)) → (xs : List ℕ) → length xs ≡ suc n → P xs
+first_cell : (P : List ℕ → Type 0) (n : ℕ) → ((x : ℕ) (xs : List ℕ) → length xs ≡ n → P (x ∷ xs)) → (xs : List ℕ)
+    → length xs ≡ suc n → P xs
 first_cell P n here [] long = absurd (omega arith)
 first_cell P n here (x ∷ xs) long = here x xs (omega arith)
 
@@ -11,7 +12,9 @@ no_cell P here [] long = here
 no_cell P here (x ∷ xs) long = absurd (omega arith)
 
 -- what holds of sixteen cells holds of every list of that length
-pub sixteen_cells : (P : List ℕ → Type 0) → ((a b c d e f g h i j k l m n o p : ℕ) → P (a ∷ b ∷ c ∷ d ∷ e ∷ f ∷ g ∷ h ∷ i ∷ j ∷ k ∷ l ∷ m ∷ n ∷ o ∷ p ∷ [])) → (xs : List ℕ) → length xs ≡ 16 → P xs
+pub sixteen_cells : (P : List ℕ → Type 0)
+    → ((a b c d e f g h i j k l m n o p : ℕ) → P (a ∷ b ∷ c ∷ d ∷ e ∷ f ∷ g ∷ h ∷ i ∷ j ∷ k ∷ l ∷ m ∷ n ∷ o ∷ p ∷ []))
+    → (xs : List ℕ) → length xs ≡ 16 → P xs
 sixteen_cells P here =
     first_cell (λ xs. P (xs)) 15 (λ a.
     first_cell (λ xs. P (a ∷ xs)) 14 (λ b.
@@ -29,4 +32,5 @@ sixteen_cells P here =
     first_cell (λ xs. P (a ∷ b ∷ c ∷ d ∷ e ∷ f ∷ g ∷ h ∷ i ∷ j ∷ k ∷ l ∷ m ∷ xs)) 2 (λ n.
     first_cell (λ xs. P (a ∷ b ∷ c ∷ d ∷ e ∷ f ∷ g ∷ h ∷ i ∷ j ∷ k ∷ l ∷ m ∷ n ∷ xs)) 1 (λ o.
     first_cell (λ xs. P (a ∷ b ∷ c ∷ d ∷ e ∷ f ∷ g ∷ h ∷ i ∷ j ∷ k ∷ l ∷ m ∷ n ∷ o ∷ xs)) 0 (λ p.
-    no_cell (λ xs. P (a ∷ b ∷ c ∷ d ∷ e ∷ f ∷ g ∷ h ∷ i ∷ j ∷ k ∷ l ∷ m ∷ n ∷ o ∷ p ∷ xs)) (here a b c d e f g h i j k l m n o p)))))))))))))))))
+    no_cell (λ xs. P (a ∷ b ∷ c ∷ d ∷ e ∷ f ∷ g ∷ h ∷ i ∷ j ∷ k ∷ l ∷ m ∷ n ∷ o ∷ p ∷ xs))
+        (here a b c d e f g h i j k l m n o p)))))))))))))))))

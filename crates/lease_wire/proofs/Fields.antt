@@ -7,7 +7,8 @@ use Rattle.lease_state.specs.State.{State, bits_of_state, state_of_bits}
 pub state_of_bits-written : (s : State) → state_of_bits (little_number 4 (little_bytes 4 (bits_of_state s))) ≡ s
 state_of_bits-written s = eight s.read s.write s.handle
   where
-    eight : (r w h : Bool) → state_of_bits (little_number 4 (little_bytes 4 (bits_of_state (record { read = r; write = w; handle = h })))) ≡ record { read = r; write = w; handle = h }
+    eight : (r w h : Bool) → state_of_bits (little_number 4 (little_bytes 4 (bits_of_state
+        (record { read = r; write = w; handle = h })))) ≡ record { read = r; write = w; handle = h }
     eight false false false = refl
     eight false false true = refl
     eight false true false = refl

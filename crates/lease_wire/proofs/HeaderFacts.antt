@@ -15,7 +15,8 @@ pub record HeaderFits (left : ℕ) (h : Header) : Type 0 where
   pub data_behind : h.data_length ≢ 0 → 16 ≤ h.data_offset
   pub data_within : h.data_length ≢ 0 → h.data_offset + h.data_length ≤ size_of left h
 
-if_none : (b : Bool) (fault : WireFault) (other : Option WireFault) → (if b then Some fault else other) ≡ None → (b ≡ false) × (other ≡ None)
+if_none : (b : Bool) (fault : WireFault) (other : Option WireFault) → (if b then Some fault else other) ≡ None
+    → (b ≡ false) × (other ≡ None)
 if_none true fault other e = cc
 if_none false fault other e = (refl, e)
 
@@ -54,7 +55,8 @@ next_fits left next e more =
           (below_false next 16 first.0, equal_true _ 0 (not_false _ second.0), below_false left next second.1)
     ]
 
-part_fits : (offset count size : ℕ) → (nat_lt offset 16 || nat_lt size (offset + count)) ≡ false → (16 ≤ offset) × (offset + count ≤ size)
+part_fits : (offset count size : ℕ) → (nat_lt offset 16 || nat_lt size (offset + count)) ≡ false
+    → (16 ≤ offset) × (offset + count ≤ size)
 part_fits offset count size e =
     let tests = or_false (nat_lt offset 16) _ e in
     (below_false offset 16 tests.0, below_false size _ tests.1)
@@ -101,7 +103,8 @@ name_inside place left h none =
     let name = fits.name_within in
     omega arith
 
-pub data_inside : (place left : ℕ) (h : Header) → header_fault place left h ≡ None → h.data_length ≢ 0 → h.data_offset + h.data_length ≤ left
+pub data_inside : (place left : ℕ) (h : Header) → header_fault place left h ≡ None → h.data_length ≢ 0
+    → h.data_offset + h.data_length ≤ left
 data_inside place left h none more =
     let fits = header_fits place left h none in
     let size = size_inside left h fits in
@@ -117,7 +120,8 @@ next_inside place left h none =
     ]
 
 -- and a header whose fields fit fails no test
-none_of : (b : Bool) (fault : WireFault) (other : Option WireFault) → b ≡ false → other ≡ None → (if b then Some fault else other) ≡ None
+none_of : (b : Bool) (fault : WireFault) (other : Option WireFault) → b ≡ false → other ≡ None
+    → (if b then Some fault else other) ≡ None
 none_of b fault other passes e = rw passes e
 
 next_passes : (left next : ℕ) → (next ≢ 0 → (16 ≤ next) × (next % 8 ≡ 0) × (next ≤ left))
@@ -131,7 +135,8 @@ next_passes left next fits =
           rw (more.0, above_false next 16 facts.0, even, above_false left next facts.2) refl
     ]
 
-part_passes : (offset count size : ℕ) → 16 ≤ offset → offset + count ≤ size → (nat_lt offset 16 || nat_lt size (offset + count)) ≡ false
+part_passes : (offset count size : ℕ) → 16 ≤ offset → offset + count ≤ size
+    → (nat_lt offset 16 || nat_lt size (offset + count)) ≡ false
 part_passes offset count size behind within = rw (above_false offset 16 behind, above_false size (offset + count) within) refl
 
 data_passes : (offset count size : ℕ) → (count ≢ 0 → 16 ≤ offset) → (count ≢ 0 → offset + count ≤ size)
@@ -147,5 +152,7 @@ unfolding header_fault
 fitting_header place left h fits =
     none_of (nat_lt left 16) _ _ (above_false left 16 fits.header)
     (none_of (has_bad_next left h) _ _ (next_passes left h.next fits.next)
-    (none_of (has_bad_name left h) _ _ (part_passes h.name_offset h.name_length (size_of left h) fits.name_behind fits.name_within)
-    (none_of (has_bad_data left h) _ _ (data_passes h.data_offset h.data_length (size_of left h) fits.data_behind fits.data_within) refl)))
+    (none_of (has_bad_name left h) _ _ (part_passes h.name_offset h.name_length (size_of left h) fits.name_behind
+    fits.name_within)
+    (none_of (has_bad_data left h) _ _ (data_passes h.data_offset h.data_length (size_of left h) fits.data_behind
+    fits.data_within) refl)))

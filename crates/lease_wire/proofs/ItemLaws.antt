@@ -29,20 +29,26 @@ record FaultyItems (start : ℕ) (bytes : List ℕ) : Type 0 where
 
 module _ (start : ℕ) (bytes : List ℕ)
     (further : length (drop (next_of bytes) bytes) + 16 ≤ length bytes
-    → LaidItems (start + next_of bytes) (drop (next_of bytes) bytes) ⊎ FaultyItems (start + next_of bytes) (drop (next_of bytes) bytes)) where
-  laid_more : layout_fault start bytes ≡ None → next_of bytes ≢ 0 → LeadingIs start bytes → LaidItems (start + next_of bytes) (drop (next_of bytes) bytes) → LaidItems start bytes
+    → LaidItems (start + next_of bytes) (drop (next_of bytes) bytes)
+    ⊎ FaultyItems (start + next_of bytes) (drop (next_of bytes) bytes)) where
+  laid_more : layout_fault start bytes ≡ None → next_of bytes ≢ 0 → LeadingIs start bytes
+      → LaidItems (start + next_of bytes) (drop (next_of bytes) bytes) → LaidItems start bytes
   laid_more none more leading behind = record {
     pieces = take (next_of bytes) bytes ∷ behind.pieces;
     contexts = context_at start bytes ∷ behind.contexts;
     whole = rw (behind.whole) (take-append-drop (next_of bytes) bytes);
-    laid = laid_on start (next_of bytes) (take (next_of bytes) bytes) behind.pieces (context_at start bytes) behind.contexts leading.is leading.on leading.long behind.laid;
+    laid = laid_on start (next_of bytes) (take (next_of bytes) bytes) behind.pieces (context_at start bytes) behind.contexts
+        leading.is leading.on leading.long behind.laid;
     given = items_behind-more start bytes none more ∙ rw (behind.given) refl;
   }
 
-  faulty_more : layout_fault start bytes ≡ None → next_of bytes ≢ 0 → LeadingIs start bytes → FaultyItems (start + next_of bytes) (drop (next_of bytes) bytes) → FaultyItems start bytes
+  faulty_more : layout_fault start bytes ≡ None → next_of bytes ≢ 0 → LeadingIs start bytes
+      → FaultyItems (start + next_of bytes) (drop (next_of bytes) bytes) → FaultyItems start bytes
   faulty_more none more leading behind =
       let piece : List ℕ = take (next_of bytes) bytes in
-      let far : start + next_of bytes + length (concat behind.pieces) ≡ start + length (piece ++ concat behind.pieces) = omega (arith, length-append piece (concat behind.pieces), leading.long) in
+      let far : start + next_of bytes + length (concat behind.pieces)
+          ≡ start + length (piece ++ concat behind.pieces) = omega (arith, length-append piece (concat behind.pieces),
+          leading.long) in
       let P : ℕ → Type 0 = λ size. AreLinked (start + size) behind.pieces behind.contexts in
       record {
         fault = behind.fault;
@@ -55,7 +61,8 @@ module _ (start : ℕ) (bytes : List ℕ)
         given = items_behind-more start bytes none more ∙ rw (behind.given) refl;
       }
 
-  by_next : layout_fault start bytes ≡ None → ((next_of bytes ≡ 0) ⊎ (next_of bytes ≢ 0)) → LaidItems start bytes ⊎ FaultyItems start bytes
+  by_next : layout_fault start bytes ≡ None → ((next_of bytes ≡ 0) ⊎ (next_of bytes ≢ 0))
+      → LaidItems start bytes ⊎ FaultyItems start bytes
   by_next none (inl last) = inl (record {
     pieces = bytes ∷ [];
     contexts = context_at start bytes ∷ [];
@@ -85,7 +92,8 @@ module _ (start : ℕ) (bytes : List ℕ)
 
 items_read : (room start : ℕ) (bytes : List ℕ) → length bytes ≤ room → LaidItems start bytes ⊎ FaultyItems start bytes
 items_read zero start bytes within = by_fault start bytes (λ less. absurd (omega arith)) (layout_fault start bytes) refl
-items_read (suc room) start bytes within = by_fault start bytes (λ less. items_read room _ _ (omega arith)) (layout_fault start bytes) refl
+items_read (suc room) start bytes within = by_fault start bytes (λ less. items_read room _ _ (omega arith))
+    (layout_fault start bytes) refl
 
 pub items_are : (text : List ℕ) → AreItemsOf text (items_of text)
 items_are [] = inl ([], refl, refl)
@@ -110,8 +118,10 @@ items_are (byte ∷ bytes) = elim (items_read (length (byte ∷ bytes)) 0 (byte 
 -- each context takes sixteen bytes at least, and a fault may take none
 module _ (start : ℕ) (bytes : List ℕ)
     (further : length (drop (next_of bytes) bytes) + 16 ≤ length bytes
-    → 16 * length (items_behind (start + next_of bytes) 0 (drop (next_of bytes) bytes)) ≤ length (drop (next_of bytes) bytes) + 16) where
-  few_by_next : layout_fault start bytes ≡ None → ((next_of bytes ≡ 0) ⊎ (next_of bytes ≢ 0)) → 16 * length (items_behind start 0 bytes) ≤ length bytes + 16
+    → 16 * length (items_behind (start + next_of bytes) 0 (drop (next_of bytes) bytes))
+    ≤ length (drop (next_of bytes) bytes) + 16) where
+  few_by_next : layout_fault start bytes ≡ None → ((next_of bytes ≡ 0) ⊎ (next_of bytes ≢ 0))
+      → 16 * length (items_behind start 0 bytes) ≤ length bytes + 16
   few_by_next none (inl last) = rw (items_behind-last start bytes none last) (omega arith)
   few_by_next none (inr more) =
       let leading = leading_is start bytes none more in
@@ -119,13 +129,15 @@ module _ (start : ℕ) (bytes : List ℕ)
       let behind = further less in
       rw (items_behind-more start bytes none more) (omega arith)
 
-  few_by_fault : (answer : Option WireFault) → layout_fault start bytes ≡ answer → 16 * length (items_behind start 0 bytes) ≤ length bytes + 16
+  few_by_fault : (answer : Option WireFault) → layout_fault start bytes ≡ answer
+      → 16 * length (items_behind start 0 bytes) ≤ length bytes + 16
   few_by_fault (Some fault) is = rw (items_behind-fault start bytes fault is) (omega arith)
   few_by_fault None none = few_by_next none (last_or_more bytes)
 
 few_items : (room start : ℕ) (bytes : List ℕ) → length bytes ≤ room → 16 * length (items_behind start 0 bytes) ≤ length bytes + 16
 few_items zero start bytes within = few_by_fault start bytes (λ less. absurd (omega arith)) (layout_fault start bytes) refl
-few_items (suc room) start bytes within = few_by_fault start bytes (λ less. few_items room _ _ (omega arith)) (layout_fault start bytes) refl
+few_items (suc room) start bytes within = few_by_fault start bytes (λ less. few_items room _ _ (omega arith))
+    (layout_fault start bytes) refl
 
 pub length-items_behind : (start : ℕ) (bytes : List ℕ) → 16 * length (items_behind start 0 bytes) ≤ length bytes + 16
 length-items_behind start bytes = few_items (length bytes) start bytes (omega arith)

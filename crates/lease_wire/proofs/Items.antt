@@ -10,7 +10,8 @@ use Rattle.lease_wire.specs.declared.chain.Header.{Header}
 use Rattle.lease_wire.proofs.HeaderFacts.{short_fault, next_inside}
 
 -- passing over bytes is beginning behind them
-items_behind-skipped : (place skipped : ℕ) (bytes : List ℕ) → skipped ≤ length bytes → items_behind place skipped bytes ≡ items_behind place 0 (drop skipped bytes)
+items_behind-skipped : (place skipped : ℕ) (bytes : List ℕ) → skipped ≤ length bytes
+    → items_behind place skipped bytes ≡ items_behind place 0 (drop skipped bytes)
 unfolding items_behind
 items_behind-skipped place zero bytes within = refl
 items_behind-skipped place (suc skipped) [] within = absurd (omega arith)
@@ -20,12 +21,14 @@ fault_of_nothing : (place : ℕ) → layout_fault place [] ≡ Some (Short place
 unfolding layout_fault
 fault_of_nothing place = short_fault place 0 (header_of []) (omega arith)
 
-pub items_behind-fault : (place : ℕ) (bytes : List ℕ) (fault : WireFault) → layout_fault place bytes ≡ Some fault → items_behind place 0 bytes ≡ Err fault ∷ []
+pub items_behind-fault : (place : ℕ) (bytes : List ℕ) (fault : WireFault) → layout_fault place bytes ≡ Some fault
+    → items_behind place 0 bytes ≡ Err fault ∷ []
 unfolding items_behind
 items_behind-fault place [] fault e = let same : Some (Short place) ≡ Some fault = sym (fault_of_nothing place) ∙ e in cc
 items_behind-fault place (byte ∷ bytes) fault e = rw e refl
 
-pub items_behind-last : (place : ℕ) (bytes : List ℕ) → layout_fault place bytes ≡ None → next_of bytes ≡ 0 → items_behind place 0 bytes ≡ Ok (context_at place bytes) ∷ []
+pub items_behind-last : (place : ℕ) (bytes : List ℕ) → layout_fault place bytes ≡ None → next_of bytes ≡ 0
+    → items_behind place 0 bytes ≡ Ok (context_at place bytes) ∷ []
 unfolding items_behind
 items_behind-last place [] e last = let same : Some (Short place) ≡ None = sym (fault_of_nothing place) ∙ e in cc
 items_behind-last place (byte ∷ bytes) e last = rw (e, last) refl
@@ -35,7 +38,8 @@ unfolding layout_fault
 next_within place bytes e = next_inside place (length bytes) (header_of bytes) e
 
 pub items_behind-more : (place : ℕ) (bytes : List ℕ) → layout_fault place bytes ≡ None → next_of bytes ≢ 0
-    → items_behind place 0 bytes ≡ Ok (context_at place bytes) ∷ items_behind (place + next_of bytes) 0 (drop (next_of bytes) bytes)
+    → items_behind place 0 bytes ≡ Ok (context_at place bytes)
+    ∷ items_behind (place + next_of bytes) 0 (drop (next_of bytes) bytes)
 unfolding items_behind
 items_behind-more place [] e more = let same : Some (Short place) ≡ None = sym (fault_of_nothing place) ∙ e in cc
 items_behind-more place (byte ∷ bytes) e more =
@@ -43,8 +47,10 @@ items_behind-more place (byte ∷ bytes) e more =
     more_of (next_of (byte ∷ bytes)) refl within
   where
     more_of : (next : ℕ) → next_of (byte ∷ bytes) ≡ next → next ≤ suc (length bytes)
-        → item_before (layout_fault place (byte ∷ bytes)) (context_at place (byte ∷ bytes)) (next_of (byte ∷ bytes)) (items_behind (place + next_of (byte ∷ bytes)) (next_of (byte ∷ bytes) - 1) bytes)
-        ≡ Ok (context_at place (byte ∷ bytes)) ∷ items_behind (place + next_of (byte ∷ bytes)) 0 (drop (next_of (byte ∷ bytes)) (byte ∷ bytes))
+        → item_before (layout_fault place (byte ∷ bytes)) (context_at place (byte ∷ bytes)) (next_of (byte ∷ bytes))
+        (items_behind (place + next_of (byte ∷ bytes)) (next_of (byte ∷ bytes) - 1) bytes)
+        ≡ Ok (context_at place (byte ∷ bytes))
+            ∷ items_behind (place + next_of (byte ∷ bytes)) 0 (drop (next_of (byte ∷ bytes)) (byte ∷ bytes))
     more_of zero is within = absurd (more is)
     more_of (suc next) is within =
         let less : suc next - 1 ≡ next = omega arith in
@@ -53,7 +59,8 @@ items_behind-more place (byte ∷ bytes) e more =
         rw (e, is, less, skip, far) refl
 
 -- the three together
-pub items_behind-read : (place next : ℕ) (bytes : List ℕ) (context : ContextView) → layout_fault place bytes ≡ None → context ≡ context_at place bytes → next ≡ next_of bytes
+pub items_behind-read : (place next : ℕ) (bytes : List ℕ) (context : ContextView) → layout_fault place bytes ≡ None
+    → context ≡ context_at place bytes → next ≡ next_of bytes
     → items_behind place 0 bytes ≡ Ok context ∷ (if next == 0 then [] else items_behind (place + next) 0 (drop next bytes))
 items_behind-read place next bytes context none is_context is_next =
     elim (eqb_tells (next_of bytes) 0) [

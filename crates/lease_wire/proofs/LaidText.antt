@@ -43,10 +43,12 @@ record Added (direction : Direction) (before : List ContextView) (v : CreateView
 added : (direction : Direction) (before : List ContextView) (v w : CreateView) (context : ContextView) (behind : List ContextView)
     → HaveValue direction before v → HaveValue direction (before ++ context ∷ behind) w → Added direction before v context
 added direction before v w context behind have whole =
-    by_result (with_meaning v context.place (meaning_of direction context)) refl (adds direction before v have context (meaning_of direction context) refl)
+    by_result (with_meaning v context.place (meaning_of direction context)) refl
+        (adds direction before v have context (meaning_of direction context) refl)
   where
     by_result : (answer : Result CreateView WireFault) → with_meaning v context.place (meaning_of direction context) ≡ answer
-        → Adds direction before context (with_meaning v context.place (meaning_of direction context)) → Added direction before v context
+        → Adds direction before context (with_meaning v context.place (meaning_of direction context))
+        → Added direction before v context
     by_result (Ok value) is has = record { value = value; adds = is; have = rw is at has }
     by_result (Err fault) is has =
         let values_of_kind = faults direction before v have context context.place (meaning_of direction context) in
@@ -54,7 +56,8 @@ added direction before v w context behind have whole =
         let clash : ◌≡◌ {A = Option WireFault} (Some fault) None = rw is at values_of_kind ∙ none in
         cc
 
-pub laid_reads : (direction : Direction) (start : ℕ) (pieces : List (List ℕ)) (contexts before : List ContextView) (v w : CreateView)
+pub laid_reads : (direction : Direction) (start : ℕ) (pieces : List (List ℕ)) (contexts before : List ContextView)
+    (v w : CreateView)
     → AreLaidOut start pieces contexts → HaveValue direction before v → HaveValue direction (before ++ contexts) w
     → gathered direction v (items_behind start 0 (concat pieces)) ≡ Ok w
 unfolding gathered
@@ -66,13 +69,16 @@ laid_reads direction start (piece ∷ []) (context ∷ contexts) before v w (is,
     rw (items_of_last start piece context is last, more.adds, same) refl
 laid_reads direction start (piece ∷ next ∷ pieces) (context ∷ contexts) before v w (is, on, laid) have whole =
     let more = added direction before v w context contexts have whole in
-    let further = laid_reads direction (start + length piece) (next ∷ pieces) contexts (before ++ context ∷ []) more.value w laid more.have (rw append_assoc whole) in
+    let further = laid_reads direction (start + length piece) (next ∷ pieces) contexts (before ++ context ∷ []) more.value w laid
+        more.have (rw append_assoc whole) in
     rw (items_of_leading start piece (next ++ concat pieces) context is on, more.adds) further
 
 -- pieces that lead on are passed with the value that they have
-pub linked_reads : (direction : Direction) (start : ℕ) (pieces : List (List ℕ)) (contexts before : List ContextView) (rest : List ℕ) (v w : CreateView)
+pub linked_reads : (direction : Direction) (start : ℕ) (pieces : List (List ℕ)) (contexts before : List ContextView)
+    (rest : List ℕ) (v w : CreateView)
     → AreLinked start pieces contexts → HaveValue direction before v → HaveValue direction (before ++ contexts) w
-    → gathered direction v (items_behind start 0 (concat pieces ++ rest)) ≡ gathered direction w (items_behind (start + length (concat pieces)) 0 rest)
+    → gathered direction v (items_behind start 0 (concat pieces ++ rest))
+    ≡ gathered direction w (items_behind (start + length (concat pieces)) 0 rest)
 unfolding gathered
 linked_reads direction start [] [] before rest v w linked have whole =
     let same : v ≡ w = one_value direction before v w have (rw (append-nil before) at whole) in
@@ -81,26 +87,34 @@ linked_reads direction start [] (context ∷ contexts) before rest v w linked ha
 linked_reads direction start (piece ∷ pieces) [] before rest v w linked have whole = absurd linked
 linked_reads direction start (piece ∷ pieces) (context ∷ contexts) before rest v w (is, on, linked) have whole =
     let more = added direction before v w context contexts have whole in
-    let further = linked_reads direction (start + length piece) pieces contexts (before ++ context ∷ []) rest more.value w linked more.have (rw append_assoc whole) in
-    let far : start + length piece + length (concat pieces) ≡ start + length (piece ++ concat pieces) = omega (arith, length-append piece (concat pieces)) in
+    let further = linked_reads direction (start + length piece) pieces contexts (before ++ context ∷ []) rest more.value w linked
+        more.have (rw append_assoc whole) in
+    let far : start + length piece + length (concat pieces)
+        ≡ start + length (piece ++ concat pieces) = omega (arith, length-append piece (concat pieces)) in
     rw (append_assoc, items_of_leading start piece (concat pieces ++ rest) context is on, more.adds, ← far) further
 
 -- what is left begins with the fault
 module _ (direction : Direction) (contexts : List ContextView) (w : CreateView) (place : ℕ) (rest : List ℕ) (fault : WireFault)
     (have : HaveValue direction contexts w) (first : first_fault direction contexts place rest ≡ Some fault) where
-  stops_at_name : layout_fault place rest ≡ None → with_meaning w (context_at place rest).place (meaning_of direction (context_at place rest)) ≡ Err fault
+  stops_at_name : layout_fault place rest ≡ None
+      → with_meaning w (context_at place rest).place (meaning_of direction (context_at place rest)) ≡ Err fault
   unfolding context_at
   stops_at_name none =
-      let values_of_kind = faults direction contexts w have (context_at place rest) place (meaning_of direction (context_at place rest)) in
-      let stopped : meaning_fault direction contexts place (meaning_of direction (context_at place rest)) ≡ Some fault = rw none at first in
+      let values_of_kind = faults direction contexts w have (context_at place rest) place
+          (meaning_of direction (context_at place rest)) in
+      let stopped : meaning_fault direction contexts place (meaning_of direction (context_at place rest))
+          ≡ Some fault = rw none at first in
       by_result (with_meaning w place (meaning_of direction (context_at place rest))) refl (values_of_kind ∙ stopped)
     where
-      by_result : (answer : Result CreateView WireFault) → with_meaning w place (meaning_of direction (context_at place rest)) ≡ answer
-          → fault_in (with_meaning w place (meaning_of direction (context_at place rest))) ≡ Some fault → with_meaning w place (meaning_of direction (context_at place rest)) ≡ Err fault
+      by_result : (answer : Result CreateView WireFault)
+          → with_meaning w place (meaning_of direction (context_at place rest)) ≡ answer
+          → fault_in (with_meaning w place (meaning_of direction (context_at place rest))) ≡ Some fault
+          → with_meaning w place (meaning_of direction (context_at place rest)) ≡ Err fault
       by_result (Ok value) is stopped = let clash : ◌≡◌ {A = Option WireFault} None (Some fault) = rw is at stopped in cc
       by_result (Err other) is stopped = let same : ◌≡◌ {A = Option WireFault} (Some other) (Some fault) = rw is at stopped in cc
 
-  stops_by_fault : (answer : Option WireFault) → layout_fault place rest ≡ answer → gathered direction w (items_behind place 0 rest) ≡ Err fault
+  stops_by_fault : (answer : Option WireFault) → layout_fault place rest ≡ answer
+      → gathered direction w (items_behind place 0 rest) ≡ Err fault
   unfolding gathered
   stops_by_fault (Some other) is =
       let same : ◌≡◌ {A = Option WireFault} (Some other) (Some fault) = rw is at first in

@@ -10,13 +10,15 @@ use Rattle.lease_wire.specs.Reading.{layout_fault, header_of, context_at, size_o
 use Rattle.lease_wire.proofs.HeaderFacts.{HeaderFits, header_fits, fitting_header}
 
 -- a field within the front is read from the front
-number_at-front : (place count : ℕ) (front others : List ℕ) → place + count ≤ length front → number_at place count (front ++ others) ≡ number_at place count front
+number_at-front : (place count : ℕ) (front others : List ℕ) → place + count ≤ length front
+    → number_at place count (front ++ others) ≡ number_at place count front
 number_at-front place count front others within =
     let cut = drop-append-le place front others (omega arith) in
     let long : count ≤ length (drop place front) = omega (arith, length-drop {A = ℕ}) in
     rw cut (little_from-append count (drop place front) others long)
 
-bytes_at-front : (place count : ℕ) (front others : List ℕ) → place + count ≤ length front → bytes_at place count (front ++ others) ≡ bytes_at place count front
+bytes_at-front : (place count : ℕ) (front others : List ℕ) → place + count ≤ length front
+    → bytes_at place count (front ++ others) ≡ bytes_at place count front
 bytes_at-front place count front others within =
     let cut = drop-append-le place front others (omega arith) in
     let long : count ≤ length (drop place front) = omega (arith, length-drop {A = ℕ}) in
@@ -66,9 +68,11 @@ is_data piece offset (suc count) behind within =
     let some : suc count ≢ 0 = λ e. absurd (omega arith) in
     record { behind_the_header = behind some; within = within some; bytes = refl }
 
-data_at-front : (place count : ℕ) (front others : List ℕ) → (count ≢ 0 → place + count ≤ length front) → bytes_at place count (front ++ others) ≡ bytes_at place count front
+data_at-front : (place count : ℕ) (front others : List ℕ) → (count ≢ 0 → place + count ≤ length front)
+    → bytes_at place count (front ++ others) ≡ bytes_at place count front
 data_at-front place zero front others within = refl
-data_at-front place (suc count) front others within = bytes_at-front place (suc count) front others (within (λ e. absurd (omega arith)))
+data_at-front place (suc count) front others within = bytes_at-front place (suc count) front others
+    (within (λ e. absurd (omega arith)))
 
 -- where Next is 0 there is nothing behind the piece; else it is the piece's length, a multiple of 8
 pub record Ends (piece others : List ℕ) : Type 0 where
@@ -88,7 +92,8 @@ ends_on piece others long on =
     record { size = rw (more, next) refl; leads = λ _. on }
 
 -- a context at the front passes the tests
-front_fits : (start : ℕ) (piece others : List ℕ) (context : ContextView) → IsContext start piece context → Ends piece others → HeaderFits (length (piece ++ others)) (header_of piece)
+front_fits : (start : ℕ) (piece others : List ℕ) (context : ContextView) → IsContext start piece context → Ends piece others
+    → HeaderFits (length (piece ++ others)) (header_of piece)
 front_fits start piece others context is ends =
     let long = is.header in
     let body = data_is piece (data_offset_of piece) (data_length_of piece) context.body is.body in
@@ -129,13 +134,15 @@ front_reads start piece others context is ends =
 
 -- where no test fails, the piece at the front is the context that is read
 pub front_is : (start : ℕ) (piece others : List ℕ) → 16 ≤ length piece → layout_fault start (piece ++ others) ≡ None
-    → size_of (length (piece ++ others)) (header_of piece) ≡ length piece → IsContext start piece (context_at start (piece ++ others))
+    → size_of (length (piece ++ others)) (header_of piece) ≡ length piece
+    → IsContext start piece (context_at start (piece ++ others))
 unfolding layout_fault context_at
 front_is start piece others long none size =
     let head = header_of-front piece others long in
     let fits = rw head at (header_fits start _ _ none) in
     let name_inside : name_offset_of piece + name_length_of piece ≤ length piece = rw size at fits.name_within in
-    let data_inside : data_length_of piece ≢ 0 → data_offset_of piece + data_length_of piece ≤ length piece = rw size at fits.data_within in
+    let data_inside : data_length_of piece ≢ 0
+        → data_offset_of piece + data_length_of piece ≤ length piece = rw size at fits.data_within in
     let name = bytes_at-front (name_offset_of piece) (name_length_of piece) piece others name_inside in
     let text = data_at-front (data_offset_of piece) (data_length_of piece) piece others data_inside in
     record {
@@ -151,7 +158,8 @@ front_is start piece others long none size =
     }
 
 -- bytes that are a context to their end
-pub whole_is : (start : ℕ) (bytes : List ℕ) → layout_fault start bytes ≡ None → next_of bytes ≡ 0 → IsContext start bytes (context_at start bytes)
+pub whole_is : (start : ℕ) (bytes : List ℕ) → layout_fault start bytes ≡ None → next_of bytes ≡ 0
+    → IsContext start bytes (context_at start bytes)
 unfolding layout_fault
 whole_is start bytes none last =
     let fits = header_fits start (length bytes) (header_of bytes) none in
@@ -189,13 +197,15 @@ leading_is start bytes none more =
     }
 
 -- a field of the first bytes is a field of them all
-pub number_at-taken : (place count size : ℕ) (bytes : List ℕ) → place + count ≤ size → size ≤ length bytes → number_at place count bytes ≡ number_at place count (take size bytes)
+pub number_at-taken : (place count size : ℕ) (bytes : List ℕ) → place + count ≤ size → size ≤ length bytes
+    → number_at place count bytes ≡ number_at place count (take size bytes)
 number_at-taken place count size bytes within long =
     let whole = take-append-drop size bytes in
     let taken = length-take-le size bytes long in
     rw whole at (number_at-front place count (take size bytes) (drop size bytes) (omega arith))
 
-pub bytes_at-taken : (place count size : ℕ) (bytes : List ℕ) → place + count ≤ size → size ≤ length bytes → bytes_at place count bytes ≡ bytes_at place count (take size bytes)
+pub bytes_at-taken : (place count size : ℕ) (bytes : List ℕ) → place + count ≤ size → size ≤ length bytes
+    → bytes_at place count bytes ≡ bytes_at place count (take size bytes)
 bytes_at-taken place count size bytes within long =
     let whole = take-append-drop size bytes in
     let taken = length-take-le size bytes long in

@@ -21,17 +21,20 @@ use Rattle.lease_wire.proofs.LaidText.{laid_reads, linked_reads, stops}
 use Rattle.lease_wire.proofs.ReadText.{text_laid, text_faulty, carried_ok}
 use Rattle.lease_wire.proofs.Values.{value_of_nothing, one_value}
 
-value_held : (direction : Direction) (text : List ℕ) (v : CreateView) → value_of direction text ≡ Ok v → HoldsValue direction text v
+value_held : (direction : Direction) (text : List ℕ) (v : CreateView) → value_of direction text ≡ Ok v
+    → HoldsValue direction text v
 unfolding gathered
 value_held direction [] v e =
     let same : no_values ≡ v = cc in
     let P : CreateView → Type 0 = HaveValue direction [] in
     ([], refl, subst P same (value_of_nothing direction))
 value_held direction (byte ∷ bytes) v e =
-    let laid = text_laid (length (byte ∷ bytes)) direction 0 (byte ∷ bytes) [] no_values v (omega arith) (value_of_nothing direction) e in
+    let laid = text_laid (length (byte ∷ bytes)) direction 0 (byte ∷ bytes) [] no_values v (omega arith)
+        (value_of_nothing direction) e in
     (laid.contexts, (laid.pieces, laid.whole, laid.laid), laid.value)
 
-held_value : (direction : Direction) (text : List ℕ) (v : CreateView) → HoldsValue direction text v → value_of direction text ≡ Ok v
+held_value : (direction : Direction) (text : List ℕ) (v : CreateView) → HoldsValue direction text v
+    → value_of direction text ≡ Ok v
 unfolding gathered
 held_value direction [] v (contexts, none, value) =
     let same : no_values ≡ v = one_value direction [] no_values v (value_of_nothing direction) (rw none at value) in
@@ -39,11 +42,13 @@ held_value direction [] v (contexts, none, value) =
 held_value direction (byte ∷ bytes) v (contexts, (pieces, whole, laid), value) =
     rw whole at (laid_reads direction 0 pieces contexts [] no_values v laid (value_of_nothing direction) value)
 
-fault_had : (direction : Direction) (text : List ℕ) (fault : WireFault) → value_of direction text ≡ Err fault → IsFaultOf direction text fault
+fault_had : (direction : Direction) (text : List ℕ) (fault : WireFault) → value_of direction text ≡ Err fault
+    → IsFaultOf direction text fault
 unfolding gathered
 fault_had direction [] fault e = cc
 fault_had direction (byte ∷ bytes) fault e =
-    let faulty = text_faulty (length (byte ∷ bytes)) direction 0 (byte ∷ bytes) [] no_values fault (omega arith) (value_of_nothing direction) e in (
+    let faulty = text_faulty (length (byte ∷ bytes)) direction 0 (byte ∷ bytes) [] no_values fault (omega arith)
+        (value_of_nothing direction) e in (
       λ none. cc,
       (
         faulty.pieces,
@@ -58,11 +63,14 @@ fault_had direction (byte ∷ bytes) fault e =
       ),
     )
 
-had_fault : (direction : Direction) (text : List ℕ) (fault : WireFault) → IsFaultOf direction text fault → value_of direction text ≡ Err fault
+had_fault : (direction : Direction) (text : List ℕ) (fault : WireFault) → IsFaultOf direction text fault
+    → value_of direction text ≡ Err fault
 had_fault direction [] fault (some, faulty) = absurd (some refl)
 had_fault direction (byte ∷ bytes) fault (some, (pieces, contexts, rest, is)) =
-    let passed = linked_reads direction 0 pieces contexts [] rest no_values is.named.0 is.linked (value_of_nothing direction) is.named.1 in
-    rw (is.whole, zero-add (length (concat pieces))) at passed ∙ stops direction contexts is.named.0 (length (concat pieces)) rest fault is.named.1 is.first
+    let passed = linked_reads direction 0 pieces contexts [] rest no_values is.named.0 is.linked (value_of_nothing direction)
+        is.named.1 in
+    rw (is.whole, zero-add (length (concat pieces))) at passed
+        ∙ stops direction contexts is.named.0 (length (concat pieces)) rest fault is.named.1 is.first
 
 pub value_is_read : ValueIsRead
 value_is_read direction text = record {
@@ -70,7 +78,8 @@ value_is_read direction text = record {
   fault = λ fault. (fault_had direction text fault, had_fault direction text fault);
 }
 
-pub reading_by_value : (direction : Direction) (text : List ℕ) (answer : Result CreateView WireFault) → answer ≡ value_of direction text → IsReadingOf direction text answer
+pub reading_by_value : (direction : Direction) (text : List ℕ) (answer : Result CreateView WireFault)
+    → answer ≡ value_of direction text → IsReadingOf direction text answer
 reading_by_value direction text answer e =
     let P : Result CreateView WireFault → Type 0 = IsReadingOf direction text in
     subst P (sym e) (value_is_read direction text)
@@ -86,7 +95,8 @@ if_either P true x y first second = first
 if_either P false x y first second = second
 
 lease_directed : (direction : Direction) (body : List ℕ) → MeansDirected direction (lease_meaning direction body)
-lease_directed Request body = if_either (MeansDirected Request) (length body == 32) (Lease (lease_view Request body)) Unknown refl tt
+lease_directed Request body = if_either (MeansDirected Request) (length body == 32) (Lease (lease_view Request body)) Unknown refl
+    tt
 lease_directed Reply body = if_either (MeansDirected Reply) (length body == 32) (Lease (lease_view Reply body)) Unknown tt tt
 
 durable_directed : (direction : Direction) (body : List ℕ) → MeansDirected direction (durable_meaning direction body)
@@ -106,18 +116,21 @@ unfolding meaning_of
 meaning_directed direction context =
     if_either (MeansDirected direction) (bytes_eq context.name lease_name) _ _ (lease_directed direction context.body)
     (if_either (MeansDirected direction) (bytes_eq context.name durable_name) _ _ (durable_directed direction context.body)
-    (if_either (MeansDirected direction) (bytes_eq context.name reconnect_name) _ _ (reconnect_directed direction context.body) (unknown_directed direction)))
+    (if_either (MeansDirected direction) (bytes_eq context.name reconnect_name) _ _ (reconnect_directed direction context.body)
+    (unknown_directed direction)))
 
 abbrev StaysDirected : Direction → Result CreateView WireFault → Type 0
 StaysDirected direction (Ok v) = IsDirected direction v
 StaysDirected direction (Err fault) = Unit {0}
 
-with_directed : (direction : Direction) (v : CreateView) (place : ℕ) (meaning : Meaning) → IsDirected direction v → MeansDirected direction meaning → StaysDirected direction (with_meaning v place meaning)
+with_directed : (direction : Direction) (v : CreateView) (place : ℕ) (meaning : Meaning) → IsDirected direction v
+    → MeansDirected direction meaning → StaysDirected direction (with_meaning v place meaning)
 with_directed direction v place Unknown is means = is
 with_directed direction v place WrongLength is means = tt
 with_directed direction v place (Lease lease) is means = of direction v.lease is means
   where
-    of : (direction : Direction) (held : Option LeaseView) → IsDirected direction v → MeansDirected direction (Lease lease) → StaysDirected direction (with_lease v place lease held)
+    of : (direction : Direction) (held : Option LeaseView) → IsDirected direction v → MeansDirected direction (Lease lease)
+        → StaysDirected direction (with_lease v place lease held)
     of direction (Some held) is means = tt
     of Request None is means = means
     of Reply None is means = is
@@ -129,33 +142,39 @@ with_directed direction v place Durable is means = of direction v.durable is
     of Reply false is = is
 with_directed direction v place (Reconnect file_id) is means = of direction v.reconnect is means
   where
-    of : (direction : Direction) (held : Option ℕ) → IsDirected direction v → MeansDirected direction (Reconnect file_id) → StaysDirected direction (with_reconnect v place file_id held)
+    of : (direction : Direction) (held : Option ℕ) → IsDirected direction v → MeansDirected direction (Reconnect file_id)
+        → StaysDirected direction (with_reconnect v place file_id held)
     of direction (Some held) is means = tt
     of Request None is means = is
     of Reply None is means = absurd means
 
-gathered_directed : (direction : Direction) (items : List Item) (v w : CreateView) → IsDirected direction v → gathered direction v items ≡ Ok w → IsDirected direction w
+gathered_directed : (direction : Direction) (items : List Item) (v w : CreateView) → IsDirected direction v
+    → gathered direction v items ≡ Ok w → IsDirected direction w
 unfolding gathered
 gathered_directed direction [] v w is e = let same : v ≡ w = cc in subst (IsDirected direction) same is
 gathered_directed direction (Err fault ∷ items) v w is e = cc
 gathered_directed direction (Ok context ∷ items) v w is e =
     let step = carried_ok _ _ w e in
     let P : Result CreateView WireFault → Type 0 = StaysDirected direction in
-    let next : IsDirected direction step.0 = subst P step.1 (with_directed direction v context.place (meaning_of direction context) is (meaning_directed direction context)) in
+    let next : IsDirected direction step.0 = subst P step.1 (with_directed direction v context.place
+        (meaning_of direction context) is (meaning_directed direction context)) in
     gathered_directed direction items step.0 w next step.2
 
 nothing_directed : (direction : Direction) → IsDirected direction no_values
 nothing_directed Request = tt
 nothing_directed Reply = refl
 
-pub value_directed : (direction : Direction) (text : List ℕ) (v : CreateView) → value_of direction text ≡ Ok v → IsDirected direction v
+pub value_directed : (direction : Direction) (text : List ℕ) (v : CreateView) → value_of direction text ≡ Ok v
+    → IsDirected direction v
 value_directed direction text v e = gathered_directed direction (items_of text) no_values v (nothing_directed direction) e
 
 -- the lease that a request's reader values tells of no break in progress
-pub asked_is_calm : (text : List ℕ) (values : ContextValues) → Ok (values_of values) ≡ value_of Request text → IfSome values.lease (λ lease. lease.breaking ≡ false)
+pub asked_is_calm : (text : List ℕ) (values : ContextValues) → Ok (values_of values) ≡ value_of Request text
+    → IfSome values.lease (λ lease. lease.breaking ≡ false)
 asked_is_calm text values e = calm values.lease (value_directed Request text (values_of values) (sym e))
   where
-    calm : (held : Option code.Lease) → IfSome (option_map lease_of held) (λ lease. lease.breaking ≡ false) → IfSome held (λ lease. lease.breaking ≡ false)
+    calm : (held : Option code.Lease) → IfSome (option_map lease_of held) (λ lease. lease.breaking ≡ false)
+        → IfSome held (λ lease. lease.breaking ≡ false)
     calm None is = tt
     calm (Some lease) is = is
 
@@ -168,5 +187,6 @@ answered_value text values v e lease durable reconnect =
     ap Ok same ∙ e
   where
     same_view : (a b : Option LeaseView) (c d : Bool) (e f : Option ℕ) → a ≡ b → c ≡ d → e ≡ f
-        → ◌≡◌ {A = CreateView} (record { lease = a; durable = c; reconnect = e }) (record { lease = b; durable = d; reconnect = f })
+        → ◌≡◌ {A = CreateView} (record { lease = a; durable = c; reconnect = e })
+        (record { lease = b; durable = d; reconnect = f })
     same_view a b c d e f x y z = rw (x, y, z) refl

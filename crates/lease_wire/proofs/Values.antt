@@ -16,9 +16,11 @@ pub value_of_nothing : (direction : Direction) → HaveValue direction [] no_val
 value_of_nothing direction = record { lengths = refl; lease = refl; durable = refl; reconnect = refl }
 
 -- what is said behind one more context
-values_of_kind-more : {X : Type 0} (direction : Direction) (part : Meaning → Option X) (before : List ContextView) (context : ContextView) (meaning : Meaning) (behind : List ContextView)
+values_of_kind-more : {X : Type 0} (direction : Direction) (part : Meaning → Option X) (before : List ContextView)
+    (context : ContextView) (meaning : Meaning) (behind : List ContextView)
     → meaning_of direction context ≡ meaning
-    → values_of_kind direction part (before ++ context ∷ behind) ≡ values_of_kind direction part before ++ cons_option (part meaning) (values_of_kind direction part behind)
+    → values_of_kind direction part (before ++ context ∷ behind)
+    ≡ values_of_kind direction part before ++ cons_option (part meaning) (values_of_kind direction part behind)
 values_of_kind-more direction part before context meaning behind is = rw (filter_map-append, is) refl
 
 abbrev pub fault_in : Result CreateView WireFault → Option WireFault
@@ -59,7 +61,8 @@ same_flag true false e = let clash : true ∷ [] ≡ [] = e in cc
 same_flag false true e = let clash : true ∷ [] ≡ [] = sym e in cc
 
 -- contexts have one value
-pub one_value : (direction : Direction) (contexts : List ContextView) (v w : CreateView) → HaveValue direction contexts v → HaveValue direction contexts w → v ≡ w
+pub one_value : (direction : Direction) (contexts : List ContextView) (v w : CreateView) → HaveValue direction contexts v
+    → HaveValue direction contexts w → v ≡ w
 one_value direction contexts v w first second =
     same_view v.lease w.lease v.durable w.durable v.reconnect w.reconnect
     (same_option v.lease w.lease (sym first.lease ∙ second.lease))
@@ -67,19 +70,25 @@ one_value direction contexts v w first second =
     (same_option v.reconnect w.reconnect (sym first.reconnect ∙ second.reconnect))
   where
     same_view : (a b : Option LeaseView) (c d : Bool) (e f : Option ℕ) → a ≡ b → c ≡ d → e ≡ f
-        → ◌≡◌ {A = CreateView} (record { lease = a; durable = c; reconnect = e }) (record { lease = b; durable = d; reconnect = f })
+        → ◌≡◌ {A = CreateView} (record { lease = a; durable = c; reconnect = e })
+        (record { lease = b; durable = d; reconnect = f })
     same_view a b c d e f x y z = rw (x, y, z) refl
 
-module _ (direction : Direction) (before : List ContextView) (v : CreateView) (have : HaveValue direction before v) (context : ContextView) where
-  same : {X : Type 0} (part : Meaning → Option X) (meaning : Meaning) → meaning_of direction context ≡ meaning → part meaning ≡ None
+module _ (direction : Direction) (before : List ContextView) (v : CreateView) (have : HaveValue direction before v)
+    (context : ContextView) where
+  same : {X : Type 0} (part : Meaning → Option X) (meaning : Meaning) → meaning_of direction context ≡ meaning
+      → part meaning ≡ None
       → values_of_kind direction part (before ++ context ∷ []) ≡ values_of_kind direction part before
-  same part meaning is none = values_of_kind-more direction part before context meaning [] is ∙ rw none (append-nil (values_of_kind direction part before))
+  same part meaning is none = values_of_kind-more direction part before context meaning [] is
+      ∙ rw none (append-nil (values_of_kind direction part before))
 
-  other : {X : Type 0} (part : Meaning → Option X) (meaning : Meaning) (y : X) → meaning_of direction context ≡ meaning → part meaning ≡ Some y → values_of_kind direction part before ≡ []
+  other : {X : Type 0} (part : Meaning → Option X) (meaning : Meaning) (y : X) → meaning_of direction context ≡ meaning
+      → part meaning ≡ Some y → values_of_kind direction part before ≡ []
       → values_of_kind direction part (before ++ context ∷ []) ≡ y ∷ []
   other part meaning y is some none = values_of_kind-more direction part before context meaning [] is ∙ rw (some, none) refl
 
-  adds_lease : (lease : LeaseView) (held : Option LeaseView) → v.lease ≡ held → meaning_of direction context ≡ Lease lease → Adds direction before context (with_lease v context.place lease held)
+  adds_lease : (lease : LeaseView) (held : Option LeaseView) → v.lease ≡ held → meaning_of direction context ≡ Lease lease
+      → Adds direction before context (with_lease v context.place lease held)
   adds_lease lease (Some held) is_held is = tt
   adds_lease lease None is_held is = record {
     lengths = same wrong_length_in (Lease lease) is refl ∙ have.lengths;
@@ -88,7 +97,8 @@ module _ (direction : Direction) (before : List ContextView) (v : CreateView) (h
     reconnect = same reconnect_in (Lease lease) is refl ∙ have.reconnect;
   }
 
-  adds_durable : (held : Bool) → v.durable ≡ held → meaning_of direction context ≡ Durable → Adds direction before context (with_durable v context.place held)
+  adds_durable : (held : Bool) → v.durable ≡ held → meaning_of direction context ≡ Durable
+      → Adds direction before context (with_durable v context.place held)
   adds_durable true is_held is = tt
   adds_durable false is_held is = record {
     lengths = same wrong_length_in Durable is refl ∙ have.lengths;
@@ -97,7 +107,8 @@ module _ (direction : Direction) (before : List ContextView) (v : CreateView) (h
     reconnect = same reconnect_in Durable is refl ∙ have.reconnect;
   }
 
-  adds_reconnect : (file_id : ℕ) (held : Option ℕ) → v.reconnect ≡ held → meaning_of direction context ≡ Reconnect file_id → Adds direction before context (with_reconnect v context.place file_id held)
+  adds_reconnect : (file_id : ℕ) (held : Option ℕ) → v.reconnect ≡ held → meaning_of direction context ≡ Reconnect file_id
+      → Adds direction before context (with_reconnect v context.place file_id held)
   adds_reconnect file_id (Some held) is_held is = tt
   adds_reconnect file_id None is_held is = record {
     lengths = same wrong_length_in (Reconnect file_id) is refl ∙ have.lengths;
@@ -106,7 +117,8 @@ module _ (direction : Direction) (before : List ContextView) (v : CreateView) (h
     reconnect = other reconnect_in (Reconnect file_id) file_id is refl (have.reconnect ∙ ap option_to_list is_held);
   }
 
-  pub adds : (meaning : Meaning) → meaning_of direction context ≡ meaning → Adds direction before context (with_meaning v context.place meaning)
+  pub adds : (meaning : Meaning) → meaning_of direction context ≡ meaning
+      → Adds direction before context (with_meaning v context.place meaning)
   adds Unknown is = record {
     lengths = same wrong_length_in Unknown is refl ∙ have.lengths;
     lease = same lease_in Unknown is refl ∙ have.lease;
@@ -118,26 +130,35 @@ module _ (direction : Direction) (before : List ContextView) (v : CreateView) (h
   adds Durable is = adds_durable v.durable refl is
   adds (Reconnect file_id) is = adds_reconnect file_id v.reconnect refl is
 
-  twice-list : {X : Type 0} (told_before : List X) (held : Option X) (place : ℕ) → told_before ≡ option_to_list held → (answer : Option X → Result CreateView WireFault)
-      → fault_in (answer None) ≡ None → ((y : X) → fault_in (answer (Some y)) ≡ Some (Twice place)) → fault_in (answer held) ≡ twice_if told_before place
+  twice-list : {X : Type 0} (told_before : List X) (held : Option X) (place : ℕ) → told_before ≡ option_to_list held
+      → (answer : Option X → Result CreateView WireFault)
+      → fault_in (answer None) ≡ None → ((y : X) → fault_in (answer (Some y)) ≡ Some (Twice place))
+      → fault_in (answer held) ≡ twice_if told_before place
   twice-list told_before None place is answer none some = rw is none
   twice-list told_before (Some y) place is answer none some = rw is (some y)
 
-  twice-bool : (told_before : List Bool) (held : Bool) (place : ℕ) → told_before ≡ (if held then true ∷ [] else []) → (answer : Bool → Result CreateView WireFault)
-      → fault_in (answer false) ≡ None → fault_in (answer true) ≡ Some (Twice place) → fault_in (answer held) ≡ twice_if told_before place
+  twice-bool : (told_before : List Bool) (held : Bool) (place : ℕ) → told_before ≡ (if held then true ∷ [] else [])
+      → (answer : Bool → Result CreateView WireFault)
+      → fault_in (answer false) ≡ None → fault_in (answer true) ≡ Some (Twice place)
+      → fault_in (answer held) ≡ twice_if told_before place
   twice-bool told_before false place is answer none some = rw is none
   twice-bool told_before true place is answer none some = rw is some
 
   -- the fault that stops the gathering is the rule that is broken
-  pub faults : (place : ℕ) (meaning : Meaning) → fault_in (with_meaning v place meaning) ≡ meaning_fault direction before place meaning
+  pub faults : (place : ℕ) (meaning : Meaning)
+      → fault_in (with_meaning v place meaning) ≡ meaning_fault direction before place meaning
   faults place Unknown = refl
   faults place WrongLength = refl
-  faults place (Lease lease) = twice-list (values_of_kind direction lease_in before) v.lease place have.lease (λ held. with_lease v place lease held) refl (λ y. refl)
-  faults place Durable = twice-bool (values_of_kind direction durable_in before) v.durable place have.durable (λ held. with_durable v place held) refl refl
-  faults place (Reconnect file_id) = twice-list (values_of_kind direction reconnect_in before) v.reconnect place have.reconnect (λ held. with_reconnect v place file_id held) refl (λ y. refl)
+  faults place (Lease lease) = twice-list (values_of_kind direction lease_in before) v.lease place have.lease
+      (λ held. with_lease v place lease held) refl (λ y. refl)
+  faults place Durable = twice-bool (values_of_kind direction durable_in before) v.durable place have.durable
+      (λ held. with_durable v place held) refl refl
+  faults place (Reconnect file_id) = twice-list (values_of_kind direction reconnect_in before) v.reconnect place have.reconnect
+      (λ held. with_reconnect v place file_id held) refl (λ y. refl)
 
   -- where a value is had with this context and others behind it, the context breaks no rule
-  pub passes : (w : CreateView) (behind : List ContextView) → HaveValue direction (before ++ context ∷ behind) w → (place : ℕ) (meaning : Meaning) → meaning_of direction context ≡ meaning
+  pub passes : (w : CreateView) (behind : List ContextView) → HaveValue direction (before ++ context ∷ behind) w
+      → (place : ℕ) (meaning : Meaning) → meaning_of direction context ≡ meaning
       → meaning_fault direction before place meaning ≡ None
   passes w behind whole place Unknown is = refl
   passes w behind whole place WrongLength is =

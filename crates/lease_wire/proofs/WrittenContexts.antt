@@ -21,7 +21,8 @@ name_of a b c d = a ∷ b ∷ c ∷ d ∷ []
 abbrev pub written : ℕ → List ℕ → List ℕ → ContextView
 written start name body = record { place = start; name = name; body = body }
 
-data_of : (piece : List ℕ) (offset count : ℕ) (part : List ℕ) → 0 < count → IsPart piece offset count part → IsData piece offset count part
+data_of : (piece : List ℕ) (offset count : ℕ) (part : List ℕ) → 0 < count → IsPart piece offset count part
+    → IsData piece offset count part
 data_of piece offset zero part some is = absurd (omega arith)
 data_of piece offset (suc count) part some is = is
 
@@ -32,16 +33,20 @@ next_small false count small = omega arith
 module _ (followed : Bool) (a b c d : ℕ) (body : List ℕ) (small : length body < 1000) where
   pub next_of-written : next_of (context_bytes followed (name_of a b c d) body) ≡ (if followed then 24 + length body else 0)
   unfolding next_of
-  next_of-written = little_number-reads_back 4 (if followed then 24 + length body else 0) (drop 4 (context_bytes followed (name_of a b c d) body)) (next_small followed (length body) small)
+  next_of-written = little_number-reads_back 4 (if followed then 24 + length body else 0)
+      (drop 4 (context_bytes followed (name_of a b c d) body)) (next_small followed (length body) small)
 
   data_length_of-written : data_length_of (context_bytes followed (name_of a b c d) body) ≡ length body
   unfolding data_length_of
-  data_length_of-written = let fits : length body < 256 ^ 4 = omega arith in little_number-reads_back 4 (length body) (drop 16 (context_bytes followed (name_of a b c d) body)) fits
+  data_length_of-written = let fits : length body
+      < 256 ^ 4 = omega arith in little_number-reads_back 4 (length body) (drop 16
+      (context_bytes followed (name_of a b c d) body)) fits
 
   pub length-written : length (context_bytes followed (name_of a b c d) body) ≡ 24 + length body
   length-written = omega arith
 
-  pub is_written : (start : ℕ) → 0 < length body → IsContext start (context_bytes followed (name_of a b c d) body) (written start (name_of a b c d) body)
+  pub is_written : (start : ℕ) → 0 < length body
+      → IsContext start (context_bytes followed (name_of a b c d) body) (written start (name_of a b c d) body)
   unfolding name_offset_of name_length_of data_offset_of
   is_written start some =
       let part : IsPart (context_bytes followed (name_of a b c d) body) 24 (length body) body = record {
@@ -53,7 +58,8 @@ module _ (followed : Bool) (a b c d : ℕ) (body : List ℕ) (small : length bod
         place = refl;
         header = omega arith;
         name = record { behind_the_header = omega arith; within = omega arith; bytes = refl };
-        body = rw (data_length_of-written) (data_of (context_bytes followed (name_of a b c d) body) 24 (length body) body some part);
+        body = rw (data_length_of-written) (data_of (context_bytes followed (name_of a b c d) body) 24 (length body) body some
+            part);
       }
 
   pub leads_on : followed ≡ true → length body % 8 ≡ 0 → LeadsOn (context_bytes followed (name_of a b c d) body)
@@ -70,8 +76,10 @@ abbrev pub Calm : Direction → LeaseView → Type 0
 Calm Request lease = lease.breaking ≡ false
 Calm Reply lease = Unit {0}
 
-same_lease : (direction : Direction) (key : List ℕ) (read : State) (lease : LeaseView) (values_of_kind : Bool) → read ≡ lease.state → values_of_kind ≡ lease.breaking
-    → ◌≡◌ {A = Meaning} (Lease (record { key = key; state = read; breaking = values_of_kind })) (Lease (record lease { key = key }))
+same_lease : (direction : Direction) (key : List ℕ) (read : State) (lease : LeaseView) (values_of_kind : Bool)
+    → read ≡ lease.state → values_of_kind ≡ lease.breaking
+    → ◌≡◌ {A = Meaning} (Lease (record { key = key; state = read; breaking = values_of_kind }))
+    (Lease (record lease { key = key }))
 same_lease direction key read lease values_of_kind state breaking = rw (state, breaking) refl
 
 breaking-written : (b : Bool) → (bit_and (little_number 4 (little_bytes 4 (if b then 2 else 0))) 2 == 2) ≡ b
@@ -82,25 +90,35 @@ pub lease_is : (direction : Direction) (start : ℕ) (lease : LeaseView) → len
     → meaning_of direction (written start lease_name (lease_body lease)) ≡ Lease lease
 unfolding meaning_of
 lease_is Request start lease =
-    sixteen_cells (λ cells. Calm Request lease → meaning_of Request (written start lease_name (lease_body (record lease { key = cells }))) ≡ Lease (record lease { key = cells }))
-    (λ a b c d e f g h i j k l m n o p calm. same_lease Request _ _ lease false (state_of_bits-written lease.state) (sym calm)) lease.key
+    sixteen_cells (λ cells. Calm Request lease
+        → meaning_of Request (written start lease_name (lease_body (record lease { key = cells })))
+        ≡ Lease (record lease { key = cells }))
+    (λ a b c d e f g h i j k l m n o p calm. same_lease Request _ _ lease false (state_of_bits-written lease.state) (sym calm))
+    lease.key
 lease_is Reply start lease =
-    sixteen_cells (λ cells. Calm Reply lease → meaning_of Reply (written start lease_name (lease_body (record lease { key = cells }))) ≡ Lease (record lease { key = cells }))
-    (λ a b c d e f g h i j k l m n o p calm. same_lease Reply _ _ lease _ (state_of_bits-written lease.state) (breaking-written lease.breaking)) lease.key
+    sixteen_cells (λ cells. Calm Reply lease
+        → meaning_of Reply (written start lease_name (lease_body (record lease { key = cells })))
+        ≡ Lease (record lease { key = cells }))
+    (λ a b c d e f g h i j k l m n o p calm. same_lease Reply _ _ lease _ (state_of_bits-written lease.state)
+    (breaking-written lease.breaking)) lease.key
 
 pub length-lease_body : (lease : LeaseView) → length lease.key ≡ 16 → length (lease_body lease) ≡ 32
-length-lease_body lease = sixteen_cells (λ cells. length (lease_body (record lease { key = cells })) ≡ 32) (λ a b c d e f g h i j k l m n o p. refl) lease.key
+length-lease_body lease = sixteen_cells (λ cells. length (lease_body (record lease { key = cells })) ≡ 32)
+    (λ a b c d e f g h i j k l m n o p. refl) lease.key
 
-pub durable_is : (direction : Direction) (start : ℕ) → meaning_of direction (written start durable_name (durable_body direction)) ≡ Durable
+pub durable_is : (direction : Direction) (start : ℕ)
+    → meaning_of direction (written start durable_name (durable_body direction)) ≡ Durable
 unfolding meaning_of
 durable_is Request start = refl
 durable_is Reply start = refl
 
-pub length-durable_body : (direction : Direction) → (0 < length (durable_body direction)) × (length (durable_body direction) < 1000) × (length (durable_body direction) % 8 ≡ 0)
+pub length-durable_body : (direction : Direction)
+    → (0 < length (durable_body direction)) × (length (durable_body direction) < 1000) × (length (durable_body direction) % 8 ≡ 0)
 length-durable_body Request = (omega arith, omega arith, refl)
 length-durable_body Reply = (omega arith, omega arith, refl)
 
-pub reconnect_is : (start file_id : ℕ) → file_id < 2 ^ 64 → meaning_of Request (written start reconnect_name (reconnect_body file_id)) ≡ Reconnect file_id
+pub reconnect_is : (start file_id : ℕ) → file_id < 2 ^ 64
+    → meaning_of Request (written start reconnect_name (reconnect_body file_id)) ≡ Reconnect file_id
 unfolding meaning_of
 reconnect_is start file_id fits =
     let small : file_id < 256 ^ 8 = omega arith in

@@ -11,11 +11,13 @@ use Rattle.leasecheck.specs.Arguments.{is_separator, digits_in, without_prefix, 
 use Rattle.leasecheck.specs.HexRemarks.{from_bad, from_other}
 
 -- a byte and another one, with and without a separator between them
-separated : (a b c d : ℕ) (rest : List ℕ) → is_separator c ≡ true → digits_in (a ∷ b ∷ c ∷ d ∷ rest) ≡ a ∷ b ∷ digits_in (d ∷ rest)
+separated : (a b c d : ℕ) (rest : List ℕ) → is_separator c ≡ true
+    → digits_in (a ∷ b ∷ c ∷ d ∷ rest) ≡ a ∷ b ∷ digits_in (d ∷ rest)
 unfolding digits_in
 separated a b c d rest is = rw is refl
 
-joined : (a b c d : ℕ) (rest : List ℕ) → is_separator c ≡ false → digits_in (a ∷ b ∷ c ∷ d ∷ rest) ≡ a ∷ b ∷ digits_in (c ∷ d ∷ rest)
+joined : (a b c d : ℕ) (rest : List ℕ) → is_separator c ≡ false
+    → digits_in (a ∷ b ∷ c ∷ d ∷ rest) ≡ a ∷ b ∷ digits_in (c ∷ d ∷ rest)
 unfolding digits_in
 joined a b c d rest is = rw is refl
 

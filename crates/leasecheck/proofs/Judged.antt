@@ -18,7 +18,8 @@ silent : (told : Refusal) (failure : Failure) (IsSaid : Failure → List ℕ →
 silent told failure IsSaid is = subst (λ t. Says t IsSaid) (sym is) tt
 
 -- what is said of a line is said of the record
-says_line : (told : Refusal) (text : List ℕ) → RefusesLine (lines_of text) told → Says told (λ f line. record_remark text f ≡ Some line)
+says_line : (told : Refusal) (text : List ℕ) → RefusesLine (lines_of text) told
+    → Says told (λ f line. record_remark text f ≡ Some line)
 says_line told text (number, read, is, said) =
     subst (λ f. IfSome told.second (λ s. record_remark text f ≡ Some (string_bytes s))) (sym is) said
 
@@ -30,15 +31,19 @@ judged_refusal None told (inr (inr (inr (text, refused)))) = inr (inr (inr (refu
 judged_refusal (Some text) told (inl memory) = inl (is_failure told failure.Memory memory)
 judged_refusal (Some text) told (inr (inl file)) = inr (inl (is_failure told failure.File file))
 judged_refusal (Some text) told (inr (inr (inl (lines, many)))) = inr (inr (inl (is_failure told failure.Lines lines, many)))
-judged_refusal (Some text) told (inr (inr (inr (number, read, is, said)))) = inr (inr (inr (ap line_refusal read ∙ ap (λ f. Some f) (sym is))))
+judged_refusal (Some text) told (inr (inr (inr (number, read, is, said)))) = inr
+    (inr (inr (ap line_refusal read ∙ ap (λ f. Some f) (sym is))))
 
-pub judged_says : (known : Option (List ℕ)) (told : Refusal) → Judges known (Err told) → Says told (IsFileRemark record_remark known)
+pub judged_says : (known : Option (List ℕ)) (told : Refusal) → Judges known (Err told)
+    → Says told (IsFileRemark record_remark known)
 judged_says None told (inl memory) = silent told failure.Memory (IsFileRemark record_remark None) memory
 judged_says None told (inr (inl file)) = silent told failure.File (IsFileRemark record_remark None) file
 judged_says None told (inr (inr (inl lines))) = silent told failure.Lines (IsFileRemark record_remark None) lines
 judged_says None told (inr (inr (inr (text, refused)))) =
-    says_more told (λ f line. record_remark text f ≡ Some line) (IsFileRemark record_remark None) (λ line is. (text, is)) (says_line told text refused)
+    says_more told (λ f line. record_remark text f ≡ Some line) (IsFileRemark record_remark None) (λ line is. (text, is))
+        (says_line told text refused)
 judged_says (Some text) told (inl memory) = silent told failure.Memory (IsFileRemark record_remark (Some text)) memory
 judged_says (Some text) told (inr (inl file)) = silent told failure.File (IsFileRemark record_remark (Some text)) file
-judged_says (Some text) told (inr (inr (inl (lines, many)))) = silent told failure.Lines (IsFileRemark record_remark (Some text)) lines
+judged_says (Some text) told (inr (inr (inl (lines, many)))) = silent told failure.Lines (IsFileRemark record_remark (Some text))
+    lines
 judged_says (Some text) told (inr (inr (inr refused))) = says_line told text refused

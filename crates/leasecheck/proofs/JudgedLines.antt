@@ -24,7 +24,8 @@ pub line_told : (facts : List Fact) (line : List ℕ) (told : Fact) → is_passe
 unfolding with_line with_fact
 line_told facts line told passed is = rw (passed, is) refl
 
-pub line_refused : (facts : List Fact) (line : List ℕ) → is_passed_over line ≡ false → fact_in line ≡ None → with_line facts line ≡ None
+pub line_refused : (facts : List Fact) (line : List ℕ) → is_passed_over line ≡ false → fact_in line ≡ None
+    → with_line facts line ≡ None
 unfolding with_line with_fact
 line_refused facts line passed is = rw (passed, is) refl
 
@@ -38,7 +39,8 @@ pub judged_more : (judge : Judging) (facts : List Fact) (told : Fact) → HasJud
 judged_more judge facts told judged = subst (λ all. HasJudged judge all) (map_behind facts told) judged
 
 -- reading goes on behind a line that was taken, and ends at one that is refused
-pub taken_line : (line : List ℕ) (lines rest : List (List ℕ)) (number : ℕ) (facts more : List Fact) → with_line facts line ≡ Some more
+pub taken_line : (line : List ℕ) (lines rest : List (List ℕ)) (number : ℕ) (facts more : List Fact)
+    → with_line facts line ≡ Some more
     → reads_on with_line 1 [] (lines ++ line ∷ rest) ≡ reads_on with_line number facts (line ∷ rest)
     → reads_on with_line 1 [] ((lines ++ line ∷ []) ++ rest) ≡ reads_on with_line (number + 1) more rest
 unfolding reads_on
@@ -56,7 +58,8 @@ length_more [] x = refl
 length_more (y ∷ xs) x = let rest = length_more xs x in omega (arith, rest)
 
 pub read_line : (old new : Progress) (line : List ℕ) (lines : List (List ℕ)) → (has : HasRead old lines)
-    → new.number ≡ old.number + 1 → (more : List Fact) × (with_line has.facts line ≡ Some more) × HasJudged new.judge (map fact_of more)
+    → new.number ≡ old.number + 1 → (more : List Fact) × (with_line has.facts line ≡ Some more)
+    × HasJudged new.judge (map fact_of more)
     → HasRead new (lines ++ line ∷ [])
 read_line old new line lines has next taken = record {
   facts = taken.0;
@@ -67,7 +70,8 @@ read_line old new line lines has next taken = record {
 }
 
 pub refuse_line : (old : Progress) (line : List ℕ) (lines : List (List ℕ)) (told : Refusal) → (has : HasRead old lines)
-    → (told ≡ bare failure.Memory) ⊎ ((with_line has.facts line ≡ None) × (told.failure ≡ failure.Line old.number) × SaysLine old.number line told)
+    → (told ≡ bare failure.Memory) ⊎ ((with_line has.facts line ≡ None) × (told.failure ≡ failure.Line old.number)
+    × SaysLine old.number line told)
     → (told ≡ bare failure.Memory) ⊎ RunsOut (length (lines ++ line ∷ [])) told
     ⊎ ((more : List (List ℕ)) → RefusesLine (lines ++ (line ∷ [] ++ more)) told)
 refuse_line old line lines told has (inl memory) = inl memory
@@ -93,7 +97,8 @@ all_read progress lines taken (byte ∷ rest) text empty has same = absurd (grin
 
 -- the next line of what is left was read
 pub go_on : (next : Progress) (line behind rest text : List ℕ) (lines taken : List (List ℕ))
-    → HasRead next ((lines ++ taken) ++ line ∷ []) → lines_of rest ≡ line ∷ lines_of behind → taken ++ lines_of rest ≡ lines_of text
+    → HasRead next ((lines ++ taken) ++ line ∷ []) → lines_of rest ≡ line ∷ lines_of behind
+    → taken ++ lines_of rest ≡ lines_of text
     → (all : List (List ℕ)) × HasRead next (lines ++ all) × (all ++ lines_of behind ≡ lines_of text)
 go_on next line behind rest text lines taken has first same = (
   taken ++ line ∷ [],
@@ -111,7 +116,8 @@ pub stop_at : (told : Refusal) (line behind rest text : List ℕ) (lines taken :
 stop_at told line behind rest text lines taken (inl memory) first same = inl memory
 stop_at told line behind rest text lines taken (inr (inl out)) first same =
     let whole : taken ++ (line ∷ lines_of behind) ≡ lines_of text = ap (λ all. taken ++ all) (sym first) ∙ same in
-    let counted : length (lines ++ lines_of text) ≡ length (lines ++ (taken ++ (line ∷ lines_of behind))) = ap (λ all. length (lines ++ all)) (sym whole) in
+    let counted : length (lines ++ lines_of text)
+        ≡ length (lines ++ (taken ++ (line ∷ lines_of behind))) = ap (λ all. length (lines ++ all)) (sym whole) in
     inr (inl (out.0, omega (arith, out.1, counted, length-append {A = List ℕ})))
 stop_at told line behind rest text lines taken (inr (inr refused)) first same =
     inr (inr (λ more. subst (λ all. RefusesLine all told)
@@ -168,7 +174,8 @@ pub took_whole : (next : Progress) (text block old new : List ℕ) (place n : �
     → n ≡ length block - (place + 1) → old ≡ [] → new ≡ old ++ take n (drop (place + 1) block)
     → (more : List ℕ) × HasReadText next (text ++ more) × (more ++ new ≡ block)
 took_whole next text block old new place n ends inside feed read rest none is =
-    let left : take n (drop (place + 1) block) ≡ drop (place + 1) block = take_all n (drop (place + 1) block) (omega (arith, rest, length-drop {A = ℕ})) in (
+    let left : take n (drop (place + 1) block)
+        ≡ drop (place + 1) block = take_all n (drop (place + 1) block) (omega (arith, rest, length-drop {A = ℕ})) in (
       take (place + 1) block,
       text_read next text (take (place + 1) block) ends (ends_with_take text block place inside feed) read,
       ap (λ t. take (place + 1) block ++ t) (is ∙ (ap (λ t. t ++ take n (drop (place + 1) block)) none ∙ left))
@@ -188,7 +195,8 @@ block_behind text lines old new block rest (Err told) is (inr (inl out)) =
     inr (inl (subst (λ t. RunsOut (length t) told) (append_assoc text lines rest ∙ ap (λ t. text ++ t) (sym is)) out))
 block_behind text lines old new block rest (Err told) is (inr (inr refused)) =
     inr (inr (λ more. subst (λ t. RefusesLine (lines_of t) told)
-    (append_assoc text lines (rest ++ more) ∙ ap (λ t. text ++ t) (sym (append_assoc lines rest more) ∙ ap (λ t. t ++ more) (sym is)))
+    (append_assoc text lines (rest ++ more)
+    ∙ ap (λ t. text ++ t) (sym (append_assoc lines rest more) ∙ ap (λ t. t ++ more) (sym is)))
     (refused more)))
 
 -- The line that a block ends, with what had begun before the block.
@@ -201,6 +209,8 @@ first_ends text old block lines place inside feed is =
 pub first_cut : (old block lines : List ℕ) (place n : ℕ) → place < length block → lines ≡ old ++ take (place + 1) block
     → n ≡ length block - (place + 1) → old ++ block ≡ lines ++ take n (drop (place + 1) block)
 first_cut old block lines place n inside is rest =
-    let left : take n (drop (place + 1) block) ≡ drop (place + 1) block = take_all n (drop (place + 1) block) (omega (arith, rest, length-drop {A = ℕ})) in
+    let left : take n (drop (place + 1) block)
+        ≡ drop (place + 1) block = take_all n (drop (place + 1) block) (omega (arith, rest, length-drop {A = ℕ})) in
     sym (ap (λ t. lines ++ t) left ∙ (ap (λ t. t ++ drop (place + 1) block) is
-    ∙ (append_assoc old (take (place + 1) block) (drop (place + 1) block) ∙ ap (λ t. old ++ t) (take-append-drop (place + 1) block))))
+    ∙ (append_assoc old (take (place + 1) block) (drop (place + 1) block)
+    ∙ ap (λ t. old ++ t) (take-append-drop (place + 1) block))))

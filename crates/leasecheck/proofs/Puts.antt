@@ -24,22 +24,26 @@ appends_more (Some xs) (Some ys) None part more had has = absurd has
 appends_more (Some xs) (Some ys) (Some zs) part more had has = has ∙ (ap (λ t. t ++ more) had ∙ append_assoc xs part more)
 
 -- a part more was written
-pub puts_more : (first old new : Option (List ℕ)) (text left part : List ℕ) (count n : ℕ) → part ++ left ≡ text → n ≡ length left - count
+pub puts_more : (first old new : Option (List ℕ)) (text left part : List ℕ) (count n : ℕ) → part ++ left ≡ text
+    → n ≡ length left - count
     → Appends first old part → Appends old new (take count left)
     → (more : List ℕ) × (more ++ take n (drop count left) ≡ text) × Appends first new more
 puts_more first old new text left part count n is cut had has = (
   part ++ take count left,
   append_assoc part (take count left) (take n (drop count left)) ∙ (ap (λ t. part ++ t)
-      (ap (λ t. take count left ++ t) (take_all n (drop count left) (omega (arith, cut, length-drop {A = ℕ}))) ∙ take-append-drop count left) ∙ is),
+      (ap (λ t. take count left ++ t) (take_all n (drop count left) (omega (arith, cut, length-drop {A = ℕ})))
+      ∙ take-append-drop count left) ∙ is),
   appends_more first old new part (take count left) had has,
 )
 
-pub puts_begin : {T E : Type 0} (old new : Option (List ℕ)) (text : List ℕ) (answer : Result T E) → Puts old new text answer → Begins old new text
+pub puts_begin : {T E : Type 0} (old new : Option (List ℕ)) (text : List ℕ) (answer : Result T E) → Puts old new text answer
+    → Begins old new text
 puts_begin old new text (Ok value) puts = (text, [], sym (append-nil text), puts)
 puts_begin old new text (Err e) puts = puts
 
 -- a text and a beginning of another one behind it
-pub begins_behind : {T E : Type 0} (first old new : Option (List ℕ)) (line second : List ℕ) (answer : Result T E) → Appends first old line
+pub begins_behind : {T E : Type 0} (first old new : Option (List ℕ)) (line second : List ℕ) (answer : Result T E)
+    → Appends first old line
     → Puts old new second answer → Begins first new (line ++ second)
 begins_behind first old new line second (Ok value) had has =
     (line ++ second, [], sym (append-nil (line ++ second)), appends_more first old new line second had has)
@@ -68,4 +72,5 @@ of_more bytes P Q (Some line) more says = more (bytes line) says
 
 pub says_more : (refusal : Refusal) (P Q : Failure → List ℕ → Type 0)
     → ((line : List ℕ) → P refusal.failure line → Q refusal.failure line) → Says refusal P → Says refusal Q
-says_more refusal P Q more says = of_more (λ line. string_bytes line) (P refusal.failure) (Q refusal.failure) refusal.second more says
+says_more refusal P Q more says = of_more (λ line. string_bytes line) (P refusal.failure) (Q refusal.failure) refusal.second more
+    says

@@ -32,7 +32,8 @@ keeps_if_nothing (Some xs) (Some ys) part had none = had ∙ (ap (λ t. xs ++ t)
 
 -- ---- what has gathered
 
-pub nothing_gathered : (known : Option (List ℕ)) (gathered : Gathered) → string_bytes gathered.text ≡ [] → HasGathered known known gathered []
+pub nothing_gathered : (known : Option (List ℕ)) (gathered : Gathered) → string_bytes gathered.text ≡ []
+    → HasGathered known known gathered []
 nothing_gathered known gathered none = record {
   part = [];
   written = appends_nothing known;
@@ -40,7 +41,8 @@ nothing_gathered known gathered none = record {
   begins = λ no. refl;
 }
 
-pub gathered_more : (first current : Option (List ℕ)) (old new : Gathered) (told more : List ℕ) → HasGathered first current old told
+pub gathered_more : (first current : Option (List ℕ)) (old new : Gathered) (told more : List ℕ)
+    → HasGathered first current old told
     → string_bytes new.text ≡ string_bytes old.text ++ more → new.begun ≡ old.begun → HasGathered first current new (told ++ more)
 gathered_more first current old new told more has text begun = record {
   part = has.part;
@@ -51,7 +53,8 @@ gathered_more first current old new told more has text begun = record {
 }
 
 pub wrote_block : (first old new : Option (List ℕ)) (before after : Gathered) (told : List ℕ) → HasGathered first old before told
-    → Appends old new (string_bytes before.text) → string_bytes after.text ≡ [] → after.begun ≡ true → HasGathered first new after told
+    → Appends old new (string_bytes before.text) → string_bytes after.text ≡ [] → after.begun ≡ true
+    → HasGathered first new after told
 wrote_block first old new before after told has wrote none begun = record {
   part = has.part ++ string_bytes before.text;
   written = appends_more first old new has.part (string_bytes before.text) has.written wrote;
@@ -93,7 +96,8 @@ unwritten first current new gathered told rest whole why has is (part, left, cut
       ),
     )
 
-pub unwritten_whole : {T : Type 0} (first current new : Option (List ℕ)) (gathered : Gathered) (told : List ℕ) (answer : Result T Failure)
+pub unwritten_whole : {T : Type 0} (first current new : Option (List ℕ)) (gathered : Gathered) (told : List ℕ)
+    (answer : Result T Failure)
     → HasGathered first current gathered told
     → IfErr answer (λ why. (why ≡ failure.Output) × Begins current new (string_bytes gathered.text))
     → IfErr answer (λ why. IsUnwritten why first new told)
@@ -102,7 +106,8 @@ unwritten_whole first current new gathered told (Err why) has begins =
     unwritten first current new gathered told [] told why has begins.0 begins.1 (append-nil told)
 
 -- what has gathered is written, and with it all that is told
-pub all_written : (first current new : Option (List ℕ)) (gathered : Gathered) (told : List ℕ) → HasGathered first current gathered told
+pub all_written : (first current new : Option (List ℕ)) (gathered : Gathered) (told : List ℕ)
+    → HasGathered first current gathered told
     → Appends current new (string_bytes gathered.text) → Appends first new told
 all_written first current new gathered told has wrote =
     subst (λ t. Appends first new t) (sym has.gathers)
@@ -120,7 +125,8 @@ lacks_memory (task.Draw path) file why is = inl is
 lacks_memory task.Version file why is = inl is
 
 pub ends_unwritten : (asked : Task) (file old new : Option (List ℕ)) (why : Failure) (text : List ℕ) (status : ℕ)
-    → refusal_of asked file ≡ None → IsTextOf asked file text status → IsUnwritten why old new text → EndsWith asked file old new why
+    → refusal_of asked file ≡ None → IsTextOf asked file text status → IsUnwritten why old new text
+    → EndsWith asked file old new why
 ends_unwritten asked file old new why text status accepted prints (inl (is, begins)) =
     inl (is, accepted, text, status, prints, begins)
 ends_unwritten asked file old new why text status accepted prints (inr (is, keeps)) = inr (keeps, lacks_memory asked file why is)

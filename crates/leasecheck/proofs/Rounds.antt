@@ -49,7 +49,8 @@ pub goes_on : (whole old new : Option (List ℕ)) (progress next : Progress) (be
 goes_on None old new progress next begun more block round so_far consumes some reads =
     let taken = reads so_far.text so_far.read in
     record { text = so_far.text ++ taken.0; read = taken.1; known = tt }
-goes_on (Some all) None new progress next begun more block round so_far consumes some reads = absurd (let e = so_far.known.1 in cc)
+goes_on (Some all) None new progress next begun more block round so_far consumes some reads = absurd
+    (let e = so_far.known.1 in cc)
 goes_on (Some all) (Some rest) None progress next begun more block round so_far consumes some reads = absurd consumes
 goes_on (Some all) (Some rest) (Some left) progress next begun more block round so_far consumes some reads =
     let taken = reads so_far.text so_far.read in
@@ -82,7 +83,8 @@ stops (Some all) (Some rest) (Some left) progress told begun more block round so
     same = let e = so_far.known.1 in cc
 
     is : so_far.text ++ ((begun ++ block) ++ left) ≡ all
-    is = ap (λ t. so_far.text ++ t) (append_assoc begun block left ∙ ap (λ t. begun ++ t) (sym consumes ∙ sym same)) ∙ so_far.known.2
+    is = ap (λ t. so_far.text ++ t) (append_assoc begun block left ∙ ap (λ t. begun ++ t) (sym consumes ∙ sym same))
+        ∙ so_far.known.2
 
     known : ReadsBlock so_far.text begun more block (Err told) → Judges (Some all) (Err told)
     known (inl memory) = inl memory
@@ -106,11 +108,13 @@ ends (Some all) (Some rest) None progress begun round answer so_far consumes don
 ends (Some all) (Some rest) (Some left) progress begun round answer so_far consumes done judges =
     let same : so_far.known.0 ≡ rest = let e = so_far.known.1 in cc in
     let none : so_far.known.0 ≡ [] = same ∙ (consumes ∙ done) in
-    let is : so_far.text ++ begun ≡ all = ap (λ t. so_far.text ++ t) (sym (append-nil begun) ∙ ap (λ t. begun ++ t) (sym none)) ∙ so_far.known.2 in
+    let is : so_far.text ++ begun ≡ all = ap (λ t. so_far.text ++ t) (sym (append-nil begun) ∙ ap (λ t. begun ++ t) (sym none))
+        ∙ so_far.known.2 in
     subst (λ t. JudgesText t answer) is (judges so_far.text so_far.read)
 
 -- rounds run out only in a text of as many bytes
-pub runs_out : (whole left : Option (List ℕ)) (progress : Progress) (begun : List ℕ) (round : ℕ) → IsSoFar whole left progress begun round
+pub runs_out : (whole left : Option (List ℕ)) (progress : Progress) (begun : List ℕ) (round : ℕ)
+    → IsSoFar whole left progress begun round
     → round ≡ 2 ^ 64 - 1 → Judges whole (Err (bare failure.Lines))
 runs_out None left progress begun round so_far last = inr (inr (inl refl))
 runs_out (Some all) left progress begun round so_far last =
@@ -125,10 +129,12 @@ all_lines next lines has = ap (λ all. reads_on with_line 1 [] all) (sym (append
 
 pub judged_whole : (next : Progress) (verdict : Verdict) (text begun : List ℕ) → EndsLine text
     → HasRead next (lines_of text ++ lines_of begun)
-    → ((facts : List told.Fact) → HasJudged next.judge facts → verdict_of verdict ≡ model.verdict facts) → JudgesText (text ++ begun) (Ok verdict)
+    → ((facts : List told.Fact) → HasJudged next.judge facts → verdict_of verdict ≡ model.verdict facts)
+    → JudgesText (text ++ begun) (Ok verdict)
 judged_whole next verdict text begun whole has tells = (
   has.facts,
-  ap (λ lines. reads_on with_line 1 [] lines) (lines_behind text begun whole) ∙ all_lines next (lines_of text ++ lines_of begun) has,
+  ap (λ lines. reads_on with_line 1 [] lines) (lines_behind text begun whole)
+      ∙ all_lines next (lines_of text ++ lines_of begun) has,
   tells (map fact_of has.facts) has.judged,
 )
 
@@ -136,7 +142,8 @@ pub refused_whole : (told : Refusal) (text begun : List ℕ) → EndsLine text
     → ReadsMore (lines_of text) (lines_of begun) (Err told) → JudgesText (text ++ begun) (Err told)
 refused_whole told text begun whole (inl memory) = inl memory
 refused_whole told text begun whole (inr (inl out)) =
-    inr (inr (inl (out.0, omega (arith, out.1, lines_count text, lines_count begun, length-append {A = List ℕ}, length-append {A = ℕ}))))
+    inr (inr (inl (out.0, omega (arith, out.1, lines_count text, lines_count begun, length-append {A = List ℕ}, length-append
+        {A = ℕ}))))
 refused_whole told text begun whole (inr (inr refused)) =
     inr (inr (inr (subst (λ lines. RefusesLine lines told)
     (ap (λ lines. lines_of text ++ lines) (append-nil (lines_of begun)) ∙ sym (lines_behind text begun whole)) (refused []))))

@@ -32,13 +32,15 @@ transcript_behind machines number (text ∷ texts) more =
     (transcript (after_lines told.state (number + 1) texts) (number + length (text ∷ texts)) more))
 
 pub after_more : (machines : Machines) (number : ℕ) (texts : List (List ℕ)) (text : List ℕ)
-    → after_lines machines number (texts ++ text ∷ []) ≡ (answered (after_lines machines number texts) (number + length texts) text).state
+    → after_lines machines number (texts ++ text ∷ [])
+    ≡ (answered (after_lines machines number texts) (number + length texts) text).state
 unfolding after_lines
 after_more machines number [] text = ap (λ n. (answered machines n text).state) (omega arith)
 after_more machines number (one ∷ texts) text =
     let told = answered machines number one in
     let at : (number + 1) + length texts ≡ number + length (one ∷ texts) = omega arith in
-    after_more told.state (number + 1) texts text ∙ ap (λ n. (answered (after_lines told.state (number + 1) texts) n text).state) at
+    after_more told.state (number + 1) texts text
+        ∙ ap (λ n. (answered (after_lines told.state (number + 1) texts) n text).state) at
 
 -- ---- the first line of a text
 
@@ -73,7 +75,8 @@ first_of byte (next ∷ text) = one_more byte (next ∷ text) (byte == 10) refl 
 -- ---- rounds
 
 -- What was answered so far, the machines after it, and what is left to be read.
-pub record IsSoFar (whole left : Option (List ℕ)) (start now : Machines) (number : ℕ) (first written : Option (List ℕ)) : Type 0 where
+pub record IsSoFar (whole left : Option (List ℕ)) (start now : Machines) (number : ℕ) (first written : Option (List ℕ)) : Type 0
+    where
   pub lines : List (List ℕ)
   pub machines : now ≡ after_lines start 1 lines
   pub counted : number ≡ 1 + length lines
@@ -94,7 +97,8 @@ begins whole first start = record {
     nothing_written None = tt
     nothing_written (Some xs) = sym (append-nil xs)
 
-    all_left : (text : Option (List ℕ)) → IfSome text (λ all. (rest : List ℕ) × (text ≡ Some rest) × (lines_of all ≡ [] ++ lines_of rest))
+    all_left : (text : Option (List ℕ))
+        → IfSome text (λ all. (rest : List ℕ) × (text ≡ Some rest) × (lines_of all ≡ [] ++ lines_of rest))
     all_left None = tt
     all_left (Some all) = (all, refl, refl)
 
@@ -103,7 +107,8 @@ behind_line : (lines rest : List (List ℕ)) (all_lines : List (List ℕ)) (text
     → all_lines ≡ (lines ++ text ∷ []) ++ rest
 behind_line lines rest all_lines text is = is ∙ sym (append_assoc lines (text ∷ []) rest)
 
-given_line : (bytes line behind text : List ℕ) → bytes ≢ [] → lines_of bytes ≡ line ∷ lines_of behind → bytes ≡ take_through 10 text
+given_line : (bytes line behind text : List ℕ) → bytes ≢ [] → lines_of bytes ≡ line ∷ lines_of behind
+    → bytes ≡ take_through 10 text
     → lines_of text ≡ line ∷ lines_of (drop_through 10 text)
 given_line bytes line behind [] some first is = absurd (some is)
 given_line bytes line behind (byte ∷ text) some first is =
@@ -125,21 +130,26 @@ goes_on whole left new start now next number first old written bytes line behind
   known = knows whole left so_far.known gives;
 }
   where
-    told_state : (answered now number line).state ≡ (answered (after_lines start 1 so_far.lines) (1 + length so_far.lines) line).state
+    told_state : (answered now number line).state
+        ≡ (answered (after_lines start 1 so_far.lines) (1 + length so_far.lines) line).state
     told_state = ap (λ m. (answered m number line).state) so_far.machines
         ∙ ap (λ n. (answered (after_lines start 1 so_far.lines) n line).state) so_far.counted
 
-    told_text : (answered now number line).text ≡ (answered (after_lines start 1 so_far.lines) (1 + length so_far.lines) line).text
+    told_text : (answered now number line).text
+        ≡ (answered (after_lines start 1 so_far.lines) (1 + length so_far.lines) line).text
     told_text = ap (λ m. (answered m number line).text) so_far.machines
         ∙ ap (λ n. (answered (after_lines start 1 so_far.lines) n line).text) so_far.counted
 
     more : transcript start 1 (so_far.lines ++ line ∷ []) ≡ transcript start 1 so_far.lines ++ (answered now number line).text
     more = transcript_behind start 1 so_far.lines (line ∷ [])
-        ∙ ap (λ t. transcript start 1 so_far.lines ++ t) (append-nil (answered (after_lines start 1 so_far.lines) (1 + length so_far.lines) line).text ∙ sym told_text)
+        ∙ ap (λ t. transcript start 1 so_far.lines
+        ++ t) (append-nil (answered (after_lines start 1 so_far.lines) (1 + length so_far.lines) line).text ∙ sym told_text)
 
-    knows : (known left : Option (List ℕ)) → IfSome known (λ all. (rest : List ℕ) × (left ≡ Some rest) × (lines_of all ≡ so_far.lines ++ lines_of rest))
+    knows : (known left : Option (List ℕ))
+        → IfSome known (λ all. (rest : List ℕ) × (left ≡ Some rest) × (lines_of all ≡ so_far.lines ++ lines_of rest))
         → GivesLine left new bytes
-        → IfSome known (λ all. (rest : List ℕ) × (new ≡ Some rest) × (lines_of all ≡ (so_far.lines ++ line ∷ []) ++ lines_of rest))
+        → IfSome known (λ all. (rest : List ℕ) × (new ≡ Some rest)
+        × (lines_of all ≡ (so_far.lines ++ line ∷ []) ++ lines_of rest))
     knows None left had gives = tt
     knows (Some all) None had gives = absurd (let e = had.1 in cc)
     knows (Some all) (Some text) had gives =
@@ -161,8 +171,10 @@ no_lines [] none = refl
 no_lines (byte ∷ text) none = absurd (taken_some byte text none)
 
 -- nothing is left
-pub ends : {T : Type 0} (whole left new : Option (List ℕ)) (start now : Machines) (number : ℕ) (first old : Option (List ℕ)) (bytes : List ℕ) (done : T)
-    → IsSoFar whole left start now number first old → GivesLine left new bytes → bytes ≡ [] → Converses start whole first old (Ok done)
+pub ends : {T : Type 0} (whole left new : Option (List ℕ)) (start now : Machines) (number : ℕ) (first old : Option (List ℕ))
+    (bytes : List ℕ) (done : T)
+    → IsSoFar whole left start now number first old → GivesLine left new bytes → bytes ≡ []
+    → Converses start whole first old (Ok done)
 unfolding pieces
 ends None left new start now number first old bytes done so_far gives none = (so_far.lines, so_far.answers)
 ends (Some all) None new start now number first old bytes done so_far gives none = absurd (let e = so_far.known.1 in cc)
@@ -186,7 +198,8 @@ begun_text start first old new lines more text had begun rest is = (
 )
 
 -- no line more was answered
-pub stops : (T : Type 0) (whole left : Option (List ℕ)) (start now : Machines) (number : ℕ) (first old : Option (List ℕ)) (told : Failure)
+pub stops : (T : Type 0) (whole left : Option (List ℕ)) (start now : Machines) (number : ℕ) (first old : Option (List ℕ))
+    (told : Failure)
     → IsSoFar whole left start now number first old → Converses {T = T} start whole first old (Err told)
 stops T whole left start now number first old told so_far = at whole so_far.known
   where
@@ -196,15 +209,18 @@ stops T whole left start now number first old told so_far = at whole so_far.know
 
     so : (more : List (List ℕ)) → Begins first old (transcript start 1 (so_far.lines ++ more))
     so more = begun_text start first old old so_far.lines more [] so_far.answers ([], [], refl, none_more old)
-        (transcript (after_lines start 1 so_far.lines) (1 + length so_far.lines) more) (transcript_behind start 1 so_far.lines more)
+        (transcript (after_lines start 1 so_far.lines) (1 + length so_far.lines) more)
+        (transcript_behind start 1 so_far.lines more)
 
-    at : (known : Option (List ℕ)) → IfSome known (λ all. (rest : List ℕ) × (left ≡ Some rest) × (lines_of all ≡ so_far.lines ++ lines_of rest))
+    at : (known : Option (List ℕ)) → IfSome known (λ all. (rest : List ℕ) × (left ≡ Some rest)
+        × (lines_of all ≡ so_far.lines ++ lines_of rest))
         → Converses {T = T} start known first old (Err told)
     at None had = (so_far.lines, subst (λ ls. Begins first old (transcript start 1 ls)) (append-nil so_far.lines) (so []))
     at (Some all) had = subst (λ ls. Begins first old (transcript start 1 ls)) (sym had.2) (so (lines_of had.0))
 
 -- the answer to a line wasn't written whole
-pub breaks_off : (T : Type 0) (whole left new : Option (List ℕ)) (start now : Machines) (number : ℕ) (first old written : Option (List ℕ))
+pub breaks_off : (T : Type 0) (whole left new : Option (List ℕ)) (start now : Machines) (number : ℕ)
+    (first old written : Option (List ℕ))
     (bytes line behind : List ℕ) (told : Failure) → IsSoFar whole left start now number first old → GivesLine left new bytes
     → bytes ≢ [] → lines_of bytes ≡ line ∷ lines_of behind → Begins old written (answered now number line).text
     → Converses {T = T} start whole first written (Err told)
@@ -212,17 +228,22 @@ unfolding transcript
 breaks_off T whole left new start now number first old written bytes line behind told so_far gives some is begun =
     at whole left so_far.known gives
   where
-    told_text : (answered now number line).text ≡ (answered (after_lines start 1 so_far.lines) (1 + length so_far.lines) line).text
+    told_text : (answered now number line).text
+        ≡ (answered (after_lines start 1 so_far.lines) (1 + length so_far.lines) line).text
     told_text = ap (λ m. (answered m number line).text) so_far.machines
         ∙ ap (λ n. (answered (after_lines start 1 so_far.lines) n line).text) so_far.counted
 
     so : (more : List (List ℕ)) → Begins first written (transcript start 1 (so_far.lines ++ line ∷ more))
     so more = begun_text start first old written so_far.lines (line ∷ more) (answered now number line).text so_far.answers begun
-        (transcript (answered (after_lines start 1 so_far.lines) (1 + length so_far.lines) line).state ((1 + length so_far.lines) + 1) more)
+        (transcript (answered (after_lines start 1 so_far.lines) (1 + length so_far.lines) line).state
+        ((1 + length so_far.lines) + 1) more)
         (transcript_behind start 1 so_far.lines (line ∷ more)
-        ∙ ap (λ t. transcript start 1 so_far.lines ++ (t ++ transcript (answered (after_lines start 1 so_far.lines) (1 + length so_far.lines) line).state ((1 + length so_far.lines) + 1) more)) (sym told_text))
+        ∙ ap (λ t. transcript start 1 so_far.lines
+        ++ (t ++ transcript (answered (after_lines start 1 so_far.lines) (1 + length so_far.lines) line).state
+        ((1 + length so_far.lines) + 1) more)) (sym told_text))
 
-    at : (known left : Option (List ℕ)) → IfSome known (λ all. (rest : List ℕ) × (left ≡ Some rest) × (lines_of all ≡ so_far.lines ++ lines_of rest))
+    at : (known left : Option (List ℕ))
+        → IfSome known (λ all. (rest : List ℕ) × (left ≡ Some rest) × (lines_of all ≡ so_far.lines ++ lines_of rest))
         → GivesLine left new bytes → Converses {T = T} start known first written (Err told)
     at None left had gives = (so_far.lines ++ line ∷ [], so [])
     at (Some all) None had gives = absurd (let e = had.1 in cc)
@@ -230,7 +251,8 @@ breaks_off T whole left new start now number first old written bytes line behind
         let same : had.0 ≡ text = let e = had.1 in cc in
         let cut = given_line bytes line behind text some is gives.0 in
         subst (λ ls. Begins first written (transcript start 1 ls))
-        (sym (had.2 ∙ (ap (λ t. so_far.lines ++ lines_of t) same ∙ ap (λ ls. so_far.lines ++ ls) cut))) (so (lines_of (drop_through 10 text)))
+        (sym (had.2 ∙ (ap (λ t. so_far.lines ++ lines_of t) same ∙ ap (λ ls. so_far.lines ++ ls) cut)))
+        (so (lines_of (drop_through 10 text)))
 
 -- what was given is nothing, or something
 pub none_left : (bytes : List ℕ) → (length bytes == 0) ≡ true → bytes ≡ []

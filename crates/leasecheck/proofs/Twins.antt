@@ -16,7 +16,8 @@ drop_all (guid ∷ guids) (suc n) le = drop_all guids n (omega arith)
 pub to_the_end : (guids : List (List ℕ)) (m : ℕ) → take (length guids - m) (drop m guids) ≡ drop m guids
 to_the_end guids m = take_all (length guids - m) (drop m guids) (omega (arith, length-drop m guids))
 
-pub found : (guids : List (List ℕ)) (n : ℕ) (d : List ℕ) (behind : ℕ) → n < length guids → twins 1 guids ≡ twins (n + 1) (drop n guids)
+pub found : (guids : List (List ℕ)) (n : ℕ) (d : List ℕ) (behind : ℕ) → n < length guids
+    → twins 1 guids ≡ twins (n + 1) (drop n guids)
     → position (bytes_eq (get_or guids n d)) (drop (n + 1) guids) ≡ Some behind → Some (n + 1, n + 1 + 1 + behind) ≡ twins 1 guids
 unfolding twins
 found guids n d behind inside same is = sym (same ∙ (rw (drop_rest guids n d inside, is) refl))
@@ -26,6 +27,7 @@ pub passed : (guids : List (List ℕ)) (n : ℕ) (d : List ℕ) → n < length g
 unfolding twins
 passed guids n d inside same is = same ∙ (rw (drop_rest guids n d inside, is) refl)
 
-pub none_left : (guids : List (List ℕ)) (n : ℕ) → length guids ≤ n → twins 1 guids ≡ twins (n + 1) (drop n guids) → None ≡ twins 1 guids
+pub none_left : (guids : List (List ℕ)) (n : ℕ) → length guids ≤ n → twins 1 guids ≡ twins (n + 1) (drop n guids)
+    → None ≡ twins 1 guids
 unfolding twins
 none_left guids n le same = sym (same ∙ ap (twins (n + 1)) (drop_all guids n le))

@@ -141,7 +141,8 @@ others_counted own (key ∷ keys) sorted = either (key_eq key own)
     (λ t.
     let same = key_eq-same key own t in
     let apart : (other : Key) → Among other keys → key_eq other own ≡ false =
-    λ other a. sym (order_eq-back own other) ∙ ap is_eq (ap (λ k. key_order k other) (sym same) ∙ before_all key keys sorted.0 other a) in
+    λ other a. sym (order_eq-back own other)
+    ∙ ap is_eq (ap (λ k. key_order k other) (sym same) ∙ before_all key keys sorted.0 other a) in
     rw (t, order_eq-back own key, t) (none_own own keys apart ∙ one_below (length keys)))
     (λ t. rw (t, order_eq-back own key, t) (sym (below own key keys)))
   where
@@ -291,7 +292,8 @@ wants_to : (wish : Wish) (own : Option Key) (file : FileNo) (key : Key) (summari
 wants_to wish own file key summaries server summary None stand s is fits there apart needs = absurd (true≢false (sym needs))
 wants_to (NoHandles access share) own file key summaries server summary (Some known) stand s is fits there apart needs =
     let both = and_parts (tally_conflicts access share known.tally) (leases.lease_of known.lease).state.handle needs in
-    let some = sym (conflicts_are access share (has_key key) server.opens) ∙ (ap (tally_conflicts access share) (sym fits.tally) ∙ both.0) in
+    let some = sym (conflicts_are access share (has_key key) server.opens)
+        ∙ (ap (tally_conflicts access share) (sym fits.tally) ∙ both.0) in
     let found = any_has (λ o. has_key key o && conflict access share o.access o.share) server.opens some in
     let parts = and_parts (has_key key found.0) (conflict access share (found.0).access (found.0).share) found.2 in
     let other = any_has (has_key_on file.0 key) server.opens (sym (s.keys key) ∙ there) in
@@ -350,7 +352,8 @@ wants_from : (wish : Wish) (own : Option Key) (file : FileNo) (key : Key) (summa
 wants_from wish own file key summaries server summary None one stand s is fits there has wanted =
     absurd (true≢false (sym (has_any (has_key key) one server.opens there has) ∙ fits))
 wants_from (NoHandles access share) own file key summaries server summary (Some known) one stand s is fits there has wanted =
-    let a = and_parts (conflicts_on file.0 access share one && is_other_on own file.0 one) (lease_of server one).state.handle wanted in
+    let a = and_parts (conflicts_on file.0 access share one && is_other_on own file.0 one) (lease_of server one).state.handle
+        wanted in
     let b = and_parts (conflicts_on file.0 access share one) (is_other_on own file.0 one) a.0 in
     let o = on_other own file.0 key one b.1 has in
     record {
@@ -432,4 +435,5 @@ pub wanted_none : (demand : Demand) (server : Server) → list_any (is_on demand
     → [] ≡ keys_of (filter (is_demanded demand server) server.opens)
 wanted_none demand server none =
     no_keys (is_demanded demand server) server.opens (λ one a. not_true (is_demanded demand server one) (λ w.
-    clash (is_on demand.file.0 one) (on_file demand.wish server demand.own demand.file.0 one w) (none_has (is_on demand.file.0) one server.opens none a)))
+    clash (is_on demand.file.0 one) (on_file demand.wish server demand.own demand.file.0 one w)
+        (none_has (is_on demand.file.0) one server.opens none a)))

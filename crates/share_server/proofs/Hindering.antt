@@ -147,7 +147,8 @@ pub others_hindering : (own : Option Key) (file : ℕ) (opens : List Open) (leas
     ≡ list_any (λ key. not (is_own_key own key) && is_hindering summary key) summary.keys.keys
 others_hindering own file opens leases summary s sorted marked =
     let among : (key : Key) → is_marked summary key ≡ true → contains key_order summary.keys key ≡ true =
-    λ key m. s.keys key ∙ (and_parts (list_any (has_key_on file key) opens) (is_harmless (leases key)) (sym (s.harmless key) ∙ m)).0 in
+    λ key m. s.keys key ∙ (and_parts (list_any (has_key_on file key) opens) (is_harmless (leases key))
+    (sym (s.harmless key) ∙ m)).0 in
     ap (nat_lt (own_hindering own summary)) (sym (hindering_counted summary among sorted marked))
     ∙ (sym (others_hinder own summary (filter_sorted (λ key. not (is_marked summary key)) summary.keys.keys sorted))
     ∙ (any_filtered (λ key. not (is_marked summary key)) (λ key. not (is_own_key own key)) summary.keys.keys

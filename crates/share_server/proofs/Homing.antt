@@ -78,7 +78,8 @@ write_fits (Some one) server patch wants e =
     fits_where (may_write one.access) (is_within_limit patch) wants (all_wants server (key_of_open one) one.file) _ _ e
 
 at_home : (server : Server) (client : ℕ) (request : FileRequest) (wants : List Want)
-    → finding server client request ≡ Finding.Needs wants → RequestFree server client request → CanBeAnswered client request server
+    → finding server client request ≡ Finding.Needs wants → RequestFree server client request
+    → CanBeAnswered client request server
 unfolding finding
 at_home server client (FileRequest.Create file access share None) wants found free = tt
 at_home server client (FileRequest.Create file access share (Some ask)) wants found free = contexts ask.reconnect free

@@ -204,7 +204,8 @@ pub lease_gone : (key : Key) (before after : Key → Option LeaseRecord) → IsK
     → (other : Key) → lease_or_none (after other)
     ≡ (if key_eq other key && true then no_lease else lease_or_none (before other))
 lease_gone key before after changed =
-    at_key (λ other. lease_or_none (after other) ≡ (if key_eq other key && true then no_lease else lease_or_none (before other))) key
+    at_key (λ other. lease_or_none (after other) ≡ (if key_eq other key && true then no_lease else lease_or_none (before other)))
+        key
     (rw (changed.there, key_eq-refl key) refl)
     (λ other e. rw (changed.apart other e, e) refl)
 
@@ -212,7 +213,8 @@ pub lease_missing : (key : Key) (known : Key → Option LeaseRecord) → known k
     → (other : Key) → lease_or_none (known other)
     ≡ (if key_eq other key && true then no_lease else lease_or_none (known other))
 lease_missing key known none =
-    at_key (λ other. lease_or_none (known other) ≡ (if key_eq other key && true then no_lease else lease_or_none (known other))) key
+    at_key (λ other. lease_or_none (known other) ≡ (if key_eq other key && true then no_lease else lease_or_none (known other)))
+        key
     (rw (none, key_eq-refl key) refl)
     (λ other e. rw e refl)
 
@@ -221,7 +223,8 @@ pub lease_put : (key : Key) (lease : Lease) (file : FileNo) (tally : Tally) (bef
     → (other : Key) → lease_or_none (after other)
     ≡ (if key_eq other key then lease_of lease else lease_or_none (before other))
 lease_put key lease file tally before after changed =
-    at_key (λ other. lease_or_none (after other) ≡ (if key_eq other key then lease_of lease else lease_or_none (before other))) key
+    at_key (λ other. lease_or_none (after other) ≡ (if key_eq other key then lease_of lease else lease_or_none (before other)))
+        key
     (rw (changed.there, key_eq-refl key) refl)
     (λ other e. rw (changed.apart other e, e) refl)
 

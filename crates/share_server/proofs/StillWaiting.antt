@@ -85,7 +85,8 @@ pub in_vain : (server : Server) (file client : ℕ) (request : FileRequest) → 
     → HasOnlyToWait server file client request → IsTriedInVain server client request
 in_vain server file client request spare has outs =
     waits 2 client request (at_call server outs) (at_call server outs) has.wants
-    (unready_needs (λ wants. is_ready request server.leases wants) (finding server client request) has.wants has.found has.waits.unready)
+    (unready_needs (λ wants. is_ready request server.leases wants) (finding server client request) has.wants has.found
+    has.waits.unready)
     (sym (met_already server file has.wants outs spare has.waits.under_way)) has.waits.must_wait
 
 -- ---- what decides a try

@@ -157,7 +157,8 @@ elsewhere_none key file at [] apart none = refl
 elsewhere_none key file at (one ∷ opens) apart none =
     let e = elsewhere_none key file at opens apart in grind (arith, nat_tests, e)
 
-pub sums_up_apart : (one : Open) (marks : LeaseMarks) (file : ℕ) (summary : FileSummary) (less more : List Open) (leases later : Key → Lease)
+pub sums_up_apart : (one : Open) (marks : LeaseMarks) (file : ℕ) (summary : FileSummary) (less more : List Open)
+    (leases later : Key → Lease)
     → IsOneMore one less more → is_on file one ≡ false → AreAfter one marks less leases later
     → SumsUp file less leases summary → SumsUp file more later summary
 sums_up_apart one marks file summary less more leases later m apart after s = record {
@@ -532,7 +533,8 @@ fits_alike file opens leases later (Some summary) same fits = record {
     writers = λ key. fits.sums_up.writers key
         ∙ ap (λ b. list_any (has_key_on file key) opens && b) (sym (mark_writes (later key) (marks_of (leases key)) (same key)));
     harmless = λ key. fits.sums_up.harmless key
-        ∙ ap (λ b. list_any (has_key_on file key) opens && b) (sym (mark_harmless (later key) (marks_of (leases key)) (same key)));
+        ∙ ap (λ b. list_any (has_key_on file key) opens
+        && b) (sym (mark_harmless (later key) (marks_of (leases key)) (same key)));
   };
 }
 

@@ -119,7 +119,8 @@ pub chosen : (test : Open → Bool) (opens : List Open) (one : Open) → AreInOr
     → is_one_of (map (λ o. o.file_id) (filter test opens)) one ≡ test one
 chosen test opens one order among = either (test one)
     (λ t. has_any (λ id. has_id id one) one.file_id (map (λ o. o.file_id) (filter test opens))
-    (mapped one (filter test opens) (among_filtered test one opens among t)) ((Decides-eqb one.file_id one.file_id).1 refl) ∙ sym t)
+    (mapped one (filter test opens) (among_filtered test one opens among t)) ((Decides-eqb one.file_id one.file_id).1 refl)
+    ∙ sym t)
     (λ t. not_true _ (λ some.
     let id = any_has (λ id. has_id id one) (map (λ o. o.file_id) (filter test opens)) some in
     let other = among_map (λ (o : Open). o.file_id) id.0 (filter test opens) id.1 in
@@ -265,7 +266,8 @@ lease_written table key lease summaries after same now =
 
 -- ---- a new open
 
-new_leases : (client : ℕ) (bytes : Option (List ℕ)) (server : Server) (lease : Lease) (later : Key → Lease) (opens : List Open) (last : ℕ)
+new_leases : (client : ℕ) (bytes : Option (List ℕ)) (server : Server) (lease : Lease) (later : Key → Lease) (opens : List Open)
+    (last : ℕ)
     → ((key : Key) → later key ≡ (if is_key key client bytes then lease else server.leases key))
     → record server { opens = opens; leases = later; last_id = last }
     ≡ record (lease_put_by server client bytes lease) { opens = opens; last_id = last }

@@ -56,7 +56,8 @@ noted_begun : (world : World) (client : ℕ) (notes : List Note) → IsBegun wor
 unfolding noted starts_first
 noted_begun world client [] b = b
 noted_begun world client (Note.Settled number outcome ∷ notes) b = noted_begun _ client notes (record { first = b.first })
-noted_begun world client (Note.Wrote file number patch buffered ∷ notes) b = noted_begun _ client notes (record { first = b.first })
+noted_begun world client (Note.Wrote file number patch buffered ∷ notes) b = noted_begun _ client notes
+    (record { first = b.first })
 noted_begun world client (Note.Believes file state ∷ notes) b = noted_begun _ client notes (record { first = b.first })
 noted_begun world client (Note.CachedRead file bytes ∷ notes) b = noted_begun _ client notes (record { first = b.first })
 
@@ -74,7 +75,8 @@ stepped_begun world client step b = noted_begun _ client step.notes (record { fi
 server_takes_begun : (world : World) (client : ℕ) (queue : List Request) → IsBegun world
     → IsBegun (server_takes world client queue)
 server_takes_begun world client [] b = b
-server_takes_begun world client (request ∷ queue) b = served_begun _ (receive world.server client request) (record { first = b.first })
+server_takes_begun world client (request ∷ queue) b = served_begun _ (receive world.server client request)
+    (record { first = b.first })
 
 -- a client takes a reply
 client_takes_begun : (world : World) (client : ℕ) (queue : List Reply) → IsBegun world

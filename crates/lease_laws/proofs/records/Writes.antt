@@ -58,7 +58,8 @@ filter_same one other is (y ∷ xs) = either (other y)
     (λ o. rw (is y, o) (filter_same one other is xs))
 
 -- the patch of a last write is the last
-patches_last : (writes : List Pending) (write : Pending) → patches_of (writes ++ write ∷ []) ≡ patches_of writes ++ write.patch ∷ []
+patches_last : (writes : List Pending) (write : Pending)
+    → patches_of (writes ++ write ∷ []) ≡ patches_of writes ++ write.patch ∷ []
 patches_last [] write = refl
 patches_last (first ∷ writes) write = ap (λ (l : List Patch). first.patch ∷ l) (patches_last writes write)
 

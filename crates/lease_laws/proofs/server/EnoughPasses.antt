@@ -91,7 +91,8 @@ lease_put_holds server client (Some asked) lease = refl
 
 -- an open is granted with its lease
 granted_with_holds : (client file : ℕ) (access : Access) (share : Share) (asked : Option LeaseOf) (durable : Bool)
-    (lease : Lease) (progress : Progress) → HoldsSame progress (granted_with client file access share asked durable lease progress)
+    (lease : Lease) (progress : Progress)
+    → HoldsSame progress (granted_with client file access share asked durable lease progress)
 unfolding granted_with
 granted_with_holds client file access share asked durable lease progress =
     lease_put_holds progress.server client asked lease
@@ -130,14 +131,16 @@ on_contexts_holds client file access share (Some ask) progress =
     created_holds client file access share ask.lease ask.durable ask.reconnect progress
 
 -- any request that is ready is answered
-answered_holds : (client : ℕ) (request : FileRequest) (progress : Progress) → HoldsSame progress (answered client request progress)
+answered_holds : (client : ℕ) (request : FileRequest) (progress : Progress)
+    → HoldsSame progress (answered client request progress)
 unfolding answered changed closed
 answered_holds client (FileRequest.Create file access share contexts) progress =
     on_contexts_holds client file access share contexts progress
 answered_holds client (FileRequest.Read file_id) progress =
     on_open_holds (connected_open progress.server client file_id) (λ file. read_done client file file_id) progress (λ file. refl)
 answered_holds client (FileRequest.Write file_id number patch) progress =
-    on_open_holds (connected_open progress.server client file_id) (λ file. changed client file file_id number patch) progress (λ file. refl)
+    on_open_holds (connected_open progress.server client file_id) (λ file. changed client file file_id number patch) progress
+        (λ file. refl)
 answered_holds client (FileRequest.Close file_id) progress =
     on_open_holds (connected_open progress.server client file_id) (λ file. closed client file_id) progress
     (λ file. dropped_holds (λ one. one.file_id == file_id) progress)

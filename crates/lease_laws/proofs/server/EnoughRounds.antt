@@ -181,7 +181,8 @@ lease_lowered_after holds key lowered progress low settled =
       connected_left = λ test. refl;
       same_files = refl;
       still_breaking = λ other b h. put_key-cases (λ (l : Lease). is_breaking l ≡ true) progress.server.leases key new other
-          (λ same. clash (is_breaking (progress.server.leases key)) (ap (λ k. is_breaking (progress.server.leases k)) (sym same) ∙ b) settled)
+          (λ same. clash (is_breaking (progress.server.leases key)) (ap (λ k. is_breaking (progress.server.leases k)) (sym same)
+          ∙ b) settled)
           (λ apart. b);
       no_new_right = λ other h. put_key-cases (λ (l : Lease). holds l.state ≡ false) progress.server.leases key new other
           (λ same. low) (λ apart. h);
@@ -346,10 +347,12 @@ still_wanted holds base lowering before after one bytes e round a t =
     let key : Key = key_of one.client bytes in
     let lease : lease_of after one ≡ after.leases key = ap (λ (k : Option (List ℕ)). lease_by after one.client k) e in
     let want : Want = record { key = key; lowered = lowering (before.leases key).state } in
-    let parts : (base one ≡ true) × (holds (lease_of after one).state ≡ true) = and_parts (base one) (holds (lease_of after one).state) t in
+    let parts : (base one ≡ true) × (holds (lease_of after one).state ≡ true) = and_parts (base one)
+        (holds (lease_of after one).state) t in
     let now : holds (after.leases key).state ≡ true = ap (λ (l : Lease). holds l.state) (sym lease) ∙ parts.1 in
     let was : holds (before.leases key).state ≡ true =
-    not_false (holds (before.leases key).state) (λ n. clash (holds (after.leases key).state) now (round.goes_on.no_new_right key n)) in
+    not_false (holds (before.leases key).state) (λ n. clash (holds (after.leases key).state) now
+        (round.goes_on.no_new_right key n)) in
     let wanted_too : Among want (wanted holds base lowering before) =
     wanted_has holds base lowering before one bytes (round.goes_on.no_new_open one a) e parts.0 was in
     record {

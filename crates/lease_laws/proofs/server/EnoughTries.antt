@@ -229,7 +229,8 @@ abbrev in_conflict : Option Key → ℕ → Access → Share → Open → Bool
 in_conflict own file access share one = conflicts_on file access share one && is_other_on own file one
 
 -- where no conflict is left and nobody else caches writes, the create is ready
-last_round : (rounds client file : ℕ) (access : Access) (share : Share) (lease : Option LeaseOf) (durable : Bool) (progress : Progress)
+last_round : (rounds client file : ℕ) (access : Access) (share : Share) (lease : Option LeaseOf) (durable : Bool)
+    (progress : Progress)
     → IsAt (own_key client lease) file progress.server
     → list_any (conflicts_on file access share) progress.server.opens ≡ false
     → ((one : Open) → Among one progress.server.opens
@@ -243,7 +244,8 @@ last_round rounds client file access share lease durable progress at calm none =
     (nothing_wanted writes (is_other_on (own_key client lease) file) without_write progress.server none))
 
 -- where no conflict is left, two rounds are enough
-write_round : (rounds client file : ℕ) (access : Access) (share : Share) (lease : Option LeaseOf) (durable : Bool) (progress : Progress)
+write_round : (rounds client file : ℕ) (access : Access) (share : Share) (lease : Option LeaseOf) (durable : Bool)
+    (progress : Progress)
     → IsAt (own_key client lease) file progress.server
     → list_any (conflicts_on file access share) progress.server.opens ≡ false
     → Ends (suc (suc rounds)) client (create file access share lease durable) progress

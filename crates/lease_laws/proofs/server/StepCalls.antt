@@ -110,7 +110,8 @@ passes_over-steps call (file ∷ files) progress f =
     (passes_for-waits (length (progress.server.held file) + 1) file progress (omega arith) f).fine)
 
 -- passes over all files
-all_passes-steps : (call : Call) (progress : Progress) → IsFine progress.server → GoesBySteps call 0 progress (all_passes progress)
+all_passes-steps : (call : Call) (progress : Progress) → IsFine progress.server
+    → GoesBySteps call 0 progress (all_passes progress)
 unfolding all_passes
 all_passes-steps call progress f = passes_over-steps call (numbers_to progress.server.files) progress f
 
@@ -181,10 +182,12 @@ still_first : (client file : ℕ) (request : FileRequest) (before after : Progre
     → is_behind client (after.server.held other) ≡ false
 still_first client file request before after same asked first other e =
     ap (λ held. is_behind client (held other)) same
-    ∙ ap (λ at. is_behind client (before.server.held at)) (one_file (file_asked after.server client request) file other asked e) ∙ first
+    ∙ ap (λ at. is_behind client (before.server.held at)) (one_file (file_asked after.server client request) file other asked e)
+    ∙ first
 
 -- what follows a first try
-first_try-steps : (call : Call) (client file : ℕ) (request : FileRequest) (before : Progress) (progress : Progress) (outcome : Outcome)
+first_try-steps : (call : Call) (client file : ℕ) (request : FileRequest) (before : Progress) (progress : Progress)
+    (outcome : Outcome)
     → call ≡ Call.Receive client (Request.OnFile request) → before.server.present client ≡ true
     → IsTry client request before (record { progress = progress; outcome = outcome })
     → GoesBySteps call 0 before progress
@@ -217,7 +220,8 @@ arrived_on-steps : (call : Call) (client : ℕ) (request : FileRequest) (progres
     → GoesBySteps call 1 progress (arrived_on client request progress asked)
 arrived_on-steps call client request progress (Err status) of f w up e =
     step_one call (SmallStep.Answer client request (Outcome.Refused status)) progress
-    (up, asked-refuses progress.server client request status e) (λ file asked. absurd (no_file (file_asked progress.server client request) status file e asked))
+    (up, asked-refuses progress.server client request status e) (λ file asked. absurd
+    (no_file (file_asked progress.server client request) status file e asked))
     of
 arrived_on-steps call client request progress (Ok file) of f w up e =
     let done = tried client request progress in

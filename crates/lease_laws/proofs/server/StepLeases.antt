@@ -192,7 +192,8 @@ concluded-lease client (FileRequest.Close file_id) progress Outcome.Ready key s 
 -- ---- acknowledgments
 
 -- the granted form of a part is a part
-form_part : (state lowered : State) → is_state_within state lowered ≡ true → is_state_within (granted_form_of state) lowered ≡ true
+form_part : (state lowered : State) → is_state_within state lowered ≡ true
+    → is_state_within (granted_form_of state) lowered ≡ true
 form_part state lowered part = if_cases (λ s. is_state_within s lowered ≡ true) state.read state nothing_cached
     (λ e. part) (λ e. refl)
 

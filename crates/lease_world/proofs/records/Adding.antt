@@ -54,8 +54,10 @@ two_judged place fact past new v e w two = rw e (record {
   known = λ s. let c : ⊥ = cc in absurd c;
 })
 
-stale_judged : (place : ℕ) (fact : Fact) (past : List Fact) (new : Seen) (v : Verdict) → v ≡ Verdict.Unsafe place Rule.FreshCachedReads
-    → is_well_formed fact past ≡ true → OneWriteCache (fact ∷ past) → is_stale_read fact past ≡ true → Judges place fact past new v
+stale_judged : (place : ℕ) (fact : Fact) (past : List Fact) (new : Seen) (v : Verdict)
+    → v ≡ Verdict.Unsafe place Rule.FreshCachedReads
+    → is_well_formed fact past ≡ true → OneWriteCache (fact ∷ past) → is_stale_read fact past ≡ true
+    → Judges place fact past new v
 stale_judged place fact past new v e w one stale = rw e (record {
   told = sym (stale-here place fact past w one stale);
   known = λ s. let c : ⊥ = cc in absurd c;
@@ -86,7 +88,8 @@ record AllWell (fact : Fact) (past : List Fact) : Type 0 where
   done : is_false_done fact past ≡ false
 
 safe_judged : (place : ℕ) (fact : Fact) (past : List Fact) (old new : Seen) (v : Verdict) → v ≡ Verdict.Safe → AllWell fact past
-    → ((f : ℕ) → KnowsFile f (file_in new.files f) (fact ∷ past)) → ((c : ℕ) → KnowsClient c (client_in new.clients c) (fact ∷ past))
+    → ((f : ℕ) → KnowsFile f (file_in new.files f) (fact ∷ past))
+    → ((c : ℕ) → KnowsClient c (client_in new.clients c) (fact ∷ past))
     → ((c f : ℕ) → Holds new.files new.clients c f) → KnowsHolders new.holders (fact ∷ past) → Knows old past
     → Judges place fact past new v
 safe_judged place fact past old new v e well files clients contents holders k = rw e (record {
@@ -138,7 +141,8 @@ pub record Quiet (client : ℕ) (fact : Fact) : Type 0 where
   files : (f : ℕ) → touches f fact ≡ false
   others : (c : ℕ) → c ≢ client → concerns c fact ≡ false
 
-put_judged : (place client : ℕ) (fact : Fact) (seen : SeenClient) (old new : Seen) (v : Verdict) (past : List Fact) → Knows old past
+put_judged : (place client : ℕ) (fact : Fact) (seen : SeenClient) (old new : Seen) (v : Verdict) (past : List Fact)
+    → Knows old past
     → v ≡ Verdict.Safe → PutsClient client seen old new → Quiet client fact → AllWell fact past
     → KnowsClient client seen (fact ∷ past)
     → ((f : ℕ) → HasContents (file_in old.files f) seen.taken (cache_in seen.caches f))
@@ -202,7 +206,8 @@ unfolding is_well_formed is_stale_read is_late_write is_false_done
 dropped_judged place client old new v past k adds =
     put_judged place client (Fact.Dropped client) (record (client_in old.clients client) { served = false }) old new v past k
     adds.0 adds.1.0 (record { files = λ f. refl; others = λ c ne. is_apart c client ne })
-    (record { formed = refl; one = one-stays (Fact.Dropped client) past refl k.one_write_cache; stale = refl; late = refl; done = refl })
+    (record { formed = refl; one = one-stays (Fact.Dropped client) past refl k.one_write_cache; stale = refl; late = refl;
+    done = refl })
     (client_drops client (client_in old.clients client) past (k.clients client))
     (λ f. k.contents client f)
     (left_holders client (Fact.Dropped client) old new past refl (dropped_bad client past) (dropped_good client past) k adds.1.1)
@@ -213,7 +218,8 @@ unfolding is_well_formed is_stale_read is_late_write is_false_done
 strayed_judged place client old new v past k adds =
     put_judged place client (Fact.Strayed client) (record (client_in old.clients client) { strayed = true }) old new v past k
     adds.0 adds.1.0 (record { files = λ f. refl; others = λ c ne. is_apart c client ne })
-    (record { formed = refl; one = one-stays (Fact.Strayed client) past refl k.one_write_cache; stale = refl; late = refl; done = refl })
+    (record { formed = refl; one = one-stays (Fact.Strayed client) past refl k.one_write_cache; stale = refl; late = refl;
+    done = refl })
     (client_strays client (client_in old.clients client) past (k.clients client))
     (λ f. k.contents client f)
     (left_holders client (Fact.Strayed client) old new past refl (strayed_bad client past) (strayed_good client past) k adds.1.1)
@@ -244,7 +250,8 @@ sent_judged place client old new v past k at adds =
     put_judged place client (Fact.Sent client)
     (record (client_in old.clients client) { sent = (client_in old.clients client).sent ++ place ∷ [] }) old new v past k
     adds.0 adds.1.0 (record { files = λ f. refl; others = λ c ne. is_apart c client ne })
-    (record { formed = refl; one = one-stays (Fact.Sent client) past refl k.one_write_cache; stale = refl; late = refl; done = refl })
+    (record { formed = refl; one = one-stays (Fact.Sent client) past refl k.one_write_cache; stale = refl; late = refl;
+    done = refl })
     (client_sent client place (client_in old.clients client) past at (k.clients client))
     (λ f. k.contents client f)
     (holders-stay (Fact.Sent client) past old.holders new.holders refl adds.1.1 k.holders)
@@ -355,7 +362,8 @@ joined_judged place client old new v past k adds =
 
 -- ---- a file is opened
 
-opened_judged : (place file client : ℕ) (old new : Seen) (v : Verdict) (past : List Fact) → Knows old past → place ≡ length past + 1
+opened_judged : (place file client : ℕ) (old new : Seen) (v : Verdict) (past : List Fact) → Knows old past
+    → place ≡ length past + 1
     → OpenedAdds place file client old new v → Judges place (Fact.Opened file client) past new v
 unfolding is_well_formed is_stale_read is_late_write is_false_done
 opened_judged place file client old new v past k at adds = match_bool (is_started_in old.files file) adds
@@ -398,7 +406,8 @@ changed_formed : (file client number : ℕ) (patch : Patch) (old : Seen) (past :
 unfolding is_well_formed
 changed_formed file client number patch old past k = rw (started_told old file past k) refl
 
-accepted_held : (file : SeenFile) (seen now : SeenClient) (f number of_file : ℕ) (patch : Patch) → Accepts of_file number patch seen now
+accepted_held : (file : SeenFile) (seen now : SeenClient) (f number of_file : ℕ) (patch : Patch)
+    → Accepts of_file number patch seen now
     → HasContents file seen.taken (cache_in seen.caches f) → HasContents file now.taken (cache_in now.caches f)
 accepted_held file seen now f number of_file patch is h = rw is.0 h
 
@@ -422,7 +431,8 @@ changed_judged place file client number patch old new v past k at adds =
     let now : file_in new.files file ≡ seen = file-here old.files new.files file seen is.1.1 in
     let others : (n : ℕ) → n ≢ file → file_in new.files n ≡ file_in old.files n =
     file-others old.files new.files file seen is.1.1 in
-    let held : (c f : ℕ) → HasContents (file_in new.files f) (client_in old.clients c).taken (cache_in (client_in old.clients c).caches f) =
+    let held : (c f : ℕ) → HasContents (file_in new.files f) (client_in old.clients c).taken
+        (cache_in (client_in old.clients c).caches f) =
     λ c f. each_place
     (λ n. HasContents (file_in new.files n) (client_in old.clients c).taken (cache_in (client_in old.clients c).caches n)) file
     (let low = rises-low (client_in old.clients c).taken (client_in old.clients c).sent (length past) (k.clients c).rising in
@@ -441,9 +451,11 @@ changed_judged place file client number patch old new v past k at adds =
     (one_file old new file fact past others (λ f ne. is_apart f file ne)
     (rw now (file_changes file client number place patch (file_in old.files file) past at (k.files file))) k)
     (one_client old new client fact past is.1.0.1 (λ c ne. is_apart c client ne)
-    (client_accepts client file number patch (client_in old.clients client) (client_in new.clients client) past is.1.0.0 (k.clients client)) k)
+    (client_accepts client file number patch (client_in old.clients client) (client_in new.clients client) past is.1.0.0
+    (k.clients client)) k)
     (λ c f. each_place (λ n. Holds new.files new.clients n f) client
-    (accepted_held (file_in new.files f) (client_in old.clients client) (client_in new.clients client) f number file patch is.1.0.0
+    (accepted_held (file_in new.files f) (client_in old.clients client) (client_in new.clients client) f number file patch
+    is.1.0.0
     (held client f))
     (λ n ne. rw (is.1.0.1 n ne) (held n f)) c)
     (holders-stay fact past old.holders new.holders refl is.1.2 k.holders) k))
@@ -518,7 +530,8 @@ settled_held : (files : ℕ → SeenFile) (seen now : SeenClient) (number : ℕ)
     → (f : ℕ) → HasContents (files f) now.taken (cache_in now.caches f)
 settled_held files seen now number is held f = rw is.0 (held f)
 
-settled_judged : (place client number : ℕ) (outcome : Settlement) (old new : Seen) (v : Verdict) (past : List Fact) → Knows old past
+settled_judged : (place client number : ℕ) (outcome : Settlement) (old new : Seen) (v : Verdict) (past : List Fact)
+    → Knows old past
     → SettledAdds place client number outcome old new v → Judges place (Fact.Settled client number outcome) past new v
 unfolding is_well_formed is_stale_read is_late_write
 settled_judged place client number outcome old new v past k adds =
@@ -574,7 +587,8 @@ own_belief client file state past = rw (self client, self file) refl
 no_conflict : (client file : ℕ) (state : State) (old : Seen) (past : List Fact) → Knows old past
     → is_rival client file state old ≡ false → is_good client past ≡ true
     → (f other : ℕ) → other ≢ client → is_good other past ≡ true
-    → is_conflict (believed client f (Fact.Believes client file state ∷ past)) (believed other f (Fact.Believes client file state ∷ past)) ≡ false
+    → is_conflict (believed client f (Fact.Believes client file state ∷ past))
+    (believed other f (Fact.Believes client file state ∷ past)) ≡ false
 no_conflict client file state old past k free good f other ne good_too =
     let next : List Fact = Fact.Believes client file state ∷ past in
     let seen : SeenClient = client_in old.clients client in
@@ -649,7 +663,8 @@ read_held files taken file bytes seen now same is started some held f =
     (cache_in now.caches file) is.1.0
     (contents-read taken bytes file seen now (files file) same (held file) started some is) held f)
 
-shown_judged : (place client file : ℕ) (bytes : List ℕ) (old new : Seen) (v : Verdict) (past : List Fact) (taken : Option ℕ) → Knows old past
+shown_judged : (place client file : ℕ) (bytes : List ℕ) (old new : Seen) (v : Verdict) (past : List Fact) (taken : Option ℕ)
+    → Knows old past
     → is_started_in old.files file ≡ true → is_good_client (client_in old.clients client) ≡ true
     → taken_of (client_in old.clients client) ≡ taken
     → ShowsAt place client file bytes old new v taken → Judges place (Fact.CachedRead client file bytes) past new v
@@ -664,17 +679,20 @@ shown_judged place client file bytes old new v past (Some taken) k started good 
     let formed : is_started file past ≡ true = sym (started_told old file past k) ∙ started in
     let one : OneWriteCache (fact ∷ past) = one-stays fact past refl k.one_write_cache in
     let stale : is_stale_read fact past ≡ not shows.0 =
-    read-of-good client file taken bytes (client_in old.clients client) (client_in new.clients client) (file_in old.files file) shows.0
+    read-of-good client file taken bytes (client_in old.clients client) (client_in new.clients client) (file_in old.files file)
+        shows.0
     past (k.clients client) (k.files file) (k.contents client file) started good some shows.1.0.0 in
     match_bool shows.0 shows.3
     (λ same e. safe_judged place fact past old new v e
     (record { formed = formed; one = one; stale = stale ∙ ap not same; late = refl; done = refl })
     (same_files old new fact past shows.1.1 (λ f. refl) k)
     (one_client old new client fact past shows.1.0.1 (λ c ne. refl)
-    (client_reads client file taken bytes (client_in old.clients client) (client_in new.clients client) (file_in old.files file) shows.0
+    (client_reads client file taken bytes (client_in old.clients client) (client_in new.clients client) (file_in old.files file)
+    shows.0
     past (k.clients client) shows.1.0.0) k)
     (holds_client old new client past shows.1.1 shows.1.0.1
-    (read_held (file_in old.files) taken file bytes (client_in old.clients client) (client_in new.clients client) shows.0 shows.1.0.0
+    (read_held (file_in old.files) taken file bytes (client_in old.clients client) (client_in new.clients client) shows.0
+    shows.1.0.0
     started some (k.contents client)) k)
     (holders-stay fact past old.holders new.holders refl shows.2 k.holders) k)
     (λ differs e. stale_judged place fact past new v e formed one (stale ∙ ap not differs))
@@ -686,7 +704,8 @@ read_judged place client file bytes old new v past k adds =
     let fact : Fact = Fact.CachedRead client file bytes in
     match_bool (is_started_in old.files file) adds
     (λ on more. match_bool (is_good_client (client_in old.clients client)) more
-    (λ good shows. shown_judged place client file bytes old new v past (taken_of (client_in old.clients client)) k on good refl shows)
+    (λ good shows. shown_judged place client file bytes old new v past (taken_of (client_in old.clients client)) k on good refl
+    shows)
     (λ bad is. safe_judged place fact past old new v is.0
     (record {
       formed = sym (started_told old file past k) ∙ on;
@@ -703,7 +722,8 @@ read_judged place client file bytes old new v past k adds =
 
 -- ---- any fact
 
-pub judged : (place : ℕ) (fact : Fact) (old new : Seen) (v : Verdict) (past : List Fact) → Knows old past → place ≡ length past + 1
+pub judged : (place : ℕ) (fact : Fact) (old new : Seen) (v : Verdict) (past : List Fact) → Knows old past
+    → place ≡ length past + 1
     → Adds place fact old new v → Judges place fact past new v
 judged place (Fact.Start file bytes) old new v past k at adds = start_judged place file bytes old new v past k adds
 judged place (Fact.Joined client) old new v past k at adds = joined_judged place client old new v past k adds

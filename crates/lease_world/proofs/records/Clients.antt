@@ -53,7 +53,8 @@ client_expires client file seen past k =
     client_over client seen (record seen { served = false }) past (Fact.Expired client file ∷ past)
     (longer (Fact.Expired client file) past) refl refl refl refl refl
     k.joined (rw (self client) refl) k.strayed k.settled k.writes
-    (λ f. cache_over client f (cache_in seen.caches f) past (Fact.Expired client file ∷ past) refl (λ n. refl) refl (k.caches f)) k
+    (λ f. cache_over client f (cache_in seen.caches f) past (Fact.Expired client file ∷ past) refl (λ n. refl) refl (k.caches f))
+    k
 
 pub client_strays : (client : ℕ) (seen : SeenClient) (past : List Fact) → KnowsClient client seen past
     → KnowsClient client (record seen { strayed = true }) (Fact.Strayed client ∷ past)
@@ -90,7 +91,8 @@ drop-places n places place le =
 one_longer : (n : ℕ) (places : List (List Fact)) (place : List Fact) → n ≤ length places → n ≤ length (places ++ place ∷ [])
 one_longer n places place le = let e = length-append places (place ∷ []) in omega (arith, le, e)
 
-pub client_sent : (client place : ℕ) (seen : SeenClient) (past : List Fact) → place ≡ length past + 1 → KnowsClient client seen past
+pub client_sent : (client place : ℕ) (seen : SeenClient) (past : List Fact) → place ≡ length past + 1
+    → KnowsClient client seen past
     → KnowsClient client (record seen { sent = seen.sent ++ place ∷ [] }) (Fact.Sent client ∷ past)
 unfolding has_joined is_served has_strayed sendings takings last_sending is_settled write_of believed pending
 client_sent client place seen past at k = record {
@@ -168,7 +170,8 @@ took_more client place sent seen past e k =
       rising = rises-more place sent (length past) (length (Fact.Took client ∷ past)) (longer (Fact.Took client) past) rises.1;
       settled = k.settled;
       writes = k.writes;
-      caches = λ f. cache_over client f (cache_in seen.caches f) past (Fact.Took client ∷ past) refl (λ n. refl) refl (k.caches f);
+      caches = λ f. cache_over client f (cache_in seen.caches f) past (Fact.Took client ∷ past) refl (λ n. refl) refl
+          (k.caches f);
     }
 
 has_one : (sent : List ℕ) → not (is_empty sent) ≡ true → (place : ℕ) × ((rest : List ℕ) × (sent ≡ place ∷ rest))

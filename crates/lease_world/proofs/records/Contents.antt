@@ -68,7 +68,8 @@ unfolding placed_changes
 placed-below file [] = tt
 placed-below file (Fact.Changed other client number patch ∷ past) =
     below-if (other == file) (length past) (placed_changes file past) patch (placed-below file past)
-placed-below file (_ ∷ past) = below-more (length past + 1) (suc (length past) + 1) (placed_changes file past) (omega arith) (placed-below file past)
+placed-below file (_ ∷ past) = below-more (length past + 1) (suc (length past) + 1) (placed_changes file past) (omega arith)
+    (placed-below file past)
 
 lt-so : (a b : ℕ) → a < b → nat_lt a b ≡ true
 lt-so a b h = grind arith

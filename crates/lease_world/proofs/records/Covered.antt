@@ -38,19 +38,23 @@ layers_if position false write writes = sym (append-nil (layers_at position writ
 
 -- writes that are kept by their numbers have the layers that are kept so
 pub layers_kept : (position : ℕ) (test : ℕ → Bool) (writes : List Waiting)
-    → layers_at position (filter (λ write. test write.number) writes) ≡ filter (λ layer. test layer.number) (layers_at position writes)
+    → layers_at position (filter (λ write. test write.number) writes)
+    ≡ filter (λ layer. test layer.number) (layers_at position writes)
 layers_kept position test [] = refl
 layers_kept position test (write ∷ writes) =
     layers_if position (test write.number) write (filter (λ w. test w.number) writes)
-    ∙ (ap (λ (ls : List Layer). ls ++ (if test write.number then layer_of position write else [])) (layers_kept position test writes)
+    ∙ (ap (λ (ls : List Layer). ls ++ (if test write.number then layer_of position write else []))
+    (layers_kept position test writes)
     ∙ (ap (λ (ls : List Layer). filter (λ layer. test layer.number) (layers_at position writes) ++ ls)
     (sym (one_layer (λ layer. test layer.number) (nat_le write.patch.offset position && nat_lt position (end_of write.patch))
-    (test write.number) (record { number = write.number; byte = slice_index write.patch.bytes (position - write.patch.offset) }) refl))
+    (test write.number) (record { number = write.number; byte = slice_index write.patch.bytes (position - write.patch.offset) })
+    refl))
     ∙ sym (filter-append (λ layer. test layer.number) (layers_at position writes) (layer_of position write))))
 
 -- ---- the byte at a position
 
-patched_byte_by : (base : List ℕ) (o : ℕ) (d : List ℕ) (position : ℕ) (write : Waiting) → write.patch.offset ≡ o → write.patch.bytes ≡ d
+patched_byte_by : (base : List ℕ) (o : ℕ) (d : List ℕ) (position : ℕ) (write : Waiting) → write.patch.offset ≡ o
+    → write.patch.bytes ≡ d
     → get_or (patch base write.patch) position 0 ≡ seen_byte base (layer_of position write) position
 patched_byte_by base o [] position write offset bytes =
     rw (bytes, offset) (
@@ -61,7 +65,8 @@ patched_byte_by base o (b ∷ d) position write offset bytes =
     ∙ by_cover (nat_le o position && nat_lt position (o + length (b ∷ d))))
   where
     by_cover : (c : Bool) → (if c then slice_index (b ∷ d) (position - o) else slice_index base position)
-        ≡ seen_byte base (if c then record { number = write.number; byte = slice_index (b ∷ d) (position - o) } ∷ [] else []) position
+        ≡ seen_byte base (if c then record { number = write.number; byte = slice_index (b ∷ d) (position - o) } ∷ [] else [])
+            position
     by_cover true = refl
     by_cover false = refl
 
@@ -69,7 +74,8 @@ patched_byte : (base : List ℕ) (position : ℕ) (write : Waiting)
     → get_or (patch base write.patch) position 0 ≡ seen_byte base (layer_of position write) position
 patched_byte base position write = patched_byte_by base write.patch.offset write.patch.bytes position write refl refl
 
-seen_under : (base other : List ℕ) (position : ℕ) (layers more : List Layer) → get_or other position 0 ≡ seen_byte base more position
+seen_under : (base other : List ℕ) (position : ℕ) (layers more : List Layer)
+    → get_or other position 0 ≡ seen_byte base more position
     → seen_byte other layers position ≡ seen_byte base (layers ++ more) position
 seen_under base other position [] more e = e
 seen_under base other position (layer ∷ layers) more e = refl
@@ -131,7 +137,8 @@ append_none (layer ∷ first) second e = let c : ⊥ = cc in absurd c
 covered_last : (write : Waiting) (position : ℕ) → write.patch.offset ≤ position → position < end_of write.patch
     → layer_of position write ≢ []
 covered_last write position from below none =
-    let inside : (nat_le write.patch.offset position && nat_lt position (end_of write.patch)) ≡ true = grind (arith, from, below) in
+    let inside : (nat_le write.patch.offset position && nat_lt position (end_of write.patch))
+        ≡ true = grind (arith, from, below) in
     let some = rw inside at none in
     let c : ⊥ = cc in absurd c
 
@@ -156,7 +163,8 @@ pub patched_within : (base : List ℕ) (writes : List Waiting) (size : ℕ) → 
 patched_within base [] size fits none = fits
 patched_within base (write ∷ writes) size fits none =
     patched_within (patch base write.patch) writes size
-    (patch_within base write size fits (λ position past. (append_none (layers_at position writes) (layer_of position write) (none position past)).1))
+    (patch_within base write size fits (λ position past. (append_none (layers_at position writes) (layer_of position write)
+    (none position past)).1))
     (λ position past. (append_none (layers_at position writes) (layer_of position write) (none position past)).0)
 
 -- ---- stacks whose topmost layers are open
@@ -200,11 +208,14 @@ patched_length is_open base stacks writes is =
     let low = patched_longer base writes in
     let covered = stacks_within is_open base stacks writes is in
     let high = patched_within base writes (max (length base) (length stacks)) (omega arith)
-    (λ position past. sym (is.left position) ∙ ap (λ (s : List Layer). filter is_open s) (past_stacks stacks position (omega (arith, past)))) in
+    (λ position past. sym (is.left position)
+    ∙ ap (λ (s : List Layer). filter is_open s) (past_stacks stacks position (omega (arith, past)))) in
     omega (arith, low, covered, high)
 
-patched_seen : (is_open : Layer → Bool) (base : List ℕ) (stacks : List (List Layer)) (writes : List Waiting) → CoversWith is_open stacks writes
-    → (position : ℕ) → get_or (patches base (patches_waiting writes)) position 0 ≡ seen_byte base (stack_in stacks position) position
+patched_seen : (is_open : Layer → Bool) (base : List ℕ) (stacks : List (List Layer)) (writes : List Waiting)
+    → CoversWith is_open stacks writes
+    → (position : ℕ) → get_or (patches base (patches_waiting writes)) position 0
+    ≡ seen_byte base (stack_in stacks position) position
 patched_seen is_open base stacks writes is position =
     patched_at base position writes
     ∙ sym (seen_open is_open base position (stack_in stacks position) (is.tops position)
@@ -213,7 +224,8 @@ patched_seen is_open base stacks writes is position =
 shows_patched : (is_open : Layer → Bool) (base bytes : List ℕ) (stacks : List (List Layer)) (writes : List Waiting)
     → CoversWith is_open stacks writes → Shows base stacks bytes → bytes ≡ patches base (patches_waiting writes)
 shows_patched is_open base bytes stacks writes is shows =
-    same_number_lists bytes (patches base (patches_waiting writes)) (shows.long ∙ sym (patched_length is_open base stacks writes is))
+    same_number_lists bytes (patches base (patches_waiting writes)) (shows.long
+        ∙ sym (patched_length is_open base stacks writes is))
     (λ position within. shows.each position within ∙ sym (patched_seen is_open base stacks writes is position))
 
 patched_shows : (is_open : Layer → Bool) (base bytes : List ℕ) (stacks : List (List Layer)) (writes : List Waiting)
@@ -224,11 +236,13 @@ patched_shows is_open base bytes stacks writes is same = record {
 }
 
 -- whether bytes are shown is whether they are those of the patched file
-pub shown_patched : (is_open : Layer → Bool) (base bytes : List ℕ) (stacks : List (List Layer)) (writes : List Waiting) (same : Bool)
+pub shown_patched : (is_open : Layer → Bool) (base bytes : List ℕ) (stacks : List (List Layer)) (writes : List Waiting)
+    (same : Bool)
     → CoversWith is_open stacks writes → MatchBool same (Shows base stacks bytes) (Shows base stacks bytes → ⊥)
     → same ≡ bytes_eq bytes (patches base (patches_waiting writes))
 shown_patched is_open base bytes stacks writes true is shows =
-    sym ((bytes_eq-Decides bytes (patches base (patches_waiting writes))).1 (shows_patched is_open base bytes stacks writes is shows))
+    sym ((bytes_eq-Decides bytes (patches base (patches_waiting writes))).1 (shows_patched is_open base bytes stacks writes is
+        shows))
 shown_patched is_open base bytes stacks writes false is shows =
     elim (cases_Bool (bytes_eq bytes (patches base (patches_waiting writes)))) [
       | inl same ↦ absurd (shows (patched_shows is_open base bytes stacks writes is
@@ -282,19 +296,23 @@ layers_next test position n writes write passes inside is e =
     ∙ (ap (λ (ls : List Layer). filter (λ layer. test layer.number) ls) (layers_push position (take n writes) write)
     ∙ (filter-append (λ layer. test layer.number) (layer_of position write) (layers_at position (take n writes))
     ∙ ap (λ (ls : List Layer). ls ++ filter (λ layer. test layer.number) (layers_at position (take n writes)))
-    (filter_one (λ layer. test layer.number) (nat_le write.patch.offset position && nat_lt position (end_of write.patch)) _ passes e)))
+    (filter_one (λ layer. test layer.number) (nat_le write.patch.offset position && nat_lt position (end_of write.patch)) _ passes
+    e)))
 
 -- the next write is laid where its number passes, and else left out
-pub lays_next : (test : ℕ → Bool) (position n : ℕ) (writes : List Waiting) (write : Waiting) (first old new : List Layer) → n < length writes
+pub lays_next : (test : ℕ → Bool) (position n : ℕ) (writes : List Waiting) (write : Waiting) (first old new : List Layer)
+    → n < length writes
     → write ≡ get_or writes n write → test write.number ≡ true → new ≡ layer_of position write ++ old
     → old ≡ filter (λ layer. test layer.number) (layers_at position (take n writes)) ++ first
     → new ≡ filter (λ layer. test layer.number) (layers_at position (take (n + 1) writes)) ++ first
 lays_next test position n writes write first old new inside is e put so_far =
     put ∙ (ap (λ (ls : List Layer). layer_of position write ++ ls) so_far
-    ∙ (sym (append_assoc (layer_of position write) (filter (λ layer. test layer.number) (layers_at position (take n writes))) first)
+    ∙ (sym (append_assoc (layer_of position write) (filter (λ layer. test layer.number) (layers_at position (take n writes)))
+    first)
     ∙ ap (λ (ls : List Layer). ls ++ first) (sym (layers_next test position n writes write true inside is e))))
 
-pub leaves_next : (test : ℕ → Bool) (position n : ℕ) (writes : List Waiting) (write : Waiting) (first old : List Layer) → n < length writes
+pub leaves_next : (test : ℕ → Bool) (position n : ℕ) (writes : List Waiting) (write : Waiting) (first old : List Layer)
+    → n < length writes
     → write ≡ get_or writes n write → test write.number ≡ false
     → old ≡ filter (λ layer. test layer.number) (layers_at position (take n writes)) ++ first
     → old ≡ filter (λ layer. test layer.number) (layers_at position (take (n + 1) writes)) ++ first

@@ -21,7 +21,8 @@ file_starts file bytes seen past k = record {
 
 touched_more : (client other place last : ℕ) (touches : Touches) → touched_by_others client touches ≡ last
     → touched_by_others client (touched touches other place) ≡ (if not (other == client) then place else last)
-touched_more client other place last touches e = go (other == touches.client) (client == touches.client) (client == other) refl refl refl
+touched_more client other place last touches e = go (other == touches.client) (client == touches.client) (client == other) refl
+    refl refl
   where
     go : (a b c : Bool) → (other == touches.client) ≡ a → (client == touches.client) ≡ b → (client == other) ≡ c
         → touched_by_others client (touched touches other place) ≡ (if not (other == client) then place else last)

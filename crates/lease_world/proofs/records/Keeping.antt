@@ -28,7 +28,8 @@ before-longer place later (change ∷ changes) le =
     one_longer true false xs ys le h = let e : false ≡ true = h refl in let c : ⊥ = cc in absurd c
     one_longer false b xs ys le h = omega arith
 
-base-later : (file : SeenFile) (taken later : ℕ) (base : Option Snapshot) → taken ≤ later → IsBase file taken base → IsBase file later base
+base-later : (file : SeenFile) (taken later : ℕ) (base : Option Snapshot) → taken ≤ later → IsBase file taken base
+    → IsBase file later base
 base-later file taken later None le is = tt
 base-later file taken later (Some base) le is =
     let longer = before-longer taken later file.changes le in (is.0, is.1, omega (arith, is.2, longer))
@@ -45,7 +46,8 @@ contents-write file taken number patch cache h = h
 
 -- ---- one cache of a client
 
-pub contents-each : (files : ℕ → SeenFile) (taken file : ℕ) (old new : List SeenCache) (cache : SeenCache) → HasCache old new file cache
+pub contents-each : (files : ℕ → SeenFile) (taken file : ℕ) (old new : List SeenCache) (cache : SeenCache)
+    → HasCache old new file cache
     → HasContents (files file) taken cache → ((f : ℕ) → HasContents (files f) taken (cache_in old f))
     → (f : ℕ) → HasContents (files f) taken (cache_in new f)
 contents-each files taken file old new cache has here all f = by_case (f == file) refl
@@ -80,7 +82,8 @@ base-change file touches change taken (Some base) le is =
     before-within place (x ∷ changes) =
         let e = before-within place changes in shorter (nat_lt x.place place) x (before place changes) (length changes) e
 
-pub contents-change : (file : SeenFile) (touches : Touches) (change : Change) (taken : ℕ) (cache : SeenCache) → taken ≤ change.place
+pub contents-change : (file : SeenFile) (touches : Touches) (change : Change) (taken : ℕ) (cache : SeenCache)
+    → taken ≤ change.place
     → HasContents file taken cache
     → HasContents (record file { changes = file.changes ++ change ∷ []; touches = touches }) taken cache
 contents-change file touches change taken cache le h = base-change file touches change taken cache.base le h

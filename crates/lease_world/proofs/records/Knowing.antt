@@ -80,7 +80,8 @@ Holds files clients client file =
 -- files as before, and one client
 pub holds_client : (old new : Seen) (client : ℕ) (past : List Fact) → HasSameFiles old.files new.files
     → ((n : ℕ) → n ≢ client → client_in new.clients n ≡ client_in old.clients n)
-    → ((f : ℕ) → HasContents (file_in old.files f) (client_in new.clients client).taken (cache_in (client_in new.clients client).caches f))
+    → ((f : ℕ) → HasContents (file_in old.files f) (client_in new.clients client).taken
+    (cache_in (client_in new.clients client).caches f))
     → Knows old past → (c f : ℕ) → Holds new.files new.clients c f
 holds_client old new client past same others here k c f =
     each_place (λ n. Holds new.files new.clients n f) client (rw (same f) (here f))
@@ -89,7 +90,8 @@ holds_client old new client past same others here k c f =
 -- clients as before, and one file
 pub holds_file : (old new : Seen) (file : ℕ) (past : List Fact) → HasSameClients old.clients new.clients
     → ((n : ℕ) → n ≢ file → file_in new.files n ≡ file_in old.files n)
-    → ((c : ℕ) → HasContents (file_in new.files file) (client_in old.clients c).taken (cache_in (client_in old.clients c).caches file))
+    → ((c : ℕ) → HasContents (file_in new.files file) (client_in old.clients c).taken
+    (cache_in (client_in old.clients c).caches file))
     → Knows old past → (c f : ℕ) → Holds new.files new.clients c f
 holds_file old new file past same others here k c f =
     each_place (λ n. Holds new.files new.clients c n) file (rw (same c) (here c))

@@ -86,7 +86,8 @@ brought-known client file place bytes seen f cache now same past is all k =
     record {
       belief = ap (λ (c : SeenCache). c.belief) is.covered.rest ∙ k.belief;
       covers = λ position.
-          ap (λ (c : SeenCache). filter (is_unsettled client past) (layers_at position c.fresh ++ stack_in now.covers position)) is.covered.rest
+          ap (λ (c : SeenCache). filter (is_unsettled client past) (layers_at position c.fresh ++ stack_in now.covers position))
+              is.covered.rest
           ∙ (sym (open-told client seen past (stack_in now.covers position) all) ∙ covers.left position);
     }
 
@@ -99,10 +100,12 @@ seen-same : (client file taken : ℕ) (bytes : List ℕ) (seen : SeenClient) (f 
 seen-same client file taken bytes seen f cache now same past place is all k kf part at based =
     let covers = covers_pending client file seen (record cache { base = now.base }) now past is.covered all
     (rebased client file cache now.base past k) in
-    shown_patched (is_open seen.settled) (base_at f taken cache.base).bytes bytes now.covers (pending client file past past) same covers is.shown
+    shown_patched (is_open seen.settled) (base_at f taken cache.base).bytes bytes now.covers (pending client file past past) same
+        covers is.shown
     ∙ (ap (λ (b : List ℕ). bytes_eq bytes (patches b (patches_waiting (pending client file past past))))
     (based ∙ (ap (λ (n : ℕ). content_before f n) (sym at) ∙ content-told file f past place kf part))
-    ∙ ap (λ (ps : List Patch). bytes_eq bytes (patches (content_at file past place) ps)) (sym (unsettled-told client file past past)))
+    ∙ ap (λ (ps : List Patch). bytes_eq bytes (patches (content_at file past place) ps))
+    (sym (unsettled-told client file past past)))
 
 -- ---- the place
 
@@ -138,7 +141,8 @@ unfolding is_stale_read
 read-of-strayed client file bytes seen past k bad = rw (sym (good_told client seen past k) ∙ bad) refl
 
 -- a cached read of a good client that took a message is stale exactly where other bytes are seen
-pub read-of-good : (client file taken : ℕ) (bytes : List ℕ) (seen now : SeenClient) (f : SeenFile) (same : Bool) (past : List Fact)
+pub read-of-good : (client file taken : ℕ) (bytes : List ℕ) (seen now : SeenClient) (f : SeenFile) (same : Bool)
+    (past : List Fact)
     → KnowsClient client seen past → KnowsFile file f past → HasContents f seen.taken (cache_in seen.caches file)
     → is_some f.start ≡ true → is_good_client seen ≡ true → taken_of seen ≡ Some taken
     → Sees file f taken bytes seen now same
@@ -149,7 +153,8 @@ read-of-good client file taken bytes seen now f same past k kf held started good
     some_sent (last_sending client past) taken (sym k.taken ∙ some) in
     let value : seen.taken ≡ taken = taken_value seen.has_taken seen.taken taken some in
     let is : same ≡ bytes_eq bytes (patches (content_at file past at.0) (unanswered client file past)) =
-    seen-same client file taken bytes seen f (cache_in seen.caches file) (cache_in now.caches file) same past at.0 sees.1.1 k (k.caches file)
+    seen-same client file taken bytes seen f (cache_in seen.caches file) (cache_in now.caches file) same past at.0 sees.1.1 k
+        (k.caches file)
     kf (last-part client past at.0 at.1) at.2
     (brought_bytes f seen.taken taken (cache_in seen.caches file).base (omega (arith, value)) started held) in
     rw (sym (good_told client seen past k) ∙ good, at.1, is) refl
@@ -159,7 +164,8 @@ read-of-good client file taken bytes seen now f same past k kf held started good
 longer : (fact : Fact) (past : List Fact) → length past ≤ length (fact ∷ past)
 longer fact past = omega arith
 
-pub client_reads : (client file taken : ℕ) (bytes : List ℕ) (seen now : SeenClient) (f : SeenFile) (same : Bool) (past : List Fact)
+pub client_reads : (client file taken : ℕ) (bytes : List ℕ) (seen now : SeenClient) (f : SeenFile) (same : Bool)
+    (past : List Fact)
     → KnowsClient client seen past → Sees file f taken bytes seen now same
     → KnowsClient client now (Fact.CachedRead client file bytes ∷ past)
 unfolding has_joined is_served has_strayed sendings takings is_settled write_of believed pending
@@ -170,7 +176,8 @@ client_reads client file taken bytes seen now f same past k sees =
     k.joined k.served k.strayed k.settled k.writes
     (each_cache client file seen.caches now.caches past next (cache_in now.caches file) sees.1.0
     (cache_over client file (cache_in now.caches file) past next refl (λ n. refl) refl
-    (brought-known client file taken bytes seen f (cache_in seen.caches file) (cache_in now.caches file) same past sees.1.1 k (k.caches file)))
+    (brought-known client file taken bytes seen f (cache_in seen.caches file) (cache_in now.caches file) same past sees.1.1 k
+    (k.caches file)))
     (λ g e. cache_over client g (cache_in seen.caches g) past next refl (λ n. refl) refl (k.caches g)))
     k)
 

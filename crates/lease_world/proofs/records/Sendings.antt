@@ -26,7 +26,8 @@ parts-none : (b : Bool) (past : List Fact) (places : List (List Fact)) → AllPa
 parts-none true past places all = tt
 parts-none false past places all = all
 
-parts-one : (b : Bool) (past : List Fact) (places : List (List Fact)) (place : List Fact) → PartOf past place → AllParts past places
+parts-one : (b : Bool) (past : List Fact) (places : List (List Fact)) (place : List Fact) → PartOf past place
+    → AllParts past places
     → AllParts past (if b then places ++ place ∷ [] else places)
 parts-one true past places place part all = parts-push past places place part all
 parts-one false past places place part all = all

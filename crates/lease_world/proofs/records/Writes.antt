@@ -104,7 +104,8 @@ tests_new test true here write old rest none new is other e =
 tests_new test false here write old rest none new is other e = rw (other refl) e
 
 -- accepting a write changes nothing that the test sees
-pub keeps_test : (test : Option SeenWrite → Bool) (same : Bool) (change : SeenWrite → SeenWrite) (old : Option SeenWrite) (rest : Bool)
+pub keeps_test : (test : Option SeenWrite → Bool) (same : Bool) (change : SeenWrite → SeenWrite) (old : Option SeenWrite)
+    (rest : Bool)
     → ((w : SeenWrite) → test (Some (change w)) ≡ test (Some w))
     → rest ≡ test old → rest ≡ test (if same then option_map change old else old)
 keeps_test test true change None rest keeps e = e

@@ -24,7 +24,8 @@ longer : (fact : Fact) (past : List Fact) → length past ≤ length (fact ∷ p
 longer fact past = omega arith
 
 -- a client all of whose caches but that of one file are as before
-pub each_cache : (client file : ℕ) (old new : List SeenCache) (past next : List Fact) (cache : SeenCache) → HasCache old new file cache
+pub each_cache : (client file : ℕ) (old new : List SeenCache) (past next : List Fact) (cache : SeenCache)
+    → HasCache old new file cache
     → KnowsCache client file cache next
     → ((other : ℕ) → (other == file) ≡ false → KnowsCache client other (cache_in old other) next)
     → (other : ℕ) → KnowsCache client other (cache_in new other) next
@@ -136,9 +137,12 @@ client_settles client number outcome seen now past is k =
 
 -- ---- a write is given
 
-kept_pending : (client file number : ℕ) (patch : Patch) (buffered : Bool) (past : List Fact) → is_settled client number past ≡ false
-    → pending client file (Fact.Wrote client file number patch buffered ∷ past) (Fact.Wrote client file number patch buffered ∷ past)
-    ≡ pending client file (Fact.Wrote client file number patch buffered ∷ past) past ++ record { number = number; patch = patch } ∷ []
+kept_pending : (client file number : ℕ) (patch : Patch) (buffered : Bool) (past : List Fact)
+    → is_settled client number past ≡ false
+    → pending client file (Fact.Wrote client file number patch buffered ∷ past)
+    (Fact.Wrote client file number patch buffered ∷ past)
+    ≡ pending client file (Fact.Wrote client file number patch buffered ∷ past) past
+        ++ record { number = number; patch = patch } ∷ []
 unfolding pending is_settled
 kept_pending client file number patch buffered past e = rw (self client, self file, e) refl
 
@@ -170,10 +174,12 @@ with_one_write client file number patch buffered cache past off k =
           ∙ append_assoc (layer_of position one) (layers_at position cache.fresh) (stack_in cache.covers position))
           ∙ (filter-append (is_unsettled client next) (layer_of position one)
           (layers_at position cache.fresh ++ stack_in cache.covers position)
-          ∙ (ap (λ (ls : List Layer). ls ++ filter (is_unsettled client next) (layers_at position cache.fresh ++ stack_in cache.covers position))
+          ∙ (ap (λ (ls : List Layer). ls ++ filter (is_unsettled client next)
+          (layers_at position cache.fresh ++ stack_in cache.covers position))
           (one_open (is_unsettled client next) _ _ (ap not off))
           ∙ (ap (λ (ls : List Layer). layer_of position one ++ ls)
-          (k.covers position ∙ ap (λ (ws : List Waiting). layers_at position ws) (pending-agree client file past next past (λ n. refl)))
+          (k.covers position ∙ ap (λ (ws : List Waiting). layers_at position ws)
+          (pending-agree client file past next past (λ n. refl)))
           ∙ (sym (layers_push position (pending client file next past) one)
           ∙ ap (λ (ws : List Waiting). layers_at position ws) (sym (kept_pending client file number patch buffered past off))))));
     }
@@ -209,7 +215,8 @@ written_caches client number write old new false past e is k =
     (λ f apart. without_write client write.file f number write.patch write.buffered (cache_in old f) past
     (other_way write.file f (is_settled client number past) apart) (k f))
 
-pub client_writes : (client number place : ℕ) (file : ℕ) (patch : Patch) (buffered : Bool) (seen now : SeenClient) (past : List Fact)
+pub client_writes : (client number place : ℕ) (file : ℕ) (patch : Patch) (buffered : Bool) (seen now : SeenClient)
+    (past : List Fact)
     → place ≡ length past + 1
     → Writes number (record { file = file; place = place; buffered = buffered; patch = patch; accepted = false }) seen now
     → KnowsClient client seen past

@@ -67,7 +67,8 @@ unfolding applied messages_of
 server_took old middle new number request only seats there serves world s =
     let p = popped_request old middle number request only seats there world s in
     let served = serves (request_keys number request) _ p.1 in
-    subst (λ (rs : List Request). Stands new (server_takes world number rs) × Keeps (sent_by_oldest world number rs) old new) (sym p.0)
+    subst (λ (rs : List Request). Stands new (server_takes world number rs) × Keeps (sent_by_oldest world number rs) old new)
+    (sym p.0)
     (served.0, quiet_first old middle new _ only.2 served.1)
 
 pub client_took_nothing : (old new : Seen) (number : ℕ) → OnlySeats old new
@@ -80,11 +81,13 @@ client_took_nothing old new number only seats there world s =
     (same_seats old new number (PopsReply None) only seats seats.0.0 world s, quiet_keeps old new only.2)
 
 -- a message is kept, and nothing else changes
-kept_stands : (old new : Seen) → new ≡ record old { messages = new.messages } → (world : World) → Stands old world → Stands new world
+kept_stands : (old new : Seen) → new ≡ record old { messages = new.messages } → (world : World) → Stands old world
+    → Stands new world
 kept_stands old new same world s = rw same (record {
   count = s.count;
   server = s.server;
-  seats = λ n p. let q = s.seats n p in record { guid = q.guid; client = q.client; link = q.link; requests = q.requests; replies = q.replies };
+  seats = λ n p. let q = s.seats n p in record { guid = q.guid; client = q.client; link = q.link; requests = q.requests;
+      replies = q.replies };
   facts = s.facts;
   sound = s.sound;
   waiting = s.waiting;
@@ -136,7 +139,8 @@ pub cut_nothing : (old : Seen) (number : ℕ) → IsPresent number old.seats
     → is_link (seat_in old.seats number).link code.TheVariants.Up ≡ false → Applies (Event.Cut number) old old
 unfolding applied messages_of
 cut_nothing old number there e world s =
-    subst (λ (l : Link). Stands old (cut_over world number l) × Keeps (sent_by_cut world number l) old old) (s.seats number there).link
+    subst (λ (l : Link). Stands old (cut_over world number l) × Keeps (sent_by_cut world number l) old old)
+    (s.seats number there).link
     (not_cut old world number (seat_in old.seats number).link e s)
 
 pub cut_one : (old middle told new : Seen) (number : ℕ) → IsPresent number old.seats
@@ -150,7 +154,8 @@ cut_one old middle told new number there e cuts tells serves world s =
     (sym (known_link old number code.TheVariants.Up there world s e))
     (served.0, quiet_first old middle new _ cuts.0 (quiet_first middle told new _ tells.0 served.1))
 
-not_noticed : (old : Seen) (world : World) (number : ℕ) (l : code.Link) → is_link l code.TheVariants.Cut ≡ false → Stands old world
+not_noticed : (old : Seen) (world : World) (number : ℕ) (l : code.Link) → is_link l code.TheVariants.Cut ≡ false
+    → Stands old world
     → Stands old (notice_over world number (link_of l))
 not_noticed old world number code.TheVariants.Down e s = s
 not_noticed old world number code.TheVariants.Up e s = s
@@ -176,7 +181,8 @@ notice_one old middle new number there e links steps world s = (
   quiet_last old middle new [] (quiet_keeps old middle links.0) steps.0,
 )
 
-not_connected : (old : Seen) (world : World) (number : ℕ) (l : code.Link) → is_link l code.TheVariants.Down ≡ false → Stands old world
+not_connected : (old : Seen) (world : World) (number : ℕ) (l : code.Link) → is_link l code.TheVariants.Down ≡ false
+    → Stands old world
     → Stands old (connect_over world number (link_of l)) × Keeps (sent_by_join world number (link_of l)) old old
 not_connected old world number code.TheVariants.Down e s = let c : ⊥ = cc in absurd c
 not_connected old world number code.TheVariants.Up e s = (s, quiet_keeps old old refl)
@@ -186,7 +192,8 @@ pub connect_nothing : (old : Seen) (number : ℕ) → IsPresent number old.seats
     → is_link (seat_in old.seats number).link code.TheVariants.Down ≡ false → Applies (Event.Connect number) old old
 unfolding applied messages_of
 connect_nothing old number there e world s =
-    subst (λ (l : Link). Stands old (connect_over world number l) × Keeps (sent_by_join world number l) old old) (s.seats number there).link
+    subst (λ (l : Link). Stands old (connect_over world number l) × Keeps (sent_by_join world number l) old old)
+    (s.seats number there).link
     (not_connected old world number (seat_in old.seats number).link e s)
 
 -- a call of the server leaves the clients alone
@@ -217,7 +224,8 @@ connect_one old middle told joined new number there e links tells serves steps w
 
 -- ---- strays
 
-not_strayed : (old : Seen) (world : World) (number : ℕ) (request : Request) (l : code.Link) → is_link l code.TheVariants.Up ≡ false
+not_strayed : (old : Seen) (world : World) (number : ℕ) (request : Request) (l : code.Link)
+    → is_link l code.TheVariants.Up ≡ false
     → Stands old world → Stands old (strayed_over world number request (link_of l))
 unfolding strayed_over
 not_strayed old world number request code.TheVariants.Down e s = s
@@ -239,7 +247,8 @@ pub stray_one : (old told new : Seen) (number : ℕ) (request : Request) → IsP
     → Applies (Event.Raw number request) old new
 unfolding applied messages_of strayed_over
 stray_one old told new number request there e tells sends world s = (
-  subst (λ (l : Link). Stands new (strayed_over world number request l)) (sym (known_link old number code.TheVariants.Up there world s e))
+  subst (λ (l : Link). Stands new (strayed_over world number request l)) (sym
+  (known_link old number code.TheVariants.Up there world s e))
       (sends.1 _ (tells.1 world s)),
   quiet_last old told new [] (quiet_keeps old told tells.0) sends.0,
 )
@@ -264,12 +273,14 @@ same_key : (old : Seen) (number file : ℕ) (key : List ℕ) → IsPresent numbe
 same_key old number file key there e world s =
     ap (λ (k : List ℕ). key_of number k) (e ∙ ap (λ (g : List ℕ). lease_key g file) (s.seats number there).guid)
 
-nothing_expires : {X : Type 0} (b c : Bool) (one other : X) → (b && c) ≡ false → (if b then (if c then other else one) else one) ≡ one
+nothing_expires : {X : Type 0} (b c : Bool) (one other : X) → (b && c) ≡ false
+    → (if b then (if c then other else one) else one) ≡ one
 nothing_expires true true one other e = let c : ⊥ = cc in absurd c
 nothing_expires true false one other e = refl
 nothing_expires false c one other e = refl
 
-something_expires : {X : Type 0} (b c : Bool) (one other : X) → (b && c) ≡ true → (if b then (if c then other else one) else one) ≡ other
+something_expires : {X : Type 0} (b c : Bool) (one other : X) → (b && c) ≡ true
+    → (if b then (if c then other else one) else one) ≡ other
 something_expires true true one other e = refl
 something_expires true false one other e = let c : ⊥ = cc in absurd c
 something_expires false c one other e = let c : ⊥ = cc in absurd c
@@ -293,7 +304,8 @@ expire_nothing old number file key there k e world s =
     let none = waits old number file key false there k e world s in (
       subst (λ (w : World). Stands old w) (sym (nothing_expires has waiting world (timer_expired world number file) none)) s,
       subst (λ (rs : List Reply). Keeps rs old old)
-          (sym (nothing_expires has waiting [] (sent_by world (Call.Expire (machine_key world number file))) none)) (quiet_keeps old old refl),
+          (sym (nothing_expires has waiting [] (sent_by world (Call.Expire (machine_key world number file))) none))
+          (quiet_keeps old old refl),
     )
 
 pub expire_one : (old told new : Seen) (number file : ℕ) (key : List ℕ) → IsPresent number old.seats
@@ -310,7 +322,8 @@ expire_one old told new number file key there k e tells serves world s =
     let served = subst (λ (q : Key). Stands new (served told_world (called world.server (Call.Expire q)))
     × Keeps (sent_by world (Call.Expire q)) told new)
     (same_key old number file key there k world s) (serves tt told_world (tells.1 world s)) in (
-      subst (λ (w : World). Stands new w) (sym (something_expires has waiting world (timer_expired world number file) some)) served.0,
+      subst (λ (w : World). Stands new w) (sym (something_expires has waiting world (timer_expired world number file) some))
+      served.0,
       subst (λ (rs : List Reply). Keeps rs old new)
           (sym (something_expires has waiting [] (sent_by world (Call.Expire (machine_key world number file))) some))
           (quiet_first old told new _ tells.0 served.1),
@@ -329,7 +342,8 @@ pub scavenge_one : (old new : Seen) (number file fid : ℕ) → kept (server_of 
 unfolding applied messages_of
 scavenge_one old new number file fid e serves world s =
     let some : kept world.server number file ≡ Some fid = ap (λ (t : Server). kept t number file) (sym s.server) ∙ e in
-    subst (λ (o : Option ℕ). Stands new (scavenged world o) × Keeps (sent_by_scavenge world o) old new) (sym some) (serves tt world s)
+    subst (λ (o : Option ℕ). Stands new (scavenged world o) × Keeps (sent_by_scavenge world o) old new) (sym some)
+    (serves tt world s)
 
 -- ---- any event
 

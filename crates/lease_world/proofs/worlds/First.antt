@@ -81,7 +81,8 @@ all_and_one p (y ∷ xs) x f e =
 pub fit_one_more : (files : List (List ℕ)) (n : ℕ) (d : List ℕ) → n < length files → list_all is_content (take n files) ≡ true
     → length (get_or files n d) ≤ FILE_LIMIT → list_all is_content (take (n + 1) files) ≡ true
 fit_one_more files n d lt all le =
-    rw (take_next files n d lt) (all_and_one is_content (take n files) (get_or files n d) (le-leb (length (get_or files n d)) FILE_LIMIT le) all)
+    rw (take_next files n d lt) (all_and_one is_content (take n files) (get_or files n d)
+        (le-leb (length (get_or files n d)) FILE_LIMIT le) all)
 
 pub all_fit : (files : List (List ℕ)) (n : ℕ) → length files ≤ n → list_all is_content (take n files) ≡ true
     → list_all is_content files ≡ true
@@ -118,7 +119,8 @@ is_allowed_by setup b files fit clients e =
 pub has_many_clients : (setup : Setup) → 16 < length setup.clients → false ≡ is_allowed_setup setup
 unfolding is_allowed_setup clients_limit
 has_many_clients setup many =
-    rw (beyond (length setup.clients) 16 many) (sym (no_end (nat_le (length setup.files) files_limit) (list_all is_content setup.files) (are_apart setup.clients)))
+    rw (beyond (length setup.clients) 16 many) (sym (no_end (nat_le (length setup.files) files_limit)
+        (list_all is_content setup.files) (are_apart setup.clients)))
   where
     no_end : (a b c : Bool) → (a && b && false && c) ≡ false
     no_end true true c = refl
@@ -156,7 +158,8 @@ start_at (file ∷ files) first (suc n) d lt =
     let e : n + (first + 1) ≡ suc n + first = omega arith in
     ap (λ fs. Fact.Start first file ∷ fs)
     (subst (λ (m : ℕ). take (suc n) (starts_from (first + 1) files)
-    ≡ take n (starts_from (first + 1) files) ++ Fact.Start m (get_or files n d) ∷ []) e (start_at files (first + 1) n d (omega arith)))
+    ≡ take n (starts_from (first + 1) files) ++ Fact.Start m (get_or files n d) ∷ []) e
+        (start_at files (first + 1) n d (omega arith)))
 
 pub one_more_start : (files : List (List ℕ)) (n : ℕ) (d : List ℕ) → n < length files
     → take (n + 1) (starts_from 1 files) ≡ take n (starts_from 1 files) ++ Fact.Start (n + 1) (get_or files n d) ∷ []
@@ -221,7 +224,8 @@ pub first_stands : (new : Seen) (setup : Setup) → server_of new.server ≡ new
     → Stands new (first_world setup)
 unfolding first_world new_client
 first_stands new setup server all facts =
-    let is_new : (n : ℕ) → IsPresent n new.seats → IsNew (length setup.files) (numbered [] setup.clients n) (seat_in new.seats n) =
+    let is_new : (n : ℕ) → IsPresent n new.seats
+        → IsNew (length setup.files) (numbered [] setup.clients n) (seat_in new.seats n) =
     λ n p. new_seat (length setup.files) setup.clients new.seats all n p in
     record {
       count = new_count (length setup.files) setup.clients new.seats all;
@@ -260,7 +264,8 @@ unfolding messages_from after
 messages_one_more first [] event = append-nil (messages_in first event)
 messages_one_more first (e ∷ events) event =
     ap (λ rs. messages_in first e ++ rs) (messages_one_more (happens first e) events event)
-    ∙ sym (append_assoc (messages_in first e) (messages_from (happens first e) events) (messages_in (after (happens first e) events) event))
+    ∙ sym (append_assoc (messages_in first e) (messages_from (happens first e) events)
+    (messages_in (after (happens first e) events) event))
 
 pub no_event : (old : Seen) (first : World) (kept : Option (List code_reply.Reply)) (events : List Event) → Stands old first
     → old.messages ≡ kept
@@ -270,7 +275,8 @@ no_event old first kept events s e = (s, behind_none old kept e)
 
 pub one_more_event : (old new : Seen) (first : World) (kept : Option (List code_reply.Reply)) (events : List code_event.Event)
     → (n : ℕ) (d : code_event.Event) → n < length events
-    → Stands old (after first (take n (map event_of events))) × KeepsBehind kept (messages_from first (take n (map event_of events))) old
+    → Stands old (after first (take n (map event_of events)))
+    × KeepsBehind kept (messages_from first (take n (map event_of events))) old
     → Happens (event_of (get_or events n d)) old new
     → Stands new (after first (take (n + 1) (map event_of events)))
     × KeepsBehind kept (messages_from first (take (n + 1) (map event_of events))) new

@@ -49,7 +49,8 @@ linked_stands old new number link only seats world s = record {
 }
 
 pub cut_stands : (old new : Seen) (number : ℕ) → OnlySeats old new
-    → ChangesSeat (λ before after. after ≡ record before { link = code.TheVariants.Cut; requests = []; replies = [] }) number old.seats new.seats
+    → ChangesSeat (λ before after. after ≡ record before { link = code.TheVariants.Cut; requests = []; replies = [] }) number
+    old.seats new.seats
     → (world : World) → Stands old world
     → Stands new (record world {
       links = put world.links number Link.Cut;
@@ -102,7 +103,8 @@ unfolding put
 popped_request old new number request only seats there world s =
     let rest : List Request = map request_of (seat_in new.seats number).requests in
     let q : IsSeat (seat_in old.seats number) world number = s.seats number there in
-    let was : IsSeat (record (seat_in new.seats number) { requests = request ∷ (seat_in new.seats number).requests }) world number =
+    let was : IsSeat (record (seat_in new.seats number) { requests = request ∷ (seat_in new.seats number).requests }) world
+        number =
     subst (λ (x : Seat). IsSeat x world number) seats.0 q in (
       sym was.requests,
       record {
@@ -181,11 +183,13 @@ sent_stands old new number request only seats world s = record {
         requests = sent_requests (seat_in old.seats number).link (seat_in old.seats number).requests (request ∷ [])
             (request_of request ∷ []) refl
             ∙ (rw (q.link, q.requests) refl
-            ∙ sym (at_place number (sent_over (world.links number) (world.requests number) (request_of request ∷ [])) (world.requests number)));
+            ∙ sym (at_place number (sent_over (world.links number) (world.requests number) (request_of request ∷ []))
+            (world.requests number)));
         replies = q.replies;
       }))
       (λ m ne. refl) (λ m ne. refl)
-      (λ m ne. off_place m number (sent_over (world.links number) (world.requests number) (request_of request ∷ [])) (world.requests m) ne)
+      (λ m ne. off_place m number (sent_over (world.links number) (world.requests number) (request_of request ∷ []))
+      (world.requests m) ne)
       (λ m ne. refl);
   facts = ap (map fact_of) only.1 ∙ s.facts;
   sound = s.sound;

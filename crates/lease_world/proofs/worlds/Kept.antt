@@ -36,7 +36,8 @@ behind_both None xs ys = refl
 behind_both (Some replies) xs ys = ap (λ (rs : List Reply). Some rs) (append_assoc replies xs ys)
 
 -- what is kept with one thing, and then with another
-pub keeps_both : (old middle new : Seen) (xs ys : List Reply) → Keeps xs old middle → Keeps ys middle new → Keeps (xs ++ ys) old new
+pub keeps_both : (old middle new : Seen) (xs ys : List Reply) → Keeps xs old middle → Keeps ys middle new
+    → Keeps (xs ++ ys) old new
 keeps_both old middle new xs ys a b =
     b ∙ (ap (λ (o : Option (List Reply)). option_map (λ replies. replies ++ ys) o) a ∙ behind_both (messages_kept old) xs ys)
 
@@ -93,6 +94,7 @@ served_keeps old new call outs after kept keyed world s =
     let given : outs ≡ map out_written progress.outs = after.outs ∙ ap (λ (p : Progress). map out_written p.outs) same in
     let bytes = replies_have_bytes world.server call s.sound s.waiting s.keys keyed in
     let sent : map reply_of (replies_among outs) ≡ sent_by world call =
-    ap (λ (os : List out.Out). map reply_of (replies_among os)) given ∙ replies_given readback.replies_back progress.outs bytes.0 in
+    ap (λ (os : List out.Out). map reply_of (replies_among os)) given
+        ∙ replies_given readback.replies_back progress.outs bytes.0 in
     kept_keeps old new (replies_among outs) kept
     ∙ ap (λ (rs : List Reply). option_map (λ replies. replies ++ rs) (messages_kept old)) sent

@@ -97,7 +97,8 @@ carried_full : (r : Result CreateView WireFault) (further : CreateView → Resul
 carried_full (Ok v) further h f = f v h
 carried_full (Err fault) further h f = tt
 
-gathered_full : (direction : Direction) (v : CreateView) (items : List Item) → ViewIsFull v → ResultIsFull (gathered direction v items)
+gathered_full : (direction : Direction) (v : CreateView) (items : List Item) → ViewIsFull v
+    → ResultIsFull (gathered direction v items)
 unfolding gathered
 gathered_full direction v [] h = h
 gathered_full direction v (Err fault ∷ items) h = tt

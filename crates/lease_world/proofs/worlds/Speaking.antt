@@ -27,7 +27,8 @@ unfolding speaking
 speaking_both [] ys = omega arith
 speaking_both (fact ∷ xs) ys = let rest = speaking_both xs ys in go fact rest
   where
-    go : (f : Fact) → speaking (xs ++ ys) ≡ speaking xs + speaking ys → speaking ((f ∷ xs) ++ ys) ≡ speaking (f ∷ xs) + speaking ys
+    go : (f : Fact) → speaking (xs ++ ys) ≡ speaking xs + speaking ys
+        → speaking ((f ∷ xs) ++ ys) ≡ speaking (f ∷ xs) + speaking ys
     go (Fact.Start a b) e = e
     go (Fact.Joined a) e = e
     go (Fact.Dropped a) e = e
@@ -65,7 +66,8 @@ happened_says : (world : World) (fact : Fact) → said (happened world fact) ≡
 happened_says world fact =
     ap speaking (reverse-append (fact ∷ []) world.past) ∙ speaking_both (reverse world.past) (fact ∷ [])
 
-served_says : (world : World) (progress : Progress) → said (served world progress) ≡ said world + length (sent_among progress.outs)
+served_says : (world : World) (progress : Progress)
+    → said (served world progress) ≡ said world + length (sent_among progress.outs)
 unfolding served
 served_says world progress =
     let d = delivers (record world { server = progress.server }) progress.outs in
@@ -95,7 +97,8 @@ client_says world client (reply ∷ queue) =
     stepped_says (happened next (Fact.Took client)) client (client_called (world.clients client) (ClientCall.Taken reply))
     ∙ happened_says next (Fact.Took client)
 
-cut_says : (world : World) (client : ℕ) (link : Link) → said (cut_over world client link) ≡ said world + length (sent_by_cut world client link)
+cut_says : (world : World) (client : ℕ) (link : Link)
+    → said (cut_over world client link) ≡ said world + length (sent_by_cut world client link)
 unfolding link_cut speaking
 cut_says world client Link.Down = omega arith
 cut_says world client Link.Cut = omega arith
@@ -124,11 +127,13 @@ connect_says world client Link.Cut = omega arith
 connect_says world client Link.Down =
     let next : World = record world { links = put world.links client Link.Up } in
     let up : World = happened next (Fact.Joined client) in
-    stepped_says (served up (called world.server (Call.Join client))) client (client_called (world.clients client) ClientCall.Connected)
+    stepped_says (served up (called world.server (Call.Join client))) client
+        (client_called (world.clients client) ClientCall.Connected)
     ∙ (served_says up (called world.server (Call.Join client))
     ∙ ap (λ (n : ℕ). n + length (sent_by_join world client Link.Down)) (happened_says next (Fact.Joined client) ∙ omega arith))
 
-scavenge_says : (world : World) (found : Option ℕ) → said (scavenged world found) ≡ said world + length (sent_by_scavenge world found)
+scavenge_says : (world : World) (found : Option ℕ)
+    → said (scavenged world found) ≡ said world + length (sent_by_scavenge world found)
 scavenge_says world None = omega arith
 scavenge_says world (Some file_id) = served_says world (called world.server (Call.Scavenge file_id))
 
@@ -141,14 +146,16 @@ expire_says world client file =
     served_says next (called world.server (Call.Expire (machine_key world client file)))
     ∙ ap (λ (n : ℕ). n + length (sent_among outs)) (happened_says world (Fact.Expired client file) ∙ omega arith)
 
-stray_says : (world : World) (client : ℕ) (request : Request) (link : Link) → said (strayed_over world client request link) ≡ said world
+stray_says : (world : World) (client : ℕ) (request : Request) (link : Link)
+    → said (strayed_over world client request link) ≡ said world
 unfolding strayed_over requests_sent speaking
 stray_says world client request Link.Down = refl
 stray_says world client request Link.Cut = refl
 stray_says world client request Link.Up = happened_says world (Fact.Strayed client) ∙ omega arith
 
 if_says : (b c : Bool) (world other : World) (messages : List Reply) → said other ≡ said world + length messages
-    → said (if b then (if c then other else world) else world) ≡ said world + length (if b then (if c then messages else []) else [])
+    → said (if b then (if c then other else world) else world)
+    ≡ said world + length (if b then (if c then messages else []) else [])
 if_says true true world other messages e = e
 if_says true false world other messages e = omega arith
 if_says false c world other messages e = omega arith
@@ -162,7 +169,8 @@ applied_says world (Event.Cut client) = cut_says world client (world.links clien
 applied_says world (Event.Notice client) = notice_says world client (world.links client) ∙ omega arith
 applied_says world (Event.Connect client) = connect_says world client (world.links client)
 applied_says world (Event.Expire client file) =
-    if_says (has_file world.server file) (breaking world.server (machine_key world client file)) world (timer_expired world client file)
+    if_says (has_file world.server file) (breaking world.server (machine_key world client file)) world
+        (timer_expired world client file)
     _ (expire_says world client file)
 applied_says world (Event.Scavenge client file) = scavenge_says world (kept world.server client file)
 applied_says world (Event.Raw client request) = stray_says world client request (world.links client) ∙ omega arith
@@ -171,7 +179,8 @@ happens_says : (world : World) (event : Event) → said (happens world event) �
 unfolding happens messages_in
 happens_says world event = go (has_client world (client_of event))
   where
-    go : (b : Bool) → said (if b then applied world event else world) ≡ said world + length (if b then messages_of world event else [])
+    go : (b : Bool) → said (if b then applied world event else world)
+        ≡ said world + length (if b then messages_of world event else [])
     go true = applied_says world event
     go false = omega arith
 
@@ -193,7 +202,8 @@ pub each_has_one : (setup : Setup) (events : List Event) → speaking (recorded 
 unfolding first_world
 each_has_one setup events =
     after_says (first_world setup) events
-    ∙ (ap (λ (facts : List Fact). speaking facts + length (messages_told setup events)) (reverse-reverse (starts_from 1 setup.files))
+    ∙ (ap (λ (facts : List Fact). speaking facts + length (messages_told setup events))
+    (reverse-reverse (starts_from 1 setup.files))
     ∙ (ap (λ (n : ℕ). n + length (messages_told setup events)) (starts_are_silent 1 setup.files) ∙ omega arith))
 
 pub each_told : (facts : List code_fact.Fact) (replies : List code_reply.Reply) (setup : Setup) (events : List Event)

@@ -63,7 +63,8 @@ pub told_stands : (old : Seen) (fact : code_fact.Fact) (world : World) → Stand
 told_stands old fact world s = record {
   count = s.count;
   server = s.server;
-  seats = λ n p. let q = s.seats n p in record { guid = q.guid; client = q.client; link = q.link; requests = q.requests; replies = q.replies };
+  seats = λ n p. let q = s.seats n p in record { guid = q.guid; client = q.client; link = q.link; requests = q.requests;
+      replies = q.replies };
   facts = map-append fact_of old.facts (fact ∷ [])
       ∙ (ap (λ (xs : List Fact). xs ++ fact_of fact ∷ []) s.facts ∙ sym (reverse-append (fact_of fact ∷ []) world.past));
   sound = s.sound;
@@ -120,7 +121,8 @@ served_stands old new call outs after replies count facts keyed world s =
 pub sent_requests : (link : code.Link) (queue sent : List code_request.Request) (requests : List Request)
     → map request_of sent ≡ requests
     → map request_of (queued link queue sent) ≡ sent_over (link_of link) (map request_of queue) requests
-sent_requests code.TheVariants.Up queue sent requests e = map-append request_of queue sent ∙ ap (λ (rs : List Request). map request_of queue ++ rs) e
+sent_requests code.TheVariants.Up queue sent requests e = map-append request_of queue sent
+    ∙ ap (λ (rs : List Request). map request_of queue ++ rs) e
 sent_requests code.TheVariants.Down queue sent requests e = refl
 sent_requests code.TheVariants.Cut queue sent requests e = refl
 
@@ -138,7 +140,8 @@ each_number P k here others n = go (n == k) refl
     go false e = let ne : n ≢ k = grind arith in others n ne
 
 -- the seats after one of them changed, in a world that changed at that client alone
-pub one_seat : (Changes : Seat → Seat → Type 0) (old new : List Seat) (number : ℕ) (world after : World) → ChangesSeat Changes number old new
+pub one_seat : (Changes : Seat → Seat → Type 0) (old new : List Seat) (number : ℕ) (world after : World)
+    → ChangesSeat Changes number old new
     → ((n : ℕ) → IsPresent n old → IsSeat (seat_in old n) world n)
     → (IsPresent number old → IsSeat (seat_in new number) after number)
     → ((n : ℕ) → n ≢ number → after.clients n ≡ world.clients n) → ((n : ℕ) → n ≢ number → after.links n ≡ world.links n)
@@ -175,7 +178,8 @@ unfolding stepped_in requests_sent put
 stepped_stands old new number call notes server seats facts there fits world s =
     let step : Step = client_called (world.clients number) call in
     let held : IsSeat (seat_in old.seats number) world number = s.seats number there in
-    let same : client_called (client_of (seat_in old.seats number).client) call ≡ step = ap (λ c. client_called c call) held.client in
+    let same : client_called (client_of (seat_in old.seats number).client) call
+        ≡ step = ap (λ c. client_called c call) held.client in
     let bytes = requests_have_bytes (world.clients number) call (s.writing number there) fits in
     let moved : World = requests_sent (record world { clients = put world.clients number step.client }) number step.requests in
     let n : IsNoted moved (noted moved number step.notes) number step.notes = notes_told moved number step.notes in
@@ -195,12 +199,14 @@ stepped_stands old new number call notes server seats facts there fits world s =
                 (ap (λ (t : Step). map request_of (map request_written t.requests)) same
                 ∙ requests_back readback.requests_back step.requests bytes.0)
                 ∙ (rw (held.link, held.requests) refl
-                ∙ sym (at_place number (sent_over (world.links number) (world.requests number) step.requests) (world.requests number))));
+                ∙ sym (at_place number (sent_over (world.links number) (world.requests number) step.requests)
+                (world.requests number))));
             replies = ap (map reply_of) seats.0.3 ∙ held.replies;
           })
           (λ m ne. off_place m number step.client (world.clients m) ne)
           (λ m ne. refl)
-          (λ m ne. off_place m number (sent_over (world.links number) (world.requests number) step.requests) (world.requests m) ne)
+          (λ m ne. off_place m number (sent_over (world.links number) (world.requests number) step.requests) (world.requests m)
+          ne)
           (λ m ne. refl);
       facts = facts
           ∙ (ap (λ (xs : List Fact). xs ++ map (fact_noted number) (map note_of notes)) s.facts

@@ -5,4 +5,5 @@ use Rattle.lease_wire.proofs.ItemLaws.{items_are}
 use Rattle.lease_wire.proofs.chain.contexts.Goals as goal
 
 pub returns-clause-items : goal.returns-clause-items
-returns-clause-items c = subst (λ (items : List Item). AreItemsOf c.args.bytes.now items) (sym c.from_start.ensures) (items_are c.args.bytes.now)
+returns-clause-items c = subst (λ (items : List Item). AreItemsOf c.args.bytes.now items) (sym c.from_start.ensures)
+    (items_are c.args.bytes.now)

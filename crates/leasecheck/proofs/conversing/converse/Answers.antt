@@ -5,11 +5,13 @@ use Rattle.leasecheck.proofs.Spoken.{begins, goes_on, ends, stops, breaks_off, n
 use Rattle.leasecheck.proofs.conversing.converse.Goals as goal
 
 pub loop-number-init : goal.loop-number-init
-loop-number-init g c = begins (g.I.Read.remaining c.args.input.now) (g.O.Write.contents c.args.out.now) (machines_of c.args.machines)
+loop-number-init g c = begins (g.I.Read.remaining c.args.input.now) (g.O.Write.contents c.args.out.now)
+    (machines_of c.args.machines)
 
 pub returns-in-Err-clause-answered : goal.returns-in-Err-clause-answered
 returns-in-Err-clause-answered g c =
-    stops _ (g.I.Read.remaining c.args.input.now) _ (machines_of c.args.machines) _ c.loop-number.number (g.O.Write.contents c.args.out.now)
+    stops _ (g.I.Read.remaining c.args.input.now) _ (machines_of c.args.machines) _ c.loop-number.number
+        (g.O.Write.contents c.args.out.now)
     _ c.in-Err.failure c.loop-number.invariant
 
 pub returns-then-is_empty-clause-answered : goal.returns-then-is_empty-clause-answered
@@ -45,5 +47,6 @@ loop-number-preserved g c =
 
 pub returns-clause-answered : goal.returns-clause-answered
 returns-clause-answered g c =
-    stops _ (g.I.Read.remaining c.args.input.now) _ (machines_of c.args.machines) _ c.loop-number.number (g.O.Write.contents c.args.out.now)
+    stops _ (g.I.Read.remaining c.args.input.now) _ (machines_of c.args.machines) _ c.loop-number.number
+        (g.O.Write.contents c.args.out.now)
     _ _ c.loop-number.invariant

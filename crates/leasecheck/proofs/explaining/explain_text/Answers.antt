@@ -10,7 +10,8 @@ returns-clause-told c = (
   c.in_ok-push_explanation.ensures.0,
   c.in_ok-push_explanation.ensures.2
       ∙ ap (λ (text : List ℕ). text ++ c.in_ok-push_explanation.ensures.0)
-      (c.in_ok-push_verdict.ensures ∙ ap (λ (text : List ℕ). text ++ verdict_line c.in_ok-verdict.verdict) c.new-told.ensures.bytes),
+      (c.in_ok-push_verdict.ensures ∙ ap (λ (text : List ℕ). text ++ verdict_line c.in_ok-verdict.verdict)
+      c.new-told.ensures.bytes),
   record {
     placed = c.in_ok-placed.placed;
     read = c.in_ok-placed.ensures.read;

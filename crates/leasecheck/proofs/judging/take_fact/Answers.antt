@@ -17,7 +17,8 @@ returns-in_ok-add-in-Ok c = λ facts judged. (
 pub returns-in-Err-Refused : goal.returns-in-Err-Refused
 returns-in-Err-Refused c = λ facts judged.
     inr (
-      line_refused facts c.args.line.now (sym c.is_passed_over.ensures ∙ c.if-is_passed_over.false) (c.in-Err-Refused.ensures c.in-Err-Refused.field-0-is),
+      line_refused facts c.args.line.now (sym c.is_passed_over.ensures ∙ c.if-is_passed_over.false)
+          (c.in-Err-Refused.ensures c.in-Err-Refused.field-0-is),
       c.of_fact.ensures.failure,
       c.of_fact.ensures.said,
     )

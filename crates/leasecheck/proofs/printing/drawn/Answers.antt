@@ -13,6 +13,7 @@ drawn_of_known (Some bytes) text items start told is none same drawn =
 pub returns-in-Ok-draw_text-clause-printed : goal.returns-in-Ok-draw_text-clause-printed
 returns-in-Ok-draw_text-clause-printed g c = (
   refl,
-  drawn_of_known (g.I.Read.remaining c.args.input.now) c.as_slice.result.now _ _ _ c.as_slice.ensures.value c.new-bytes.ensures.items
+  drawn_of_known (g.I.Read.remaining c.args.input.now) c.as_slice.result.now _ _ _ c.as_slice.ensures.value
+      c.new-bytes.ensures.items
       c.in-Ok.ensures.bytes c.in-Ok-draw_text.ensures.drawn,
 )

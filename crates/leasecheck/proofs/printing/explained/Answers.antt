@@ -9,7 +9,8 @@ use Rattle.leasecheck.specs.declared.failure.Failure.TheVariants.{Memory, Line}
 use Rattle.lease_facts.specs.declared.fact.Fact.{Fact}
 use Rattle.leasecheck.proofs.printing.explained.Goals as goal
 
-line_of : (read : Result (List Fact) ℕ) (failure : Failure) → line_refusal read ≡ Some failure → (number : ℕ) × (failure ≡ Line number)
+line_of : (read : Result (List Fact) ℕ) (failure : Failure) → line_refusal read ≡ Some failure
+    → (number : ℕ) × (failure ≡ Line number)
 line_of (Ok facts) failure e = let no : ⊥ = cc in absurd no
 line_of (Err number) failure e = let same : Line number ≡ failure = cc in (number, sym same)
 
@@ -22,7 +23,8 @@ of_known None text items start failure is none same (inr refused) = inr (inr (in
 of_known (Some bytes) text items start failure is none same (inr refused) =
     inr (inr (inr (subst (λ t. line_refusal (record_in t) ≡ Some failure) (is ∙ (same ∙ ap (λ s. s ++ bytes) none)) refused)))
 
-said_of_known : (known : Option (List ℕ)) (text items start : List ℕ) (failure : Failure) (line : List ℕ) → text ≡ items → start ≡ []
+said_of_known : (known : Option (List ℕ)) (text items start : List ℕ) (failure : Failure) (line : List ℕ) → text ≡ items
+    → start ≡ []
     → IfSome known (λ bytes. items ≡ start ++ bytes)
     → record_remark text failure ≡ Some line → IsFileRemark record_remark known failure line
 said_of_known None text items start failure line is none same said = (text, said)
@@ -33,7 +35,8 @@ pub returns-clause-said : goal.returns-clause-said
 returns-clause-said g c =
     says_more c.in-Err.refusal (λ failure line. record_remark c.as_slice.result.now failure ≡ Some line)
     (IsFileRemark record_remark (g.I.Read.remaining c.args.input.now))
-    (λ line. said_of_known _ c.as_slice.result.now _ _ c.in-Err.refusal.failure line c.as_slice.ensures.value c.new-bytes.ensures.items
+    (λ line. said_of_known _ c.as_slice.result.now _ _ c.in-Err.refusal.failure line c.as_slice.ensures.value
+    c.new-bytes.ensures.items
     c.in-Ok.ensures.bytes)
     c.in-Err.ensures.said
 

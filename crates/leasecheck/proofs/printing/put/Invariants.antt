@@ -4,4 +4,5 @@ use Rattle.leasecheck.proofs.printing.put.Given as goal
 
 -- what was written and what is left are the text
 abbrev pub invariant-loop-turn : goal.invariant-loop-turn
-invariant-loop-turn g l = (part : List ℕ) × (part ++ l.left ≡ l.text) × Appends (g.W.Write.contents l.fn.out) (g.W.Write.contents l.out) part
+invariant-loop-turn g l = (part : List ℕ) × (part ++ l.left ≡ l.text)
+    × Appends (g.W.Write.contents l.fn.out) (g.W.Write.contents l.out) part

@@ -17,7 +17,8 @@ of_known None text items start failure is none same (inr refused) = inr (inr (te
 of_known (Some bytes) text items start failure is none same (inr refused) =
     inr (inr (subst (λ t. replay_refusal t ≡ Some failure) (is ∙ (same ∙ ap (λ s. s ++ bytes) none)) refused))
 
-said_of_known : (known : Option (List ℕ)) (text items start : List ℕ) (failure : Failure) (line : List ℕ) → text ≡ items → start ≡ []
+said_of_known : (known : Option (List ℕ)) (text items start : List ℕ) (failure : Failure) (line : List ℕ) → text ≡ items
+    → start ≡ []
     → IfSome known (λ bytes. items ≡ start ++ bytes)
     → schedule_remark text failure ≡ Some line → IsFileRemark schedule_remark known failure line
 said_of_known None text items start failure line is none same said = (text, said)
@@ -28,9 +29,11 @@ pub returns-clause-said : goal.returns-clause-said
 returns-clause-said g c =
     says_more c.in-Err.refusal (λ failure line. schedule_remark c.as_slice.result.now failure ≡ Some line)
     (IsFileRemark schedule_remark (g.I.Read.remaining c.args.input.now))
-    (λ line. said_of_known _ c.as_slice.result.now _ _ c.in-Err.refusal.failure line c.as_slice.ensures.value c.new-bytes.ensures.items c.in-Ok.ensures.bytes)
+    (λ line. said_of_known _ c.as_slice.result.now _ _ c.in-Err.refusal.failure line c.as_slice.ensures.value
+    c.new-bytes.ensures.items c.in-Ok.ensures.bytes)
     c.in-Err.ensures.said
 
 pub returns-clause-refused : goal.returns-clause-refused
 returns-clause-refused g c =
-    of_known _ c.as_slice.result.now _ _ c.in-Err.refusal.failure c.as_slice.ensures.value c.new-bytes.ensures.items c.in-Ok.ensures.bytes c.in-Err.ensures.refused
+    of_known _ c.as_slice.result.now _ _ c.in-Err.refusal.failure c.as_slice.ensures.value c.new-bytes.ensures.items
+        c.in-Ok.ensures.bytes c.in-Err.ensures.refused

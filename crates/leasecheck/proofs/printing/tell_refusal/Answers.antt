@@ -10,6 +10,8 @@ returns-in_err-tell_failure g c =
 
 pub returns : goal.returns
 returns g c =
-    subst (λ t. Begins (g.F.Write.contents c.args.faults.now) (g.F.Write.contents c.put.new.out) (failure_line c.args.refusal.now.failure ++ t))
+    subst (λ t. Begins (g.F.Write.contents c.args.faults.now) (g.F.Write.contents c.put.new.out)
+    (failure_line c.args.refusal.now.failure ++ t))
     c.second_bytes.ensures
-    (begins_behind _ _ _ (failure_line c.args.refusal.now.failure) c.second_bytes.result.now c.put.result c.in_ok-tell_failure.ensures c.put.ensures.put)
+    (begins_behind _ _ _ (failure_line c.args.refusal.now.failure) c.second_bytes.result.now c.put.result
+    c.in_ok-tell_failure.ensures c.put.ensures.put)

@@ -27,9 +27,11 @@ loop-fact-preserved g c =
     let first = g.O.Write.contents c.args.out.now in
     let lines : List ℕ = message_before fact left ++ fact_line fact in
     let more : HasGathered first (g.O.Write.contents c.loop-fact.out) c.push.new.self (told ++ lines) =
-    gathered_more first (g.O.Write.contents c.loop-fact.out) c.loop-fact.gathered c.push.new.self told lines has c.in-Ok.ensures.lines
+    gathered_more first (g.O.Write.contents c.loop-fact.out) c.loop-fact.gathered c.push.new.self told lines has
+        c.in-Ok.ensures.lines
     c.push.ensures.begun in
-    let inside : n < length facts = subst (λ (fs : List Fact). n < length fs) c.as_slice-fact-items.ensures.value c.loop-fact-test.true in
+    let inside : n < length facts = subst (λ (fs : List Fact). n < length fs) c.as_slice-fact-items.ensures.value
+        c.loop-fact-test.true in
     let this : fact ≡ get_or facts n fact =
     subst (λ (fs : List Fact). fact ≡ get_or fs n fact) c.as_slice-fact-items.ensures.value c.fact-item.is in (
       told ++ lines,
@@ -64,9 +66,11 @@ returns-in-Err-write_block g c = λ rest.
     let first = g.O.Write.contents c.args.out.now in
     let lines : List ℕ = message_before fact left ++ fact_line fact in
     let more : HasGathered first (g.O.Write.contents c.loop-fact.out) c.push.new.self (told ++ lines) =
-    gathered_more first (g.O.Write.contents c.loop-fact.out) c.loop-fact.gathered c.push.new.self told lines has c.in-Ok.ensures.lines
+    gathered_more first (g.O.Write.contents c.loop-fact.out) c.loop-fact.gathered c.push.new.self told lines has
+        c.in-Ok.ensures.lines
     c.push.ensures.begun in
-    let inside : n < length facts = subst (λ (fs : List Fact). n < length fs) c.as_slice-fact-items.ensures.value c.loop-fact-test.true in
+    let inside : n < length facts = subst (λ (fs : List Fact). n < length fs) c.as_slice-fact-items.ensures.value
+        c.loop-fact-test.true in
     let this : fact ≡ get_or facts n fact =
     subst (λ (fs : List Fact). fact ≡ get_or fs n fact) c.as_slice-fact-items.ensures.value c.fact-item.is in
     let behind : List ℕ = record_with_messages (drop (n + 1) facts) c.in-Ok.behind.now in
@@ -75,7 +79,8 @@ returns-in-Err-write_block g c = λ rest.
     ∙ told_more told (told ++ message_before fact left) ((told ++ message_before fact left) ++ fact_line fact)
     (record_with_messages facts c.args.recorded.now.messages.items) facts n fact left c.in-Ok.behind.now inside this refl
     c.in-Ok.ensures.behind refl is in
-    unwritten first (g.O.Write.contents c.loop-fact.out) (g.O.Write.contents c.write_block.new.out) c.push.new.self (told ++ lines) (behind ++ rest)
+    unwritten first (g.O.Write.contents c.loop-fact.out) (g.O.Write.contents c.write_block.new.out) c.push.new.self
+        (told ++ lines) (behind ++ rest)
     (record_with_messages facts c.args.recorded.now.messages.items ++ rest) c.in-Err-write_block.failure more
     c.in-Err-write_block.ensures.failed.0 c.in-Err-write_block.ensures.failed.1
     (sym (append_assoc (told ++ lines) behind rest) ∙ ap (λ (t : List ℕ). t ++ rest) whole)
@@ -86,6 +91,8 @@ returns g c =
     let facts = c.args.recorded.now.facts.items in
     let past : length facts ≤ c.loop-fact.fact-index =
     subst (λ (fs : List Fact). length fs ≤ c.loop-fact.fact-index) c.as_slice-fact-items.ensures.value c.loop-fact-test.false in
-    subst (λ (t : List ℕ). HasGathered (g.O.Write.contents c.args.out.now) (g.O.Write.contents c.loop-fact.out) c.loop-fact.gathered t)
-    (told_whole so_far.0 (record_with_messages facts c.args.recorded.now.messages.items) facts c.loop-fact.fact-index c.loop-fact.left.now past so_far.2)
+    subst (λ (t : List ℕ). HasGathered (g.O.Write.contents c.args.out.now) (g.O.Write.contents c.loop-fact.out)
+    c.loop-fact.gathered t)
+    (told_whole so_far.0 (record_with_messages facts c.args.recorded.now.messages.items) facts c.loop-fact.fact-index
+    c.loop-fact.left.now past so_far.2)
     so_far.1

@@ -33,7 +33,8 @@ returns-in-Ok-Task-clause-done g c =
       c.in-Ok-Task.task,
       told.0,
       subst (λ (ws : List Text). AsksFor ws (request_of (asked.Task c.in-Ok-Task.task))) same
-          (subst (λ (a : Asked). AsksFor (all_words (map (λ word. word.now) c.as_slice-2.result.now)) (request_of a)) is c.in-Ok-Task.ensures.asked),
+          (subst (λ (a : Asked). AsksFor (all_words (map (λ word. word.now) c.as_slice-2.result.now)) (request_of a)) is
+          c.in-Ok-Task.ensures.asked),
       told.1,
     ))
 
@@ -47,7 +48,8 @@ returns-in-Ok-Clients-clause-done g c =
     let one = c.in-Ok-Clients.field-0-is in
     let is : c.in-Ok-Clients.field-0 ≡ asked.Clients = cc in
     let asks = subst (λ (ws : List Text). AsksFor ws Request.Clients) same
-    (subst (λ (a : Asked). AsksFor (all_words (map (λ word. word.now) c.as_slice-2.result.now)) (request_of a)) is c.in-Ok-Clients.ensures.asked) in
+    (subst (λ (a : Asked). AsksFor (all_words (map (λ word. word.now) c.as_slice-2.result.now)) (request_of a)) is
+    c.in-Ok-Clients.ensures.asked) in
     inr (inl (
       ended,
       (
@@ -68,7 +70,8 @@ returns-clause-done g c =
     let one = c.in-Ok-Server.field-0-is in
     let is : c.in-Ok-Server.field-0 ≡ asked.Server = cc in
     let asks = subst (λ (ws : List Text). AsksFor ws Request.Server) same
-    (subst (λ (a : Asked). AsksFor (all_words (map (λ word. word.now) c.as_slice-2.result.now)) (request_of a)) is c.in-Ok-Server.ensures.asked) in
+    (subst (λ (a : Asked). AsksFor (all_words (map (λ word. word.now) c.as_slice-2.result.now)) (request_of a)) is
+    c.in-Ok-Server.ensures.asked) in
     inr (inl (
       ended,
       (

@@ -14,5 +14,6 @@ behind_both all mid old first second is whole = whole ∙ (ap (λ t. t ++ second
 pub returns : goal.returns
 unfolding read_words
 returns c = on_ok c.push_pair.result
-    (λ whole. behind_both _ _ (string_bytes c.args.text.now) (codes "cachedread ") (pair_words c.args.client c.args.file) c.in_ok-push_str.ensures.bytes whole)
+    (λ whole. behind_both _ _ (string_bytes c.args.text.now) (codes "cachedread ") (pair_words c.args.client c.args.file)
+    c.in_ok-push_str.ensures.bytes whole)
     c.push_pair.ensures

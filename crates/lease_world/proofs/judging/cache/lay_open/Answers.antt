@@ -13,7 +13,8 @@ loop-write-preserved c = λ n.
     elim c.if-not-contains.branch [
       | then-not-contains+in_ok-lay w ↦
           lays_next (λ m. not (is_among m c.args.settled.now)) n c.loop-write.write-index c.args.fresh.now c.write-item.result
-          (stack_in c.args.covers.now n) (stack_in c.loop-write.covers n) (stack_in c.if-not-contains.covers n) c.loop-write-test.true
+          (stack_in c.args.covers.now n) (stack_in c.loop-write.covers n) (stack_in c.if-not-contains.covers n)
+          c.loop-write-test.true
           c.write-item.is (ap not (number-is ∙ w.if-not-contains.true))
           (ap (λ (s : List (List Layer)). stack_in s n) w.covers-is
           ∙ (w.in_ok-lay.ensures n ∙ ap (λ (v : Waiting). layer_of n v ++ stack_in c.loop-write.covers n) c.write.view_is))

@@ -5,7 +5,8 @@ use Rattle.lease_world.proofs.judging.covers.reach.Given as goal
 
 abbrev pub invariant-loop-tops : goal.invariant-loop-tops
 invariant-loop-tops l =
-    ((covers : List Cover) (n : ℕ) → stack_in (map (layers_under covers) l.tops.items) n ≡ stack_in (map (layers_under covers) l.fn.tops.items) n)
+    ((covers : List Cover) (n : ℕ) → stack_in (map (layers_under covers) l.tops.items) n
+    ≡ stack_in (map (layers_under covers) l.fn.tops.items) n)
     × ((covers : List Cover) → AreTops covers l.fn.tops.items → AreTops covers l.tops.items)
 
 abbrev pub decreases-loop-tops : goal.decreases-loop-tops

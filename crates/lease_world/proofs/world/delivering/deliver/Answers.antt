@@ -12,6 +12,7 @@ loop-out-preserved c =
     record {
       replies = more_replies _ _ _ c.loop-out.yielded (c.in-Some.out ∷ []) held.replies one.replies;
       count = one.count ∙ held.count;
-      facts = rw (one.facts, held.facts, map-append fact_given c.loop-out.yielded (c.in-Some.out ∷ [])) (append_assoc (map fact_of c.args.facts.now.items) (map fact_given c.loop-out.yielded) (fact_given c.in-Some.out ∷ []));
+      facts = rw (one.facts, held.facts, map-append fact_given c.loop-out.yielded (c.in-Some.out ∷ []))
+          (append_assoc (map fact_of c.args.facts.now.items) (map fact_given c.loop-out.yielded) (fact_given c.in-Some.out ∷ []));
       kept = more_kept c.args.messages.now _ _ c.loop-out.yielded (c.in-Some.out ∷ []) held.kept one.kept;
     }

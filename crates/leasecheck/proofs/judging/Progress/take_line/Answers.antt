@@ -9,4 +9,5 @@ pub returns-in-Ok : goal.returns-in-Ok
 returns-in-Ok c = λ lines has. read_line c.args.self.now _ c.args.line.now lines has refl (c.in-Ok.ensures has.facts has.judged)
 
 pub returns-in-Err : goal.returns-in-Err
-returns-in-Err c = λ lines has. refuse_line c.args.self.now c.args.line.now lines c.in-Err.refusal has (c.in-Err.ensures has.facts has.judged)
+returns-in-Err c = λ lines has. refuse_line c.args.self.now c.args.line.now lines c.in-Err.refusal has
+    (c.in-Err.ensures has.facts has.judged)

@@ -10,6 +10,8 @@ use Rattle.leasecheck.proofs.wire.render.render_create.Given as goal
 -- what is left gives the whole value, and the whole of the lines where there was memory so far
 abbrev pub invariant-loop-item : goal.invariant-loop-item
 invariant-loop-item l = record {
-  value : gathered l.direction (values_of l.values) (items_left l.item-iterator) ≡ gathered l.direction no_values (items_left l.contexts);
-  lines : OnOk l.room (string_bytes l.text ++ flat_map item_line (items_left l.item-iterator) ≡ flat_map item_line (items_left l.contexts));
+  value : gathered l.direction (values_of l.values) (items_left l.item-iterator)
+      ≡ gathered l.direction no_values (items_left l.contexts);
+  lines : OnOk l.room (string_bytes l.text ++ flat_map item_line (items_left l.item-iterator)
+      ≡ flat_map item_line (items_left l.contexts));
 }

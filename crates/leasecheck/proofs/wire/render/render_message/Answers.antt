@@ -18,7 +18,8 @@ returns-in-Ack-clause-refused c = rw (c.in-Ack.is)
     (c.behind_header-in-Ack.ensures.refused _ (rw (c.body_of-body.ensures) at c.render_acknowledgment.ensures.refused))
 
 pub returns-in-Response-clause-shown : goal.returns-in-Response-clause-shown
-returns-in-Response-clause-shown c = rw (c.in-Response.is) (shown_behind _ c.render_response.result c.behind_header-in-Response.result
+returns-in-Response-clause-shown c = rw (c.in-Response.is) (shown_behind _ c.render_response.result
+    c.behind_header-in-Response.result
     (rw (c.body_of-body.ensures) at c.render_response.ensures.shown) c.behind_header-in-Response.ensures.shown)
 
 pub returns-in-Response-clause-refused : goal.returns-in-Response-clause-refused

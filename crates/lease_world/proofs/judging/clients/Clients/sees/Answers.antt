@@ -16,6 +16,8 @@ returns c =
     subst (λ (n : ℕ). IfOk c.sees.result (λ same. ChangesClient
     (λ old new. Sees c.args.number.0 c.args.file.now c.args.place c.args.bytes.now old new same) n c.args.self.now
     (slice_set now c.from.result c.sees.new.self))) c.from.ensures
-    (client_changed (λ same old new. Sees c.args.number.0 c.args.file.now c.args.place c.args.bytes.now old new same) c.args.self.now now
+    (client_changed (λ same old new. Sees c.args.number.0 c.args.file.now c.args.place c.args.bytes.now old new same)
+    c.args.self.now now
     c.from.result c.index_mut-seen.result.now c.sees.new.self c.sees.result inside
-    (λ k. ap (λ (s : List SeenClient). client_in s k) c.self.view_is ∙ c.in_ok-reach.ensures.same k) c.index_mut-seen.ensures.value c.sees.ensures)
+    (λ k. ap (λ (s : List SeenClient). client_in s k) c.self.view_is ∙ c.in_ok-reach.ensures.same k)
+    c.index_mut-seen.ensures.value c.sees.ensures)

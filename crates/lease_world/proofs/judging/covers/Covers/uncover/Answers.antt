@@ -13,9 +13,11 @@ returns-else-is_empty-clause-uncovered c position =
     let left = c.truncate.new.self.items in
     subst (λ (old : List (List Layer)). IsUncovered (is_open c.args.settled.now) (stack_in old position)
     (stack_in (map (layers_under c.self.inside.covers.items) left) position)) c.self.view_is
-    (subst (λ (cs : List Cover). IsUncovered (is_open c.args.settled.now) (stack_in (map (layers_under cs) c.self.inside.tops.items) position)
+    (subst (λ (cs : List Cover). IsUncovered (is_open c.args.settled.now) (stack_in
+    (map (layers_under cs) c.self.inside.tops.items) position)
     (stack_in (map (layers_under cs) left) position)) c.deref.ensures.value
-    (truncated c.args.settled.now c.deref.result.now c.self.inside.tops.items now left c.covered.result position c.truncate.ensures.items
+    (truncated c.args.settled.now c.deref.result.now c.self.inside.tops.items now left c.covered.result position
+    c.truncate.ensures.items
     (λ n le. ap (λ (xs : List ℕ). get_or xs n 0) (sym c.deref-2.ensures.value) ∙ c.covered.ensures.rest n le)
     (c.uncover_each.ensures.uncovered position)))
 
@@ -29,9 +31,11 @@ returns-then-is_empty-clause-uncovered c position =
     (subst (λ (ls : List Layer). IsUncovered (is_open c.args.settled.now)
     (stack_in (map (layers_under c.self.inside.covers.items) c.self.inside.tops.items) position) ls)
     (cleared c.self.inside.covers.items c.clear.new.self.items left position none)
-    (subst (λ (cs : List Cover). IsUncovered (is_open c.args.settled.now) (stack_in (map (layers_under cs) c.self.inside.tops.items) position)
+    (subst (λ (cs : List Cover). IsUncovered (is_open c.args.settled.now) (stack_in
+    (map (layers_under cs) c.self.inside.tops.items) position)
     (stack_in (map (layers_under cs) left) position)) c.deref.ensures.value
-    (truncated c.args.settled.now c.deref.result.now c.self.inside.tops.items now left c.covered.result position c.truncate.ensures.items
+    (truncated c.args.settled.now c.deref.result.now c.self.inside.tops.items now left c.covered.result position
+    c.truncate.ensures.items
     (λ n le. ap (λ (xs : List ℕ). get_or xs n 0) (sym c.deref-2.ensures.value) ∙ c.covered.ensures.rest n le)
     (c.uncover_each.ensures.uncovered position))))
 
@@ -42,4 +46,5 @@ returns-else-is_empty-clause-ends c =
     (ends_covered c.self.inside.covers.items now c.covered.result c.self.invariant.0
     (subst (λ (cs : List Cover). AreTops cs now) c.deref.ensures.value c.uncover_each.ensures.tops)
     (subst (λ (xs : List ℕ). c.covered.result ≤ length xs) c.deref-2.ensures.value c.covered.ensures.within)
-    (subst (λ (xs : List ℕ). (c.covered.result ≡ 0) ⊎ (get_or xs (c.covered.result - 1) 0 ≢ 0)) c.deref-2.ensures.value c.covered.ensures.last))
+    (subst (λ (xs : List ℕ). (c.covered.result ≡ 0) ⊎ (get_or xs (c.covered.result - 1) 0 ≢ 0)) c.deref-2.ensures.value
+    c.covered.ensures.last))
