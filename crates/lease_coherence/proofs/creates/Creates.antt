@@ -463,7 +463,8 @@ creates_move = record {
       (λ f. refl) a;
   changed = λ world off c file_id number patch one v good source found may a.
       replied_at world off (changed_in off c one.file file_id number patch) c
-      (FileRequest.Write file_id number patch) (Reply.WriteDone file_id number) v.ground source refl refl refl refl refl (λ f. refl) a;
+      (FileRequest.Write file_id number patch) (Reply.WriteDone file_id number) v.ground source refl refl refl refl refl
+      (λ f. refl) a;
   closed = λ world off c file_id one v good source found a.
       replied_at world off (told_to (without_opens off (λ other. other.file_id == file_id)) c (Reply.Closed file_id)) c
       (FileRequest.Close file_id) (Reply.Closed file_id) v.ground source refl refl refl refl refl

@@ -456,7 +456,8 @@ standing_moves = record {
       (subst (λ q. StepStands gone c q (taken (world.clients c) reply)) (sym left)
       (any_reply (world.clients c) (TakeStands gone c queue)
       (takes_stand gone c queue (subst (AllEntries gone c) left (entries_of gone c s))) reply
-      (first_given world c reply queue first (a was)) (answers_last world c reply queue v.ground was (v.creates c good) first))) s;
+      (first_given world c reply queue first (a was)) (answers_last world c reply queue v.ground was (v.creates c good) first)))
+      s;
   notice = λ world c v good cut a on. absurd (true≢false (sym on
       ∙ ap (λ (l : ℕ → Link). is_up (l c)) (stepped_links (record world { links = put world.links c Link.Down }) c
       (noticed (world.clients c)))

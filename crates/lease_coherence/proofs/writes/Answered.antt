@@ -18,7 +18,7 @@ use Rattle.lease_coherence.specs.Creates.{held_by, one_if}
 use Rattle.lease_coherence.specs.Names.{IsNamedAt}
 use Rattle.lease_coherence.proofs.creates.Creates.{off_rest}
 use Rattle.lease_coherence.proofs.moves.Deeds.{IsSource, HasArrived, WasHeld, with_held}
-use Rattle.lease_coherence.proofs.moves.Events.{Ground, IsMoved}
+use Rattle.lease_coherence.proofs.moves.Events.{Ground}
 use Rattle.lease_coherence.proofs.moves.Ground.{among_put}
 use Rattle.lease_coherence.proofs.moves.Moves.{IsOldest, rest_of, popped}
 use Rattle.lease_coherence.proofs.records.Once.{written_once, written_number}
@@ -43,10 +43,6 @@ known_by world v c good = record {
   names = (names_of world v c good).entries;
   low = v.well.numbers c;
 }
-
--- what is kept where less is known is kept where more is
-pub moved_under : (V W P : World → Type 0) → ((world : World) → V world → W world) → IsMoved W P → IsMoved V P
-moved_under V W P weaker m world move may v p = m world move may (weaker world v) p
 
 -- ---- requests that are answered
 
