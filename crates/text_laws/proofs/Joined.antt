@@ -20,7 +20,7 @@ use Rattle.lease_laws.specs.server.SmallSteps.{MayLower}
 use Rattle.lease_laws.proofs.records.Runs.{all_starts}
 use Rattle.lease_laws.proofs.server.Lists.{any_has, and_parts}
 use Rattle.lease_coherence.proofs.moves.Deeds.{HasDeeds, IsSource, step_deed}
-use Rattle.lease_coherence.proofs.moves.Events.{Ground, IsMoved, Both, carried_both, runs_have}
+use Rattle.lease_coherence.proofs.moves.Events.{Ground, IsMoved, Move, Both, carried_both, runs_have}
 use Rattle.lease_coherence.proofs.moves.Frames.{from_source, stepped_past}
 use Rattle.lease_coherence.proofs.moves.Ground.{ground_carried, first_ground}
 use Rattle.lease_coherence.proofs.records.Later.{past_noted}
@@ -111,17 +111,15 @@ stepped_joined world client step h =
 
 joined_moves : IsMoved (Both Ground IsWell) HasJoined
 unfolding is_joined requests_sent
-joined_moves = record {
-  step = λ world step v next h. step_deed world HasJoined (deeds_joined world v h) step next;
-  cut = λ world client v up h. (refl, h);
-  timer = λ world client file v on breaks h. (refl, h);
-  scavenge = λ world file_id v h. h;
-  connect = λ world client v down h. stepped_joined _ client _ (refl, h);
-  command = λ world client command v h. stepped_joined world client _ h;
-  take = λ world client reply queue v first h. stepped_joined _ client _ (refl, h);
-  notice = λ world client v cut h. stepped_joined _ client _ h;
-  stray = λ world client request v up h. (refl, h);
-}
+joined_moves world (Move.Step step) next v h = step_deed world HasJoined (deeds_joined world v h) step next
+joined_moves world (Move.Cut client) up v h = (refl, h)
+joined_moves world (Move.Expire client file) (on, breaks) v h = (refl, h)
+joined_moves world (Move.Scavenge file_id) may v h = h
+joined_moves world (Move.Connect client) down v h = stepped_joined _ client _ (refl, h)
+joined_moves world (Move.Commanded client command) may v h = stepped_joined world client _ h
+joined_moves world (Move.Take client reply queue) first v h = stepped_joined _ client _ (refl, h)
+joined_moves world (Move.Notice client) cut v h = stepped_joined _ client _ h
+joined_moves world (Move.Stray client request) up v h = (refl, h)
 
 -- ---- every run
 
