@@ -172,7 +172,7 @@ unfolding create_finding
 broken_first server own opens access share same conflicts wanted =
     let some : is_empty (handle_wants server own 1 access share)
     ≡ not (list_any (is_wanted (NoHandles access share) server own) server.opens) = some_wanted (NoHandles access share) server
-        own in
+    own in
     rw (not_elsewhere own opens server same, conflicts, some, wanted) refl
 
 pub refused_at_once : (server : Server) (own : Option Key) (opens : List LeaseOpen) (access : Access) (share : Share)
@@ -183,7 +183,7 @@ unfolding create_finding
 refused_at_once server own opens access share same conflicts wanted =
     let some : is_empty (handle_wants server own 1 access share)
     ≡ not (list_any (is_wanted (NoHandles access share) server own) server.opens) = some_wanted (NoHandles access share) server
-        own in
+    own in
     rw (not_elsewhere own opens server same, conflicts, some, wanted) refl
 
 pub without_conflict : (server : Server) (own : Option Key) (opens : List LeaseOpen) (access : Access) (share : Share)

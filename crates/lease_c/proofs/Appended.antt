@@ -17,19 +17,19 @@ put_put place first second bytes fits =
     let rest : List ℕ = drop (place + length first) bytes in
     let whole : put place first bytes ≡ (begin ++ first) ++ rest = sym (append_assoc begin first rest) in
     let seam : length (begin ++ first)
-        ≡ place + length first = length-append begin first
-        ∙ ap (λ n. n + length first) (length-take-le place bytes (omega (arith, fits))) in
+    ≡ place + length first = length-append begin first
+    ∙ ap (λ n. n + length first) (length-take-le place bytes (omega (arith, fits))) in
     let front : take (place + length first) (put place first bytes) ≡ begin ++ first =
     ap (take (place + length first)) whole ∙ ap (λ n. take n ((begin ++ first) ++ rest)) (sym seam)
-        ∙ take-append_seam (begin ++ first) rest in
+    ∙ take-append_seam (begin ++ first) rest in
     let back : drop (place + length first + length second) (put place first bytes)
-        ≡ drop (place + length (first ++ second)) bytes =
+    ≡ drop (place + length (first ++ second)) bytes =
     ap (drop (place + length first + length second)) whole
-        ∙ ap (λ n. drop (n + length second) ((begin ++ first) ++ rest)) (sym seam)
+    ∙ ap (λ n. drop (n + length second) ((begin ++ first) ++ rest)) (sym seam)
     ∙ drop-append-add (begin ++ first) rest (length second) ∙ drop-drop (length second) (place + length first) bytes
     ∙ ap (λ n. drop n bytes) (omega (arith, length-append first second)) in
     rw (front, back) (append_assoc begin first (second ++ drop (place + length (first ++ second)) bytes)
-        ∙ ap (λ l. begin ++ l) (sym (append_assoc first second (drop (place + length (first ++ second)) bytes))))
+    ∙ ap (λ l. begin ++ l) (sym (append_assoc first second (drop (place + length (first ++ second)) bytes))))
 
 -- a write that begins where another one ended, by that one's length
 pub put_after : (place : ℕ) (first second bytes : List ℕ) (count : ℕ) → length first ≡ count → place + count ≤ length bytes
@@ -71,7 +71,7 @@ last_within end place last zero [] before ends = tt
 last_within end place last (suc skipped) [] before ends = before
 last_within end place last zero (byte ∷ bytes) before ends =
     due (layout_fault place (byte ∷ bytes)) (λ some. last_within end (place + next_of (byte ∷ bytes)) place
-        (next_of (byte ∷ bytes) - 1) bytes (omega (arith, ends)) (omega (arith, ends, some)))
+    (next_of (byte ∷ bytes) - 1) bytes (omega (arith, ends)) (omega (arith, ends, some)))
   where
     next : ℕ
     next = next_of (byte ∷ bytes)

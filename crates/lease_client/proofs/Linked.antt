@@ -96,7 +96,7 @@ unfolding all_turned
 all_after known online turn given leaves answer requests notes = record {
   client =
       ap (λ n. with_table (client_of known) online n (numbered (closed_entry [])
-          (entries_to turn known.entries (length known.entries))))
+      (entries_to turn known.entries (length known.entries))))
       (length_to turn known.entries (length known.entries))
       ∙ ap (λ (t : ℕ → Entry). with_table (client_of known) online (length known.entries) t)
       (all_entries turn known.entries leaves);
@@ -188,8 +188,10 @@ pub linked_after : (known current final : Known) (link : Link) (given : Given) (
     → given.notes ≡ notes_to (link_turn link known.guid) (client_of known).entries k
     → IsAfter final given (linked (client_of known) link)
 linked_after known current final link given k is all stands answer requests notes =
-    let there : final ≡ record known { entries = entries_to (link_turn link known.guid) known.entries (length known.entries);
-        is_online = is_made link } =
+    let there : final ≡ record known {
+      entries = entries_to (link_turn link known.guid) known.entries (length known.entries);
+      is_online = is_made link;
+    } =
     stands ∙ rw (is, all) refl in
     rw (there, linked_is (client_of known) link)
     (all_after known (is_made link) (link_turn link known.guid) given (leaves_closed link known.guid)

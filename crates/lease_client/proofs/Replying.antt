@@ -107,7 +107,7 @@ not_read_lowers status sent Phase.Closed = refl
 not_read_lowers status sent (Phase.Opening access share) = refl
 not_read_lowers status sent (Phase.Live live) =
     lower_if (live_entry live sent) (model.is_file_closed status) _ _ (closed_lowers live sent [] status live.asking)
-        (within_self live.belief)
+    (within_self live.belief)
 not_read_lowers status sent (Phase.Offline parted) = refl
 not_read_lowers status sent (Phase.Reconnecting parted) = refl
 
@@ -118,7 +118,7 @@ broken_lowers notice sent Phase.Closed = refl
 broken_lowers notice sent (Phase.Opening access share) = refl
 broken_lowers notice sent (Phase.Live live) =
     lower_if (live_entry live sent) (live.handles == 0 && (live.belief.handle && not (meet live.belief notice.lowered).handle)) _
-        _
+    _
     refl (meet_within live.belief notice.lowered)
 broken_lowers notice sent (Phase.Offline parted) = refl
 broken_lowers notice sent (Phase.Reconnecting parted) = refl

@@ -101,7 +101,7 @@ unfolding rules.read_sent_turn
 read_sent_lowers sent live =
     let same = within_self live.belief in
     lower_if (live_entry live sent) (is_asking live) _ _ same (lower_if (live_entry live sent) (live.reads == count_limit) _ _
-        same same)
+    same same)
 
 read_from_lowers : (file : ℕ) (sent : List Pending) (live : LiveEntry) (reads : Bool) (base : Option (List ℕ))
     → Lowers (live_entry live sent) (rules.read_from_turn file live sent reads base)

@@ -44,4 +44,4 @@ module _ {M : Type 1} {𝓤 : Ura M} {𝓛 : Logic 𝓤} (R : RattleType) (alloc
   either_owned t (Some x) p none one =
       in_a_block t p (λ q. box_owns may_free R q x) (fst∗ 𝓤 (never 𝓤) (sem 𝓛 (may_free (bare (lone R.mir)) null_ptr))) (λ b o e.
       use1 𝓛 (given (Testable (block_ptr b o)) (‵ (box_owns may_free R (block_ptr b o) x))) (tested 𝓛 R alloc (block_ptr b o) x)
-          $ learn t (λ test. one b o x e refl test))
+      $ learn t (λ test. one b o x e refl test))

@@ -37,7 +37,7 @@ pub written_by_places : (x : List ℕ) (o : ℕ) (d all : List ℕ) → length a
     → ((k : ℕ) → k < length all → get_or all k 0 ≡ byte_at x o d k) → all ≡ written x o d
 written_by_places x o d all long bytes =
     same_number_lists all (written x o d) (long ∙ sym (length-written x o d))
-        (λ k within. bytes k within ∙ sym (get_or-written x o d k))
+    (λ k within. bytes k within ∙ sym (get_or-written x o d k))
 
 -- ---- zeros behind a list, then the bytes over it
 get_or-replicate_zero : (n k : ℕ) → let nothing : ℕ = 0 in get_or (replicate n 0) k nothing ≡ nothing

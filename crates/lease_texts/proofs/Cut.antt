@@ -79,7 +79,7 @@ unfolding pieces
 pieces_some separator [] = λ same. cc
 pieces_some separator (byte ∷ bytes) =
     if_cases (λ all. all ≢ []) (byte == separator) ([] ∷ pieces separator ([] ∷ []) bytes)
-        (longer byte (pieces separator ([] ∷ []) bytes))
+    (longer byte (pieces separator ([] ∷ []) bytes))
     (λ _. λ same. cc) (λ _. longer_some byte (pieces separator ([] ∷ []) bytes))
 
 -- A number of the wire up to 7 names a state of that number.

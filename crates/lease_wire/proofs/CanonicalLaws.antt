@@ -71,29 +71,59 @@ without_reconnect : (direction : Direction) (lease : Option LeaseView) (durable 
     → HoldsValue direction (canonical_text direction (record { lease = lease; durable = durable; reconnect = None }))
     (record { lease = lease; durable = durable; reconnect = None })
 unfolding canonical_text
-without_reconnect direction None false long calm = ([], refl, record { lengths = refl; lease = refl; durable = refl;
-    reconnect = refl })
+without_reconnect direction None false long calm = (
+  [],
+  refl,
+  record {
+    lengths = refl;
+    lease = refl;
+    durable = refl;
+    reconnect = refl;
+  },
+)
 without_reconnect direction (Some lease) false long calm = (
   lease_context (0) lease ∷ [],
   (lease_piece false lease ∷ [], refl, (is_lease false (0) lease long, lease_ends lease long, refl)),
-  record { lengths = rw (lease_is direction (0) lease long calm) refl; lease = rw (lease_is direction (0) lease long calm) refl;
-      durable = rw (lease_is direction (0) lease long calm) refl; reconnect = rw (lease_is direction (0) lease long calm) refl },
+  record {
+    lengths = rw (lease_is direction (0) lease long calm) refl;
+    lease = rw (lease_is direction (0) lease long calm) refl;
+    durable = rw (lease_is direction (0) lease long calm) refl;
+    reconnect = rw (lease_is direction (0) lease long calm) refl;
+  },
 )
 without_reconnect direction None true long calm = (
   durable_context direction (0) ∷ [],
   (durable_piece direction false ∷ [], refl, (is_durable direction false (0), durable_ends direction, refl)),
-  record { lengths = rw (durable_is direction (0)) refl; lease = rw (durable_is direction (0)) refl;
-      durable = rw (durable_is direction (0)) refl; reconnect = rw (durable_is direction (0)) refl },
+  record {
+    lengths = rw (durable_is direction (0)) refl;
+    lease = rw (durable_is direction (0)) refl;
+    durable = rw (durable_is direction (0)) refl;
+    reconnect = rw (durable_is direction (0)) refl;
+  },
 )
 without_reconnect direction (Some lease) true long calm = (
   lease_context (0) lease ∷ durable_context direction (0 + length (lease_piece true lease)) ∷ [],
-  (lease_piece true lease ∷ durable_piece direction false
-  ∷ [], refl, (is_lease true (0) lease long, lease_leads lease long, (is_durable direction false
-  (0 + length (lease_piece true lease)), durable_ends direction, refl))),
-  record { lengths = rw (lease_is direction (0) lease long calm, durable_is direction (0 + length (lease_piece true lease))) refl;
-      lease = rw (lease_is direction (0) lease long calm, durable_is direction (0 + length (lease_piece true lease))) refl;
-      durable = rw (lease_is direction (0) lease long calm, durable_is direction (0 + length (lease_piece true lease))) refl;
-      reconnect = rw (lease_is direction (0) lease long calm, durable_is direction (0 + length (lease_piece true lease))) refl },
+  (
+    lease_piece true lease ∷ durable_piece direction false
+        ∷ [],
+    refl,
+    (
+      is_lease true (0) lease long,
+      lease_leads lease long,
+      (
+        is_durable direction false
+            (0 + length (lease_piece true lease)),
+        durable_ends direction,
+        refl,
+      ),
+    ),
+  ),
+  record {
+    lengths = rw (lease_is direction (0) lease long calm, durable_is direction (0 + length (lease_piece true lease))) refl;
+    lease = rw (lease_is direction (0) lease long calm, durable_is direction (0 + length (lease_piece true lease))) refl;
+    durable = rw (lease_is direction (0) lease long calm, durable_is direction (0 + length (lease_piece true lease))) refl;
+    reconnect = rw (lease_is direction (0) lease long calm, durable_is direction (0 + length (lease_piece true lease))) refl;
+  },
 )
 
 -- a request with a reconnect, by its parts
@@ -104,48 +134,106 @@ with_reconnect : (lease : Option LeaseView) (durable : Bool) (file_id : ℕ) →
 unfolding canonical_text
 with_reconnect None false file_id long calm fits = (
   reconnect_context (0) file_id ∷ [],
-  (reconnect_piece file_id ∷ [], rw (append-nil (reconnect_piece file_id)) refl,
-  (is_reconnect (0) file_id, reconnect_ends file_id, refl)),
-  record { lengths = rw (reconnect_is (0) file_id fits) refl; lease = rw (reconnect_is (0) file_id fits) refl;
-      durable = rw (reconnect_is (0) file_id fits) refl; reconnect = rw (reconnect_is (0) file_id fits) refl },
+  (
+    reconnect_piece file_id ∷ [],
+    rw (append-nil (reconnect_piece file_id)) refl,
+    (is_reconnect (0) file_id, reconnect_ends file_id, refl),
+  ),
+  record {
+    lengths = rw (reconnect_is (0) file_id fits) refl;
+    lease = rw (reconnect_is (0) file_id fits) refl;
+    durable = rw (reconnect_is (0) file_id fits) refl;
+    reconnect = rw (reconnect_is (0) file_id fits) refl;
+  },
 )
 with_reconnect (Some lease) false file_id long calm fits = (
   lease_context (0) lease ∷ reconnect_context (0 + length (lease_piece true lease)) file_id ∷ [],
-  (lease_piece true lease ∷ reconnect_piece file_id
-  ∷ [], rw (append-nil (reconnect_piece file_id)) refl, (is_lease true (0) lease long, lease_leads lease long,
-  (is_reconnect (0 + length (lease_piece true lease)) file_id, reconnect_ends file_id, refl))),
-  record { lengths = rw (lease_is Request (0) lease long calm, reconnect_is (0 + length (lease_piece true lease)) file_id fits)
-      refl; lease = rw (lease_is Request (0) lease long calm, reconnect_is (0 + length (lease_piece true lease)) file_id fits)
-      refl; durable = rw (lease_is Request (0) lease long calm, reconnect_is (0 + length (lease_piece true lease)) file_id fits)
-      refl; reconnect = rw (lease_is Request (0) lease long calm, reconnect_is (0 + length (lease_piece true lease)) file_id fits)
-      refl },
+  (
+    lease_piece true lease ∷ reconnect_piece file_id
+        ∷ [],
+    rw (append-nil (reconnect_piece file_id)) refl,
+    (
+      is_lease true (0) lease long,
+      lease_leads lease long,
+      (is_reconnect (0 + length (lease_piece true lease)) file_id, reconnect_ends file_id, refl),
+    ),
+  ),
+  record {
+    lengths = rw (lease_is Request (0) lease long calm, reconnect_is (0 + length (lease_piece true lease)) file_id fits)
+        refl;
+    lease = rw (lease_is Request (0) lease long calm, reconnect_is (0 + length (lease_piece true lease)) file_id fits)
+        refl;
+    durable = rw (lease_is Request (0) lease long calm, reconnect_is (0 + length (lease_piece true lease)) file_id fits)
+        refl;
+    reconnect = rw (lease_is Request (0) lease long calm, reconnect_is (0 + length (lease_piece true lease)) file_id fits)
+        refl;
+  },
 )
 with_reconnect None true file_id long calm fits = (
   durable_context Request (0) ∷ reconnect_context (0 + length (durable_piece Request true)) file_id ∷ [],
-  (durable_piece Request true ∷ reconnect_piece file_id
-  ∷ [], rw (append-nil (reconnect_piece file_id)) refl, (is_durable Request true (0), durable_leads Request,
-  (is_reconnect (0 + length (durable_piece Request true)) file_id, reconnect_ends file_id, refl))),
-  record { lengths = rw (durable_is Request (0), reconnect_is (0 + length (durable_piece Request true)) file_id fits) refl;
-      lease = rw (durable_is Request (0), reconnect_is (0 + length (durable_piece Request true)) file_id fits) refl;
-      durable = rw (durable_is Request (0), reconnect_is (0 + length (durable_piece Request true)) file_id fits) refl;
-      reconnect = rw (durable_is Request (0), reconnect_is (0 + length (durable_piece Request true)) file_id fits) refl },
+  (
+    durable_piece Request true ∷ reconnect_piece file_id
+        ∷ [],
+    rw (append-nil (reconnect_piece file_id)) refl,
+    (
+      is_durable Request true (0),
+      durable_leads Request,
+      (is_reconnect (0 + length (durable_piece Request true)) file_id, reconnect_ends file_id, refl),
+    ),
+  ),
+  record {
+    lengths = rw (durable_is Request (0), reconnect_is (0 + length (durable_piece Request true)) file_id fits) refl;
+    lease = rw (durable_is Request (0), reconnect_is (0 + length (durable_piece Request true)) file_id fits) refl;
+    durable = rw (durable_is Request (0), reconnect_is (0 + length (durable_piece Request true)) file_id fits) refl;
+    reconnect = rw (durable_is Request (0), reconnect_is (0 + length (durable_piece Request true)) file_id fits) refl;
+  },
 )
 with_reconnect (Some lease) true file_id long calm fits = (
   lease_context (0) lease ∷ durable_context Request (0 + length (lease_piece true lease))
       ∷ reconnect_context (0 + length (lease_piece true lease) + length (durable_piece Request true)) file_id ∷ [],
-  (lease_piece true lease ∷ durable_piece Request true ∷ reconnect_piece file_id
-  ∷ [], rw (append-nil (reconnect_piece file_id)) refl, (is_lease true (0) lease long, lease_leads lease long,
-  (is_durable Request true (0 + length (lease_piece true lease)), durable_leads Request,
-  (is_reconnect (0 + length (lease_piece true lease) + length (durable_piece Request true)) file_id, reconnect_ends file_id,
-  refl)))),
-  record { lengths = rw (lease_is Request (0) lease long calm, durable_is Request (0 + length (lease_piece true lease)),
-      reconnect_is (0 + length (lease_piece true lease) + length (durable_piece Request true)) file_id fits) refl;
-      lease = rw (lease_is Request (0) lease long calm, durable_is Request (0 + length (lease_piece true lease)), reconnect_is
-      (0 + length (lease_piece true lease) + length (durable_piece Request true)) file_id fits) refl;
-      durable = rw (lease_is Request (0) lease long calm, durable_is Request (0 + length (lease_piece true lease)), reconnect_is
-      (0 + length (lease_piece true lease) + length (durable_piece Request true)) file_id fits) refl;
-      reconnect = rw (lease_is Request (0) lease long calm, durable_is Request (0 + length (lease_piece true lease)), reconnect_is
-      (0 + length (lease_piece true lease) + length (durable_piece Request true)) file_id fits) refl },
+  (
+    lease_piece true lease ∷ durable_piece Request true ∷ reconnect_piece file_id
+        ∷ [],
+    rw (append-nil (reconnect_piece file_id)) refl,
+    (
+      is_lease true (0) lease long,
+      lease_leads lease long,
+      (
+        is_durable Request true (0 + length (lease_piece true lease)),
+        durable_leads Request,
+        (
+          is_reconnect (0 + length (lease_piece true lease) + length (durable_piece Request true)) file_id,
+          reconnect_ends file_id,
+          refl,
+        ),
+      ),
+    ),
+  ),
+  record {
+    lengths = rw (
+      lease_is Request (0) lease long calm,
+      durable_is Request (0 + length (lease_piece true lease)),
+      reconnect_is (0 + length (lease_piece true lease) + length (durable_piece Request true)) file_id fits,
+    ) refl;
+    lease = rw (
+      lease_is Request (0) lease long calm,
+      durable_is Request (0 + length (lease_piece true lease)),
+      reconnect_is
+          (0 + length (lease_piece true lease) + length (durable_piece Request true)) file_id fits,
+    ) refl;
+    durable = rw (
+      lease_is Request (0) lease long calm,
+      durable_is Request (0 + length (lease_piece true lease)),
+      reconnect_is
+          (0 + length (lease_piece true lease) + length (durable_piece Request true)) file_id fits,
+    ) refl;
+    reconnect = rw (
+      lease_is Request (0) lease long calm,
+      durable_is Request (0 + length (lease_piece true lease)),
+      reconnect_is
+          (0 + length (lease_piece true lease) + length (durable_piece Request true)) file_id fits,
+    ) refl;
+  },
 )
 
 calm_of : (direction : Direction) (v : CreateView) → IsDirected direction v → IfSome v.lease (λ lease. Calm direction lease)

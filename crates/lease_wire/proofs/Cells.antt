@@ -33,4 +33,4 @@ sixteen_cells P here =
     first_cell (λ xs. P (a ∷ b ∷ c ∷ d ∷ e ∷ f ∷ g ∷ h ∷ i ∷ j ∷ k ∷ l ∷ m ∷ n ∷ xs)) 1 (λ o.
     first_cell (λ xs. P (a ∷ b ∷ c ∷ d ∷ e ∷ f ∷ g ∷ h ∷ i ∷ j ∷ k ∷ l ∷ m ∷ n ∷ o ∷ xs)) 0 (λ p.
     no_cell (λ xs. P (a ∷ b ∷ c ∷ d ∷ e ∷ f ∷ g ∷ h ∷ i ∷ j ∷ k ∷ l ∷ m ∷ n ∷ o ∷ p ∷ xs))
-        (here a b c d e f g h i j k l m n o p)))))))))))))))))
+    (here a b c d e f g h i j k l m n o p)))))))))))))))))

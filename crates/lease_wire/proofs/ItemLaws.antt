@@ -47,8 +47,11 @@ module _ (start : ℕ) (bytes : List ℕ)
   faulty_more none more leading behind =
       let piece : List ℕ = take (next_of bytes) bytes in
       let far : start + next_of bytes + length (concat behind.pieces)
-          ≡ start + length (piece ++ concat behind.pieces) = omega (arith, length-append piece (concat behind.pieces),
-          leading.long) in
+      ≡ start + length (piece ++ concat behind.pieces) = omega (
+        arith,
+        length-append piece (concat behind.pieces),
+        leading.long,
+      ) in
       let P : ℕ → Type 0 = λ size. AreLinked (start + size) behind.pieces behind.contexts in
       record {
         fault = behind.fault;

@@ -50,7 +50,7 @@ items_behind-more place (byte ∷ bytes) e more =
         → item_before (layout_fault place (byte ∷ bytes)) (context_at place (byte ∷ bytes)) (next_of (byte ∷ bytes))
         (items_behind (place + next_of (byte ∷ bytes)) (next_of (byte ∷ bytes) - 1) bytes)
         ≡ Ok (context_at place (byte ∷ bytes))
-            ∷ items_behind (place + next_of (byte ∷ bytes)) 0 (drop (next_of (byte ∷ bytes)) (byte ∷ bytes))
+        ∷ items_behind (place + next_of (byte ∷ bytes)) 0 (drop (next_of (byte ∷ bytes)) (byte ∷ bytes))
     more_of zero is within = absurd (more is)
     more_of (suc next) is within =
         let less : suc next - 1 ≡ next = omega arith in

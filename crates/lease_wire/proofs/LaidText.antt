@@ -44,7 +44,7 @@ added : (direction : Direction) (before : List ContextView) (v w : CreateView) (
     → HaveValue direction before v → HaveValue direction (before ++ context ∷ behind) w → Added direction before v context
 added direction before v w context behind have whole =
     by_result (with_meaning v context.place (meaning_of direction context)) refl
-        (adds direction before v have context (meaning_of direction context) refl)
+    (adds direction before v have context (meaning_of direction context) refl)
   where
     by_result : (answer : Result CreateView WireFault) → with_meaning v context.place (meaning_of direction context) ≡ answer
         → Adds direction before context (with_meaning v context.place (meaning_of direction context))
@@ -70,7 +70,7 @@ laid_reads direction start (piece ∷ []) (context ∷ contexts) before v w (is,
 laid_reads direction start (piece ∷ next ∷ pieces) (context ∷ contexts) before v w (is, on, laid) have whole =
     let more = added direction before v w context contexts have whole in
     let further = laid_reads direction (start + length piece) (next ∷ pieces) contexts (before ++ context ∷ []) more.value w laid
-        more.have (rw append_assoc whole) in
+    more.have (rw append_assoc whole) in
     rw (items_of_leading start piece (next ++ concat pieces) context is on, more.adds) further
 
 -- pieces that lead on are passed with the value that they have
@@ -88,9 +88,9 @@ linked_reads direction start (piece ∷ pieces) [] before rest v w linked have w
 linked_reads direction start (piece ∷ pieces) (context ∷ contexts) before rest v w (is, on, linked) have whole =
     let more = added direction before v w context contexts have whole in
     let further = linked_reads direction (start + length piece) pieces contexts (before ++ context ∷ []) rest more.value w linked
-        more.have (rw append_assoc whole) in
+    more.have (rw append_assoc whole) in
     let far : start + length piece + length (concat pieces)
-        ≡ start + length (piece ++ concat pieces) = omega (arith, length-append piece (concat pieces)) in
+    ≡ start + length (piece ++ concat pieces) = omega (arith, length-append piece (concat pieces)) in
     rw (append_assoc, items_of_leading start piece (concat pieces ++ rest) context is on, more.adds, ← far) further
 
 -- what is left begins with the fault
@@ -101,9 +101,9 @@ module _ (direction : Direction) (contexts : List ContextView) (w : CreateView) 
   unfolding context_at
   stops_at_name none =
       let values_of_kind = faults direction contexts w have (context_at place rest) place
-          (meaning_of direction (context_at place rest)) in
+      (meaning_of direction (context_at place rest)) in
       let stopped : meaning_fault direction contexts place (meaning_of direction (context_at place rest))
-          ≡ Some fault = rw none at first in
+      ≡ Some fault = rw none at first in
       by_result (with_meaning w place (meaning_of direction (context_at place rest))) refl (values_of_kind ∙ stopped)
     where
       by_result : (answer : Result CreateView WireFault)

@@ -20,7 +20,7 @@ notification_layout v =
 pub notification_reads_back : NotificationReadsBack
 notification_reads_back v rest =
     sixteen_cells (λ key. IsNotification (take 44 (notification_bytes (record v { key = key }) ++ rest)) (record v { key = key })
-        × (drop 44 (notification_bytes (record v { key = key }) ++ rest) ≡ rest))
+    × (drop 44 (notification_bytes (record v { key = key }) ++ rest) ≡ rest))
     (λ a b c d e f g h i j k l m n o p. (
       record {
         size = refl;
@@ -59,7 +59,7 @@ acknowledgment_layout v =
 pub acknowledgment_reads_back : AcknowledgmentReadsBack
 acknowledgment_reads_back v rest =
     sixteen_cells (λ key. IsAcknowledgment (take 36 (acknowledgment_bytes (record v { key = key }) ++ rest))
-        (record v { key = key }) × (drop 36 (acknowledgment_bytes (record v { key = key }) ++ rest) ≡ rest))
+    (record v { key = key }) × (drop 36 (acknowledgment_bytes (record v { key = key }) ++ rest) ≡ rest))
     (λ a b c d e f g h i j k l m n o p. (
       record {
         size = refl;

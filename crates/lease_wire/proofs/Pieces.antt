@@ -142,7 +142,7 @@ front_is start piece others long none size =
     let fits = rw head at (header_fits start _ _ none) in
     let name_inside : name_offset_of piece + name_length_of piece ≤ length piece = rw size at fits.name_within in
     let data_inside : data_length_of piece ≢ 0
-        → data_offset_of piece + data_length_of piece ≤ length piece = rw size at fits.data_within in
+    → data_offset_of piece + data_length_of piece ≤ length piece = rw size at fits.data_within in
     let name = bytes_at-front (name_offset_of piece) (name_length_of piece) piece others name_inside in
     let text = data_at-front (data_offset_of piece) (data_length_of piece) piece others data_inside in
     record {

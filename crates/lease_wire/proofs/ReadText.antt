@@ -31,12 +31,12 @@ carried_err (Err other) further fault e = inl e
 
 -- the bytes from a place on are laid out, and what they hold gives the value
 pub record LaidFrom (direction : Direction) (start : ℕ) (bytes : List ℕ) (before : List ContextView) (w : CreateView) : Type 0
-    where
-  pub pieces : List (List ℕ)
-  pub contexts : List ContextView
-  pub whole : concat pieces ≡ bytes
-  pub laid : AreLaidOut start pieces contexts
-  pub value : HaveValue direction (before ++ contexts) w
+  where
+    pub pieces : List (List ℕ)
+    pub contexts : List ContextView
+    pub whole : concat pieces ≡ bytes
+    pub laid : AreLaidOut start pieces contexts
+    pub value : HaveValue direction (before ++ contexts) w
 
 pub laid_on : (start next : ℕ) (piece : List ℕ) (pieces : List (List ℕ)) (context : ContextView) (contexts : List ContextView)
     → IsContext start piece context → LeadsOn piece → length piece ≡ next
@@ -99,7 +99,7 @@ module _ (direction : Direction) (start : ℕ) (bytes : List ℕ) (before : List
       let same : step.0 ≡ w = cc (step.2) in
       let P : CreateView → Type 0 = λ x. HaveValue direction (before ++ context_at start bytes ∷ []) x in
       laid_last direction start bytes before w none last (subst P same (value_after direction before v step.0
-          (context_at start bytes) have step.1))
+      (context_at start bytes) have step.1))
   laid_by_next none (inr more) =
       let read = rw (items_behind-more start bytes none more) at e in
       let step = carried_ok _ _ w read in
@@ -118,10 +118,10 @@ pub text_laid : (room : ℕ) (direction : Direction) (start : ℕ) (bytes : List
     → gathered direction v (items_behind start 0 bytes) ≡ Ok w → LaidFrom direction start bytes before w
 text_laid zero direction start bytes before v w within have e =
     laid_by_fault direction start bytes before v w have e (λ x value more less read. absurd (omega arith))
-        (layout_fault start bytes) refl
+    (layout_fault start bytes) refl
 text_laid (suc room) direction start bytes before v w within have e =
     laid_by_fault direction start bytes before v w have e (λ x value more less read. text_laid room direction _ _ _ x w
-        (omega arith) value read) (layout_fault start bytes) refl
+    (omega arith) value read) (layout_fault start bytes) refl
 
 -- the bytes from a place on lead to a fault
 pub record FaultyFrom (direction : Direction) (start : ℕ) (bytes : List ℕ) (before : List ContextView) (fault : WireFault) : Type
@@ -156,7 +156,7 @@ faulty_more : (direction : Direction) (start : ℕ) (bytes : List ℕ) (before :
 faulty_more direction start bytes before fault leading more =
     let piece : List ℕ = take (next_of bytes) bytes in
     let far : start + next_of bytes + length (concat more.pieces)
-        ≡ start + length (piece ++ concat more.pieces) = omega (arith, length-append piece (concat more.pieces), leading.long) in
+    ≡ start + length (piece ++ concat more.pieces) = omega (arith, length-append piece (concat more.pieces), leading.long) in
     let P : ℕ → Type 0 = λ size. AreLinked (start + size) more.pieces more.contexts in
     record {
       pieces = piece ∷ more.pieces;
@@ -175,53 +175,53 @@ module _ (direction : Direction) (start : ℕ) (bytes : List ℕ) (before : List
     → length (drop (next_of bytes) bytes) + 16 ≤ length bytes
     → gathered direction x (items_behind (start + next_of bytes) 0 (drop (next_of bytes) bytes)) ≡ Err fault
     → FaultyFrom direction (start + next_of bytes) (drop (next_of bytes) bytes) (before ++ context_at start bytes ∷ []) fault)
-    where
-  -- the rule of names that the context here breaks
-  faulty_name : layout_fault start bytes ≡ None
-      → with_meaning v (context_at start bytes).place (meaning_of direction (context_at start bytes)) ≡ Err fault
-      → FaultyFrom direction start bytes before fault
-  unfolding context_at
-  faulty_name none broken =
-      let values_of_kind = faults direction before v have (context_at start bytes) start
-          (meaning_of direction (context_at start bytes)) in
-      let stopped : fault_in (with_meaning v start (meaning_of direction (context_at start bytes)))
-          ≡ Some fault = rw broken refl in
-      faulty_here direction start bytes before v fault have (rw none (sym values_of_kind ∙ stopped))
+  where
+    -- the rule of names that the context here breaks
+    faulty_name : layout_fault start bytes ≡ None
+        → with_meaning v (context_at start bytes).place (meaning_of direction (context_at start bytes)) ≡ Err fault
+        → FaultyFrom direction start bytes before fault
+    unfolding context_at
+    faulty_name none broken =
+        let values_of_kind = faults direction before v have (context_at start bytes) start
+        (meaning_of direction (context_at start bytes)) in
+        let stopped : fault_in (with_meaning v start (meaning_of direction (context_at start bytes)))
+        ≡ Some fault = rw broken refl in
+        faulty_here direction start bytes before v fault have (rw none (sym values_of_kind ∙ stopped))
 
-  faulty_by_next : layout_fault start bytes ≡ None → ((next_of bytes ≡ 0) ⊎ (next_of bytes ≢ 0))
-      → FaultyFrom direction start bytes before fault
-  unfolding gathered
-  faulty_by_next none (inl last) =
-      let read = rw (items_behind-last start bytes none last) at e in
-      elim (carried_err _ _ fault read) [
-        | inl broken ↦ faulty_name none broken
-        | inr step ↦ let clash : ◌≡◌ {A = Result CreateView WireFault} (Ok step.0) (Err fault) = step.2 in cc
-      ]
-  faulty_by_next none (inr more) =
-      let read = rw (items_behind-more start bytes none more) at e in
-      let leading = leading_is start bytes none more in
-      elim (carried_err _ _ fault read) [
-        | inl broken ↦ faulty_name none broken
-        | inr step ↦ faulty_more direction start bytes before fault leading
-            (further step.0 (value_after direction before v step.0 (context_at start bytes) have step.1) leading.less step.2)
-      ]
+    faulty_by_next : layout_fault start bytes ≡ None → ((next_of bytes ≡ 0) ⊎ (next_of bytes ≢ 0))
+        → FaultyFrom direction start bytes before fault
+    unfolding gathered
+    faulty_by_next none (inl last) =
+        let read = rw (items_behind-last start bytes none last) at e in
+        elim (carried_err _ _ fault read) [
+          | inl broken ↦ faulty_name none broken
+          | inr step ↦ let clash : ◌≡◌ {A = Result CreateView WireFault} (Ok step.0) (Err fault) = step.2 in cc
+        ]
+    faulty_by_next none (inr more) =
+        let read = rw (items_behind-more start bytes none more) at e in
+        let leading = leading_is start bytes none more in
+        elim (carried_err _ _ fault read) [
+          | inl broken ↦ faulty_name none broken
+          | inr step ↦ faulty_more direction start bytes before fault leading
+              (further step.0 (value_after direction before v step.0 (context_at start bytes) have step.1) leading.less step.2)
+        ]
 
-  faulty_by_fault : (answer : Option WireFault) → layout_fault start bytes ≡ answer
-      → FaultyFrom direction start bytes before fault
-  unfolding gathered
-  faulty_by_fault (Some other) is =
-      let same : ◌≡◌ {A = Result CreateView WireFault} (Err other) (Err fault) = rw (items_behind-fault start bytes other is) at
-          e in
-      let equal : other ≡ fault = cc in
-      faulty_here direction start bytes before v fault have (rw (is, equal) refl)
-  faulty_by_fault None none = faulty_by_next none (last_or_more bytes)
+    faulty_by_fault : (answer : Option WireFault) → layout_fault start bytes ≡ answer
+        → FaultyFrom direction start bytes before fault
+    unfolding gathered
+    faulty_by_fault (Some other) is =
+        let same : ◌≡◌ {A = Result CreateView WireFault} (Err other) (Err fault) = rw (items_behind-fault start bytes other is) at
+        e in
+        let equal : other ≡ fault = cc in
+        faulty_here direction start bytes before v fault have (rw (is, equal) refl)
+    faulty_by_fault None none = faulty_by_next none (last_or_more bytes)
 
 pub text_faulty : (room : ℕ) (direction : Direction) (start : ℕ) (bytes : List ℕ) (before : List ContextView) (v : CreateView)
     (fault : WireFault) → length bytes ≤ room → HaveValue direction before v
     → gathered direction v (items_behind start 0 bytes) ≡ Err fault → FaultyFrom direction start bytes before fault
 text_faulty zero direction start bytes before v fault within have e =
     faulty_by_fault direction start bytes before v fault have e (λ x value less read. absurd (omega arith))
-        (layout_fault start bytes) refl
+    (layout_fault start bytes) refl
 text_faulty (suc room) direction start bytes before v fault within have e =
     faulty_by_fault direction start bytes before v fault have e (λ x value less read. text_faulty room direction _ _ _ x fault
-        (omega arith) value read) (layout_fault start bytes) refl
+    (omega arith) value read) (layout_fault start bytes) refl

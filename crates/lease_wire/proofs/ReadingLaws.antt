@@ -30,7 +30,7 @@ value_held direction [] v e =
     ([], refl, subst P same (value_of_nothing direction))
 value_held direction (byte ∷ bytes) v e =
     let laid = text_laid (length (byte ∷ bytes)) direction 0 (byte ∷ bytes) [] no_values v (omega arith)
-        (value_of_nothing direction) e in
+    (value_of_nothing direction) e in
     (laid.contexts, (laid.pieces, laid.whole, laid.laid), laid.value)
 
 held_value : (direction : Direction) (text : List ℕ) (v : CreateView) → HoldsValue direction text v
@@ -48,7 +48,7 @@ unfolding gathered
 fault_had direction [] fault e = cc
 fault_had direction (byte ∷ bytes) fault e =
     let faulty = text_faulty (length (byte ∷ bytes)) direction 0 (byte ∷ bytes) [] no_values fault (omega arith)
-        (value_of_nothing direction) e in (
+    (value_of_nothing direction) e in (
       λ none. cc,
       (
         faulty.pieces,
@@ -68,9 +68,9 @@ had_fault : (direction : Direction) (text : List ℕ) (fault : WireFault) → Is
 had_fault direction [] fault (some, faulty) = absurd (some refl)
 had_fault direction (byte ∷ bytes) fault (some, (pieces, contexts, rest, is)) =
     let passed = linked_reads direction 0 pieces contexts [] rest no_values is.named.0 is.linked (value_of_nothing direction)
-        is.named.1 in
+    is.named.1 in
     rw (is.whole, zero-add (length (concat pieces))) at passed
-        ∙ stops direction contexts is.named.0 (length (concat pieces)) rest fault is.named.1 is.first
+    ∙ stops direction contexts is.named.0 (length (concat pieces)) rest fault is.named.1 is.first
 
 pub value_is_read : ValueIsRead
 value_is_read direction text = record {
@@ -157,7 +157,7 @@ gathered_directed direction (Ok context ∷ items) v w is e =
     let step = carried_ok _ _ w e in
     let P : Result CreateView WireFault → Type 0 = StaysDirected direction in
     let next : IsDirected direction step.0 = subst P step.1 (with_directed direction v context.place
-        (meaning_of direction context) is (meaning_directed direction context)) in
+    (meaning_of direction context) is (meaning_directed direction context)) in
     gathered_directed direction items step.0 w next step.2
 
 nothing_directed : (direction : Direction) → IsDirected direction no_values

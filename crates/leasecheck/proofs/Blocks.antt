@@ -35,7 +35,7 @@ behind_front [] text = refl
 behind_front (byte ∷ front) text =
     let rest = behind_front front text in
     if_cases (λ all. all ≡ (if byte == 10 then [] ∷ pieces 10 [] (front ++ 10 ∷ [])
-        else longer byte (pieces 10 [] (front ++ 10 ∷ []))) ++ pieces 10 [] text)
+    else longer byte (pieces 10 [] (front ++ 10 ∷ []))) ++ pieces 10 [] text)
     (byte == 10) ([] ∷ pieces 10 [] ((front ++ 10 ∷ []) ++ text)) (longer byte (pieces 10 [] ((front ++ 10 ∷ []) ++ text)))
     (λ same. rw (same, rest) refl)
     (λ other. rw (other, rest) (longer_append byte (pieces 10 [] (front ++ 10 ∷ [])) (pieces 10 [] text) (front_some front)))

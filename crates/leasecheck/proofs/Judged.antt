@@ -41,7 +41,7 @@ judged_says None told (inr (inl file)) = silent told failure.File (IsFileRemark 
 judged_says None told (inr (inr (inl lines))) = silent told failure.Lines (IsFileRemark record_remark None) lines
 judged_says None told (inr (inr (inr (text, refused)))) =
     says_more told (λ f line. record_remark text f ≡ Some line) (IsFileRemark record_remark None) (λ line is. (text, is))
-        (says_line told text refused)
+    (says_line told text refused)
 judged_says (Some text) told (inl memory) = silent told failure.Memory (IsFileRemark record_remark (Some text)) memory
 judged_says (Some text) told (inr (inl file)) = silent told failure.File (IsFileRemark record_remark (Some text)) file
 judged_says (Some text) told (inr (inr (inl (lines, many)))) = silent told failure.Lines (IsFileRemark record_remark (Some text))

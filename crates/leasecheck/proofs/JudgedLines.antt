@@ -117,7 +117,7 @@ stop_at told line behind rest text lines taken (inl memory) first same = inl mem
 stop_at told line behind rest text lines taken (inr (inl out)) first same =
     let whole : taken ++ (line ∷ lines_of behind) ≡ lines_of text = ap (λ all. taken ++ all) (sym first) ∙ same in
     let counted : length (lines ++ lines_of text)
-        ≡ length (lines ++ (taken ++ (line ∷ lines_of behind))) = ap (λ all. length (lines ++ all)) (sym whole) in
+    ≡ length (lines ++ (taken ++ (line ∷ lines_of behind))) = ap (λ all. length (lines ++ all)) (sym whole) in
     inr (inl (out.0, omega (arith, out.1, counted, length-append {A = List ℕ})))
 stop_at told line behind rest text lines taken (inr (inr refused)) first same =
     inr (inr (λ more. subst (λ all. RefusesLine all told)
@@ -175,7 +175,7 @@ pub took_whole : (next : Progress) (text block old new : List ℕ) (place n : �
     → (more : List ℕ) × HasReadText next (text ++ more) × (more ++ new ≡ block)
 took_whole next text block old new place n ends inside feed read rest none is =
     let left : take n (drop (place + 1) block)
-        ≡ drop (place + 1) block = take_all n (drop (place + 1) block) (omega (arith, rest, length-drop {A = ℕ})) in (
+    ≡ drop (place + 1) block = take_all n (drop (place + 1) block) (omega (arith, rest, length-drop {A = ℕ})) in (
       take (place + 1) block,
       text_read next text (take (place + 1) block) ends (ends_with_take text block place inside feed) read,
       ap (λ t. take (place + 1) block ++ t) (is ∙ (ap (λ t. t ++ take n (drop (place + 1) block)) none ∙ left))
@@ -210,7 +210,7 @@ pub first_cut : (old block lines : List ℕ) (place n : ℕ) → place < length 
     → n ≡ length block - (place + 1) → old ++ block ≡ lines ++ take n (drop (place + 1) block)
 first_cut old block lines place n inside is rest =
     let left : take n (drop (place + 1) block)
-        ≡ drop (place + 1) block = take_all n (drop (place + 1) block) (omega (arith, rest, length-drop {A = ℕ})) in
+    ≡ drop (place + 1) block = take_all n (drop (place + 1) block) (omega (arith, rest, length-drop {A = ℕ})) in
     sym (ap (λ t. lines ++ t) left ∙ (ap (λ t. t ++ drop (place + 1) block) is
     ∙ (append_assoc old (take (place + 1) block) (drop (place + 1) block)
     ∙ ap (λ t. old ++ t) (take-append-drop (place + 1) block))))

@@ -109,7 +109,7 @@ ends (Some all) (Some rest) (Some left) progress begun round answer so_far consu
     let same : so_far.known.0 ≡ rest = let e = so_far.known.1 in cc in
     let none : so_far.known.0 ≡ [] = same ∙ (consumes ∙ done) in
     let is : so_far.text ++ begun ≡ all = ap (λ t. so_far.text ++ t) (sym (append-nil begun) ∙ ap (λ t. begun ++ t) (sym none))
-        ∙ so_far.known.2 in
+    ∙ so_far.known.2 in
     subst (λ t. JudgesText t answer) is (judges so_far.text so_far.read)
 
 -- rounds run out only in a text of as many bytes
@@ -142,8 +142,18 @@ pub refused_whole : (told : Refusal) (text begun : List ℕ) → EndsLine text
     → ReadsMore (lines_of text) (lines_of begun) (Err told) → JudgesText (text ++ begun) (Err told)
 refused_whole told text begun whole (inl memory) = inl memory
 refused_whole told text begun whole (inr (inl out)) =
-    inr (inr (inl (out.0, omega (arith, out.1, lines_count text, lines_count begun, length-append {A = List ℕ}, length-append
-        {A = ℕ}))))
+    inr (inr (inl (
+      out.0,
+      omega (
+        arith,
+        out.1,
+        lines_count text,
+        lines_count begun,
+        length-append {A = List ℕ},
+        length-append
+            {A = ℕ},
+      ),
+    )))
 refused_whole told text begun whole (inr (inr refused)) =
     inr (inr (inr (subst (λ lines. RefusesLine lines told)
     (ap (λ lines. lines_of text ++ lines) (append-nil (lines_of begun)) ∙ sym (lines_behind text begun whole)) (refused []))))

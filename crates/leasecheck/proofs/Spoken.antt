@@ -40,7 +40,7 @@ after_more machines number (one ∷ texts) text =
     let told = answered machines number one in
     let at : (number + 1) + length texts ≡ number + length (one ∷ texts) = omega arith in
     after_more told.state (number + 1) texts text
-        ∙ ap (λ n. (answered (after_lines told.state (number + 1) texts) n text).state) at
+    ∙ ap (λ n. (answered (after_lines told.state (number + 1) texts) n text).state) at
 
 -- ---- the first line of a text
 
@@ -76,12 +76,12 @@ first_of byte (next ∷ text) = one_more byte (next ∷ text) (byte == 10) refl 
 
 -- What was answered so far, the machines after it, and what is left to be read.
 pub record IsSoFar (whole left : Option (List ℕ)) (start now : Machines) (number : ℕ) (first written : Option (List ℕ)) : Type 0
-    where
-  pub lines : List (List ℕ)
-  pub machines : now ≡ after_lines start 1 lines
-  pub counted : number ≡ 1 + length lines
-  pub answers : Appends first written (transcript start 1 lines)
-  pub known : IfSome whole (λ all. (rest : List ℕ) × (left ≡ Some rest) × (lines_of all ≡ lines ++ lines_of rest))
+  where
+    pub lines : List (List ℕ)
+    pub machines : now ≡ after_lines start 1 lines
+    pub counted : number ≡ 1 + length lines
+    pub answers : Appends first written (transcript start 1 lines)
+    pub known : IfSome whole (λ all. (rest : List ℕ) × (left ≡ Some rest) × (lines_of all ≡ lines ++ lines_of rest))
 
 pub begins : (whole first : Option (List ℕ)) (start : Machines) → IsSoFar whole whole start start 1 first first
 unfolding transcript after_lines pieces

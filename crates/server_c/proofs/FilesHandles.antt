@@ -26,7 +26,7 @@ module _ {M : Type 1} {𝓤 : Ura M} {𝓛 : Logic 𝓤} {K : Type 0} {Γ : List
       → Step K 𝓛 (‵ (handle.the_row.own_val (record { at = p; held = x }) (word p ∷ [])) ∷ Γ) G (‵ (handle_owns R x p) ∷ Γ) G
   handle_in t p x = step (λ s.
       nothing t $ feq_i t (List Val) (ptr_val p ∷ []) (ptr_val p ∷ []) refl $ fjoin t $ feq_i t (List Val) (word p ∷ [])
-          (word p ∷ []) refl $ fjoin t $
+      (word p ∷ []) refl $ fjoin t $
       fpack t (Valss (RawPtr ∷ [])) (within (shape handle.the_type) (p, tt) (word p ∷ [])) (ptr_val p ∷ [], tt) $ fjoin t $ s)
 
   pub handle_out : K → (h : handle.the_row.Denot) (vs : List Val)

@@ -293,7 +293,7 @@ wants_to wish own file key summaries server summary None stand s is fits there a
 wants_to (NoHandles access share) own file key summaries server summary (Some known) stand s is fits there apart needs =
     let both = and_parts (tally_conflicts access share known.tally) (leases.lease_of known.lease).state.handle needs in
     let some = sym (conflicts_are access share (has_key key) server.opens)
-        ∙ (ap (tally_conflicts access share) (sym fits.tally) ∙ both.0) in
+    ∙ (ap (tally_conflicts access share) (sym fits.tally) ∙ both.0) in
     let found = any_has (λ o. has_key key o && conflict access share o.access o.share) server.opens some in
     let parts = and_parts (has_key key found.0) (conflict access share (found.0).access (found.0).share) found.2 in
     let other = any_has (has_key_on file.0 key) server.opens (sym (s.keys key) ∙ there) in
@@ -353,7 +353,7 @@ wants_from wish own file key summaries server summary None one stand s is fits t
     absurd (true≢false (sym (has_any (has_key key) one server.opens there has) ∙ fits))
 wants_from (NoHandles access share) own file key summaries server summary (Some known) one stand s is fits there has wanted =
     let a = and_parts (conflicts_on file.0 access share one && is_other_on own file.0 one) (lease_of server one).state.handle
-        wanted in
+    wanted in
     let b = and_parts (conflicts_on file.0 access share one) (is_other_on own file.0 one) a.0 in
     let o = on_other own file.0 key one b.1 has in
     record {
@@ -436,4 +436,4 @@ pub wanted_none : (demand : Demand) (server : Server) → list_any (is_on demand
 wanted_none demand server none =
     no_keys (is_demanded demand server) server.opens (λ one a. not_true (is_demanded demand server one) (λ w.
     clash (is_on demand.file.0 one) (on_file demand.wish server demand.own demand.file.0 one w)
-        (none_has (is_on demand.file.0) one server.opens none a)))
+    (none_has (is_on demand.file.0) one server.opens none a)))

@@ -205,7 +205,7 @@ pub lease_gone : (key : Key) (before after : Key → Option LeaseRecord) → IsK
     ≡ (if key_eq other key && true then no_lease else lease_or_none (before other))
 lease_gone key before after changed =
     at_key (λ other. lease_or_none (after other) ≡ (if key_eq other key && true then no_lease else lease_or_none (before other)))
-        key
+    key
     (rw (changed.there, key_eq-refl key) refl)
     (λ other e. rw (changed.apart other e, e) refl)
 
@@ -214,7 +214,7 @@ pub lease_missing : (key : Key) (known : Key → Option LeaseRecord) → known k
     ≡ (if key_eq other key && true then no_lease else lease_or_none (known other))
 lease_missing key known none =
     at_key (λ other. lease_or_none (known other) ≡ (if key_eq other key && true then no_lease else lease_or_none (known other)))
-        key
+    key
     (rw (none, key_eq-refl key) refl)
     (λ other e. rw e refl)
 
@@ -224,7 +224,7 @@ pub lease_put : (key : Key) (lease : Lease) (file : FileNo) (tally : Tally) (bef
     ≡ (if key_eq other key then lease_of lease else lease_or_none (before other))
 lease_put key lease file tally before after changed =
     at_key (λ other. lease_or_none (after other) ≡ (if key_eq other key then lease_of lease else lease_or_none (before other)))
-        key
+    key
     (rw (changed.there, key_eq-refl key) refl)
     (λ other e. rw (changed.apart other e, e) refl)
 

@@ -36,8 +36,15 @@ unfolding acknowledged_in
 acknowledgment_found bytes v is =
     let long = reaches 36 bytes is.size in
     let size : number_at 0 2 bytes ≡ 36 = number_at-taken 0 2 36 bytes (omega arith) long ∙ is.structure_size in
-    rw (within 36 (length bytes) long, size, bytes_at-taken 8 16 36 bytes (omega arith) long, number_at-taken 24 4 36 bytes
-        (omega arith) long, ← is.lease_key, ← is.lease_state) refl
+    rw (
+      within 36 (length bytes) long,
+      size,
+      bytes_at-taken 8 16 36 bytes (omega arith) long,
+      number_at-taken 24 4 36 bytes
+          (omega arith) long,
+      ← is.lease_key,
+      ← is.lease_state,
+    ) refl
 
 pub no_acknowledgment_found : NoAcknowledgmentIsFound
 unfolding acknowledged_in

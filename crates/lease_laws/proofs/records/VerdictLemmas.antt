@@ -96,7 +96,7 @@ two_caches-test past one = elim (cases_Bool (has_two_caches past)) [ inl two ↦
         let names : (b.file == a.file ≡ true) × (not (b.client == a.client) ≡ true) = and_parts _ _ shapes.0 in
         let writes : (is_good a.client past ≡ true) × ((believed a.client a.file past).write ≡ true) = and_parts _ _ parts.0 in
         let holds : (is_good b.client past ≡ true)
-            × (holds_any (believed b.client b.file past) ≡ true) = and_parts _ _ shapes.1 in
+        × (holds_any (believed b.client b.file past) ≡ true) = and_parts _ _ shapes.1 in
         let same : b.file ≡ a.file = eqb-true b.file a.file names.0 in
         let apart : b.client ≢ a.client = λ e. both_ways _ (not-true _ names.1) (eq-eqb b.client a.client e) in
         both_ways _ (holds_any-not (believed b.client b.file past)

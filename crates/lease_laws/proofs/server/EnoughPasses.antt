@@ -140,7 +140,7 @@ answered_holds client (FileRequest.Read file_id) progress =
     on_open_holds (connected_open progress.server client file_id) (λ file. read_done client file file_id) progress (λ file. refl)
 answered_holds client (FileRequest.Write file_id number patch) progress =
     on_open_holds (connected_open progress.server client file_id) (λ file. changed client file file_id number patch) progress
-        (λ file. refl)
+    (λ file. refl)
 answered_holds client (FileRequest.Close file_id) progress =
     on_open_holds (connected_open progress.server client file_id) (λ file. closed client file_id) progress
     (λ file. dropped_holds (λ one. one.file_id == file_id) progress)

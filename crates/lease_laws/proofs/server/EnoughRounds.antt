@@ -348,11 +348,11 @@ still_wanted holds base lowering before after one bytes e round a t =
     let lease : lease_of after one ≡ after.leases key = ap (λ (k : Option (List ℕ)). lease_by after one.client k) e in
     let want : Want = record { key = key; lowered = lowering (before.leases key).state } in
     let parts : (base one ≡ true) × (holds (lease_of after one).state ≡ true) = and_parts (base one)
-        (holds (lease_of after one).state) t in
+    (holds (lease_of after one).state) t in
     let now : holds (after.leases key).state ≡ true = ap (λ (l : Lease). holds l.state) (sym lease) ∙ parts.1 in
     let was : holds (before.leases key).state ≡ true =
     not_false (holds (before.leases key).state) (λ n. clash (holds (after.leases key).state) now
-        (round.goes_on.no_new_right key n)) in
+    (round.goes_on.no_new_right key n)) in
     let wanted_too : Among want (wanted holds base lowering before) =
     wanted_has holds base lowering before one bytes (round.goes_on.no_new_open one a) e parts.0 was in
     record {

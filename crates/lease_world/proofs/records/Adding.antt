@@ -206,8 +206,13 @@ unfolding is_well_formed is_stale_read is_late_write is_false_done
 dropped_judged place client old new v past k adds =
     put_judged place client (Fact.Dropped client) (record (client_in old.clients client) { served = false }) old new v past k
     adds.0 adds.1.0 (record { files = λ f. refl; others = λ c ne. is_apart c client ne })
-    (record { formed = refl; one = one-stays (Fact.Dropped client) past refl k.one_write_cache; stale = refl; late = refl;
-    done = refl })
+    (record {
+      formed = refl;
+      one = one-stays (Fact.Dropped client) past refl k.one_write_cache;
+      stale = refl;
+      late = refl;
+      done = refl;
+    })
     (client_drops client (client_in old.clients client) past (k.clients client))
     (λ f. k.contents client f)
     (left_holders client (Fact.Dropped client) old new past refl (dropped_bad client past) (dropped_good client past) k adds.1.1)
@@ -218,8 +223,13 @@ unfolding is_well_formed is_stale_read is_late_write is_false_done
 strayed_judged place client old new v past k adds =
     put_judged place client (Fact.Strayed client) (record (client_in old.clients client) { strayed = true }) old new v past k
     adds.0 adds.1.0 (record { files = λ f. refl; others = λ c ne. is_apart c client ne })
-    (record { formed = refl; one = one-stays (Fact.Strayed client) past refl k.one_write_cache; stale = refl; late = refl;
-    done = refl })
+    (record {
+      formed = refl;
+      one = one-stays (Fact.Strayed client) past refl k.one_write_cache;
+      stale = refl;
+      late = refl;
+      done = refl;
+    })
     (client_strays client (client_in old.clients client) past (k.clients client))
     (λ f. k.contents client f)
     (left_holders client (Fact.Strayed client) old new past refl (strayed_bad client past) (strayed_good client past) k adds.1.1)
@@ -250,8 +260,13 @@ sent_judged place client old new v past k at adds =
     put_judged place client (Fact.Sent client)
     (record (client_in old.clients client) { sent = (client_in old.clients client).sent ++ place ∷ [] }) old new v past k
     adds.0 adds.1.0 (record { files = λ f. refl; others = λ c ne. is_apart c client ne })
-    (record { formed = refl; one = one-stays (Fact.Sent client) past refl k.one_write_cache; stale = refl; late = refl;
-    done = refl })
+    (record {
+      formed = refl;
+      one = one-stays (Fact.Sent client) past refl k.one_write_cache;
+      stale = refl;
+      late = refl;
+      done = refl;
+    })
     (client_sent client place (client_in old.clients client) past at (k.clients client))
     (λ f. k.contents client f)
     (holders-stay (Fact.Sent client) past old.holders new.holders refl adds.1.1 k.holders)
@@ -432,7 +447,7 @@ changed_judged place file client number patch old new v past k at adds =
     let others : (n : ℕ) → n ≢ file → file_in new.files n ≡ file_in old.files n =
     file-others old.files new.files file seen is.1.1 in
     let held : (c f : ℕ) → HasContents (file_in new.files f) (client_in old.clients c).taken
-        (cache_in (client_in old.clients c).caches f) =
+    (cache_in (client_in old.clients c).caches f) =
     λ c f. each_place
     (λ n. HasContents (file_in new.files n) (client_in old.clients c).taken (cache_in (client_in old.clients c).caches n)) file
     (let low = rises-low (client_in old.clients c).taken (client_in old.clients c).sent (length past) (k.clients c).rising in
@@ -680,7 +695,7 @@ shown_judged place client file bytes old new v past (Some taken) k started good 
     let one : OneWriteCache (fact ∷ past) = one-stays fact past refl k.one_write_cache in
     let stale : is_stale_read fact past ≡ not shows.0 =
     read-of-good client file taken bytes (client_in old.clients client) (client_in new.clients client) (file_in old.files file)
-        shows.0
+    shows.0
     past (k.clients client) (k.files file) (k.contents client file) started good some shows.1.0.0 in
     match_bool shows.0 shows.3
     (λ same e. safe_judged place fact past old new v e

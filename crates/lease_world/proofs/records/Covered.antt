@@ -66,7 +66,7 @@ patched_byte_by base o (b ∷ d) position write offset bytes =
   where
     by_cover : (c : Bool) → (if c then slice_index (b ∷ d) (position - o) else slice_index base position)
         ≡ seen_byte base (if c then record { number = write.number; byte = slice_index (b ∷ d) (position - o) } ∷ [] else [])
-            position
+        position
     by_cover true = refl
     by_cover false = refl
 
@@ -138,7 +138,7 @@ covered_last : (write : Waiting) (position : ℕ) → write.patch.offset ≤ pos
     → layer_of position write ≢ []
 covered_last write position from below none =
     let inside : (nat_le write.patch.offset position && nat_lt position (end_of write.patch))
-        ≡ true = grind (arith, from, below) in
+    ≡ true = grind (arith, from, below) in
     let some = rw inside at none in
     let c : ⊥ = cc in absurd c
 
@@ -225,7 +225,7 @@ shows_patched : (is_open : Layer → Bool) (base bytes : List ℕ) (stacks : Lis
     → CoversWith is_open stacks writes → Shows base stacks bytes → bytes ≡ patches base (patches_waiting writes)
 shows_patched is_open base bytes stacks writes is shows =
     same_number_lists bytes (patches base (patches_waiting writes)) (shows.long
-        ∙ sym (patched_length is_open base stacks writes is))
+    ∙ sym (patched_length is_open base stacks writes is))
     (λ position within. shows.each position within ∙ sym (patched_seen is_open base stacks writes is position))
 
 patched_shows : (is_open : Layer → Bool) (base bytes : List ℕ) (stacks : List (List Layer)) (writes : List Waiting)
@@ -242,7 +242,7 @@ pub shown_patched : (is_open : Layer → Bool) (base bytes : List ℕ) (stacks :
     → same ≡ bytes_eq bytes (patches base (patches_waiting writes))
 shown_patched is_open base bytes stacks writes true is shows =
     sym ((bytes_eq-Decides bytes (patches base (patches_waiting writes))).1 (shows_patched is_open base bytes stacks writes is
-        shows))
+    shows))
 shown_patched is_open base bytes stacks writes false is shows =
     elim (cases_Bool (bytes_eq bytes (patches base (patches_waiting writes)))) [
       | inl same ↦ absurd (shows (patched_shows is_open base bytes stacks writes is

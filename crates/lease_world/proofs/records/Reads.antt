@@ -87,7 +87,7 @@ brought-known client file place bytes seen f cache now same past is all k =
       belief = ap (λ (c : SeenCache). c.belief) is.covered.rest ∙ k.belief;
       covers = λ position.
           ap (λ (c : SeenCache). filter (is_unsettled client past) (layers_at position c.fresh ++ stack_in now.covers position))
-              is.covered.rest
+          is.covered.rest
           ∙ (sym (open-told client seen past (stack_in now.covers position) all) ∙ covers.left position);
     }
 
@@ -101,7 +101,7 @@ seen-same client file taken bytes seen f cache now same past place is all k kf p
     let covers = covers_pending client file seen (record cache { base = now.base }) now past is.covered all
     (rebased client file cache now.base past k) in
     shown_patched (is_open seen.settled) (base_at f taken cache.base).bytes bytes now.covers (pending client file past past) same
-        covers is.shown
+    covers is.shown
     ∙ (ap (λ (b : List ℕ). bytes_eq bytes (patches b (patches_waiting (pending client file past past))))
     (based ∙ (ap (λ (n : ℕ). content_before f n) (sym at) ∙ content-told file f past place kf part))
     ∙ ap (λ (ps : List Patch). bytes_eq bytes (patches (content_at file past place) ps))
@@ -154,7 +154,7 @@ read-of-good client file taken bytes seen now f same past k kf held started good
     let value : seen.taken ≡ taken = taken_value seen.has_taken seen.taken taken some in
     let is : same ≡ bytes_eq bytes (patches (content_at file past at.0) (unanswered client file past)) =
     seen-same client file taken bytes seen f (cache_in seen.caches file) (cache_in now.caches file) same past at.0 sees.1.1 k
-        (k.caches file)
+    (k.caches file)
     kf (last-part client past at.0 at.1) at.2
     (brought_bytes f seen.taken taken (cache_in seen.caches file).base (omega (arith, value)) started held) in
     rw (sym (good_told client seen past k) ∙ good, at.1, is) refl

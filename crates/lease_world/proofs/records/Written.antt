@@ -142,7 +142,7 @@ kept_pending : (client file number : ℕ) (patch : Patch) (buffered : Bool) (pas
     → pending client file (Fact.Wrote client file number patch buffered ∷ past)
     (Fact.Wrote client file number patch buffered ∷ past)
     ≡ pending client file (Fact.Wrote client file number patch buffered ∷ past) past
-        ++ record { number = number; patch = patch } ∷ []
+    ++ record { number = number; patch = patch } ∷ []
 unfolding pending is_settled
 kept_pending client file number patch buffered past e = rw (self client, self file, e) refl
 

@@ -86,8 +86,13 @@ kept_stands : (old new : Seen) → new ≡ record old { messages = new.messages 
 kept_stands old new same world s = rw same (record {
   count = s.count;
   server = s.server;
-  seats = λ n p. let q = s.seats n p in record { guid = q.guid; client = q.client; link = q.link; requests = q.requests;
-      replies = q.replies };
+  seats = λ n p. let q = s.seats n p in record {
+    guid = q.guid;
+    client = q.client;
+    link = q.link;
+    requests = q.requests;
+    replies = q.replies;
+  };
   facts = s.facts;
   sound = s.sound;
   waiting = s.waiting;
@@ -248,7 +253,7 @@ pub stray_one : (old told new : Seen) (number : ℕ) (request : Request) → IsP
 unfolding applied messages_of strayed_over
 stray_one old told new number request there e tells sends world s = (
   subst (λ (l : Link). Stands new (strayed_over world number request l)) (sym
-  (known_link old number code.TheVariants.Up there world s e))
+      (known_link old number code.TheVariants.Up there world s e))
       (sends.1 _ (tells.1 world s)),
   quiet_last old told new [] (quiet_keeps old told tells.0) sends.0,
 )
@@ -323,7 +328,7 @@ expire_one old told new number file key there k e tells serves world s =
     × Keeps (sent_by world (Call.Expire q)) told new)
     (same_key old number file key there k world s) (serves tt told_world (tells.1 world s)) in (
       subst (λ (w : World). Stands new w) (sym (something_expires has waiting world (timer_expired world number file) some))
-      served.0,
+          served.0,
       subst (λ (rs : List Reply). Keeps rs old new)
           (sym (something_expires has waiting [] (sent_by world (Call.Expire (machine_key world number file))) some))
           (quiet_first old told new _ tells.0 served.1),

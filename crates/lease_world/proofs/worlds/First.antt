@@ -82,7 +82,7 @@ pub fit_one_more : (files : List (List ℕ)) (n : ℕ) (d : List ℕ) → n < le
     → length (get_or files n d) ≤ FILE_LIMIT → list_all is_content (take (n + 1) files) ≡ true
 fit_one_more files n d lt all le =
     rw (take_next files n d lt) (all_and_one is_content (take n files) (get_or files n d)
-        (le-leb (length (get_or files n d)) FILE_LIMIT le) all)
+    (le-leb (length (get_or files n d)) FILE_LIMIT le) all)
 
 pub all_fit : (files : List (List ℕ)) (n : ℕ) → length files ≤ n → list_all is_content (take n files) ≡ true
     → list_all is_content files ≡ true
@@ -120,7 +120,7 @@ pub has_many_clients : (setup : Setup) → 16 < length setup.clients → false �
 unfolding is_allowed_setup clients_limit
 has_many_clients setup many =
     rw (beyond (length setup.clients) 16 many) (sym (no_end (nat_le (length setup.files) files_limit)
-        (list_all is_content setup.files) (are_apart setup.clients)))
+    (list_all is_content setup.files) (are_apart setup.clients)))
   where
     no_end : (a b c : Bool) → (a && b && false && c) ≡ false
     no_end true true c = refl
@@ -159,7 +159,7 @@ start_at (file ∷ files) first (suc n) d lt =
     ap (λ fs. Fact.Start first file ∷ fs)
     (subst (λ (m : ℕ). take (suc n) (starts_from (first + 1) files)
     ≡ take n (starts_from (first + 1) files) ++ Fact.Start m (get_or files n d) ∷ []) e
-        (start_at files (first + 1) n d (omega arith)))
+    (start_at files (first + 1) n d (omega arith)))
 
 pub one_more_start : (files : List (List ℕ)) (n : ℕ) (d : List ℕ) → n < length files
     → take (n + 1) (starts_from 1 files) ≡ take n (starts_from 1 files) ++ Fact.Start (n + 1) (get_or files n d) ∷ []
@@ -225,7 +225,7 @@ pub first_stands : (new : Seen) (setup : Setup) → server_of new.server ≡ new
 unfolding first_world new_client
 first_stands new setup server all facts =
     let is_new : (n : ℕ) → IsPresent n new.seats
-        → IsNew (length setup.files) (numbered [] setup.clients n) (seat_in new.seats n) =
+    → IsNew (length setup.files) (numbered [] setup.clients n) (seat_in new.seats n) =
     λ n p. new_seat (length setup.files) setup.clients new.seats all n p in
     record {
       count = new_count (length setup.files) setup.clients new.seats all;

@@ -104,7 +104,7 @@ popped_request old new number request only seats there world s =
     let rest : List Request = map request_of (seat_in new.seats number).requests in
     let q : IsSeat (seat_in old.seats number) world number = s.seats number there in
     let was : IsSeat (record (seat_in new.seats number) { requests = request ∷ (seat_in new.seats number).requests }) world
-        number =
+    number =
     subst (λ (x : Seat). IsSeat x world number) seats.0 q in (
       sym was.requests,
       record {

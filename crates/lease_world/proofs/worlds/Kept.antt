@@ -95,6 +95,6 @@ served_keeps old new call outs after kept keyed world s =
     let bytes = replies_have_bytes world.server call s.sound s.waiting s.keys keyed in
     let sent : map reply_of (replies_among outs) ≡ sent_by world call =
     ap (λ (os : List out.Out). map reply_of (replies_among os)) given
-        ∙ replies_given readback.replies_back progress.outs bytes.0 in
+    ∙ replies_given readback.replies_back progress.outs bytes.0 in
     kept_keeps old new (replies_among outs) kept
     ∙ ap (λ (rs : List Reply). option_map (λ replies. replies ++ rs) (messages_kept old)) sent

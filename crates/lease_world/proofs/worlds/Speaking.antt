@@ -128,7 +128,7 @@ connect_says world client Link.Down =
     let next : World = record world { links = put world.links client Link.Up } in
     let up : World = happened next (Fact.Joined client) in
     stepped_says (served up (called world.server (Call.Join client))) client
-        (client_called (world.clients client) ClientCall.Connected)
+    (client_called (world.clients client) ClientCall.Connected)
     ∙ (served_says up (called world.server (Call.Join client))
     ∙ ap (λ (n : ℕ). n + length (sent_by_join world client Link.Down)) (happened_says next (Fact.Joined client) ∙ omega arith))
 
@@ -170,7 +170,7 @@ applied_says world (Event.Notice client) = notice_says world client (world.links
 applied_says world (Event.Connect client) = connect_says world client (world.links client)
 applied_says world (Event.Expire client file) =
     if_says (has_file world.server file) (breaking world.server (machine_key world client file)) world
-        (timer_expired world client file)
+    (timer_expired world client file)
     _ (expire_says world client file)
 applied_says world (Event.Scavenge client file) = scavenge_says world (kept world.server client file)
 applied_says world (Event.Raw client request) = stray_says world client request (world.links client) ∙ omega arith

@@ -63,8 +63,13 @@ pub told_stands : (old : Seen) (fact : code_fact.Fact) (world : World) → Stand
 told_stands old fact world s = record {
   count = s.count;
   server = s.server;
-  seats = λ n p. let q = s.seats n p in record { guid = q.guid; client = q.client; link = q.link; requests = q.requests;
-      replies = q.replies };
+  seats = λ n p. let q = s.seats n p in record {
+    guid = q.guid;
+    client = q.client;
+    link = q.link;
+    requests = q.requests;
+    replies = q.replies;
+  };
   facts = map-append fact_of old.facts (fact ∷ [])
       ∙ (ap (λ (xs : List Fact). xs ++ fact_of fact ∷ []) s.facts ∙ sym (reverse-append (fact_of fact ∷ []) world.past));
   sound = s.sound;
@@ -179,7 +184,7 @@ stepped_stands old new number call notes server seats facts there fits world s =
     let step : Step = client_called (world.clients number) call in
     let held : IsSeat (seat_in old.seats number) world number = s.seats number there in
     let same : client_called (client_of (seat_in old.seats number).client) call
-        ≡ step = ap (λ c. client_called c call) held.client in
+    ≡ step = ap (λ c. client_called c call) held.client in
     let bytes = requests_have_bytes (world.clients number) call (s.writing number there) fits in
     let moved : World = requests_sent (record world { clients = put world.clients number step.client }) number step.requests in
     let n : IsNoted moved (noted moved number step.notes) number step.notes = notes_told moved number step.notes in

@@ -11,5 +11,5 @@ pub returns-clause-layout : goal.returns-clause-layout
 returns-clause-layout c =
     let v : KeyAndState = record { key = c.args.key.0; state = state_of c.args.state } in
     let long : length v.key ≡ 16 = rw (c.copy_from_slice.ensures.after, c.write_u32.ensures, c.write_u16.ensures) at
-        c.copy_from_slice.ensures.len in
+    c.copy_from_slice.ensures.len in
     subst (λ (bytes : List ℕ). IsAcknowledgment bytes v) (sym (returns-clause-text c)) (acknowledgment_layout v long)

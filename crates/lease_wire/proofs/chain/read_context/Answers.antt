@@ -24,7 +24,7 @@ returns-clause-next c = next_inside c.args.place _ c.read-header.result (sym c.f
 pub returns-in-Some-clause-items : goal.returns-in-Some-clause-items
 returns-in-Some-clause-items c =
     items_behind-fault c.args.place _ _ (layout_fault-read c.args.place _ c.read-header.result _ c.read-header.ensures.fields
-        (sym c.fault.ensures ∙ c.in-Some.is))
+    (sym c.fault.ensures ∙ c.in-Some.is))
 
 pub returns-clause-items : goal.returns-clause-items
 returns-clause-items c =

@@ -10,4 +10,4 @@ use Rattle.lease_world.proofs.running.play.Given as goal
 abbrev pub invariant-loop-event : goal.invariant-loop-event
 invariant-loop-event l = Stands l.world (after (first_world (setup_of l.setup)) (take l.event-index (map event_of l.events)))
     × KeepsBehind l.fn.messages (messages_from (first_world (setup_of l.setup)) (take l.event-index (map event_of l.events)))
-        l.world
+    l.world

@@ -11,7 +11,7 @@ loop-number-init g c = begins (g.I.Read.remaining c.args.input.now) (g.O.Write.c
 pub returns-in-Err-clause-answered : goal.returns-in-Err-clause-answered
 returns-in-Err-clause-answered g c =
     stops _ (g.I.Read.remaining c.args.input.now) _ (machines_of c.args.machines) _ c.loop-number.number
-        (g.O.Write.contents c.args.out.now)
+    (g.O.Write.contents c.args.out.now)
     _ c.in-Err.failure c.loop-number.invariant
 
 pub returns-then-is_empty-clause-answered : goal.returns-then-is_empty-clause-answered
@@ -48,5 +48,5 @@ loop-number-preserved g c =
 pub returns-clause-answered : goal.returns-clause-answered
 returns-clause-answered g c =
     stops _ (g.I.Read.remaining c.args.input.now) _ (machines_of c.args.machines) _ c.loop-number.number
-        (g.O.Write.contents c.args.out.now)
+    (g.O.Write.contents c.args.out.now)
     _ _ c.loop-number.invariant

@@ -6,5 +6,5 @@ use Rattle.leasecheck.proofs.hexadecimal.digits_in.Goals as goal
 pub returns : goal.returns
 returns c =
     c.in_ok-extend_from_slice-2.ensures.items
-        ∙ digits_end c.loop-rest.digits.items c.loop-rest.rest.now (digits_in c.args.text.now)
+    ∙ digits_end c.loop-rest.digits.items c.loop-rest.rest.now (digits_in c.args.text.now)
     (omega (arith, c.loop-rest-test.false)) c.loop-rest.invariant

@@ -7,7 +7,7 @@ use Rattle.leasecheck.proofs.judging.judge_blocks.Goals as goal
 pub loop-round-init : goal.loop-round-init
 loop-round-init g c =
     begins (g.I.Read.remaining c.args.input.now) c.new-progress.result c.new-begun.result.items c.new-progress.ensures
-        c.new-begun.ensures.items
+    c.new-begun.ensures.items
 
 pub loop-round-preserved : goal.loop-round-preserved
 loop-round-preserved g c =
@@ -18,22 +18,22 @@ loop-round-preserved g c =
 pub returns-in-Err : goal.returns-in-Err
 returns-in-Err g c =
     stops (g.I.Read.remaining c.args.input.now) _ (g.I.Read.remaining c.read_block.new.input) c.loop-round.progress
-        c.in-Err.refusal
+    c.in-Err.refusal
     c.loop-round.begun.items c.take_block.new.begun.items _ c.loop-round._round c.loop-round.invariant c.in_ok-count.ensures.bytes
-        c.in-Err.ensures
+    c.in-Err.ensures
 
 pub returns-then-count-eq0 : goal.returns-then-count-eq0
 returns-then-count-eq0 g c =
     let new = g.I.Read.remaining c.read_block.new.input in
     ends (g.I.Read.remaining c.args.input.now) _ new c.loop-round.progress c.loop-round.begun.items c.loop-round._round
-        c.end.result
+    c.end.result
     c.loop-round.invariant (subst (λ n. Consumes (g.I.Read.remaining c.loop-round.input) new (take n c.read_block.new.block))
-        c.if-count-eq0.true c.in_ok-count.ensures.bytes)
+    c.if-count-eq0.true c.in_ok-count.ensures.bytes)
     (c.in_ok-count.ensures.end c.if-count-eq0.true)
     (λ text has. subst (λ t. JudgesText (text ++ t) c.end.result) c.as_slice.ensures.value (c.end.ensures text has))
 
 pub returns : goal.returns
 returns g c =
     runs_out (g.I.Read.remaining c.args.input.now) _ c.loop-round.progress c.loop-round.begun.items c.loop-round._round
-        c.loop-round.invariant
+    c.loop-round.invariant
     (omega (arith, c.loop-round-test.false))

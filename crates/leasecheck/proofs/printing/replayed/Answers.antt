@@ -36,4 +36,4 @@ returns-clause-said g c =
 pub returns-clause-refused : goal.returns-clause-refused
 returns-clause-refused g c =
     of_known _ c.as_slice.result.now _ _ c.in-Err.refusal.failure c.as_slice.ensures.value c.new-bytes.ensures.items
-        c.in-Ok.ensures.bytes c.in-Err.ensures.refused
+    c.in-Ok.ensures.bytes c.in-Err.ensures.refused

@@ -28,10 +28,10 @@ loop-fact-preserved g c =
     let lines : List ℕ = message_before fact left ++ fact_line fact in
     let more : HasGathered first (g.O.Write.contents c.loop-fact.out) c.push.new.self (told ++ lines) =
     gathered_more first (g.O.Write.contents c.loop-fact.out) c.loop-fact.gathered c.push.new.self told lines has
-        c.in-Ok.ensures.lines
+    c.in-Ok.ensures.lines
     c.push.ensures.begun in
     let inside : n < length facts = subst (λ (fs : List Fact). n < length fs) c.as_slice-fact-items.ensures.value
-        c.loop-fact-test.true in
+    c.loop-fact-test.true in
     let this : fact ≡ get_or facts n fact =
     subst (λ (fs : List Fact). fact ≡ get_or fs n fact) c.as_slice-fact-items.ensures.value c.fact-item.is in (
       told ++ lines,
@@ -67,10 +67,10 @@ returns-in-Err-write_block g c = λ rest.
     let lines : List ℕ = message_before fact left ++ fact_line fact in
     let more : HasGathered first (g.O.Write.contents c.loop-fact.out) c.push.new.self (told ++ lines) =
     gathered_more first (g.O.Write.contents c.loop-fact.out) c.loop-fact.gathered c.push.new.self told lines has
-        c.in-Ok.ensures.lines
+    c.in-Ok.ensures.lines
     c.push.ensures.begun in
     let inside : n < length facts = subst (λ (fs : List Fact). n < length fs) c.as_slice-fact-items.ensures.value
-        c.loop-fact-test.true in
+    c.loop-fact-test.true in
     let this : fact ≡ get_or facts n fact =
     subst (λ (fs : List Fact). fact ≡ get_or fs n fact) c.as_slice-fact-items.ensures.value c.fact-item.is in
     let behind : List ℕ = record_with_messages (drop (n + 1) facts) c.in-Ok.behind.now in
@@ -80,7 +80,7 @@ returns-in-Err-write_block g c = λ rest.
     (record_with_messages facts c.args.recorded.now.messages.items) facts n fact left c.in-Ok.behind.now inside this refl
     c.in-Ok.ensures.behind refl is in
     unwritten first (g.O.Write.contents c.loop-fact.out) (g.O.Write.contents c.write_block.new.out) c.push.new.self
-        (told ++ lines) (behind ++ rest)
+    (told ++ lines) (behind ++ rest)
     (record_with_messages facts c.args.recorded.now.messages.items ++ rest) c.in-Err-write_block.failure more
     c.in-Err-write_block.ensures.failed.0 c.in-Err-write_block.ensures.failed.1
     (sym (append_assoc (told ++ lines) behind rest) ∙ ap (λ (t : List ℕ). t ++ rest) whole)

@@ -14,4 +14,4 @@ returns c =
     c.args.caches.now.items (slice_set now c.from.result c.shows.new.self) same)) c.from.ensures
     (cache_seen c.args.file.now c.args.place c.args.settled.now c.args.bytes.now c.args.caches.now.items now c.from.result
     c.index_mut-cache.result.now c.shows.new.self c.shows.result inside c.reach.ensures.same c.index_mut-cache.ensures.value
-        c.shows.ensures)
+    c.shows.ensures)

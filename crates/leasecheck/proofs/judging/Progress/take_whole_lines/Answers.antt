@@ -18,5 +18,5 @@ returns-in-Err c = λ text has.
     let found = c.in-Some.ensures in
     let feed : _ ≡ 10 = grind (arith, nat_tests, found.1) in
     refuse_in c.in-Err.refusal text _ c.args.block.now _ has.whole (ends_with_take text c.args.block.now c.in-Some.place
-        found.0.high feed)
+    found.0.high feed)
     (sym (take-append-drop _ c.args.block.now)) (c.in-Err.ensures (lines_of text) has.read)

@@ -9,4 +9,4 @@ use Rattle.leasecheck.proofs.remarks.bytes.refused_among.Given as goal
 abbrev pub invariant-loop-item : goal.invariant-loop-item
 invariant-loop-item l =
     refused_among l.direction (values_of l.values) l.number (items_left l.item-iterator)
-        ≡ refused_among l.direction no_values 1 (items_left l.items)
+    ≡ refused_among l.direction no_values 1 (items_left l.items)

@@ -16,8 +16,11 @@ use Rattle.server_c.specs.contracts.handle.ServerHandle.{the_row}
 owned_keyless : (held : Option R.Denot) (p : Ptr) → Keyless (handle_owns R held p)
 owned_keyless None p = tt
 owned_keyless (Some x) null_ptr = (tt, may_free-Keyless (raw (lone R.mir)) null_ptr)
-owned_keyless (Some x) (block_ptr b o) = (part_keyless R the_send full_share x b o, may_free-Keyless (raw (lone R.mir))
-    (block_ptr b o))
+owned_keyless (Some x) (block_ptr b o) = (
+  part_keyless R the_send full_share x b o,
+  may_free-Keyless (raw (lone R.mir))
+      (block_ptr b o),
+)
 
 pub send : IsSend the_row
 send = record { owned = λ h vs. ((λ vss. (tt, (tt, tt))), owned_keyless h.held h.at); leaving = λ k d w. tt }

@@ -9,14 +9,14 @@ pub returns-then-self-gt0 : goal.returns-then-self-gt0
 returns-then-self-gt0 c = λ file opens leases s.
     let some : list_any (is_keyless_on file) opens ≡ true =
     any_counted (is_keyless_on file) opens
-        ∙ (ap (nat_lt 0) (sym s.keyless) ∙ some_is c.args.self.now.keyless c.if-self-gt0.true) in
+    ∙ (ap (nat_lt 0) (sym s.keyless) ∙ some_is c.args.self.now.keyless c.if-self-gt0.true) in
     some_is c.args.self.now.keyless c.if-self-gt0.true ∙ sym (other_keyless c.args.own file opens some)
 
 pub returns-else-self-gt0 : goal.returns-else-self-gt0
 returns-else-self-gt0 c = λ file opens leases s.
     let none : list_any (is_keyless_on file) opens ≡ false =
     any_counted (is_keyless_on file) opens
-        ∙ (ap (nat_lt 0) (sym s.keyless) ∙ none_is c.args.self.now.keyless c.if-self-gt0.false) in
+    ∙ (ap (nat_lt 0) (sym s.keyless) ∙ none_is c.args.self.now.keyless c.if-self-gt0.false) in
     rw (c.own_count.ensures, c.len.ensures.len)
     (sym (others_by c.args.own c.args.self.now c.len.ensures.ordered)
     ∙ others_are c.args.own file opens c.args.self.now.keys s.keys none)

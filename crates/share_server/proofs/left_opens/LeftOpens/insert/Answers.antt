@@ -5,7 +5,7 @@ use Rattle.share_server.proofs.left_opens.LeftOpens.insert.Goals as goal
 pub returns-in-Err-clause-refused : goal.returns-in-Err-clause-refused
 returns-in-Err-clause-refused c =
     refused_at c.args.self.now.by_owner (c.get_mut.follows.lender c.insert.new.self) c.args.owner c.in-Some.ids.now
-        c.insert.new.self
+    c.insert.new.self
     (sym c.in-Some.ensures.value)
     ((c.get_mut.follows.holds c.insert.new.self).3 (search rules))
     c.in-Err.ensures.err

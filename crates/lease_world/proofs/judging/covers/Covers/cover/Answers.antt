@@ -16,7 +16,7 @@ returns c = λ position.
     let before : stack_in (map (layers_under covers) tops) position ≡ stack_in c.args.self.now position =
     c.reach.ensures.stacks covers position ∙ ap (λ (s : List (List Layer)). stack_in s position) c.self.view_is in
     ap (λ (cs : List Cover). stack_in (map (layers_under cs) (slice_set tops c.args.position (c.len-count.result + 1))) position)
-        c.in_ok-push.ensures.items
+    c.in_ok-push.ensures.items
     ∙ (stack_cover covers tops c.args.layer c.args.position c.index-below.result.now (c.len-count.result + 1) position
     c.self.invariant.0
     (c.reach.ensures.tops covers c.self.invariant.1) inside c.index-below.ensures
