@@ -20,11 +20,9 @@ use Rattle.lease_laws.proofs.server.Lists.{either, clash}
 after_append : (file : ℕ) (old : State) (notes more : List Note)
     → believed_after file old (notes ++ more) ≡ believed_after file (believed_after file old notes) more
 after_append file old [] more = refl
-after_append file old (Note.Settled number outcome ∷ notes) more = after_append file old notes more
-after_append file old (Note.Wrote f number patch buffered ∷ notes) more = after_append file old notes more
 after_append file old (Note.Believes f state ∷ notes) more =
     after_append file (if f == file then state else old) notes more
-after_append file old (Note.CachedRead f bytes ∷ notes) more = after_append file old notes more
+after_append file old (note ∷ notes) more = after_append file old notes more
 
 -- each file's notes: writes settled, and its belief where it changed
 abbrev notes_of : (ℕ → List Note) → (ℕ → State) → (ℕ → State) → ℕ → List Note
@@ -136,19 +134,13 @@ live_settles live sent = if_either (λ (t : Turn). AreSettlements t.settled) liv
     (settled_settle Settlement.Unknown (sent ++ live.unsent))
 
 notice_settles : (sent : List Pending) (phase : Phase) → AreSettlements (notice_turn sent phase).settled
-notice_settles sent Phase.Closed = settled_settle Settlement.Unknown sent
-notice_settles sent (Phase.Opening access share) = settled_settle Settlement.Unknown sent
 notice_settles sent (Phase.Live live) = live_settles live sent
-notice_settles sent (Phase.Offline parted) = settled_settle Settlement.Unknown sent
-notice_settles sent (Phase.Reconnecting parted) = settled_settle Settlement.Unknown sent
+notice_settles sent phase = settled_settle Settlement.Unknown sent
 
 connect_settles : (client : Client) (file : ℕ) (sent : List Pending) (phase : Phase)
     → AreSettlements (connect_turn client file sent phase).settled
 connect_settles client file sent Phase.Closed = tt
-connect_settles client file sent (Phase.Opening access share) = tt
-connect_settles client file sent (Phase.Live live) = tt
-connect_settles client file sent (Phase.Offline parted) = tt
-connect_settles client file sent (Phase.Reconnecting parted) = tt
+connect_settles client file sent phase = tt
 
 -- a closed entry stays closed, and so its belief is none
 notice_closed : (sent : List Pending) (phase : Phase) → phase ≡ Phase.Closed

@@ -29,9 +29,7 @@ use Rattle.lease_laws.proofs.server.Lists.{if_cases, either, clash, and_parts}
 abbrev pub AreSettlements : List Note → Type 0
 AreSettlements [] = Unit {0}
 AreSettlements (Note.Settled number outcome ∷ notes) = AreSettlements notes
-AreSettlements (Note.Wrote file number patch buffered ∷ notes) = ⊥
-AreSettlements (Note.Believes file state ∷ notes) = ⊥
-AreSettlements (Note.CachedRead file bytes ∷ notes) = ⊥
+AreSettlements (note ∷ notes) = ⊥
 
 -- writes settled in one way
 pub settled_settle : (outcome : Settlement) (writes : List Pending) → AreSettlements (settled_as outcome writes)
@@ -42,9 +40,7 @@ settled_settle outcome (write ∷ writes) = settled_settle outcome writes
 settle_joined : (notes more : List Note) → AreSettlements notes → AreSettlements more → AreSettlements (notes ++ more)
 settle_joined [] more s t = t
 settle_joined (Note.Settled number outcome ∷ notes) more s t = settle_joined notes more s t
-settle_joined (Note.Wrote file number patch buffered ∷ notes) more s t = absurd s
-settle_joined (Note.Believes file state ∷ notes) more s t = absurd s
-settle_joined (Note.CachedRead file bytes ∷ notes) more s t = absurd s
+settle_joined (note ∷ notes) more s t = absurd s
 
 -- a choice of two
 settle_either : (b : Bool) (xs ys : List Note) → AreSettlements xs → AreSettlements ys
@@ -56,9 +52,7 @@ pub settle_pass : (file : ℕ) (old : State) (notes more : List Note) → AreSet
     → believed_after file old (notes ++ more) ≡ believed_after file old more
 settle_pass file old [] more s = refl
 settle_pass file old (Note.Settled number outcome ∷ notes) more s = settle_pass file old notes more s
-settle_pass file old (Note.Wrote f number patch buffered ∷ notes) more s = absurd s
-settle_pass file old (Note.Believes f state ∷ notes) more s = absurd s
-settle_pass file old (Note.CachedRead f bytes ∷ notes) more s = absurd s
+settle_pass file old (note ∷ notes) more s = absurd s
 
 -- ---- one belief
 
@@ -314,19 +308,15 @@ closed_behaves : (client : Client) (file : ℕ) (sent : List Pending) (command :
     → Behaves client (on_closed client file sent command)
 closed_behaves client file sent (Command.Open f terms) = if_either (Behaves client) _ _ _
     (plain_behaves client file _ Answer.Waiting _ waiting_never) (refused_behaves client Refusal.Offline)
-closed_behaves client file sent (Command.Close f) = refused_behaves client Refusal.NotOpen
-closed_behaves client file sent (Command.Read f) = refused_behaves client Refusal.NotOpen
-closed_behaves client file sent (Command.Write f patch) = refused_behaves client Refusal.NotOpen
-closed_behaves client file sent (Command.Flush f) = refused_behaves client Refusal.NotOpen
+closed_behaves client file sent command = refused_behaves client Refusal.NotOpen
 
 -- in any phase
 entry_behaves : (client : Client) (file : ℕ) (command : Command) (sent : List Pending) (phase : Phase)
     → belief client file ≡ belief_in phase → Behaves client (on_entry client file command sent phase)
 entry_behaves client file command sent Phase.Closed is = closed_behaves client file sent command
-entry_behaves client file command sent (Phase.Opening access share) is = refused_behaves client Refusal.Busy
 entry_behaves client file command sent (Phase.Live live) is = live_behaves client file live sent command is
 entry_behaves client file command sent (Phase.Offline parted) is = refused_behaves client Refusal.Offline
-entry_behaves client file command sent (Phase.Reconnecting parted) is = refused_behaves client Refusal.Busy
+entry_behaves client file command sent phase is = refused_behaves client Refusal.Busy
 
 -- any command
 pub commanded_behaves : (client : Client) (command : Command) → Behaves client (commanded client command)
@@ -361,10 +351,7 @@ break_tells : (client : Client) (file : ℕ) (notice : BreakNotice) (sent : List
     → Tells client (break_on client file notice sent phase)
 break_tells client file notice sent (Phase.Live live) = turned_tells client file _
     (break_settles live sent notice (meet live.belief notice.lowered))
-break_tells client file notice sent Phase.Closed = quiet_tells client
-break_tells client file notice sent (Phase.Opening access share) = quiet_tells client
-break_tells client file notice sent (Phase.Offline parted) = quiet_tells client
-break_tells client file notice sent (Phase.Reconnecting parted) = quiet_tells client
+break_tells client file notice sent phase = quiet_tells client
 
 broken_tells : (client : Client) (notice : Option BreakNotice) → Tells client (broken client notice)
 unfolding broken
@@ -388,8 +375,7 @@ created_tells client file file_id answer sent (Phase.Reconnecting parted) = turn
     (settle_either _ [] (settled_as Settlement.Lost parted.writes) tt (settled_settle Settlement.Lost parted.writes))
 created_tells client file file_id answer sent (Phase.Live live) =
     created_for_tells client file live sent file_id answer live.asking
-created_tells client file file_id answer sent Phase.Closed = quiet_tells client
-created_tells client file file_id answer sent (Phase.Offline parted) = quiet_tells client
+created_tells client file file_id answer sent phase = quiet_tells client
 
 create_answered_tells : (client : Client) (file file_id : ℕ) (contexts : Option CreateAnswer)
     → Tells client (create_answered client file file_id contexts)
@@ -411,8 +397,7 @@ failed_tells client file status sent (Phase.Opening access share) = turned_tells
 failed_tells client file status sent (Phase.Reconnecting parted) =
     turned_tells client file _ (settled_settle Settlement.Lost parted.writes)
 failed_tells client file status sent (Phase.Live live) = failed_for_tells client file live sent status live.asking
-failed_tells client file status sent Phase.Closed = quiet_tells client
-failed_tells client file status sent (Phase.Offline parted) = quiet_tells client
+failed_tells client file status sent phase = quiet_tells client
 
 create_failed_tells : (client : Client) (file : ℕ) (status : Status) → Tells client (create_failed client file status)
 unfolding create_failed
@@ -424,10 +409,7 @@ read_on_tells : (client : Client) (file : ℕ) (bytes : List ℕ) (sent : List P
     → Tells client (read_on client file bytes sent phase)
 unfolding read_turn
 read_on_tells client file bytes sent (Phase.Live live) = turned_tells client file _ tt
-read_on_tells client file bytes sent Phase.Closed = quiet_tells client
-read_on_tells client file bytes sent (Phase.Opening access share) = quiet_tells client
-read_on_tells client file bytes sent (Phase.Offline parted) = quiet_tells client
-read_on_tells client file bytes sent (Phase.Reconnecting parted) = quiet_tells client
+read_on_tells client file bytes sent phase = quiet_tells client
 
 read_answered_tells : (client : Client) (file_id : ℕ) (bytes : List ℕ) → Tells client (read_answered client file_id bytes)
 unfolding read_answered
@@ -452,10 +434,7 @@ read_failed_on_tells client file status sent (Phase.Live live) = turned_tells cl
     (closed_by_server live sent [] status)
     (still_open (live_entry (record live { reads = one_read_less live.reads }) sent) [] status)
     (gone_settles live sent [] status tt) tt)
-read_failed_on_tells client file status sent Phase.Closed = quiet_tells client
-read_failed_on_tells client file status sent (Phase.Opening access share) = quiet_tells client
-read_failed_on_tells client file status sent (Phase.Offline parted) = quiet_tells client
-read_failed_on_tells client file status sent (Phase.Reconnecting parted) = quiet_tells client
+read_failed_on_tells client file status sent phase = quiet_tells client
 
 read_failed_tells : (client : Client) (file_id : ℕ) (status : Status) → Tells client (read_failed client file_id status)
 unfolding read_failed
@@ -475,10 +454,7 @@ write_failed_settles file_id number status sent (Phase.Live live) =
     (closed_by_server live sent (Note.Settled number Settlement.Failed ∷ []) status)
     (still_open (live_entry live sent) (Note.Settled number Settlement.Failed ∷ []) status)
     (gone_settles live sent (Note.Settled number Settlement.Failed ∷ []) status tt) tt
-write_failed_settles file_id number status sent Phase.Closed = tt
-write_failed_settles file_id number status sent (Phase.Opening access share) = tt
-write_failed_settles file_id number status sent (Phase.Offline parted) = tt
-write_failed_settles file_id number status sent (Phase.Reconnecting parted) = tt
+write_failed_settles file_id number status sent phase = tt
 
 write_failed_tells : (client : Client) (file_id number : ℕ) (status : Status)
     → Tells client (write_failed client file_id number status)
@@ -497,7 +473,4 @@ taken_tells client (Reply.ReadFailed file_id status) = read_failed_tells client 
 taken_tells client (Reply.WriteDone file_id number) = write_done_tells client number
 taken_tells client (Reply.WriteFailed file_id number status) = write_failed_tells client file_id number status
 taken_tells client (Reply.Break notice) = broken_tells client notice
-taken_tells client (Reply.Closed file_id) = quiet_tells client
-taken_tells client (Reply.CloseFailed file_id status) = quiet_tells client
-taken_tells client (Reply.AckDone response) = quiet_tells client
-taken_tells client (Reply.AckFailed status) = quiet_tells client
+taken_tells client reply = quiet_tells client

@@ -233,10 +233,7 @@ closed_command_sound : (client : Client) (file : ℕ) (sent : List Pending) (com
     → HasSoundEntries client → Sound (on_closed client file sent command)
 closed_command_sound client file sent (Command.Open f terms) sound =
     if_cases Sound client.is_online _ _ (λ on. turned_sound client file _ sound on) (λ off. sound)
-closed_command_sound client file sent (Command.Close f) sound = sound
-closed_command_sound client file sent (Command.Read f) sound = sound
-closed_command_sound client file sent (Command.Write f patch) sound = sound
-closed_command_sound client file sent (Command.Flush f) sound = sound
+closed_command_sound client file sent command sound = sound
 
 -- any command for an entry in any phase
 entry_command_sound : (client : Client) (file : ℕ) (command : Command) (sent : List Pending) (phase : Phase)
@@ -244,11 +241,9 @@ entry_command_sound : (client : Client) (file : ℕ) (command : Command) (sent :
     → Sound (on_entry client file command sent phase)
 entry_command_sound client file command sent Phase.Closed sound s =
     closed_command_sound client file sent command sound
-entry_command_sound client file command sent (Phase.Opening access share) sound s = sound
 entry_command_sound client file command sent (Phase.Live live) sound s =
     live_command_sound client file live sent command sound s.0 s.1
-entry_command_sound client file command sent (Phase.Offline parted) sound s = sound
-entry_command_sound client file command sent (Phase.Reconnecting parted) sound s = sound
+entry_command_sound client file command sent phase sound s = sound
 
 -- any command
 commanded_sound : (client : Client) (command : Command) → HasSoundEntries client → Sound (commanded client command)
@@ -299,10 +294,7 @@ break_on_sound : (client : Client) (file : ℕ) (notice : BreakNotice) (sent : L
     → HasSoundEntries client → IsSoundPhase client.is_online sent phase → Sound (break_on client file notice sent phase)
 break_on_sound client file notice sent (Phase.Live live) sound s =
     break_turn_sound client file live sent notice (meet live.belief notice.lowered) sound s.0 s.1
-break_on_sound client file notice sent Phase.Closed sound s = sound
-break_on_sound client file notice sent (Phase.Opening access share) sound s = sound
-break_on_sound client file notice sent (Phase.Offline parted) sound s = sound
-break_on_sound client file notice sent (Phase.Reconnecting parted) sound s = sound
+break_on_sound client file notice sent phase sound s = sound
 
 -- any break
 broken_sound : (client : Client) (notice : Option BreakNotice) → HasSoundEntries client → Sound (broken client notice)
@@ -363,8 +355,7 @@ created_sound client file file_id answer sent (Phase.Reconnecting parted) sound 
     )
 created_sound client file file_id answer sent (Phase.Live live) sound s =
     created_for_sound client file live sent file_id answer live.asking sound s.0 s.1
-created_sound client file file_id answer sent Phase.Closed sound s = sound
-created_sound client file file_id answer sent (Phase.Offline parted) sound s = sound
+created_sound client file file_id answer sent phase sound s = sound
 
 -- any answer to a create
 create_answered_sound : (client : Client) (file file_id : ℕ) (contexts : Option CreateAnswer) → HasSoundEntries client
@@ -399,8 +390,7 @@ failed_on_sound client file status sent (Phase.Reconnecting parted) sound s =
     closed_sound client file _ sent sound s.0 refl
 failed_on_sound client file status sent (Phase.Live live) sound s =
     failed_for_sound client file live sent status live.asking sound s.0 s.1
-failed_on_sound client file status sent Phase.Closed sound s = sound
-failed_on_sound client file status sent (Phase.Offline parted) sound s = sound
+failed_on_sound client file status sent phase sound s = sound
 
 -- any failed create
 create_failed_sound : (client : Client) (file : ℕ) (status : _) → HasSoundEntries client
@@ -423,9 +413,7 @@ read_on_sound client file bytes sent (Phase.Live live) sound s = turned_sound cl
   },
 )
 read_on_sound client file bytes sent Phase.Closed sound s = sound
-read_on_sound client file bytes sent (Phase.Opening access share) sound s = sound
-read_on_sound client file bytes sent (Phase.Offline parted) sound s = sound
-read_on_sound client file bytes sent (Phase.Reconnecting parted) sound s = sound
+read_on_sound client file bytes sent phase sound s = sound
 
 -- any answer to a Read
 read_answered_sound : (client : Client) (file_id : ℕ) (bytes : List ℕ) → HasSoundEntries client
@@ -456,10 +444,7 @@ read_failed_on_sound client file status sent (Phase.Live live) sound s = turned_
     (still_open (live_entry (record live { reads = one_read_less live.reads }) sent) [] status)
     (without_open_sound client.is_online live.asking sent s.0)
     (s.0, counted live live.handles (one_read_less live.reads) s.1 s.1.asking_with_handles))
-read_failed_on_sound client file status sent Phase.Closed sound s = sound
-read_failed_on_sound client file status sent (Phase.Opening access share) sound s = sound
-read_failed_on_sound client file status sent (Phase.Offline parted) sound s = sound
-read_failed_on_sound client file status sent (Phase.Reconnecting parted) sound s = sound
+read_failed_on_sound client file status sent phase sound s = sound
 
 -- any failed Read
 read_failed_sound : (client : Client) (file_id : ℕ) (status : _) → HasSoundEntries client
@@ -487,9 +472,7 @@ write_failed_in_sound client file_id number status sent (Phase.Live live) s =
 write_failed_in_sound client file_id number status sent Phase.Closed s =
     λ away. sent_without-none number sent (s away)
 write_failed_in_sound client file_id number status sent (Phase.Opening access share) s = s
-write_failed_in_sound client file_id number status sent (Phase.Offline parted) s =
-    (s.0, sent_without-none number sent s.1, s.2)
-write_failed_in_sound client file_id number status sent (Phase.Reconnecting parted) s =
+write_failed_in_sound client file_id number status sent phase s =
     (s.0, sent_without-none number sent s.1, s.2)
 
 -- any failed write
@@ -513,10 +496,7 @@ taken_sound client (Reply.WriteDone file_id number) sound = write_done_sound cli
 taken_sound client (Reply.WriteFailed file_id number status) sound =
     write_failed_sound client file_id number status sound
 taken_sound client (Reply.Break notice) sound = broken_sound client notice sound
-taken_sound client (Reply.Closed file_id) sound = sound
-taken_sound client (Reply.CloseFailed file_id status) sound = sound
-taken_sound client (Reply.AckDone response) sound = sound
-taken_sound client (Reply.AckFailed status) sound = sound
+taken_sound client reply sound = sound
 
 -- ---- connections
 
@@ -531,11 +511,10 @@ live_noticed_sound live sent = if_either (λ (t : Turn). IsSoundEntry false t.en
 -- an entry whose connection is lost, in any phase
 notice_sound : (connected : Bool) (sent : List Pending) (phase : Phase) → IsSoundPhase connected sent phase
     → IsSoundEntry false (notice_turn sent phase).entry
-notice_sound connected sent Phase.Closed s = λ away. refl
-notice_sound connected sent (Phase.Opening access share) s = λ away. refl
 notice_sound connected sent (Phase.Live live) s = live_noticed_sound live sent
 notice_sound connected sent (Phase.Offline parted) s = (refl, refl, s.2)
 notice_sound connected sent (Phase.Reconnecting parted) s = (refl, refl, s.2)
+notice_sound connected sent phase s = λ away. refl
 
 -- a lost connection
 noticed_sound : (client : Client) → HasSoundEntries client → Sound (noticed client)
@@ -549,8 +528,7 @@ connect_sound : (client : Client) (file : ℕ) (sent : List Pending) (phase : Ph
 connect_sound client file sent Phase.Closed s = λ away. clash true refl away
 connect_sound client file sent (Phase.Opening access share) s = refl
 connect_sound client file sent (Phase.Live live) s = (refl, s.1)
-connect_sound client file sent (Phase.Offline parted) s = (refl, s.1, s.2)
-connect_sound client file sent (Phase.Reconnecting parted) s = (refl, s.1, s.2)
+connect_sound client file sent phase s = (refl, s.1, s.2)
 
 -- a new connection
 connected_sound : (client : Client) → HasSoundEntries client → Sound (connection_made client)

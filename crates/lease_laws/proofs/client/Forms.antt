@@ -32,10 +32,7 @@ closed_formed : (client : Client) (P : Step → Type 0) → HasForms client P �
     (command : Command) → P (on_closed client file sent command)
 closed_formed client P h file sent (Command.Open _ terms) =
     if_either P client.is_online _ (refused_step client Refusal.Offline) (h.turned file _) (h.refused Refusal.Offline)
-closed_formed client P h file sent (Command.Close _) = h.refused Refusal.NotOpen
-closed_formed client P h file sent (Command.Read _) = h.refused Refusal.NotOpen
-closed_formed client P h file sent (Command.Write _ patch) = h.refused Refusal.NotOpen
-closed_formed client P h file sent (Command.Flush _) = h.refused Refusal.NotOpen
+closed_formed client P h file sent command = h.refused Refusal.NotOpen
 
 added_formed : (client : Client) (P : Step → Type 0) → HasForms client P → (file : ℕ) (live : LiveEntry)
     (sent : List Pending) → P (handle_added client file live sent)
@@ -140,10 +137,9 @@ live_formed client P h file live sent (Command.Flush _) =
 entry_formed : (client : Client) (P : Step → Type 0) → HasForms client P → (file : ℕ) (command : Command)
     (sent : List Pending) (phase : Phase) → P (on_entry client file command sent phase)
 entry_formed client P h file command sent Phase.Closed = closed_formed client P h file sent command
-entry_formed client P h file command sent (Phase.Opening access share) = h.refused Refusal.Busy
 entry_formed client P h file command sent (Phase.Live live) = live_formed client P h file live sent command
 entry_formed client P h file command sent (Phase.Offline parted) = h.refused Refusal.Offline
-entry_formed client P h file command sent (Phase.Reconnecting parted) = h.refused Refusal.Busy
+entry_formed client P h file command sent phase = h.refused Refusal.Busy
 
 pub commanded-formed : (client : Client) (P : Step → Type 0) → HasForms client P → (command : Command)
     → P (commanded client command)
@@ -163,11 +159,8 @@ on_file_formed client P h (Some file) step each = each file
 
 break_formed : (client : Client) (P : Step → Type 0) → HasForms client P → (file : ℕ) (notice : BreakNotice)
     (sent : List Pending) (phase : Phase) → P (break_on client file notice sent phase)
-break_formed client P h file notice sent Phase.Closed = h.quiet
-break_formed client P h file notice sent (Phase.Opening access share) = h.quiet
 break_formed client P h file notice sent (Phase.Live live) = h.turned file _
-break_formed client P h file notice sent (Phase.Offline parted) = h.quiet
-break_formed client P h file notice sent (Phase.Reconnecting parted) = h.quiet
+break_formed client P h file notice sent phase = h.quiet
 
 broken_formed : (client : Client) (P : Step → Type 0) → HasForms client P → (notice : Option BreakNotice)
     → P (broken client notice)
@@ -186,12 +179,11 @@ created_on_formed : (client : Client) (P : Step → Type 0) → HasForms client 
     (answer : CreateAnswer) (sent : List Pending) (phase : Phase)
     → P (created_on client file file_id answer sent phase)
 unfolding created_on_live
-created_on_formed client P h file file_id answer sent Phase.Closed = h.quiet
 created_on_formed client P h file file_id answer sent (Phase.Opening access share) = h.turned file _
 created_on_formed client P h file file_id answer sent (Phase.Live live) =
     created_for_formed client P h file live sent file_id answer live.asking
-created_on_formed client P h file file_id answer sent (Phase.Offline parted) = h.quiet
 created_on_formed client P h file file_id answer sent (Phase.Reconnecting parted) = h.turned file _
+created_on_formed client P h file file_id answer sent phase = h.quiet
 
 created_formed : (client : Client) (P : Step → Type 0) → HasForms client P → (file file_id : ℕ)
     (contexts : Option CreateAnswer) → P (create_answered client file file_id contexts)
@@ -209,28 +201,21 @@ failed_for_formed client P h file live sent status (Some asked) = h.turned file 
 failed_on_formed : (client : Client) (P : Step → Type 0) → HasForms client P → (file : ℕ) (status : Status)
     (sent : List Pending) (phase : Phase) → P (failed_on client file status sent phase)
 unfolding create_failed_on_live
-failed_on_formed client P h file status sent Phase.Closed = h.quiet
 failed_on_formed client P h file status sent (Phase.Opening access share) = h.turned file _
 failed_on_formed client P h file status sent (Phase.Live live) =
     failed_for_formed client P h file live sent status live.asking
-failed_on_formed client P h file status sent (Phase.Offline parted) = h.quiet
 failed_on_formed client P h file status sent (Phase.Reconnecting parted) = h.turned file _
+failed_on_formed client P h file status sent phase = h.quiet
 
 read_on_formed : (client : Client) (P : Step → Type 0) → HasForms client P → (file : ℕ) (bytes : List ℕ)
     (sent : List Pending) (phase : Phase) → P (read_on client file bytes sent phase)
-read_on_formed client P h file bytes sent Phase.Closed = h.quiet
-read_on_formed client P h file bytes sent (Phase.Opening access share) = h.quiet
 read_on_formed client P h file bytes sent (Phase.Live live) = h.turned file _
-read_on_formed client P h file bytes sent (Phase.Offline parted) = h.quiet
-read_on_formed client P h file bytes sent (Phase.Reconnecting parted) = h.quiet
+read_on_formed client P h file bytes sent phase = h.quiet
 
 read_failed_formed : (client : Client) (P : Step → Type 0) → HasForms client P → (file : ℕ) (status : Status)
     (sent : List Pending) (phase : Phase) → P (read_failed_on client file status sent phase)
-read_failed_formed client P h file status sent Phase.Closed = h.quiet
-read_failed_formed client P h file status sent (Phase.Opening access share) = h.quiet
 read_failed_formed client P h file status sent (Phase.Live live) = h.turned file _
-read_failed_formed client P h file status sent (Phase.Offline parted) = h.quiet
-read_failed_formed client P h file status sent (Phase.Reconnecting parted) = h.quiet
+read_failed_formed client P h file status sent phase = h.quiet
 
 pub taken-formed : (client : Client) (P : Step → Type 0) → HasForms client P → (reply : Reply) → P (taken client reply)
 unfolding taken create_failed read_answered read_failed write_done write_failed
@@ -249,11 +234,8 @@ taken-formed client P h (Reply.WriteDone file_id number) =
     on_file_formed client P h (file_where client _) _ (λ file. h.turned file _)
 taken-formed client P h (Reply.WriteFailed file_id number status) =
     on_file_formed client P h (file_where client _) _ (λ file. h.turned file _)
-taken-formed client P h (Reply.Closed file_id) = h.quiet
-taken-formed client P h (Reply.CloseFailed file_id status) = h.quiet
 taken-formed client P h (Reply.Break notice) = broken_formed client P h notice
-taken-formed client P h (Reply.AckDone response) = h.quiet
-taken-formed client P h (Reply.AckFailed status) = h.quiet
+taken-formed client P h reply = h.quiet
 
 -- ---- what a step leaves alone
 

@@ -119,18 +119,13 @@ live_in client file live sent (Command.Flush f) c k = if_either Keeps _ _ _ c (t
 closed_in : (client : Client) (file : ℕ) (sent : List Pending) (command : Command) → InFiles client
     → knows_file client file ≡ true → Keeps (on_closed client file sent command)
 closed_in client file sent (Command.Open f terms) c k = if_either Keeps _ _ _ (turned_in client file _ c k) c
-closed_in client file sent (Command.Close f) c k = c
-closed_in client file sent (Command.Read f) c k = c
-closed_in client file sent (Command.Write f patch) c k = c
-closed_in client file sent (Command.Flush f) c k = c
+closed_in client file sent command c k = c
 
 entry_in : (client : Client) (file : ℕ) (command : Command) (sent : List Pending) (phase : Phase) → InFiles client
     → knows_file client file ≡ true → Keeps (on_entry client file command sent phase)
 entry_in client file command sent Phase.Closed c k = closed_in client file sent command c k
-entry_in client file command sent (Phase.Opening access share) c k = c
 entry_in client file command sent (Phase.Live live) c k = live_in client file live sent command c k
-entry_in client file command sent (Phase.Offline parted) c k = c
-entry_in client file command sent (Phase.Reconnecting parted) c k = c
+entry_in client file command sent phase c k = c
 
 -- what holds of both branches, each where its test says so
 if_known : (b : Bool) (x y : Step) → (b ≡ true → Keeps x) → Keeps y → Keeps (if b then x else y)
@@ -174,10 +169,7 @@ on_file_in client (Some file) step c each = each file refl
 break_in : (client : Client) (file : ℕ) (notice : BreakNotice) (sent : List Pending) (phase : Phase) → InFiles client
     → knows_file client file ≡ true → Keeps (break_on client file notice sent phase)
 break_in client file notice sent (Phase.Live live) c k = turned_in client file _ c k
-break_in client file notice sent Phase.Closed c k = c
-break_in client file notice sent (Phase.Opening access share) c k = c
-break_in client file notice sent (Phase.Offline parted) c k = c
-break_in client file notice sent (Phase.Reconnecting parted) c k = c
+break_in client file notice sent phase c k = c
 
 broken_in : (client : Client) (notice : Option BreakNotice) → InFiles client → Keeps (broken client notice)
 unfolding broken
@@ -201,15 +193,14 @@ created_in : (client : Client) (file file_id : ℕ) (answer : CreateAnswer) (sen
     → InFiles client → (client.entries file).phase ≡ phase
     → Keeps (created_on client file file_id answer sent phase)
 unfolding created_on_live
-created_in client file file_id answer sent Phase.Closed c e = c
 created_in client file file_id answer sent (Phase.Opening access share) c e =
     turned_in client file _ c (phase_known client file (Phase.Opening access share) c e (λ never. absurd (cc)))
 created_in client file file_id answer sent (Phase.Live live) c e =
     created_for_in client file live sent file_id answer live.asking c
     (phase_known client file (Phase.Live live) c e (λ never. absurd (cc)))
-created_in client file file_id answer sent (Phase.Offline parted) c e = c
 created_in client file file_id answer sent (Phase.Reconnecting parted) c e =
     turned_in client file _ c (phase_known client file (Phase.Reconnecting parted) c e (λ never. absurd (cc)))
+created_in client file file_id answer sent phase c e = c
 
 create_answered_in : (client : Client) (file file_id : ℕ) (contexts : Option CreateAnswer) → InFiles client
     → Keeps (create_answered client file file_id contexts)
@@ -227,15 +218,14 @@ failed_for_in client file live sent status (Some asked) c k = turned_in client f
 failed_in : (client : Client) (file : ℕ) (status : Status) (sent : List Pending) (phase : Phase) → InFiles client
     → (client.entries file).phase ≡ phase → Keeps (failed_on client file status sent phase)
 unfolding create_failed_on_live
-failed_in client file status sent Phase.Closed c e = c
 failed_in client file status sent (Phase.Opening access share) c e =
     turned_in client file _ c (phase_known client file (Phase.Opening access share) c e (λ never. absurd (cc)))
 failed_in client file status sent (Phase.Live live) c e =
     failed_for_in client file live sent status live.asking c
     (phase_known client file (Phase.Live live) c e (λ never. absurd (cc)))
-failed_in client file status sent (Phase.Offline parted) c e = c
 failed_in client file status sent (Phase.Reconnecting parted) c e =
     turned_in client file _ c (phase_known client file (Phase.Reconnecting parted) c e (λ never. absurd (cc)))
+failed_in client file status sent phase c e = c
 
 create_failed_in : (client : Client) (file : ℕ) (status : Status) → InFiles client
     → Keeps (create_failed client file status)
@@ -246,10 +236,7 @@ create_failed_in client file status c = failed_in client file status (client.ent
 read_on_in : (client : Client) (file : ℕ) (bytes : List ℕ) (sent : List Pending) (phase : Phase) → InFiles client
     → knows_file client file ≡ true → Keeps (read_on client file bytes sent phase)
 read_on_in client file bytes sent (Phase.Live live) c k = turned_in client file _ c k
-read_on_in client file bytes sent Phase.Closed c k = c
-read_on_in client file bytes sent (Phase.Opening access share) c k = c
-read_on_in client file bytes sent (Phase.Offline parted) c k = c
-read_on_in client file bytes sent (Phase.Reconnecting parted) c k = c
+read_on_in client file bytes sent phase c k = c
 
 read_answered_in : (client : Client) (file_id : ℕ) (bytes : List ℕ) → InFiles client
     → Keeps (read_answered client file_id bytes)
@@ -261,10 +248,7 @@ read_answered_in client file_id bytes c = if_either Keeps (nat_le (length bytes)
 read_failed_on_in : (client : Client) (file : ℕ) (status : Status) (sent : List Pending) (phase : Phase)
     → InFiles client → knows_file client file ≡ true → Keeps (read_failed_on client file status sent phase)
 read_failed_on_in client file status sent (Phase.Live live) c k = turned_in client file _ c k
-read_failed_on_in client file status sent Phase.Closed c k = c
-read_failed_on_in client file status sent (Phase.Opening access share) c k = c
-read_failed_on_in client file status sent (Phase.Offline parted) c k = c
-read_failed_on_in client file status sent (Phase.Reconnecting parted) c k = c
+read_failed_on_in client file status sent phase c k = c
 
 read_failed_in : (client : Client) (file_id : ℕ) (status : Status) → InFiles client
     → Keeps (read_failed client file_id status)
@@ -298,10 +282,7 @@ taken_in client (Reply.ReadFailed file_id status) c = read_failed_in client file
 taken_in client (Reply.WriteDone file_id number) c = write_done_in client number c
 taken_in client (Reply.WriteFailed file_id number status) c = write_failed_in_files client file_id number status c
 taken_in client (Reply.Break notice) c = broken_in client notice c
-taken_in client (Reply.Closed file_id) c = c
-taken_in client (Reply.CloseFailed file_id status) c = c
-taken_in client (Reply.AckDone response) c = c
-taken_in client (Reply.AckFailed status) c = c
+taken_in client reply c = c
 
 -- ---- connections
 

@@ -30,24 +30,21 @@ abbrev AreOld : ℕ → List Note → Type 0
 AreOld last [] = Unit {0}
 AreOld last (Note.Settled number outcome ∷ notes) = (number ≤ last) × AreOld last notes
 AreOld last (Note.Wrote file number patch buffered ∷ notes) = ⊥
-AreOld last (Note.Believes file state ∷ notes) = AreOld last notes
-AreOld last (Note.CachedRead file bytes ∷ notes) = AreOld last notes
+AreOld last (note ∷ notes) = AreOld last notes
 
 -- such notes leave the last number as it was
 old_tells : (last : ℕ) (notes : List Note) → AreOld last notes → TellNumbers last notes last
 old_tells last [] old = refl
 old_tells last (Note.Settled number outcome ∷ notes) old = (old.0, old_tells last notes old.1)
 old_tells last (Note.Wrote file number patch buffered ∷ notes) old = absurd old
-old_tells last (Note.Believes file state ∷ notes) old = old_tells last notes old
-old_tells last (Note.CachedRead file bytes ∷ notes) old = old_tells last notes old
+old_tells last (note ∷ notes) old = old_tells last notes old
 
 -- such notes joined are such notes
 old_joined : (last : ℕ) (notes more : List Note) → AreOld last notes → AreOld last more → AreOld last (notes ++ more)
 old_joined last [] more old next = next
 old_joined last (Note.Settled number outcome ∷ notes) more old next = (old.0, old_joined last notes more old.1 next)
 old_joined last (Note.Wrote file number patch buffered ∷ notes) more old next = absurd old
-old_joined last (Note.Believes file state ∷ notes) more old next = old_joined last notes more old next
-old_joined last (Note.CachedRead file bytes ∷ notes) more old next = old_joined last notes more old next
+old_joined last (note ∷ notes) more old next = old_joined last notes more old next
 
 -- also for each of some files
 old_each : (last : ℕ) (notes : ℕ → List Note) (files : List ℕ) → ((file : ℕ) → AreOld last (notes file))
@@ -222,19 +219,15 @@ closed_command_tells : (client : Client) (file : ℕ) (sent : List Pending) (com
     → Telling client (on_closed client file sent command)
 closed_command_tells client file sent (Command.Open f terms) =
     if_either (Telling client) _ _ _ (plain_tells client file _ _ _) (refused_tells client Refusal.Offline)
-closed_command_tells client file sent (Command.Close f) = refused_tells client Refusal.NotOpen
-closed_command_tells client file sent (Command.Read f) = refused_tells client Refusal.NotOpen
-closed_command_tells client file sent (Command.Write f patch) = refused_tells client Refusal.NotOpen
-closed_command_tells client file sent (Command.Flush f) = refused_tells client Refusal.NotOpen
+closed_command_tells client file sent command = refused_tells client Refusal.NotOpen
 
 -- any command for an entry in any phase
 entry_command_tells : (client : Client) (file : ℕ) (command : Command) (sent : List Pending) (phase : Phase)
     → Telling client (on_entry client file command sent phase)
 entry_command_tells client file command sent Phase.Closed = closed_command_tells client file sent command
-entry_command_tells client file command sent (Phase.Opening access share) = refused_tells client Refusal.Busy
 entry_command_tells client file command sent (Phase.Live live) = live_command_tells client file live sent command
 entry_command_tells client file command sent (Phase.Offline parted) = refused_tells client Refusal.Offline
-entry_command_tells client file command sent (Phase.Reconnecting parted) = refused_tells client Refusal.Busy
+entry_command_tells client file command sent phase = refused_tells client Refusal.Busy
 
 -- any command
 commanded_tells : (client : Client) (command : Command) → Telling client (commanded client command)
@@ -277,10 +270,7 @@ break_on_tells : (client : Client) (file : ℕ) (notice : BreakNotice) (sent : L
     → Telling client (break_on client file notice sent phase)
 break_on_tells client file notice sent (Phase.Live live) = turned_tells client file _
     (break_turn_old client.last_number live sent notice (meet live.belief notice.lowered))
-break_on_tells client file notice sent Phase.Closed = quiet_tells client
-break_on_tells client file notice sent (Phase.Opening access share) = quiet_tells client
-break_on_tells client file notice sent (Phase.Offline parted) = quiet_tells client
-break_on_tells client file notice sent (Phase.Reconnecting parted) = quiet_tells client
+break_on_tells client file notice sent phase = quiet_tells client
 
 -- any break
 broken_tells : (client : Client) (notice : Option BreakNotice) → Telling client (broken client notice)
@@ -320,8 +310,7 @@ created_tells client file file_id answer sent (Phase.Reconnecting parted) e =
     (lost_old client.last_number (first_belief client file answer).write Settlement.Lost sent parted.writes e)
 created_tells client file file_id answer sent (Phase.Live live) e =
     created_for_tells client file live sent file_id answer live.asking e
-created_tells client file file_id answer sent Phase.Closed e = quiet_tells client
-created_tells client file file_id answer sent (Phase.Offline parted) e = quiet_tells client
+created_tells client file file_id answer sent phase e = quiet_tells client
 
 -- any answer to a create
 create_answered_tells : (client : Client) (file file_id : ℕ) (contexts : Option CreateAnswer) → Numbers client
@@ -349,8 +338,7 @@ failed_on_tells client file status sent (Phase.Reconnecting parted) e =
     (old_some client.last_number Settlement.Lost parted.writes (sent ++ parted.writes) (thin_behind sent parted.writes) e)
 failed_on_tells client file status sent (Phase.Live live) e =
     failed_for_tells client file live sent status live.asking
-failed_on_tells client file status sent Phase.Closed e = quiet_tells client
-failed_on_tells client file status sent (Phase.Offline parted) e = quiet_tells client
+failed_on_tells client file status sent phase e = quiet_tells client
 
 -- any failed create
 create_failed_tells : (client : Client) (file : ℕ) (status : Status) → Numbers client
@@ -364,10 +352,7 @@ read_on_tells : (client : Client) (file : ℕ) (bytes : List ℕ) (sent : List P
     → Telling client (read_on client file bytes sent phase)
 unfolding read_turn
 read_on_tells client file bytes sent (Phase.Live live) = turned_tells client file (read_turn live sent bytes) tt
-read_on_tells client file bytes sent Phase.Closed = quiet_tells client
-read_on_tells client file bytes sent (Phase.Opening access share) = quiet_tells client
-read_on_tells client file bytes sent (Phase.Offline parted) = quiet_tells client
-read_on_tells client file bytes sent (Phase.Reconnecting parted) = quiet_tells client
+read_on_tells client file bytes sent phase = quiet_tells client
 
 -- any answer to a Read
 read_answered_tells : (client : Client) (file_id : ℕ) (bytes : List ℕ) → Telling client (read_answered client file_id bytes)
@@ -396,10 +381,7 @@ read_failed_on_tells client file status sent (Phase.Live live) e =
     (closed_by_server live sent [] status)
     (still_open (live_entry (record live { reads = one_read_less live.reads }) sent) [] status)
     (gone_old client.last_number live sent [] status e tt) tt)
-read_failed_on_tells client file status sent Phase.Closed e = quiet_tells client
-read_failed_on_tells client file status sent (Phase.Opening access share) e = quiet_tells client
-read_failed_on_tells client file status sent (Phase.Offline parted) e = quiet_tells client
-read_failed_on_tells client file status sent (Phase.Reconnecting parted) e = quiet_tells client
+read_failed_on_tells client file status sent phase e = quiet_tells client
 
 -- any failed Read
 read_failed_tells : (client : Client) (file_id : ℕ) (status : Status) → Numbers client
@@ -431,10 +413,7 @@ write_failed_old last file_id number status sent left (Phase.Live live) e le =
     (closed_by_server live left (Note.Settled number Settlement.Failed ∷ []) status)
     (still_open (live_entry live left) (Note.Settled number Settlement.Failed ∷ []) status)
     (gone_old last live left (Note.Settled number Settlement.Failed ∷ []) status e (le, tt)) (le, tt)
-write_failed_old last file_id number status sent left Phase.Closed e le = (le, tt)
-write_failed_old last file_id number status sent left (Phase.Opening access share) e le = (le, tt)
-write_failed_old last file_id number status sent left (Phase.Offline parted) e le = (le, tt)
-write_failed_old last file_id number status sent left (Phase.Reconnecting parted) e le = (le, tt)
+write_failed_old last file_id number status sent left phase e le = (le, tt)
 
 -- any failed write
 write_failed_tells : (client : Client) (file_id number : ℕ) (status : Status) → Numbers client
@@ -457,10 +436,7 @@ taken_tells client (Reply.ReadFailed file_id status) own = read_failed_tells cli
 taken_tells client (Reply.WriteDone file_id number) own = write_done_tells client number own
 taken_tells client (Reply.WriteFailed file_id number status) own = write_failed_tells client file_id number status own
 taken_tells client (Reply.Break notice) own = broken_tells client notice
-taken_tells client (Reply.Closed file_id) own = quiet_tells client
-taken_tells client (Reply.CloseFailed file_id status) own = quiet_tells client
-taken_tells client (Reply.AckDone response) own = quiet_tells client
-taken_tells client (Reply.AckFailed status) own = quiet_tells client
+taken_tells client reply own = quiet_tells client
 
 -- ---- connections
 
@@ -479,14 +455,12 @@ live_noticed_old last live sent e =
 -- an entry whose connection is lost, in any phase
 notice_old : (last : ℕ) (sent : List Pending) (phase : Phase) → are_rising 0 last (sent ++ unsent_in phase) ≡ true
     → AreOld last (notice_turn sent phase).settled
-notice_old last sent Phase.Closed e = old_some last Settlement.Unknown sent (sent ++ []) (thin_front sent []) e
-notice_old last sent (Phase.Opening access share) e =
-    old_some last Settlement.Unknown sent (sent ++ []) (thin_front sent []) e
 notice_old last sent (Phase.Live live) e = live_noticed_old last live sent e
 notice_old last sent (Phase.Offline parted) e =
     old_some last Settlement.Unknown sent (sent ++ parted.writes) (thin_front sent parted.writes) e
 notice_old last sent (Phase.Reconnecting parted) e =
     old_some last Settlement.Unknown sent (sent ++ parted.writes) (thin_front sent parted.writes) e
+notice_old last sent phase e = old_some last Settlement.Unknown sent (sent ++ []) (thin_front sent []) e
 
 -- each entry has a turn that settles writes given before
 all_tell : (client : Client) (connected : Bool) (turn : ℕ → Entry → Turn)
@@ -515,10 +489,7 @@ noticed_tells client own = all_tell client false _
 connect_old : (last : ℕ) (client : Client) (file : ℕ) (sent : List Pending) (phase : Phase)
     → AreOld last (connect_turn client file sent phase).settled
 connect_old last client file sent Phase.Closed = tt
-connect_old last client file sent (Phase.Opening access share) = tt
-connect_old last client file sent (Phase.Live live) = tt
-connect_old last client file sent (Phase.Offline parted) = tt
-connect_old last client file sent (Phase.Reconnecting parted) = tt
+connect_old last client file sent phase = tt
 
 -- a new connection
 connected_tells : (client : Client) → Telling client (connection_made client)

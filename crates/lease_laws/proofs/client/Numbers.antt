@@ -233,21 +233,17 @@ closed_command_own : (client : Client) (file : ℕ) (sent : List Pending) (comma
 closed_command_own client file sent (Command.Open f terms) own is =
     if_either Own _ _ _ (turned_own client file _ (sent ++ []) own is (thin_same (sent ++ [])))
     (refused_own client Refusal.Offline own)
-closed_command_own client file sent (Command.Close f) own is = refused_own client Refusal.NotOpen own
-closed_command_own client file sent (Command.Read f) own is = refused_own client Refusal.NotOpen own
-closed_command_own client file sent (Command.Write f patch) own is = refused_own client Refusal.NotOpen own
-closed_command_own client file sent (Command.Flush f) own is = refused_own client Refusal.NotOpen own
+closed_command_own client file sent command own is = refused_own client Refusal.NotOpen own
 
 -- any command for an entry in any phase
 entry_command_own : (client : Client) (file : ℕ) (command : Command) (sent : List Pending) (phase : Phase)
     → Numbers client → unanswered_in (client.entries file) ≡ sent ++ unsent_in phase
     → IsSoundPhase client.is_online sent phase → Own (on_entry client file command sent phase)
 entry_command_own client file command sent Phase.Closed own is s = closed_command_own client file sent command own is
-entry_command_own client file command sent (Phase.Opening access share) own is s = refused_own client Refusal.Busy own
 entry_command_own client file command sent (Phase.Live live) own is s =
     live_command_own client file live sent command own is s.1.unsent_under_writes
 entry_command_own client file command sent (Phase.Offline parted) own is s = refused_own client Refusal.Offline own
-entry_command_own client file command sent (Phase.Reconnecting parted) own is s = refused_own client Refusal.Busy own
+entry_command_own client file command sent phase own is s = refused_own client Refusal.Busy own
 
 -- any command
 commanded_own : (client : Client) (command : Command) → HasSoundEntries client → Numbers client
@@ -289,10 +285,7 @@ break_on_own : (client : Client) (file : ℕ) (notice : BreakNotice) (sent : Lis
 break_on_own client file notice sent (Phase.Live live) own is =
     turned_own client file (break_turn live sent notice (meet live.belief notice.lowered)) (sent ++ live.unsent) own is
     (break_thin live sent notice (meet live.belief notice.lowered))
-break_on_own client file notice sent Phase.Closed own is = quiet_own client own
-break_on_own client file notice sent (Phase.Opening access share) own is = quiet_own client own
-break_on_own client file notice sent (Phase.Offline parted) own is = quiet_own client own
-break_on_own client file notice sent (Phase.Reconnecting parted) own is = quiet_own client own
+break_on_own client file notice sent phase own is = quiet_own client own
 
 -- any break
 broken_own : (client : Client) (notice : Option BreakNotice) → Numbers client → Own (broken client notice)
@@ -332,8 +325,7 @@ created_own client file file_id answer sent (Phase.Reconnecting parted) own is =
     own is (again_thin (first_belief client file answer).write sent parted.writes)
 created_own client file file_id answer sent (Phase.Live live) own is =
     created_for_own client file live sent file_id answer live.asking own is
-created_own client file file_id answer sent Phase.Closed own is = quiet_own client own
-created_own client file file_id answer sent (Phase.Offline parted) own is = quiet_own client own
+created_own client file file_id answer sent phase own is = quiet_own client own
 
 -- any answer to a create
 create_answered_own : (client : Client) (file file_id : ℕ) (contexts : Option CreateAnswer) → Numbers client
@@ -362,8 +354,7 @@ failed_on_own client file status sent (Phase.Reconnecting parted) own is =
     turned_own client file (failed_turn status sent parted.writes) (sent ++ parted.writes) own is (sent_left sent parted.writes)
 failed_on_own client file status sent (Phase.Live live) own is =
     failed_for_own client file live sent status live.asking own is
-failed_on_own client file status sent Phase.Closed own is = quiet_own client own
-failed_on_own client file status sent (Phase.Offline parted) own is = quiet_own client own
+failed_on_own client file status sent phase own is = quiet_own client own
 
 -- any failed create
 create_failed_own : (client : Client) (file : ℕ) (status : Status) → Numbers client → Own (create_failed client file status)
@@ -377,10 +368,7 @@ read_on_own : (client : Client) (file : ℕ) (bytes : List ℕ) (sent : List Pen
 unfolding read_turn
 read_on_own client file bytes sent (Phase.Live live) own is =
     turned_own client file (read_turn live sent bytes) (sent ++ live.unsent) own is (thin_same (sent ++ live.unsent))
-read_on_own client file bytes sent Phase.Closed own is = quiet_own client own
-read_on_own client file bytes sent (Phase.Opening access share) own is = quiet_own client own
-read_on_own client file bytes sent (Phase.Offline parted) own is = quiet_own client own
-read_on_own client file bytes sent (Phase.Reconnecting parted) own is = quiet_own client own
+read_on_own client file bytes sent phase own is = quiet_own client own
 
 -- any answer to a Read
 read_answered_own : (client : Client) (file_id : ℕ) (bytes : List ℕ) → Numbers client
@@ -407,10 +395,7 @@ read_failed_on_own client file status sent (Phase.Live live) own is =
     (closed_by_server live sent [] status)
     (still_open (live_entry (record live { reads = one_read_less live.reads }) sent) [] status)
     (gone_thin live.asking sent sent live.unsent (sent_left sent live.unsent)) (thin_same (sent ++ live.unsent)))
-read_failed_on_own client file status sent Phase.Closed own is = quiet_own client own
-read_failed_on_own client file status sent (Phase.Opening access share) own is = quiet_own client own
-read_failed_on_own client file status sent (Phase.Offline parted) own is = quiet_own client own
-read_failed_on_own client file status sent (Phase.Reconnecting parted) own is = quiet_own client own
+read_failed_on_own client file status sent phase own is = quiet_own client own
 
 -- any failed Read
 read_failed_own : (client : Client) (file_id : ℕ) (status : Status) → Numbers client → Own (read_failed client file_id status)
@@ -421,11 +406,10 @@ read_failed_own client file_id status own = on_file_own client _ _ own (λ file.
 -- a write that is done goes from the sent ones
 done_thin : (number : ℕ) (write : Option Pending) (sent : List Pending) (phase : Phase)
     → IsThinner (sent_without number sent ++ unsent_in (phase_with write phase)) (sent ++ unsent_in phase)
-done_thin number write sent Phase.Closed = thin_without number sent []
-done_thin number write sent (Phase.Opening access share) = thin_without number sent []
 done_thin number write sent (Phase.Live live) = thin_without number sent live.unsent
 done_thin number write sent (Phase.Offline parted) = thin_without number sent parted.writes
 done_thin number write sent (Phase.Reconnecting parted) = thin_without number sent parted.writes
+done_thin number write sent phase = thin_without number sent []
 
 -- any write that is done
 write_done_own : (client : Client) (number : ℕ) → Numbers client → Own (write_done client number)
@@ -446,10 +430,9 @@ failed_thin file_id number status sent (Phase.Live live) =
     (still_open (live_entry live (sent_without number sent)) (Note.Settled number Settlement.Failed ∷ []) status)
     (gone_thin live.asking sent (sent_without number sent) live.unsent (without_left number sent live.unsent))
     (thin_without number sent live.unsent)
-failed_thin file_id number status sent Phase.Closed = thin_without number sent []
-failed_thin file_id number status sent (Phase.Opening access share) = thin_without number sent []
 failed_thin file_id number status sent (Phase.Offline parted) = thin_without number sent parted.writes
 failed_thin file_id number status sent (Phase.Reconnecting parted) = thin_without number sent parted.writes
+failed_thin file_id number status sent phase = thin_without number sent []
 
 -- any failed write
 write_failed_own : (client : Client) (file_id number : ℕ) (status : Status) → Numbers client
@@ -471,10 +454,7 @@ taken_own client (Reply.ReadFailed file_id status) own = read_failed_own client 
 taken_own client (Reply.WriteDone file_id number) own = write_done_own client number own
 taken_own client (Reply.WriteFailed file_id number status) own = write_failed_own client file_id number status own
 taken_own client (Reply.Break notice) own = broken_own client notice own
-taken_own client (Reply.Closed file_id) own = quiet_own client own
-taken_own client (Reply.CloseFailed file_id status) own = quiet_own client own
-taken_own client (Reply.AckDone response) own = quiet_own client own
-taken_own client (Reply.AckFailed status) own = quiet_own client own
+taken_own client reply own = quiet_own client own
 
 -- ---- connections
 
@@ -491,11 +471,10 @@ live_noticed_thin live sent =
 -- an entry whose connection is lost, in any phase
 notice_thin : (sent : List Pending) (phase : Phase)
     → IsThinner (unanswered_in (notice_turn sent phase).entry) (sent ++ unsent_in phase)
-notice_thin sent Phase.Closed = thin_none (sent ++ [])
-notice_thin sent (Phase.Opening access share) = thin_none (sent ++ [])
 notice_thin sent (Phase.Live live) = live_noticed_thin live sent
 notice_thin sent (Phase.Offline parted) = thin_behind sent parted.writes
 notice_thin sent (Phase.Reconnecting parted) = thin_behind sent parted.writes
+notice_thin sent phase = thin_none (sent ++ [])
 
 -- a lost connection
 noticed_own : (client : Client) → Numbers client → Own (noticed client)
@@ -509,11 +488,10 @@ noticed_own client own = record {
 -- an entry, in any phase, of a client that connects
 connect_thin : (client : Client) (file : ℕ) (sent : List Pending) (phase : Phase)
     → IsThinner (unanswered_in (connect_turn client file sent phase).entry) (sent ++ unsent_in phase)
-connect_thin client file sent Phase.Closed = thin_same (sent ++ [])
-connect_thin client file sent (Phase.Opening access share) = thin_same (sent ++ [])
 connect_thin client file sent (Phase.Live live) = thin_same (sent ++ live.unsent)
 connect_thin client file sent (Phase.Offline parted) = thin_same (sent ++ parted.writes)
 connect_thin client file sent (Phase.Reconnecting parted) = thin_same (sent ++ parted.writes)
+connect_thin client file sent phase = thin_same (sent ++ [])
 
 -- a new connection
 connected_own : (client : Client) → Numbers client → Own (connection_made client)

@@ -198,18 +198,14 @@ closed_writes : (client : Client) (file : ℕ) (sent : List Pending) (command : 
     → Writes client (on_closed client file sent command)
 closed_writes client file sent (Command.Open f terms) w = if_either (Writes client) _ _ _
     (turned_writes client file _ w (create_has client file terms w, tt) tt) (refused_writes client Refusal.Offline w)
-closed_writes client file sent (Command.Close f) w = refused_writes client Refusal.NotOpen w
-closed_writes client file sent (Command.Read f) w = refused_writes client Refusal.NotOpen w
-closed_writes client file sent (Command.Write f patch) w = refused_writes client Refusal.NotOpen w
-closed_writes client file sent (Command.Flush f) w = refused_writes client Refusal.NotOpen w
+closed_writes client file sent command w = refused_writes client Refusal.NotOpen w
 
 entry_writes : (client : Client) (file : ℕ) (command : Command) (sent : List Pending) (phase : Phase)
     → IsWriting client → HasFileId phase → Writes client (on_entry client file command sent phase)
 entry_writes client file command sent Phase.Closed w fits = closed_writes client file sent command w
-entry_writes client file command sent (Phase.Opening access share) w fits = refused_writes client Refusal.Busy w
 entry_writes client file command sent (Phase.Live live) w fits = live_writes client file live sent command w fits
 entry_writes client file command sent (Phase.Offline parted) w fits = refused_writes client Refusal.Offline w
-entry_writes client file command sent (Phase.Reconnecting parted) w fits = refused_writes client Refusal.Busy w
+entry_writes client file command sent phase w fits = refused_writes client Refusal.Busy w
 
 commanded_writes : (client : Client) (command : Command) → IsWriting client → Writes client (commanded client command)
 unfolding commanded
@@ -261,10 +257,7 @@ break_writes : (client : Client) (file : ℕ) (notice : BreakNotice) (sent : Lis
 break_writes client file notice sent (Phase.Live live) w fits long = turned_writes client file _ w
     (break_has live sent notice (meet live.belief notice.lowered) long)
     (break_fits live sent notice (meet live.belief notice.lowered) fits)
-break_writes client file notice sent Phase.Closed w fits long = quiet_writes client w
-break_writes client file notice sent (Phase.Opening access share) w fits long = quiet_writes client w
-break_writes client file notice sent (Phase.Offline parted) w fits long = quiet_writes client w
-break_writes client file notice sent (Phase.Reconnecting parted) w fits long = quiet_writes client w
+break_writes client file notice sent phase w fits long = quiet_writes client w
 
 broken_writes : (client : Client) (notice : Option BreakNotice) → IsWriting client → Writes client (broken client notice)
 unfolding broken
@@ -292,8 +285,7 @@ created_writes client file file_id answer sent (Phase.Reconnecting parted) w fit
     turned_writes client file _ w tt fits
 created_writes client file file_id answer sent (Phase.Live live) w fits new =
     created_for_writes client file live sent file_id answer live.asking w new
-created_writes client file file_id answer sent Phase.Closed w fits new = quiet_writes client w
-created_writes client file file_id answer sent (Phase.Offline parted) w fits new = quiet_writes client w
+created_writes client file file_id answer sent phase w fits new = quiet_writes client w
 
 create_answered_writes : (client : Client) (file file_id : ℕ) (contexts : Option CreateAnswer) → IsWriting client
     → file_id < 2 ^ 64 → Writes client (create_answered client file file_id contexts)
@@ -311,12 +303,11 @@ failed_for_writes client file live sent status (Some asked) w fits = turned_writ
 failed_writes : (client : Client) (file : ℕ) (status : Status) (sent : List Pending) (phase : Phase)
     → IsWriting client → HasFileId phase → Writes client (failed_on client file status sent phase)
 unfolding create_failed_on_live
-failed_writes client file status sent (Phase.Opening access share) w fits = turned_writes client file _ w tt tt
-failed_writes client file status sent (Phase.Reconnecting parted) w fits = turned_writes client file _ w tt tt
 failed_writes client file status sent (Phase.Live live) w fits =
     failed_for_writes client file live sent status live.asking w fits
 failed_writes client file status sent Phase.Closed w fits = quiet_writes client w
 failed_writes client file status sent (Phase.Offline parted) w fits = quiet_writes client w
+failed_writes client file status sent phase w fits = turned_writes client file _ w tt tt
 
 create_failed_writes : (client : Client) (file : ℕ) (status : Status) → IsWriting client
     → Writes client (create_failed client file status)
@@ -328,10 +319,7 @@ read_on_writes : (client : Client) (file : ℕ) (bytes : List ℕ) (sent : List 
     → IsWriting client → HasFileId phase → Writes client (read_on client file bytes sent phase)
 unfolding read_turn
 read_on_writes client file bytes sent (Phase.Live live) w fits = turned_writes client file _ w tt fits
-read_on_writes client file bytes sent Phase.Closed w fits = quiet_writes client w
-read_on_writes client file bytes sent (Phase.Opening access share) w fits = quiet_writes client w
-read_on_writes client file bytes sent (Phase.Offline parted) w fits = quiet_writes client w
-read_on_writes client file bytes sent (Phase.Reconnecting parted) w fits = quiet_writes client w
+read_on_writes client file bytes sent phase w fits = quiet_writes client w
 
 read_answered_writes : (client : Client) (file_id : ℕ) (bytes : List ℕ) → IsWriting client
     → Writes client (read_answered client file_id bytes)
@@ -355,10 +343,7 @@ read_failed_on_writes client file status sent (Phase.Live live) w fits = turned_
     (closed_by_server live sent [] status)
     (still_open (live_entry (record live { reads = one_read_less live.reads }) sent) [] status)
     (gone_fits live.asking sent) fits)
-read_failed_on_writes client file status sent Phase.Closed w fits = quiet_writes client w
-read_failed_on_writes client file status sent (Phase.Opening access share) w fits = quiet_writes client w
-read_failed_on_writes client file status sent (Phase.Offline parted) w fits = quiet_writes client w
-read_failed_on_writes client file status sent (Phase.Reconnecting parted) w fits = quiet_writes client w
+read_failed_on_writes client file status sent phase w fits = quiet_writes client w
 
 read_failed_writes : (client : Client) (file_id : ℕ) (status : Status) → IsWriting client
     → Writes client (read_failed client file_id status)
@@ -370,9 +355,7 @@ read_failed_writes client file_id status w = file_writes client _ _ w (λ file p
 done_fits : (write : Option Pending) (phase : Phase) → HasFileId phase → HasFileId (phase_with write phase)
 done_fits write Phase.Closed fits = tt
 done_fits write (Phase.Opening access share) fits = tt
-done_fits write (Phase.Live live) fits = fits
-done_fits write (Phase.Offline parted) fits = fits
-done_fits write (Phase.Reconnecting parted) fits = fits
+done_fits write phase fits = fits
 
 write_done_writes : (client : Client) (number : ℕ) → IsWriting client → Writes client (write_done client number)
 unfolding write_done write_done_turn
@@ -386,10 +369,7 @@ write_failed_has file_id number status sent (Phase.Live live) =
     if_either (λ (t : Turn). EachRequest HasRequestBytes t.requests) (is_file_closed status && live.file_id == file_id)
     (closed_by_server live sent (Note.Settled number Settlement.Failed ∷ []) status)
     (still_open (live_entry live sent) (Note.Settled number Settlement.Failed ∷ []) status) tt tt
-write_failed_has file_id number status sent Phase.Closed = tt
-write_failed_has file_id number status sent (Phase.Opening access share) = tt
-write_failed_has file_id number status sent (Phase.Offline parted) = tt
-write_failed_has file_id number status sent (Phase.Reconnecting parted) = tt
+write_failed_has file_id number status sent phase = tt
 
 write_failed_fits : (file_id number : ℕ) (status : Status) (sent : List Pending) (phase : Phase) → HasFileId phase
     → HasFileId (write_failed_in file_id number status sent phase).entry.phase
@@ -399,10 +379,9 @@ write_failed_fits file_id number status sent (Phase.Live live) fits =
     (closed_by_server live sent (Note.Settled number Settlement.Failed ∷ []) status)
     (still_open (live_entry live sent) (Note.Settled number Settlement.Failed ∷ []) status)
     (gone_fits live.asking sent) fits
-write_failed_fits file_id number status sent Phase.Closed fits = tt
-write_failed_fits file_id number status sent (Phase.Opening access share) fits = tt
 write_failed_fits file_id number status sent (Phase.Offline parted) fits = fits
 write_failed_fits file_id number status sent (Phase.Reconnecting parted) fits = fits
+write_failed_fits file_id number status sent phase fits = tt
 
 write_failed_writes : (client : Client) (file_id number : ℕ) (status : Status) → IsWriting client
     → Writes client (write_failed client file_id number status)
@@ -424,10 +403,7 @@ taken_writes client (Reply.ReadFailed file_id status) w fits = read_failed_write
 taken_writes client (Reply.WriteDone file_id number) w fits = write_done_writes client number w
 taken_writes client (Reply.WriteFailed file_id number status) w fits = write_failed_writes client file_id number status w
 taken_writes client (Reply.Break notice) w fits = broken_writes client notice w
-taken_writes client (Reply.Closed file_id) w fits = quiet_writes client w
-taken_writes client (Reply.CloseFailed file_id status) w fits = quiet_writes client w
-taken_writes client (Reply.AckDone response) w fits = quiet_writes client w
-taken_writes client (Reply.AckFailed status) w fits = quiet_writes client w
+taken_writes client reply w fits = quiet_writes client w
 
 -- ---- connections
 
@@ -459,35 +435,26 @@ live_noticed_fits live sent fits = if_either (λ (t : Turn). HasFileId t.entry.p
     (if_either (λ (t : Turn). HasFileId t.entry.phase) live.belief.write _ _ fits fits) tt
 
 notice_has : (sent : List Pending) (phase : Phase) → EachRequest HasRequestBytes (notice_turn sent phase).requests
-notice_has sent Phase.Closed = tt
-notice_has sent (Phase.Opening access share) = tt
 notice_has sent (Phase.Live live) = live_noticed_has live sent
-notice_has sent (Phase.Offline parted) = tt
-notice_has sent (Phase.Reconnecting parted) = tt
+notice_has sent phase = tt
 
 notice_fits : (sent : List Pending) (phase : Phase) → HasFileId phase → HasFileId (notice_turn sent phase).entry.phase
-notice_fits sent Phase.Closed fits = tt
-notice_fits sent (Phase.Opening access share) fits = tt
 notice_fits sent (Phase.Live live) fits = live_noticed_fits live sent fits
 notice_fits sent (Phase.Offline parted) fits = fits
 notice_fits sent (Phase.Reconnecting parted) fits = fits
+notice_fits sent phase fits = tt
 
 connect_has : (client : Client) (file : ℕ) (sent : List Pending) (phase : Phase) → IsWriting client → HasFileId phase
     → EachRequest HasRequestBytes (connect_turn client file sent phase).requests
-connect_has client file sent Phase.Closed w fits = tt
-connect_has client file sent (Phase.Opening access share) w fits = tt
-connect_has client file sent (Phase.Live live) w fits = tt
 connect_has client file sent (Phase.Offline parted) w fits =
     (record { key = key_long client.guid file w.guid; file_id = fits }, tt)
-connect_has client file sent (Phase.Reconnecting parted) w fits = tt
+connect_has client file sent phase w fits = tt
 
 connect_fits : (client : Client) (file : ℕ) (sent : List Pending) (phase : Phase) → HasFileId phase
     → HasFileId (connect_turn client file sent phase).entry.phase
 connect_fits client file sent Phase.Closed fits = tt
 connect_fits client file sent (Phase.Opening access share) fits = tt
-connect_fits client file sent (Phase.Live live) fits = fits
-connect_fits client file sent (Phase.Offline parted) fits = fits
-connect_fits client file sent (Phase.Reconnecting parted) fits = fits
+connect_fits client file sent phase fits = fits
 
 -- ---- any call
 

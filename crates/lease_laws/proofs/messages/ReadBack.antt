@@ -51,9 +51,7 @@ pub requests_back : (request : Request) → HasRequestBytes request → request_
 requests_back (Request.OnFile (FileRequest.Create file access share None)) h = absurd h
 requests_back (Request.OnFile (FileRequest.Create file access share (Some ask))) h =
     ap (λ contexts. Request.OnFile (FileRequest.Create file access share contexts)) (ask_back ask h)
-requests_back (Request.OnFile (FileRequest.Read file_id)) h = refl
-requests_back (Request.OnFile (FileRequest.Write file_id number patch)) h = refl
-requests_back (Request.OnFile (FileRequest.Close file_id)) h = refl
+requests_back (Request.OnFile request) h = refl
 requests_back (Request.Acknowledge None) h = absurd h
 requests_back (Request.Acknowledge (Some lease)) h =
     ap (λ l. Request.Acknowledge l) (written_messages_found.0 (key_and_state lease) h)
@@ -62,16 +60,9 @@ pub replies_back : (reply : Reply) → HasReplyBytes reply → reply_of (reply_w
 replies_back (Reply.Created file file_id None) h = absurd h
 replies_back (Reply.Created file file_id (Some answer)) h =
     ap (λ contexts. Reply.Created file file_id contexts) (answer_back answer h)
-replies_back (Reply.CreateFailed file status) h = refl
-replies_back (Reply.ReadDone file_id bytes) h = refl
-replies_back (Reply.ReadFailed file_id status) h = refl
-replies_back (Reply.WriteDone file_id number) h = refl
-replies_back (Reply.WriteFailed file_id number status) h = refl
-replies_back (Reply.Closed file_id) h = refl
-replies_back (Reply.CloseFailed file_id status) h = refl
 replies_back (Reply.Break None) h = absurd h
 replies_back (Reply.Break (Some notice)) h = ap (λ n. Reply.Break n) (written_messages_found.1 (notice_view notice) h)
 replies_back (Reply.AckDone None) h = absurd h
 replies_back (Reply.AckDone (Some lease)) h =
     ap (λ l. Reply.AckDone l) (written_messages_found.0 (key_and_state lease) h)
-replies_back (Reply.AckFailed status) h = refl
+replies_back reply h = refl

@@ -62,9 +62,7 @@ replied_full client reply progress has full = record {
 -- a refusal has bytes
 refusal_bytes : (request : FileRequest) (status : Status) → HasReplyBytes (refusal_of request status)
 refusal_bytes (FileRequest.Create file access share contexts) status = tt
-refusal_bytes (FileRequest.Read file_id) status = tt
-refusal_bytes (FileRequest.Write file_id number patch) status = tt
-refusal_bytes (FileRequest.Close file_id) status = tt
+refusal_bytes request status = tt
 
 -- fewer opens
 dropped_full : (test : Open → Bool) (progress : Progress) → HaveFullKeys progress.server
@@ -245,12 +243,8 @@ StepHasFullKey step = ⊤
 -- it is that of the call
 of_call : (call : Call) (step : SmallStep) → IsOfCall call step → CallHasFullKey call → StepHasFullKey step
 of_call call (SmallStep.Answer client request outcome) of h = subst CallHasFullKey of h
-of_call call (SmallStep.AnswerHeld file before one behind outcome) of h = tt
-of_call call (SmallStep.Acknowledge client given) of h = tt
 of_call call (SmallStep.Hold file one) of h = subst CallHasFullKey of h
-of_call call (SmallStep.Drop key) of h = tt
-of_call call (SmallStep.Lower key lowered) of h = tt
-of_call call (SmallStep.Begin key lowered) of h = tt
+of_call call step of h = tt
 
 -- a request less among the held ones
 left_full : (file : ℕ) (before : List Held) (one : Held) (behind : List Held) (progress : Progress)

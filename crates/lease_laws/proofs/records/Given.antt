@@ -195,8 +195,7 @@ all_delivered_given world (out ∷ outs) g = all_delivered_given (delivered worl
 delivered_clients : (world : World) (out : Out) → (delivered world out).clients ≡ world.clients
 unfolding delivered
 delivered_clients world (Out.Sent client reply) = refl
-delivered_clients world (Out.Opened file client) = refl
-delivered_clients world (Out.Changed file client number patch) = refl
+delivered_clients world out = refl
 
 -- all that it gives out changes none
 all_delivered_clients : (world : World) (outs : List Out) → (all_delivered world outs).clients ≡ world.clients
@@ -263,16 +262,14 @@ cut_given : (world : World) (client : ℕ) (link : Link) → Given world → Giv
 unfolding link_cut
 cut_given world client Link.Up g = served_given _ (cut world.server client)
     (happened_given world.clients world.past (Fact.Dropped client) refl g)
-cut_given world client Link.Down g = g
-cut_given world client Link.Cut g = g
+cut_given world client link g = g
 
 -- its client notices
 notice_given : (world : World) (client : ℕ) (link : Link) → Given world → Given (notice_over world client link)
 unfolding link_noticed
 notice_given world client Link.Cut g =
     call_given (record world { links = put world.links client Link.Down }) client ClientCall.Noticed g
-notice_given world client Link.Down g = g
-notice_given world client Link.Up g = g
+notice_given world client link g = g
 
 -- a client connects
 connect_given : (world : World) (client : ℕ) (link : Link) → Given world → Given (connect_over world client link)
@@ -287,8 +284,7 @@ connect_given world client Link.Down g =
     (connection_made (world.clients client)).client.last_number)
     (sym (served_clients up (join world.server client)))
     (called_tells (world.clients client) ClientCall.Connected (g.sound client)))
-connect_given world client Link.Up g = g
-connect_given world client Link.Cut g = g
+connect_given world client link g = g
 
 -- a timer runs out
 timer_given : (world : World) (client file : ℕ) → Given world → Given (timer_expired world client file)
@@ -306,8 +302,7 @@ strayed_given : (world : World) (client : ℕ) (request : Request) (link : Link)
     → Given (strayed_over world client request link)
 unfolding strayed_over requests_sent
 strayed_given world client request Link.Up g = happened_given world.clients world.past (Fact.Strayed client) refl g
-strayed_given world client request Link.Down g = g
-strayed_given world client request Link.Cut g = g
+strayed_given world client request link g = g
 
 -- any event of a client of the setup
 applied_given : (world : World) (event : Event) → Given world → Given (applied world event)

@@ -42,8 +42,7 @@ record IsBegun (world : World) : Type 0 where
 delivered_begun : (world : World) (out : Out) → IsBegun world → IsBegun (delivered world out)
 unfolding delivered starts_first
 delivered_begun world (Out.Sent client reply) b = record { first = b.first }
-delivered_begun world (Out.Opened file client) b = record { first = b.first }
-delivered_begun world (Out.Changed file client number patch) b = record { first = b.first }
+delivered_begun world out b = record { first = b.first }
 
 -- all that it gives out
 all_delivered_begun : (world : World) (outs : List Out) → IsBegun world → IsBegun (all_delivered world outs)
@@ -56,10 +55,7 @@ noted_begun : (world : World) (client : ℕ) (notes : List Note) → IsBegun wor
 unfolding noted starts_first
 noted_begun world client [] b = b
 noted_begun world client (Note.Settled number outcome ∷ notes) b = noted_begun _ client notes (record { first = b.first })
-noted_begun world client (Note.Wrote file number patch buffered ∷ notes) b = noted_begun _ client notes
-    (record { first = b.first })
-noted_begun world client (Note.Believes file state ∷ notes) b = noted_begun _ client notes (record { first = b.first })
-noted_begun world client (Note.CachedRead file bytes ∷ notes) b = noted_begun _ client notes (record { first = b.first })
+noted_begun world client (note ∷ notes) b = noted_begun _ client notes (record { first = b.first })
 
 -- a call of the server
 served_begun : (world : World) (progress : Progress) → IsBegun world → IsBegun (served world progress)
@@ -90,23 +86,20 @@ client_takes_begun world client (reply ∷ queue) b =
 cut_begun : (world : World) (client : ℕ) (link : Link) → IsBegun world → IsBegun (cut_over world client link)
 unfolding link_cut starts_first
 cut_begun world client Link.Up b = served_begun _ (cut world.server client) (record { first = b.first })
-cut_begun world client Link.Down b = b
-cut_begun world client Link.Cut b = b
+cut_begun world client link b = b
 
 -- its client notices
 notice_begun : (world : World) (client : ℕ) (link : Link) → IsBegun world → IsBegun (notice_over world client link)
 unfolding link_noticed
 notice_begun world client Link.Cut b = stepped_begun _ client (noticed (world.clients client)) (record { first = b.first })
-notice_begun world client Link.Down b = b
-notice_begun world client Link.Up b = b
+notice_begun world client link b = b
 
 -- a client connects
 connect_begun : (world : World) (client : ℕ) (link : Link) → IsBegun world → IsBegun (connect_over world client link)
 unfolding link_connected starts_first
 connect_begun world client Link.Down b = stepped_begun _ client (connection_made (world.clients client))
     (served_begun _ (join world.server client) (record { first = b.first }))
-connect_begun world client Link.Up b = b
-connect_begun world client Link.Cut b = b
+connect_begun world client link b = b
 
 -- a timer runs out
 timer_begun : (world : World) (client file : ℕ) → IsBegun world → IsBegun (timer_expired world client file)
@@ -124,8 +117,7 @@ strayed_begun : (world : World) (client : ℕ) (request : Request) (link : Link)
     → IsBegun (strayed_over world client request link)
 unfolding strayed_over requests_sent starts_first
 strayed_begun world client request Link.Up b = record { first = b.first }
-strayed_begun world client request Link.Down b = b
-strayed_begun world client request Link.Cut b = b
+strayed_begun world client request link b = b
 
 -- any event of a client of the setup
 applied_begun : (world : World) (event : Event) → IsBegun world → IsBegun (applied world event)

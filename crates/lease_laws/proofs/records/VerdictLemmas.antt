@@ -235,8 +235,7 @@ sound-flaw place fact past sound = rw (
 
 safe_first : (one other : Verdict) → or_else one other ≡ Verdict.Safe → (one ≡ Verdict.Safe) × (other ≡ Verdict.Safe)
 safe_first Verdict.Safe other e = (refl, e)
-safe_first (Verdict.Unsafe place rule) other e = let c : ⊥ = cc in absurd c
-safe_first (Verdict.Malformed place) other e = let c : ⊥ = cc in absurd c
+safe_first verdict other e = let c : ⊥ = cc in absurd c
 
 verdict-sound : (place : ℕ) (past facts : List Fact) → EachFact Sound past
     → verdict_from place past facts ≡ Verdict.Safe → EachFact Sound (reverse_aux facts past)

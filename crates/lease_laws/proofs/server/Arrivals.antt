@@ -364,18 +364,10 @@ file_request-waits client (FileRequest.Close file_id) progress e up = all_passes
     (arrived_on-fine client (FileRequest.Close file_id) progress
     (file_asked progress.server client (FileRequest.Close file_id)) e.fine
     (asked_well client (FileRequest.Close file_id) progress e.fine up))
-file_request-waits client (FileRequest.Create at access share contexts) progress e up =
-    arrived_on-waits client (FileRequest.Create at access share contexts) progress
-    (file_asked progress.server client (FileRequest.Create at access share contexts)) e tt
-    (asked_well client (FileRequest.Create at access share contexts) progress e.fine up)
-file_request-waits client (FileRequest.Read file_id) progress e up =
-    arrived_on-waits client (FileRequest.Read file_id) progress
-    (file_asked progress.server client (FileRequest.Read file_id)) e tt
-    (asked_well client (FileRequest.Read file_id) progress e.fine up)
-file_request-waits client (FileRequest.Write file_id number patch) progress e up =
-    arrived_on-waits client (FileRequest.Write file_id number patch) progress
-    (file_asked progress.server client (FileRequest.Write file_id number patch)) e tt
-    (asked_well client (FileRequest.Write file_id number patch) progress e.fine up)
+file_request-waits client request progress e up =
+    arrived_on-waits client request progress
+    (file_asked progress.server client request) e tt
+    (asked_well client request progress e.fine up)
 
 -- a request that comes leaves each first held request waiting
 arrived-waits : (client : ℕ) (request : Request) (progress : Progress) → EveryoneWaits progress.server

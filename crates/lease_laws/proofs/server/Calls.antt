@@ -131,15 +131,9 @@ file_request-sound client (FileRequest.Close file_id) progress s = all_passes-so
     (file_asked progress.server client (FileRequest.Close file_id)))
     (arrived_on-sound client (FileRequest.Close file_id) progress
     (file_asked progress.server client (FileRequest.Close file_id)) s)
-file_request-sound client (FileRequest.Create file access share contexts) progress s =
-    arrived_on-sound client (FileRequest.Create file access share contexts) progress
-    (file_asked progress.server client (FileRequest.Create file access share contexts)) s
-file_request-sound client (FileRequest.Read file_id) progress s =
-    arrived_on-sound client (FileRequest.Read file_id) progress
-    (file_asked progress.server client (FileRequest.Read file_id)) s
-file_request-sound client (FileRequest.Write file_id number patch) progress s =
-    arrived_on-sound client (FileRequest.Write file_id number patch) progress
-    (file_asked progress.server client (FileRequest.Write file_id number patch)) s
+file_request-sound client request progress s =
+    arrived_on-sound client request progress
+    (file_asked progress.server client request) s
 
 -- a request that comes keeps the laws
 arrived-sound : (client : ℕ) (request : Request) (progress : Progress) → IsSound progress.server

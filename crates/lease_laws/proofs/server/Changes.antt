@@ -240,18 +240,11 @@ any_go : (Holds : Out → Type 0) (a c : List Out) → GoOn Holds a c → GoOn (
 any_go Holds a c g = go_on-weaker Holds (λ out. ⊤) (λ out h. tt) a c g
 
 step_more : (step : SmallStep) (progress : Progress) → GoOn (λ out. ⊤) progress.outs (step_taken step progress).outs
-step_more (SmallStep.Answer client request outcome) progress =
-    any_go _ _ _ (step-tells (SmallStep.Answer client request outcome) progress)
-step_more (SmallStep.AnswerHeld file before one behind outcome) progress =
-    any_go _ _ _ (step-tells (SmallStep.AnswerHeld file before one behind outcome) progress)
-step_more (SmallStep.Acknowledge client given) progress =
-    any_go _ _ _ (step-tells (SmallStep.Acknowledge client given) progress)
-step_more (SmallStep.Hold file one) progress = any_go _ _ _ (step-tells (SmallStep.Hold file one) progress)
-step_more (SmallStep.Drop key) progress = any_go _ _ _ (step-tells (SmallStep.Drop key) progress)
 step_more (SmallStep.Lower key lowered) progress =
     record { more = _; are_more = step-tells (SmallStep.Lower key lowered) progress; each = (tt, tt) }
 step_more (SmallStep.Begin key lowered) progress =
     record { more = _; are_more = step-tells (SmallStep.Begin key lowered) progress; each = (tt, tt) }
+step_more step progress = any_go _ _ _ (step-tells step progress)
 
 pub record GoesOn (earlier later : List Out) : Type 0 where
   pub more : List Out
@@ -459,10 +452,6 @@ by_step : (call : Call) (key : Key) (step : SmallStep) (steps : List SmallStep) 
     → IsCaching (progress.server.leases key)
     → (IsCaching ((step_taken step progress).server.leases key) → HasGivenUp call key (step ∷ steps) progress)
     → BecomesBy step progress.server (step_taken step progress).server key → HasGivenUp call key (step ∷ steps) progress
-by_step call key (SmallStep.Answer client request outcome) steps progress of caches later b =
-    answer_on call key (SmallStep.Answer client request outcome) steps progress caches later b
-by_step call key (SmallStep.AnswerHeld file before one behind outcome) steps progress of caches later b =
-    answer_on call key (SmallStep.AnswerHeld file before one behind outcome) steps progress caches later b
 by_step call key (SmallStep.Acknowledge client given) steps progress of caches later b =
     ⊎_elim (same_on call key (SmallStep.Acknowledge client given) steps progress caches later)
     (λ a. ⊎_elim
@@ -494,6 +483,8 @@ by_step call key (SmallStep.Begin other lowered) steps progress of caches later 
     progress x.0 none (step-tells (SmallStep.Begin other lowered) progress))
     (λ some. later (breaking_caches _ (progress.server.leases key).state lowered x.1 (λ none. caches (inl none)) some))
     (nothing_or_not lowered)) b
+by_step call key step steps progress of caches later b =
+    answer_on call key step steps progress caches later b
 
 gave_up : (call : Call) (key : Key) (steps : List SmallStep) (progress : Progress) → IsSound progress.server
     → AreGuarded steps progress → AreOf call steps → IsCaching (progress.server.leases key)

@@ -79,9 +79,7 @@ refused_leaves : (client : ℕ) (request : FileRequest) (status : Status) (progr
 unfolding refused
 refused_leaves client (FileRequest.Create file access share contexts) status progress =
     reply_leaves client _ progress tt
-refused_leaves client (FileRequest.Read file_id) status progress = reply_leaves client _ progress tt
-refused_leaves client (FileRequest.Write file_id number patch) status progress = reply_leaves client _ progress tt
-refused_leaves client (FileRequest.Close file_id) status progress = reply_leaves client _ progress tt
+refused_leaves client request status progress = reply_leaves client _ progress tt
 
 granted_leaves : (client file : ℕ) (access : Access) (share : Share) (asked : Option LeaseOf) (durable : Bool)
     (lease : Lease) (progress : Progress)
@@ -260,7 +258,5 @@ content_step (SmallStep.Hold file one) progress = ContentStep.Leaves
 content_step (SmallStep.Drop key) progress = ContentStep.Leaves
     (silent_leaves progress (opens_dropped (is_left_open key) progress) refl
     (opens_dropped-outs (is_left_open key) progress))
-content_step (SmallStep.Lower key lowered) progress = ContentStep.Leaves
-    (record { contents = refl; outs = record { more = _; are_more = refl; each = (tt, tt) } })
-content_step (SmallStep.Begin key lowered) progress = ContentStep.Leaves
+content_step step progress = ContentStep.Leaves
     (record { contents = refl; outs = record { more = _; are_more = refl; each = (tt, tt) } })

@@ -149,9 +149,8 @@ answered_holds client (FileRequest.Close file_id) progress =
 concluded_holds : (client : ℕ) (request : FileRequest) (progress : Progress) (outcome : Outcome)
     → HoldsSame progress (concluded client request progress outcome)
 unfolding refused
-concluded_holds client request progress (Outcome.Refused status) = refl
-concluded_holds client request progress Outcome.Waits = refl
 concluded_holds client request progress Outcome.Ready = answered_holds client request progress
+concluded_holds client request progress outcome = refl
 
 -- ---- a pass
 

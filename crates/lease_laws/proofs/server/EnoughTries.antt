@@ -111,9 +111,7 @@ ends_wants rounds client request progress wants e next =
 nothing_ready : (request : FileRequest) (leases : Key → Lease) → is_ready request leases [] ≡ true
 unfolding is_ready
 nothing_ready (FileRequest.Create file access share contexts) leases = refl
-nothing_ready (FileRequest.Read file_id) leases = refl
-nothing_ready (FileRequest.Write file_id number patch) leases = refl
-nothing_ready (FileRequest.Close file_id) leases = refl
+nothing_ready request leases = refl
 
 -- a look wants nothing
 ends_ready : (rounds client : ℕ) (request : FileRequest) (progress : Progress)

@@ -61,8 +61,6 @@ on_contexts_expired (Some ask) done progress each = each ask
 concluded_expired : (client : ℕ) (request : FileRequest) (progress : Progress) (outcome : Outcome)
     → SameExpired progress (concluded client request progress outcome)
 unfolding refused answered changed closed opens_dropped with_opens
-concluded_expired client request progress (Outcome.Refused status) = refl
-concluded_expired client request progress Outcome.Waits = refl
 concluded_expired client (FileRequest.Create file access share contexts) progress Outcome.Ready =
     on_contexts_expired contexts _ progress
     (λ ask. created_expired client file access share ask.lease ask.durable ask.reconnect progress)
@@ -75,6 +73,7 @@ concluded_expired client (FileRequest.Write file_id number patch) progress Outco
 concluded_expired client (FileRequest.Close file_id) progress Outcome.Ready =
     on_open_expired (connected_open progress.server client file_id) (λ file. closed client file_id) progress
     (λ file. refl)
+concluded_expired client request progress outcome = refl
 
 judged_expired : (key : Key) (state : State) (broken : Option State) (progress : Progress)
     → SameExpired progress (judged key state broken progress)
@@ -103,10 +102,7 @@ step_expired (SmallStep.Answer client request outcome) progress = concluded_expi
 step_expired (SmallStep.AnswerHeld file before one behind outcome) progress =
     concluded_expired one.client one.request (held_left file (before ++ behind) progress) outcome
 step_expired (SmallStep.Acknowledge client given) progress = acknowledged_expired client given progress
-step_expired (SmallStep.Hold file one) progress = refl
-step_expired (SmallStep.Drop key) progress = refl
-step_expired (SmallStep.Lower key lowered) progress = refl
-step_expired (SmallStep.Begin key lowered) progress = refl
+step_expired step progress = refl
 
 steps_expired : (steps : List SmallStep) (progress : Progress) → SameExpired progress (steps_taken steps progress)
 steps_expired [] progress = refl

@@ -98,6 +98,4 @@ pub ready-file : (client : ℕ) (request : FileRequest) (progress : Progress) �
     → FileReady progress.server client request
 ready-file client (FileRequest.Create file access share contexts) progress r = contexts_ready progress.server
     client file access share contexts r.wants r.found
-ready-file client (FileRequest.Read file_id) progress r = tt
-ready-file client (FileRequest.Write file_id number patch) progress r = tt
-ready-file client (FileRequest.Close file_id) progress r = tt
+ready-file client request progress r = tt

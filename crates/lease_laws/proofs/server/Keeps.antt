@@ -124,7 +124,6 @@ pub waits_keep : (Guard : ℕ → Type 0) (before after : Server) (client file :
     → HasToWait after client request
 waits_keep Guard before after client file (FileRequest.Create at access share contexts) h s about g w =
     contexts_keep Guard before after client at file access share contexts h s about g w
-waits_keep Guard before after client file (FileRequest.Read file_id) h s about g w = absurd w
 waits_keep Guard before after client file (FileRequest.Write file_id number patch) h s about g w =
     let x = connected_has before client file_id w.one w.is_open in
     let here : Guard (w.one).file = subst Guard (sym (about.is_on_file w.one x.0 x.1)) g in
@@ -134,7 +133,7 @@ waits_keep Guard before after client file (FileRequest.Write file_id number patc
       is_blocked = blocked_keeps breaks_to_some Guard before after (key_of_open w.one) (w.one).file
           (λ lease. some_breaks lease.broken_to) h s here w.is_blocked;
     }
-waits_keep Guard before after client file (FileRequest.Close file_id) h s about g w = absurd w
+waits_keep Guard before after client file request h s about g w = absurd w
 
 -- for calls under way
 abbrev pub Kept : (ℕ → Type 0) → Progress → Progress → Type 0

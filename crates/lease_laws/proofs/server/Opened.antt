@@ -220,7 +220,5 @@ step-told (SmallStep.Hold file one) progress = inl (silent_quiet progress (reque
     (request_held-outs file one progress))
 step-told (SmallStep.Drop key) progress = inl (silent_quiet progress (opens_dropped (is_left_open key) progress) refl
     (opens_dropped-outs (is_left_open key) progress))
-step-told (SmallStep.Lower key lowered) progress =
-    inl (record { last = refl; outs = record { more = _; are_more = refl; each = (tt, tt) } })
-step-told (SmallStep.Begin key lowered) progress =
+step-told step progress =
     inl (record { last = refl; outs = record { more = _; are_more = refl; each = (tt, tt) } })

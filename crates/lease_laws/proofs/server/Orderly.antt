@@ -160,6 +160,4 @@ pub held_left-ready : (client : ℕ) (request : FileRequest) (file : ℕ) (left 
     → FileReady (held_left file left progress).server client request
 held_left-ready client (FileRequest.Create at access share contexts) file left progress ready = contexts_frame
     client at contexts file left progress ready
-held_left-ready client (FileRequest.Read file_id) file left progress ready = tt
-held_left-ready client (FileRequest.Write file_id number patch) file left progress ready = tt
-held_left-ready client (FileRequest.Close file_id) file left progress ready = tt
+held_left-ready client request file left progress ready = tt

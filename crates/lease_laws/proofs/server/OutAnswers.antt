@@ -65,10 +65,8 @@ first_try-breaks : (client file : ℕ) (request : FileRequest) (progress : Progr
 first_try-breaks client file request progress Outcome.Waits b =
     breaks_only progress.outs (request_held file (held_of client request) progress).outs b
     (request_held-outs file (held_of client request) progress)
-first_try-breaks client file request progress (Outcome.Refused status) b =
-    breaks_then progress.outs _ b (concluded-answers client request progress (Outcome.Refused status))
-first_try-breaks client file request progress Outcome.Ready b =
-    breaks_then progress.outs _ b (concluded-answers client request progress Outcome.Ready)
+first_try-breaks client file request progress outcome b =
+    breaks_then progress.outs _ b (concluded-answers client request progress outcome)
 
 -- a request on a file gives out breaks first
 arrived_on-breaks : (client : ℕ) (request : FileRequest) (server : Server) (asked : Result ℕ Status)
@@ -92,14 +90,8 @@ arrived_on-breaks client request server (Ok file) =
 arrived-breaks : (client : ℕ) (request : FileRequest) (server : Server) → IsAlone request
     → AreBreaksFirst (file_request_arrived client request (begun server)).outs
 arrived-breaks client (FileRequest.Close file_id) server alone = absurd alone
-arrived-breaks client (FileRequest.Create file access share contexts) server alone =
-    arrived_on-breaks client (FileRequest.Create file access share contexts) server
-    (file_asked server client (FileRequest.Create file access share contexts))
-arrived-breaks client (FileRequest.Read file_id) server alone =
-    arrived_on-breaks client (FileRequest.Read file_id) server (file_asked server client (FileRequest.Read file_id))
-arrived-breaks client (FileRequest.Write file_id number patch) server alone =
-    arrived_on-breaks client (FileRequest.Write file_id number patch) server
-    (file_asked server client (FileRequest.Write file_id number patch))
+arrived-breaks client request server alone =
+    arrived_on-breaks client request server (file_asked server client request)
 
 -- a request after which none is tried again gives out breaks, and then its answer
 pub receive-breaks : (server : Server) (client : ℕ) (request : FileRequest) → IsAlone request

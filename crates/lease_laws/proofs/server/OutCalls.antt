@@ -147,10 +147,8 @@ after_first_try-fair : (client file : ℕ) (request : FileRequest) (progress : P
 after_first_try-fair client file request progress Outcome.Waits fair =
     silent_fair progress.outs (request_held file (held_of client request) progress).outs
     (request_held-outs file (held_of client request) progress) fair
-after_first_try-fair client file request progress (Outcome.Refused status) fair = concluded-fair client
-    request progress (Outcome.Refused status) fair
-after_first_try-fair client file request progress Outcome.Ready fair = concluded-fair client request progress
-    Outcome.Ready fair
+after_first_try-fair client file request progress outcome fair = concluded-fair client
+    request progress outcome fair
 
 -- a request on a file keeps the outs fair
 arrived_on-fair : (client : ℕ) (request : FileRequest) (progress : Progress) (asked : Result ℕ Status)
@@ -177,15 +175,9 @@ file_request-fair client (FileRequest.Close file_id) progress fair = all_passes-
     (file_asked progress.server client (FileRequest.Close file_id)))
     (arrived_on-fair client (FileRequest.Close file_id) progress
     (file_asked progress.server client (FileRequest.Close file_id)) fair)
-file_request-fair client (FileRequest.Create file access share contexts) progress fair =
-    arrived_on-fair client (FileRequest.Create file access share contexts) progress
-    (file_asked progress.server client (FileRequest.Create file access share contexts)) fair
-file_request-fair client (FileRequest.Read file_id) progress fair =
-    arrived_on-fair client (FileRequest.Read file_id) progress
-    (file_asked progress.server client (FileRequest.Read file_id)) fair
-file_request-fair client (FileRequest.Write file_id number patch) progress fair =
-    arrived_on-fair client (FileRequest.Write file_id number patch) progress
-    (file_asked progress.server client (FileRequest.Write file_id number patch)) fair
+file_request-fair client request progress fair =
+    arrived_on-fair client request progress
+    (file_asked progress.server client request) fair
 
 -- a request that comes keeps the outs fair
 arrived-fair : (client : ℕ) (request : Request) (progress : Progress) → Fair progress

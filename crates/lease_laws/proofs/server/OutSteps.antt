@@ -146,9 +146,7 @@ replied-answered client reply progress p = answered_by progress.outs (Out.Sent c
 -- a refusal is a plain reply
 refusal_of-plain : (request : FileRequest) (status : Status) → IsPlain (refusal_of request status)
 refusal_of-plain (FileRequest.Create file access share contexts) status = tt
-refusal_of-plain (FileRequest.Read file_id) status = tt
-refusal_of-plain (FileRequest.Write file_id number patch) status = tt
-refusal_of-plain (FileRequest.Close file_id) status = tt
+refusal_of-plain request status = tt
 
 -- a refusal gives out an answer without a break
 pub refused-answered : (client : ℕ) (request : FileRequest) (status : Status) (progress : Progress)

@@ -42,9 +42,7 @@ pub held_left-free : (client : ℕ) (request : FileRequest) (file : ℕ) (left :
 unfolding held_left
 held_left-free client (FileRequest.Create file access share contexts) at left progress free = contexts_free client
     file access share contexts at left progress free
-held_left-free client (FileRequest.Read file_id) file left progress free = tt
-held_left-free client (FileRequest.Write file_id number patch) file left progress free = tt
-held_left-free client (FileRequest.Close file_id) file left progress free = tt
+held_left-free client request file left progress free = tt
 
 -- a held request is answered
 pass_answered-sound : (file : ℕ) (one : Held) (waiting : List Held) (pass : Pass) (done : Tried)

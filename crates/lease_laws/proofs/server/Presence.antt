@@ -41,13 +41,12 @@ IsAmong call = ⊤
 pub begun_present : (server : Server) (call : Call) → IsAmong call → (c : ℕ)
     → (call_begun server call).server.present c ≡ server.present c
 unfolding opens_dropped with_opens key_expired
-begun_present server (Call.Join client) among c = absurd among
-begun_present server (Call.Cut client) among c = absurd among
 begun_present server (Call.Receive client request) among c = refl
 begun_present server (Call.Expire key) among c =
     either_present (is_breaking (server.leases key)) _ (begun server) c (server.present c) refl refl
 begun_present server (Call.Scavenge file_id) among c =
     either_present (list_any (is_left_behind file_id) server.opens) _ (begun server) c (server.present c) refl refl
+begun_present server call among c = absurd among
 
 pub join_present : (server : Server) (client : ℕ) → server.present client ≡ false → (c : ℕ)
     → (call_begun server (Call.Join client)).server.present c ≡ put server.present client true c

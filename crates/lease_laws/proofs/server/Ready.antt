@@ -103,9 +103,7 @@ ContextsFree server client file access share (Some ask) = CreateFree server clie
 abbrev pub RequestFree : Server → ℕ → FileRequest → Type 0
 RequestFree server client (FileRequest.Create file access share contexts) = ContextsFree server client file access
     share contexts
-RequestFree server client (FileRequest.Read file_id) = Unit {0}
-RequestFree server client (FileRequest.Write file_id number patch) = Unit {0}
-RequestFree server client (FileRequest.Close file_id) = Unit {0}
+RequestFree server client request = Unit {0}
 
 -- one list of wants found is one list
 pub wants_same : (one other : List Want) → Finding.Needs one ≡ Finding.Needs other → one ≡ other
@@ -160,6 +158,4 @@ pub ready-free : (client : ℕ) (request : FileRequest) (progress : Progress) �
 ready-free client (FileRequest.Create file access share contexts) progress r = contexts_free progress.server
     client file access share contexts
     r.wants r.found (create_ready-empty file access share contexts progress.server.leases r.wants r.ready)
-ready-free client (FileRequest.Read file_id) progress r = tt
-ready-free client (FileRequest.Write file_id number patch) progress r = tt
-ready-free client (FileRequest.Close file_id) progress r = tt
+ready-free client request progress r = tt

@@ -82,10 +82,7 @@ own_append [] later = omega arith
 own_append (SmallStep.Answer client request outcome ∷ first) later = let e = own_append first later in omega (arith, e)
 own_append (SmallStep.Hold file one ∷ first) later = let e = own_append first later in omega (arith, e)
 own_append (SmallStep.Acknowledge client given ∷ first) later = let e = own_append first later in omega (arith, e)
-own_append (SmallStep.AnswerHeld file before one behind outcome ∷ first) later = own_append first later
-own_append (SmallStep.Drop key ∷ first) later = own_append first later
-own_append (SmallStep.Lower key lowered ∷ first) later = own_append first later
-own_append (SmallStep.Begin key lowered ∷ first) later = own_append first later
+own_append (step ∷ first) later = own_append first later
 
 -- and of one call
 of_append : (call : Call) (first later : List SmallStep) → AreOf call first → AreOf call later

@@ -44,13 +44,9 @@ after_try-steps : (call : Call) (start : Progress) (file count : ℕ) (one : Hel
     → is_behind one.client pass.passed ≡ false
     → GoesBySteps call 0 pass.progress (after_try file one waiting pass progress outcome).progress
 after_try-steps call start file count one waiting pass progress Outcome.Waits p t go may turn = go
-after_try-steps call start file count one waiting pass progress (Outcome.Refused status) p t go may turn =
+after_try-steps call start file count one waiting pass progress outcome p t go may turn =
     steps_then call 0 0 pass.progress progress _ go
-    (step_one call (SmallStep.AnswerHeld file pass.passed one waiting (Outcome.Refused status)) progress
-    (ap (λ h. h file) t.held ∙ p.in_pass.is_held, may (λ never. absurd (cc))) turn tt)
-after_try-steps call start file count one waiting pass progress Outcome.Ready p t go may turn =
-    steps_then call 0 0 pass.progress progress _ go
-    (step_one call (SmallStep.AnswerHeld file pass.passed one waiting Outcome.Ready) progress
+    (step_one call (SmallStep.AnswerHeld file pass.passed one waiting outcome) progress
     (ap (λ h. h file) t.held ∙ p.in_pass.is_held, may (λ never. absurd (cc))) turn tt)
 
 -- a held request tried again
@@ -199,15 +195,9 @@ first_try-steps call client file request before progress Outcome.Waits of up t g
     (step_one call (SmallStep.Hold file (held_of client request)) progress
     (t.goes.ups client ∙ up, inl (t.waits refl))
     (asked_stays before.server progress.server client request file t.keeps t.goes.files asked) of)
-first_try-steps call client file request before progress (Outcome.Refused status) of up t go may asked first =
-    steps_then call 0 1 before progress (concluded client request progress (Outcome.Refused status)) go
-    (step_one call (SmallStep.Answer client request (Outcome.Refused status)) progress
-    (may (λ never. absurd (cc)))
-    (still_first client file request before progress t.held
-    (asked_stays before.server progress.server client request file t.keeps t.goes.files asked) first) of)
-first_try-steps call client file request before progress Outcome.Ready of up t go may asked first =
-    steps_then call 0 1 before progress (concluded client request progress Outcome.Ready) go
-    (step_one call (SmallStep.Answer client request Outcome.Ready) progress
+first_try-steps call client file request before progress outcome of up t go may asked first =
+    steps_then call 0 1 before progress (concluded client request progress outcome) go
+    (step_one call (SmallStep.Answer client request outcome) progress
     (may (λ never. absurd (cc)))
     (still_first client file request before progress t.held
     (asked_stays before.server progress.server client request file t.keeps t.goes.files asked) first) of)
@@ -248,18 +238,14 @@ file_request-steps : (call : Call) (client : ℕ) (request : FileRequest) (progr
     → call ≡ Call.Receive client (Request.OnFile request) → IsFine progress.server → WaitsWell progress.server
     → progress.server.present client ≡ true
     → GoesBySteps call 1 progress (file_request_arrived client request progress)
-file_request-steps call client (FileRequest.Create file access share contexts) progress of f w up =
-    asked-steps call client (FileRequest.Create file access share contexts) progress of f w up
-file_request-steps call client (FileRequest.Read file_id) progress of f w up =
-    asked-steps call client (FileRequest.Read file_id) progress of f w up
-file_request-steps call client (FileRequest.Write file_id number patch) progress of f w up =
-    asked-steps call client (FileRequest.Write file_id number patch) progress of f w up
 file_request-steps call client (FileRequest.Close file_id) progress of f w up =
     let request = FileRequest.Close file_id in
     let after = arrived_on client request progress (file_asked progress.server client request) in
     steps_then call 1 0 progress after (all_passes after) (asked-steps call client request progress of f w up)
     (all_passes-steps call after (arrived_on-fine client request progress (file_asked progress.server client request) f
     (asked_well client request progress f up)))
+file_request-steps call client request progress of f w up =
+    asked-steps call client request progress of f w up
 
 -- any request
 arrived-steps : (call : Call) (client : ℕ) (request : Request) (progress : Progress)

@@ -42,9 +42,7 @@ serve_free : (server : Server) (client : ℕ) (request : FileRequest) → MaySer
 serve_free server client (FileRequest.Create file access share None) may = absurd may
 serve_free server client (FileRequest.Create file access share (Some ask)) may =
     create_free server client file access share ask.lease ask.reconnect may.1
-serve_free server client (FileRequest.Read file_id) may = tt
-serve_free server client (FileRequest.Write file_id number patch) may = tt
-serve_free server client (FileRequest.Close file_id) may = tt
+serve_free server client request may = tt
 
 -- a reconnect has its open
 again_ready : (server : Server) (client file : ℕ) (access : Access) (share : Share) (lease : Option LeaseOf)
@@ -60,16 +58,13 @@ serve_file : (server : Server) (client : ℕ) (request : FileRequest) → MaySer
 serve_file server client (FileRequest.Create file access share None) may = absurd may
 serve_file server client (FileRequest.Create file access share (Some ask)) may =
     (may.0, again_ready server client file access share ask.lease ask.reconnect may.1)
-serve_file server client (FileRequest.Read file_id) may = tt
-serve_file server client (FileRequest.Write file_id number patch) may = tt
-serve_file server client (FileRequest.Close file_id) may = tt
+serve_file server client request may = tt
 
 -- the end of a request, guarded
 pub end_up : (server : Server) (client : ℕ) (request : FileRequest) (outcome : Outcome)
     → MayEnd server client request outcome → server.present client ≡ true
-end_up server client request (Outcome.Refused status) may = may.0
 end_up server client request Outcome.Waits may = absurd may
-end_up server client request Outcome.Ready may = may.0
+end_up server client request outcome may = may.0
 
 pub end_serves : (server : Server) (client : ℕ) (request : FileRequest) (outcome : Outcome)
     → MayEnd server client request outcome → outcome ≡ Outcome.Ready → MayServe server client request

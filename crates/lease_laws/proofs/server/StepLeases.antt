@@ -173,8 +173,6 @@ concluded-lease : (client : ℕ) (request : FileRequest) (progress : Progress) (
     → (outcome ≡ Outcome.Ready → MayServe progress.server client request)
     → StaysOrRises progress.server (concluded client request progress outcome).server key
 unfolding refused answered changed
-concluded-lease client request progress (Outcome.Refused status) key s may = inl refl
-concluded-lease client request progress Outcome.Waits key s may = inl refl
 concluded-lease client (FileRequest.Create file access share None) progress Outcome.Ready key s may =
     absurd (may refl)
 concluded-lease client (FileRequest.Create file access share (Some ask)) progress Outcome.Ready key s may =
@@ -188,6 +186,7 @@ concluded-lease client (FileRequest.Write file_id number patch) progress Outcome
 concluded-lease client (FileRequest.Close file_id) progress Outcome.Ready key s may =
     on_open-lease (connected_open progress.server client file_id) (λ file. closed client file_id) progress key
     (λ file. closed-lease client file_id progress key)
+concluded-lease client request progress outcome key s may = inl refl
 
 -- ---- acknowledgments
 
@@ -396,17 +395,9 @@ step-told (SmallStep.Begin other to) progress s g key lowered e =
 -- a step's outs go on from those before it
 step_more : (step : SmallStep) (progress : Progress)
     → (more : List Out) × ((step_taken step progress).outs ≡ progress.outs ++ more)
-step_more (SmallStep.Answer client request outcome) progress =
-    let t = step-tells (SmallStep.Answer client request outcome) progress in (t.more, t.are_more)
-step_more (SmallStep.AnswerHeld file before one behind outcome) progress =
-    let t = step-tells (SmallStep.AnswerHeld file before one behind outcome) progress in (t.more, t.are_more)
-step_more (SmallStep.Acknowledge client given) progress =
-    let t = step-tells (SmallStep.Acknowledge client given) progress in (t.more, t.are_more)
-step_more (SmallStep.Hold file one) progress =
-    let t = step-tells (SmallStep.Hold file one) progress in (t.more, t.are_more)
-step_more (SmallStep.Drop key) progress = let t = step-tells (SmallStep.Drop key) progress in (t.more, t.are_more)
 step_more (SmallStep.Lower key lowered) progress = (_, step-tells (SmallStep.Lower key lowered) progress)
 step_more (SmallStep.Begin key lowered) progress = (_, step-tells (SmallStep.Begin key lowered) progress)
+step_more step progress = let t = step-tells step progress in (t.more, t.are_more)
 
 -- so do those of steps
 steps_more : (steps : List SmallStep) (progress : Progress)

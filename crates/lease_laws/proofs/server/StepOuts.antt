@@ -230,8 +230,7 @@ step_fine (SmallStep.Acknowledge client given) progress up may = go_on-weaker (I
     sent_fine : (to : ℕ) → progress.server.present to ≡ true → (out : Out) → IsSentTo to out
         → IsFine progress.server out
     sent_fine to there (Out.Sent c reply) e = (ap (λ x. progress.server.present x) e ∙ there, tt)
-    sent_fine to there (Out.Opened file by) e = absurd e
-    sent_fine to there (Out.Changed file by number patch) e = absurd e
+    sent_fine to there out e = absurd e
 step_fine (SmallStep.Hold file one) progress up may = subst
     (λ outs. GoOn (IsFine progress.server) progress.outs outs) (sym (request_held-outs file one progress))
     (go_on-same (IsFine progress.server) progress.outs)
@@ -249,8 +248,7 @@ step_fine (SmallStep.Begin key lowered) progress up may =
 same_present : (before after : Server) → ((client : ℕ) → after.present client ≡ before.present client)
     → (out : Out) → IsFine before out → IsFine after out
 same_present before after same (Out.Sent client reply) f = (same client ∙ f.0, tt)
-same_present before after same (Out.Opened file client) f = f
-same_present before after same (Out.Changed file client number patch) f = f
+same_present before after same out f = f
 
 steps_fine : (steps : List SmallStep) (progress : Progress) → IsSound progress.server → OpensUp progress.server
     → AreGuarded steps progress → EachOut (IsFine progress.server) progress.outs
@@ -305,5 +303,4 @@ step-tells (SmallStep.Hold file one) progress = subst (λ outs. GoOn IsNoBreak p
     (sym (request_held-outs file one progress)) (go_on-same IsNoBreak progress.outs)
 step-tells (SmallStep.Drop key) progress = subst (λ outs. GoOn IsNoBreak progress.outs outs)
     (sym (opens_dropped-outs (is_left_open key) progress)) (go_on-same IsNoBreak progress.outs)
-step-tells (SmallStep.Lower key lowered) progress = refl
-step-tells (SmallStep.Begin key lowered) progress = refl
+step-tells step progress = refl

@@ -47,8 +47,7 @@ delivered_believed : (client file : ℕ) (world : World) (out : Out)
     → believed client file (delivered world out).past ≡ believed client file world.past
 unfolding delivered believed
 delivered_believed client file world (Out.Sent c reply) = refl
-delivered_believed client file world (Out.Opened f c) = refl
-delivered_believed client file world (Out.Changed f c number patch) = refl
+delivered_believed client file world out = refl
 
 all_believed : (client file : ℕ) (world : World) (outs : List Out)
     → believed client file (all_delivered world outs).past ≡ believed client file world.past
@@ -69,31 +68,23 @@ noted_believed : (client file : ℕ) (world : World) (notes : List Note)
     ≡ believed_after file (believed client file world.past) notes
 unfolding noted believed
 noted_believed client file world [] = refl
-noted_believed client file world (Note.Settled number outcome ∷ notes) =
-    noted_believed client file (happened world (fact_of client (Note.Settled number outcome))) notes
-noted_believed client file world (Note.Wrote f number patch buffered ∷ notes) =
-    noted_believed client file (happened world (fact_of client (Note.Wrote f number patch buffered))) notes
 noted_believed client file world (Note.Believes f state ∷ notes) =
     noted_believed client file (happened world (fact_of client (Note.Believes f state))) notes
     ∙ ap (λ b. believed_after file (if b && f == file then state else believed client file world.past) notes)
     ((Decides-eqb client client).1 refl)
-noted_believed client file world (Note.CachedRead f bytes ∷ notes) =
-    noted_believed client file (happened world (fact_of client (Note.CachedRead f bytes))) notes
+noted_believed client file world (note ∷ notes) =
+    noted_believed client file (happened world (fact_of client note)) notes
 
 -- and no other's
 noted_other : (client other file : ℕ) (world : World) (notes : List Note) → (client == other) ≡ false
     → believed other file (noted world client notes).past ≡ believed other file world.past
 unfolding noted believed
 noted_other client other file world [] apart = refl
-noted_other client other file world (Note.Settled number outcome ∷ notes) apart =
-    noted_other client other file (happened world (fact_of client (Note.Settled number outcome))) notes apart
-noted_other client other file world (Note.Wrote f number patch buffered ∷ notes) apart =
-    noted_other client other file (happened world (fact_of client (Note.Wrote f number patch buffered))) notes apart
 noted_other client other file world (Note.Believes f state ∷ notes) apart =
     noted_other client other file (happened world (fact_of client (Note.Believes f state))) notes apart
     ∙ ap (λ b. if b && f == file then state else believed other file world.past) apart
-noted_other client other file world (Note.CachedRead f bytes ∷ notes) apart =
-    noted_other client other file (happened world (fact_of client (Note.CachedRead f bytes))) notes apart
+noted_other client other file world (note ∷ notes) apart =
+    noted_other client other file (happened world (fact_of client note)) notes apart
 
 -- so it is after a step
 stepped_agrees : (world : World) (client : ℕ) (step : Step) → Agrees world → InFiles step.client

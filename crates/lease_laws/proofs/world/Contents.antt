@@ -45,17 +45,8 @@ fits_append past (out ∷ outs) more each other = (each.0, fits_append (fact_tol
 -- a reply that tells no content is right everywhere
 other_fits : (client : ℕ) (place : List Fact) (reply : Reply) → IsOther (Out.Sent client reply)
     → IsOfPlace client place reply
-other_fits client place (Reply.Created file file_id contexts) other = tt
-other_fits client place (Reply.CreateFailed file status) other = tt
 other_fits client place (Reply.ReadDone file_id bytes) other = absurd other
-other_fits client place (Reply.ReadFailed file_id status) other = tt
-other_fits client place (Reply.WriteDone file_id number) other = tt
-other_fits client place (Reply.WriteFailed file_id number status) other = tt
-other_fits client place (Reply.Closed file_id) other = tt
-other_fits client place (Reply.CloseFailed file_id status) other = tt
-other_fits client place (Reply.Break notice) other = tt
-other_fits client place (Reply.AckDone response) other = tt
-other_fits client place (Reply.AckFailed status) other = tt
+other_fits client place reply other = tt
 
 others_fit : (past : List Fact) (outs : List Out) → EachOut IsOther outs → EachFits past outs
 others_fit past [] each = tt

@@ -49,8 +49,7 @@ told_append past (out ∷ outs) more = told_append (fact_told out ∷ past) outs
 delivered_past : (world : World) (out : Out) → (delivered world out).past ≡ fact_told out ∷ world.past
 unfolding delivered
 delivered_past world (Out.Sent client reply) = refl
-delivered_past world (Out.Opened file client) = refl
-delivered_past world (Out.Changed file client number patch) = refl
+delivered_past world out = refl
 
 pub all_delivered_past : (world : World) (outs : List Out) → (all_delivered world outs).past ≡ told world.past outs
 unfolding all_delivered
@@ -263,9 +262,7 @@ world_fact_same past (_) of = absurd of
 pub note_same : (past : List Fact) (client : ℕ) (note : Note) → SameOpens past (fact_of client note ∷ past)
 unfolding opened_count was_opened
 note_same past client (Note.Settled number outcome) = record { count = refl; was = λ place file c. refl }
-note_same past client (Note.Wrote file number patch buffered) = record { count = refl; was = λ place at c. refl }
-note_same past client (Note.Believes file state) = record { count = refl; was = λ place at c. refl }
-note_same past client (Note.CachedRead file bytes) = record { count = refl; was = λ place at c. refl }
+note_same past client note = record { count = refl; was = λ place at c. refl }
 
 noted_counted : (world : World) (client : ℕ) (notes : List Note) (server : Server) → IsCounted world.past server
     → IsCounted (noted world client notes).past server

@@ -58,9 +58,7 @@ IsTimer fact = ⊥
 
 note_plain : (client : ℕ) (note : Note) → IsPlain (fact_of client note)
 note_plain client (Note.Settled number outcome) = tt
-note_plain client (Note.Wrote file number patch buffered) = tt
-note_plain client (Note.Believes file state) = tt
-note_plain client (Note.CachedRead file bytes) = tt
+note_plain client note = tt
 
 noted_contents : (world : World) (client : ℕ) (notes : List Note) (server : Server) → HasContents world.past server
     → HasContents (noted world client notes).past server
@@ -149,8 +147,7 @@ cut_true world client Link.Up r =
           (down_in_step world client Link.Cut (put world.requests client []) (put world.replies client []) refl
           (λ d ne. put_other world.replies client [] d ne) (r.telling).in_step c);
     })
-cut_true world client Link.Down r = r.telling
-cut_true world client Link.Cut r = r.telling
+cut_true world client link r = r.telling
 
 notice_true : (world : World) (client : ℕ) (link : Link) → IsReady world → IsTrue (notice_over world client link)
 unfolding link_noticed
@@ -162,8 +159,7 @@ notice_true world client Link.Cut r =
       in_step = down_in_step world client Link.Down world.requests world.replies refl (λ d ne. refl)
           (r.telling).in_step;
     })
-notice_true world client Link.Down r = r.telling
-notice_true world client Link.Up r = r.telling
+notice_true world client link r = r.telling
 
 connect_true : (world : World) (client : ℕ) (link : Link) → world.links client ≡ link → IsReady world
     → IsTrue (connect_over world client link)
@@ -179,8 +175,7 @@ connect_true world client Link.Down e r =
       contents = λ file. (r.telling).contents file ∙ sym (plain_content file world.past (Fact.Joined client) tt);
       in_step = joined_in_step world client (((r.linked).tied client).replies (ap is_up e)) (r.telling).in_step;
     }))
-connect_true world client Link.Up e r = r.telling
-connect_true world client Link.Cut e r = r.telling
+connect_true world client link e r = r.telling
 
 -- a fact that changes no queue
 fact_in_step : (world : World) (fact : Fact) → IsTimer fact → (c : ℕ) → KeepsStep world c

@@ -39,8 +39,7 @@ pub record IsKept (P : World → Type 0) : Type 0 where
 delivered_clients : (world : World) (out : Out) → (delivered world out).clients ≡ world.clients
 unfolding delivered
 delivered_clients world (Out.Sent client reply) = refl
-delivered_clients world (Out.Opened file client) = refl
-delivered_clients world (Out.Changed file client number patch) = refl
+delivered_clients world out = refl
 
 all_delivered_clients : (world : World) (outs : List Out) → (all_delivered world outs).clients ≡ world.clients
 unfolding all_delivered
@@ -55,8 +54,7 @@ served-clients world progress = all_delivered_clients (record world { server = p
 delivered_server : (world : World) (out : Out) → (delivered world out).server ≡ world.server
 unfolding delivered
 delivered_server world (Out.Sent client reply) = refl
-delivered_server world (Out.Opened file client) = refl
-delivered_server world (Out.Changed file client number patch) = refl
+delivered_server world out = refl
 
 all_delivered_server : (world : World) (outs : List Out) → (all_delivered world outs).server ≡ world.server
 unfolding all_delivered
@@ -98,8 +96,7 @@ cut-kept P k world client Link.Up p =
     k.call (happened lost (Fact.Dropped client)) (Call.Cut client) (k.fact lost (Fact.Dropped client) tt
     (k.messages world (put world.requests client []) (put world.replies client [])
     (put world.links client Link.Cut) p))
-cut-kept P k world client Link.Down p = p
-cut-kept P k world client Link.Cut p = p
+cut-kept P k world client link p = p
 
 -- its client notices
 notice-kept : (P : World → Type 0) → IsKept P → (world : World) (client : ℕ) (link : Link) → P world
@@ -108,8 +105,7 @@ unfolding link_noticed
 notice-kept P k world client Link.Cut p = k.step (record world { links = put world.links client Link.Down }) client
     ClientCall.Noticed
     (k.messages world world.requests world.replies (put world.links client Link.Down) p)
-notice-kept P k world client Link.Down p = p
-notice-kept P k world client Link.Up p = p
+notice-kept P k world client link p = p
 
 -- a client connects
 connect-kept : (P : World → Type 0) → IsKept P → (world : World) (client : ℕ) (link : Link) → P world
@@ -123,8 +119,7 @@ connect-kept P k world client Link.Down p =
     (k.step joined client ClientCall.Connected
     (k.call (happened up (Fact.Joined client)) (Call.Join client) (k.fact up (Fact.Joined client) tt
     (k.messages world world.requests world.replies (put world.links client Link.Up) p))))
-connect-kept P k world client Link.Up p = p
-connect-kept P k world client Link.Cut p = p
+connect-kept P k world client link p = p
 
 -- a timer runs out
 timer-kept : (P : World → Type 0) → IsKept P → (world : World) (client file : ℕ) → P world
@@ -146,8 +141,7 @@ unfolding strayed_over requests_sent
 strayed-kept P k world client request Link.Up p =
     k.messages (happened world (Fact.Strayed client)) _ world.replies world.links
     (k.fact world (Fact.Strayed client) tt p)
-strayed-kept P k world client request Link.Down p = p
-strayed-kept P k world client request Link.Cut p = p
+strayed-kept P k world client request link p = p
 
 -- any event of a client of the setup
 applied-kept : (P : World → Type 0) → IsKept P → (world : World) (event : Event) → P world → P (applied world event)

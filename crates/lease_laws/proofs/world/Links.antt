@@ -103,14 +103,12 @@ delivered_tied world (Out.Changed file client number patch) up tied c =
 reaching : (world : World) (server : Server) → ((c : ℕ) → server.present c ≡ is_up (world.links c)) → (out : Out)
     → IsToPresent server out → Reaches world out
 reaching world server same (Out.Sent client reply) to = sym (same client) ∙ to
-reaching world server same (Out.Opened file client) to = tt
-reaching world server same (Out.Changed file client number patch) to = tt
+reaching world server same out to = tt
 
 delivered_links : (world : World) (out : Out) → (delivered world out).links ≡ world.links
 unfolding delivered
 delivered_links world (Out.Sent client reply) = refl
-delivered_links world (Out.Opened file client) = refl
-delivered_links world (Out.Changed file client number patch) = refl
+delivered_links world out = refl
 
 pub outs_links : (world : World) (outs : List Out) → (all_delivered world outs).links ≡ world.links
 unfolding all_delivered
@@ -156,10 +154,7 @@ note_tied : (world : World) (client : ℕ) (note : Note) (c : ℕ) → IsTied wo
 unfolding is_served sendings takings
 note_tied world client (Note.Settled number outcome) c t =
     carried world _ c refl refl refl refl refl refl refl t
-note_tied world client (Note.Wrote file number patch buffered) c t =
-    carried world _ c refl refl refl refl refl refl refl t
-note_tied world client (Note.Believes file state) c t = carried world _ c refl refl refl refl refl refl refl t
-note_tied world client (Note.CachedRead file bytes) c t = carried world _ c refl refl refl refl refl refl refl t
+note_tied world client note c t = carried world _ c refl refl refl refl refl refl refl t
 
 noted_tied : (world : World) (client : ℕ) (notes : List Note) (c : ℕ) → IsTied world c
     → IsTied (noted world client notes) c
@@ -177,8 +172,7 @@ noted_links world client (note ∷ notes) = noted_links (happened world (fact_of
 sent_idle : (link : Link) (queue requests : List Request) → (is_up link ≡ false → queue ≡ [])
     → is_up link ≡ false → sent_over link queue requests ≡ []
 sent_idle Link.Up queue requests idle e = absurd (true≢false e)
-sent_idle Link.Down queue requests idle e = idle e
-sent_idle Link.Cut queue requests idle e = idle e
+sent_idle link queue requests idle e = idle e
 
 pub sent_tied : (world : World) (client : ℕ) (requests : List Request) (c : ℕ) → IsTied world c
     → IsTied (requests_sent world client requests) c
@@ -419,8 +413,7 @@ cut_linked world client Link.Up e l =
     (l.online client ∙ ap (λ k. not (is_down k)) e
     ∙ ap (λ k. not (is_down k)) (sym (put_same world.links client Link.Cut)))
     (λ ne apart. l.online c ∙ ap (λ k. not (is_down k)) (sym (put_other world.links client Link.Cut c ne))))
-cut_linked world client Link.Down e l = l
-cut_linked world client Link.Cut e l = l
+cut_linked world client link e l = l
 
 -- its client notices
 notice_linked : (world : World) (client : ℕ) (link : Link) → world.links client ≡ link → IsLinked world
@@ -432,8 +425,7 @@ notice_linked world client Link.Cut e l =
     (relinked world client Link.Down (ap is_up e) refl l.tied)
     (sym (ap (λ k. not (is_down k)) (put_same world.links client Link.Down)))
     (λ c ne. l.online c ∙ ap (λ k. not (is_down k)) (sym (put_other world.links client Link.Down c ne)))
-notice_linked world client Link.Down e l = l
-notice_linked world client Link.Up e l = l
+notice_linked world client link e l = l
 
 -- a client connects
 connect_linked : (world : World) (client : ℕ) (link : Link) → world.links client ≡ link → IsLinked world
@@ -454,8 +446,7 @@ connect_linked world client Link.Down e l =
     (λ c ne. ap (λ (t : ℕ → Client). (t c).is_online) (served-clients back progress) ∙ l.online c
     ∙ ap (λ k. not (is_down k)) (sym (put_other world.links client Link.Up c ne))
     ∙ ap (λ (t : ℕ → Link). not (is_down (t c))) (sym (served_links back progress)))
-connect_linked world client Link.Up e l = l
-connect_linked world client Link.Cut e l = l
+connect_linked world client link e l = l
 
 -- a timer runs out
 expired_tied : (world : World) (client file c : ℕ) → IsTied world c

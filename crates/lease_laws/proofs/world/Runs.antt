@@ -160,8 +160,6 @@ concluded_fits : (client : ℕ) (request : FileRequest) (progress : Progress) (o
     → request ≡ FileRequest.Write file_id number patch → is_within_limit patch ≡ true)
     → DoFit progress.server.contents → DoFit (concluded client request progress outcome).server.contents
 unfolding refused answered changed closed opens_dropped with_opens
-concluded_fits client request progress (Outcome.Refused status) may fit = fit
-concluded_fits client request progress Outcome.Waits may fit = fit
 concluded_fits client (FileRequest.Create file access share contexts) progress Outcome.Ready may fit =
     subst DoFit (sym (on_contexts_same contexts _ progress
     (λ ask. created_contents client file access share ask.lease ask.durable ask.reconnect progress))) fit
@@ -176,6 +174,7 @@ concluded_fits client (FileRequest.Write file_id number patch) progress Outcome.
 concluded_fits client (FileRequest.Close file_id) progress Outcome.Ready may fit =
     on_open_fits (connected_open progress.server client file_id) (λ file. closed client file_id) progress fit
     (λ file. fit)
+concluded_fits client request progress outcome may fit = fit
 
 -- a write that may be served fits
 serve_fits : (server : Server) (client : ℕ) (request : FileRequest) → MayServe server client request
@@ -221,10 +220,7 @@ step_fits (SmallStep.AnswerHeld file before one behind outcome) progress may fit
     (end_serves progress.server one.client one.request outcome may.1 ready)) fit
 step_fits (SmallStep.Acknowledge client given) progress may fit =
     subst DoFit (sym (acknowledged_contents client given progress)) fit
-step_fits (SmallStep.Hold file one) progress may fit = fit
-step_fits (SmallStep.Drop key) progress may fit = fit
-step_fits (SmallStep.Lower key lowered) progress may fit = fit
-step_fits (SmallStep.Begin key lowered) progress may fit = fit
+step_fits step progress may fit = fit
 
 steps_fit : (steps : List SmallStep) (progress : Progress) → AreGuarded steps progress
     → DoFit progress.server.contents → DoFit (steps_taken steps progress).server.contents

@@ -113,8 +113,7 @@ delivered_in_step world (Out.Changed file client number patch) is keeps c =
 delivered_past : (world : World) (out : Out) → (delivered world out).past ≡ fact_told out ∷ world.past
 unfolding delivered
 delivered_past world (Out.Sent client reply) = refl
-delivered_past world (Out.Opened file client) = refl
-delivered_past world (Out.Changed file client number patch) = refl
+delivered_past world out = refl
 
 pub all_in_step : (world : World) (outs : List Out) → EachFits world.past outs → ((c : ℕ) → KeepsStep world c)
     → (c : ℕ) → KeepsStep (all_delivered world outs) c
@@ -130,9 +129,7 @@ note_in_step : (world : World) (client : ℕ) (note : Note) (c : ℕ) → KeepsS
     → KeepsStep (happened world (fact_of client note)) c
 unfolding sendings takings
 note_in_step world client (Note.Settled number outcome) c k = carried_step world _ c refl refl refl refl k
-note_in_step world client (Note.Wrote file number patch buffered) c k = carried_step world _ c refl refl refl refl k
-note_in_step world client (Note.Believes file state) c k = carried_step world _ c refl refl refl refl k
-note_in_step world client (Note.CachedRead file bytes) c k = carried_step world _ c refl refl refl refl k
+note_in_step world client note c k = carried_step world _ c refl refl refl refl k
 
 noted_in_step : (world : World) (client : ℕ) (notes : List Note) (c : ℕ) → KeepsStep world c
     → KeepsStep (noted world client notes) c

@@ -41,8 +41,7 @@ SameServed past new = (client : ℕ) → is_served client new ≡ is_served clie
 delivered_served : (world : World) (out : Out) → SameServed world.past (delivered world out).past
 unfolding delivered is_served
 delivered_served world (Out.Sent client reply) c = refl
-delivered_served world (Out.Opened file client) c = refl
-delivered_served world (Out.Changed file client number patch) c = refl
+delivered_served world out c = refl
 
 all_delivered_served : (world : World) (outs : List Out) → SameServed world.past (all_delivered world outs).past
 unfolding all_delivered
@@ -54,9 +53,7 @@ note_served : (world : World) (client : ℕ) (note : Note)
     → SameServed world.past (happened world (fact_of client note)).past
 unfolding is_served
 note_served world client (Note.Settled number outcome) c = refl
-note_served world client (Note.Wrote file number patch buffered) c = refl
-note_served world client (Note.Believes file state) c = refl
-note_served world client (Note.CachedRead file bytes) c = refl
+note_served world client note c = refl
 
 noted_served : (world : World) (client : ℕ) (notes : List Note) → SameServed world.past (noted world client notes).past
 unfolding noted
@@ -132,8 +129,7 @@ notice_told : (world : World) (client : ℕ) (link : Link) → IsTimely world �
 unfolding link_noticed
 notice_told world client Link.Cut t = stepped_told (record world { links = put world.links client Link.Down }) client
     (noticed (world.clients client)) t.told
-notice_told world client Link.Down t = t.told
-notice_told world client Link.Up t = t.told
+notice_told world client link t = t.told
 
 -- a join forgets the client's timers
 joined_told : (expired : Key → Bool) (past : List Fact) (client : ℕ) → AreTold expired past → (key : Key)
@@ -190,8 +186,7 @@ strayed_told : (world : World) (client : ℕ) (request : Request) (link : Link) 
     → AreToldOf (strayed_over world client request link)
 unfolding strayed_over requests_sent is_served
 strayed_told world client request Link.Up t = t.told
-strayed_told world client request Link.Down t = t.told
-strayed_told world client request Link.Cut t = t.told
+strayed_told world client request link t = t.told
 
 applied_told : (world : World) (event : Event) → IsTimely world → AreToldOf (applied world event)
 unfolding applied
