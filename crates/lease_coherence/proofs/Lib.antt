@@ -1,6 +1,5 @@
 pub mod agreed
 pub mod beliefs
-pub mod clients
 pub mod covered
 pub mod creates
 pub mod fresh

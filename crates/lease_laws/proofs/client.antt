@@ -7,3 +7,4 @@ pub mod Notes
 pub mod Numbers
 pub mod Thin
 pub mod Words
+pub mod cases

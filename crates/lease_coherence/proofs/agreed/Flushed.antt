@@ -136,9 +136,8 @@ none_unsent world v c file state before behind good up fresh is gives (Phase.Off
     (subst (IsSoundPhase (world.clients c).is_online ((world.clients c).entries file).sent) at ((g.clients c).entries file)).0
   where
     not_down : (link : Link) → is_up link ≡ true → is_down link ≡ false
-    not_down Link.Up e = refl
     not_down Link.Down e = absurd (true≢false (sym e))
-    not_down Link.Cut e = refl
+    not_down link e = refl
 none_unsent world v c file state before behind good up fresh is gives (Phase.Reconnecting parted) at =
     absurd (never_zero (file_key world c file) state before behind
     (ap (acks (file_key world c file)) (sym is) ∙ ((v.late c good).up up).again file parted at))

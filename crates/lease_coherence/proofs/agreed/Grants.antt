@@ -1,23 +1,23 @@
 -- A client's belief rises by a grant alone, while no break is in progress.
-use Rattle.std.proofs.Common.{◌≡◌, ◌⊎◌, inl, inr, ℕ, Bool, true, false, not, List, Option, Some, None, refl, sym, subst, ◌==◌}
+use Rattle.std.proofs.Common.{◌≡◌, ◌⊎◌, inl, inr, ℕ, Bool, true, false, not, List, Option, Some, None, refl, sym, subst}
 use Rattle.std.specs.Prelude.{◌&&◌, ◌||◌, bytes_eq}
 use Rattle.lease_state.specs.State.{State, nothing_cached, is_state_within}
-use Rattle.lease_state.specs.declared.status.Status.{Status}
 use Rattle.lease_model.specs.client.Calls.{ClientCall}
 use Rattle.lease_model.specs.client.Commanded.{cached_read, opened_anew, write_buffered, write_sent, flush_on_live}
-use Rattle.lease_model.specs.client.Connection.{noticed, connection_made, all_turned, notice_turn, connect_turn, live_noticed, live_parted}
+use Rattle.lease_model.specs.client.Connection.{noticed, connection_made, all_turned, connect_turn}
 use Rattle.lease_model.specs.client.State.{Client, Entry, LiveEntry, Asked, Pending, Phase, belief, belief_in, lease_key}
-use Rattle.lease_model.specs.client.Step.{Step, Turn, turned}
-use Rattle.lease_model.specs.client.Taken.{break_turn, parked_closed, belief_lowered, given_state, opened_turn, reconnected_turn, promoted_turn, promoted_belief, read_turn, read_failed_turn, is_file_closed, closed_by_server, without_open, phase_with, write_done_turn, write_failed_in}
-use Rattle.lease_model.specs.messages.Replies.{Reply, BreakNotice, CreateAnswer, LeaseGiven}
+use Rattle.lease_model.specs.client.Step.{Step, turned}
+use Rattle.lease_model.specs.client.Taken.{parked_closed, belief_lowered, given_state, opened_turn, reconnected_turn, promoted_turn, promoted_belief, read_turn, closed_by_server, without_open, phase_with, write_done_turn, sent_without}
+use Rattle.lease_model.specs.messages.Replies.{Reply, CreateAnswer, LeaseGiven}
 use Rattle.lease_model.specs.values.LeaseStates.{meet}
 use Rattle.lease_model.specs.values.Tables.{put}
 use Rattle.lease_laws.proofs.client.Thin.{put_same, put_other}
 use Rattle.lease_laws.proofs.server.Lists.{if_cases, either, clash, and_parts, not_parts}
 use Rattle.lease_laws.proofs.world.Links.{by_client}
 use Rattle.lease_coherence.specs.Agreement.{IsGranted, BeliefsRiseByGrants}
-use Rattle.lease_coherence.proofs.clients.Commands.{HasCommands, any_command, sent_of}
-use Rattle.lease_coherence.proofs.clients.Takes.{HasTakes, any_reply}
+use Rattle.lease_laws.proofs.client.cases.Commands.{HasCommands, any_command, sent_of}
+use Rattle.lease_laws.proofs.client.cases.Replies.{HasTakes, any_reply}
+use Rattle.lease_laws.proofs.client.cases.Links.{HasNotices, any_notice}
 
 -- ---- states
 
@@ -126,55 +126,24 @@ promoted_or_none client at file_id answer (Some given) is old = either given.in_
     (λ busy. inl (subst (λ s. Within s old) (sym (rw (busy) refl)) (same_within old)))
     (λ done. inr (record { file_id = file_id; answer = answer; given = given; taken = refl; gives = is; settled = done }))
 
-break_low : (client : Client) (file : ℕ) (notice : BreakNotice) (live : LiveEntry)
-    → (client.entries file).phase ≡ Phase.Live live
-    → StaysLow client (turned client file (break_turn live (sent_of client file) notice (meet live.belief notice.lowered)))
-unfolding break_turn parked_closed belief_lowered turned
-break_low client file notice live is = if_cases (λ (t : Turn). StaysLow client (turned client file t))
-    (live.handles == 0 && (live.belief.handle && not (meet live.belief notice.lowered).handle)) _ _
-    (λ parked. put_low client file _ refl)
-    (λ stays. put_low client file _ (subst (λ p. Within (meet live.belief notice.lowered) (belief_in p)) (sym is)
-    (meet_within live.belief notice.lowered)))
-
 without_low : (asking : Option Asked) (sent : List Pending) (old : State)
     → Within (belief_in (without_open asking sent).phase) old
 without_low None sent old = refl
 without_low (Some asked) sent old = refl
 
-read_failed_low : (client : Client) (file : ℕ) (live : LiveEntry) (status : Status)
-    → (client.entries file).phase ≡ Phase.Live live
-    → StaysLow client (turned client file (read_failed_turn live (sent_of client file) status))
-unfolding read_failed_turn closed_by_server turned
-read_failed_low client file live status is = if_cases (λ (t : Turn). StaysLow client (turned client file t))
-    (is_file_closed status) _ _
-    (λ gone. put_low client file _ (without_low live.asking (sent_of client file) (belief client file)))
-    (λ there. put_low client file _ (as_was client file live is))
-
-write_failed_low : (client : Client) (file id number : ℕ) (status : Status) (sent : List Pending) (phase : Phase)
-    → (client.entries file).phase ≡ phase
-    → StaysLow client (turned client file (write_failed_in id number status sent phase))
-unfolding closed_by_server turned
-write_failed_low client file id number status sent Phase.Closed is = put_low client file _ refl
-write_failed_low client file id number status sent (Phase.Opening access share) is = put_low client file _ refl
-write_failed_low client file id number status sent (Phase.Live live) is =
-    if_cases (λ (t : Turn). StaysLow client (turned client file t)) (is_file_closed status && live.file_id == id) _ _
-    (λ gone. put_low client file _ (without_low live.asking sent (belief client file)))
-    (λ there. put_low client file _ (as_was client file live is))
-write_failed_low client file id number status sent (Phase.Offline parted) is = put_low client file _ refl
-write_failed_low client file id number status sent (Phase.Reconnecting parted) is = put_low client file _ refl
-
 with_same : (write : Option Pending) (phase : Phase) → Within (belief_in (phase_with write phase)) (belief_in phase)
-with_same write Phase.Closed = refl
-with_same write (Phase.Opening access share) = refl
 with_same write (Phase.Live live) = same_within live.belief
-with_same write (Phase.Offline parted) = refl
-with_same write (Phase.Reconnecting parted) = refl
+with_same write phase = refl
 
 takes_low : (client : Client) → HasTakes client (LowOrGranted client)
-unfolding opened_turn reconnected_turn promoted_turn read_turn write_done_turn turned
+unfolding opened_turn reconnected_turn promoted_turn read_turn write_done_turn turned parked_closed belief_lowered
+    closed_by_server
 takes_low client = record {
   passed = λ reply why file. inl (same_within (belief client file));
-  broken = λ file notice live at is f. inl (break_low client file notice live is f);
+  parked_closes = λ file notice live at is parked f. inl (put_low client file _ refl f);
+  lowered = λ file notice live at is stays f. inl (put_low client file _
+      (subst (λ p. Within (meet live.belief notice.lowered) (belief_in p)) (sym is)
+      (meet_within live.belief notice.lowered)) f);
   opened = λ at id answer access share is. granted_low client at id answer _
       (given_or_none client at id answer answer.lease refl (belief client at));
   reconnected = λ at id answer parted is. granted_low client at id answer _
@@ -187,31 +156,33 @@ takes_low client = record {
   not_reconnected = λ file status parted is f. inl (put_low client file _ refl f);
   not_promoted = λ file status live asked is asks f. inl (put_low client file _ (as_was client file live is) f);
   read = λ file id bytes live is same some f. inl (put_low client file _ (as_was client file live is) f);
-  not_read = λ file id status live is same some f. inl (read_failed_low client file live status is f);
+  read_closed = λ file id status live is same gone f. inl (put_low client file _
+      (without_low live.asking (sent_of client file) (belief client file)) f);
+  not_read = λ file id status live is same some f. inl (put_low client file _ (as_was client file live is) f);
   written = λ file id number has known f. inl (put_low client file _ (with_same _ (client.entries file).phase) f);
-  not_written = λ file id number status has known f.
-      inl (write_failed_low client file id number status _ (client.entries file).phase refl f);
+  write_closed = λ file id number status live has known is same gone f. inl (put_low client file _
+      (without_low live.asking (sent_without number (sent_of client file)) (belief client file)) f);
+  not_written = λ file id number status has known f. inl (put_low client file _ (same_within (belief client file)) f);
 }
 
 -- ---- connections
 
-notice_low : (sent : List Pending) (phase : Phase) (old : State) → Within (belief_in (notice_turn sent phase).entry.phase) old
-unfolding live_noticed live_parted
-notice_low sent Phase.Closed old = refl
-notice_low sent (Phase.Opening access share) old = refl
-notice_low sent (Phase.Live live) old = if_cases (λ (t : Turn). Within (belief_in t.entry.phase) old) live.durable _ _
-    (λ lasts. if_cases (λ (t : Turn). Within (belief_in t.entry.phase) old) live.belief.write _ _
-    (λ caches. refl) (λ plain. refl)) (λ ends. refl)
-notice_low sent (Phase.Offline parted) old = refl
-notice_low sent (Phase.Reconnecting parted) old = refl
+notices_low : (old : State) (sent : List Pending)
+    → HasNotices sent (λ phase turn. Within (belief_in turn.entry.phase) old)
+notices_low old sent = record {
+  closed = refl;
+  opening = λ access share. refl;
+  ended = λ live. refl;
+  kept = λ live writes. refl;
+  bare = λ live none. refl;
+  offline = λ parted. refl;
+  reconnecting = λ parted. refl;
+}
 
 connect_low : (client : Client) (file : ℕ) (sent : List Pending) (phase : Phase)
     → Within (belief_in (connect_turn client file sent phase).entry.phase) (belief_in phase)
-connect_low client file sent Phase.Closed = refl
-connect_low client file sent (Phase.Opening access share) = refl
 connect_low client file sent (Phase.Live live) = same_within live.belief
-connect_low client file sent (Phase.Offline parted) = refl
-connect_low client file sent (Phase.Reconnecting parted) = refl
+connect_low client file sent phase = refl
 
 pub beliefs_rise_by_grants : BeliefsRiseByGrants
 unfolding noticed connection_made all_turned
@@ -220,6 +191,7 @@ beliefs_rise_by_grants client (ClientCall.Commanded command) file =
 beliefs_rise_by_grants client (ClientCall.Taken reply) file =
     any_reply client (LowOrGranted client) (takes_low client) reply file
 beliefs_rise_by_grants client ClientCall.Noticed file =
-    inl (notice_low (client.entries file).sent (client.entries file).phase (belief client file))
+    inl (any_notice (client.entries file).sent _ (notices_low (belief client file) (client.entries file).sent)
+    (client.entries file).phase)
 beliefs_rise_by_grants client ClientCall.Connected file =
     inl (connect_low client file (client.entries file).sent (client.entries file).phase)

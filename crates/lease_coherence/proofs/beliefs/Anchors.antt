@@ -1,21 +1,20 @@
 -- Which steps of a client send an acknowledgment, and what stands before it.
-use Rattle.std.proofs.Common.{◌≡◌, ◌⊎◌, inl, inr, ℕ, ◌+◌, true, not, List, [], ◌∷◌, ◌++◌, Some, refl, ap, ap₂, ◌∙◌, arith, ◌==◌}
-use Rattle.std.specs.Prelude.{◌&&◌, bytes_eq}
+use Rattle.std.proofs.Common.{◌≡◌, ◌⊎◌, inl, inr, ℕ, ◌+◌, true, List, [], ◌∷◌, Some, refl, ap, ap₂, ◌∙◌, arith, ◌==◌}
+use Rattle.std.specs.Prelude.{bytes_eq}
 use Rattle.std.proofs.lemmas.Bool.{eq-eqb, eqb-true}
 use Rattle.lease_state.specs.State.{State}
 use Rattle.lease_model.specs.client.Commanded.{create_request, cached_read, opened_anew, write_buffered, write_sent, flush_on_live}
 use Rattle.lease_model.specs.client.State.{Client, LiveEntry, Phase, lease_key}
 use Rattle.lease_model.specs.client.Step.{Step, Turn, turned, write_requests}
-use Rattle.lease_model.specs.client.Taken.{is_key_of, break_turn, parked_closed, belief_lowered, acknowledgment, flushed, opened_turn, reconnected_turn, promoted_turn, read_turn, read_failed_turn, is_file_closed, closed_by_server, write_done_turn, write_failed_in}
-use Rattle.lease_model.specs.client.State.{Pending}
+use Rattle.lease_model.specs.client.Taken.{is_key_of, parked_closed, belief_lowered, acknowledgment, flushed, opened_turn, reconnected_turn, promoted_turn, read_turn, closed_by_server, write_done_turn}
 use Rattle.lease_model.specs.messages.Replies.{BreakNotice}
 use Rattle.lease_model.specs.messages.Requests.{FileRequest, Request}
 use Rattle.lease_model.specs.values.LeaseStates.{meet}
-use Rattle.lease_state.specs.declared.status.Status.{Status}
 use Rattle.lease_laws.proofs.server.Lists.{if_cases, either, clash}
 use Rattle.lease_coherence.specs.Names.{Each}
-use Rattle.lease_coherence.proofs.clients.Commands.{HasCommands, sent_of}
-use Rattle.lease_coherence.proofs.clients.Takes.{HasTakes, found_so}
+use Rattle.lease_laws.proofs.client.cases.Commands.{HasCommands, sent_of}
+use Rattle.lease_laws.proofs.client.cases.Replies.{HasTakes}
+use Rattle.lease_laws.proofs.client.cases.Files.{found_so}
 use Rattle.lease_coherence.proofs.standing.Clients.{writes_close}
 use Rattle.lease_coherence.proofs.beliefs.Clients.{IsAboutFile, file_no_acks, writes_about, writes_close_about, ack_elsewhere}
 use Rattle.lease_coherence.proofs.beliefs.Words.{acks, acks_append, OpenTillAck, open_before}
@@ -61,19 +60,14 @@ ack_till key file_id notice state own = if_cases (OpenTillAck key file_id) notic
     (Request.Acknowledge (Some (record { key = notice.key; state = state })) ∷ []) []
     (λ asked other. clash (bytes_eq key notice.key) own other) (λ plain. tt)
 
-break_anchors : (machine : Client) (at : ℕ) (notice : BreakNotice) (live : LiveEntry)
+lowered_anchors : (machine : Client) (at : ℕ) (notice : BreakNotice) (live : LiveEntry)
     → is_key_of machine notice.key at ≡ true → (machine.entries at).phase ≡ Phase.Live live
-    → AnchorsOn machine (turned machine at (break_turn live (sent_of machine at) notice (meet live.belief notice.lowered)))
-unfolding turned break_turn parked_closed belief_lowered
-break_anchors machine at notice live own is file =
+    → AnchorsOn machine (turned machine at
+    (belief_lowered live (sent_of machine at) notice (meet live.belief notice.lowered)))
+unfolding turned belief_lowered
+lowered_anchors machine at notice live own is file =
     let new = meet live.belief notice.lowered in
-    if_cases (λ (turn : Turn). (acks (lease_key machine.guid file) turn.requests ≡ 0)
-    ⊎ AnchorsLive machine file (turned machine at turn))
-    (live.handles == 0 && (live.belief.handle && not new.handle)) _ _
-    (λ parked. inl (file_no_acks (lease_key machine.guid file)
-    (write_requests live.file_id live.unsent ++ Request.OnFile (FileRequest.Close live.file_id) ∷ [])
-    (writes_close_about live.file_id live.unsent [] tt)))
-    (λ stays. let writes = write_requests live.file_id (flushed live.belief new live.unsent) in
+    let writes = write_requests live.file_id (flushed live.belief new live.unsent) in
     either (file == at)
     (λ same. let e = eqb-true file at same in inr (record {
       live = live;
@@ -87,35 +81,18 @@ break_anchors machine at notice live own is file =
     ∙ ap₂ (λ a b. a + b) (file_no_acks (lease_key machine.guid file) writes
     (writes_about live.file_id (flushed live.belief new live.unsent)))
     (ack_elsewhere machine.guid file at notice new
-    (λ e. clash (file == at) (eq-eqb file at e) other) own) ∙ zeros)))
+    (λ e. clash (file == at) (eq-eqb file at e) other) own) ∙ zeros))
   where
     zeros : 0 + 0 ≡ 0
     zeros = omega arith
 
-read_failed_anchors : (machine : Client) (at : ℕ) (live : LiveEntry) (status : Status)
-    → AnchorsOn machine (turned machine at (read_failed_turn live (sent_of machine at) status))
-unfolding read_failed_turn closed_by_server
-read_failed_anchors machine at live status =
-    if_cases (λ (turn : Turn). AnchorsOn machine (turned machine at turn)) (is_file_closed status) _ _
-    (λ gone. turn_none machine at _ tt) (λ there. turn_none machine at _ tt)
-
-write_failed_anchors : (machine : Client) (at file_id number : ℕ) (status : Status) (sent : List Pending) (phase : Phase)
-    → AnchorsOn machine (turned machine at (write_failed_in file_id number status sent phase))
-unfolding closed_by_server
-write_failed_anchors machine at file_id number status sent Phase.Closed = turn_none machine at _ tt
-write_failed_anchors machine at file_id number status sent (Phase.Opening access share) = turn_none machine at _ tt
-write_failed_anchors machine at file_id number status sent (Phase.Live live) =
-    if_cases (λ (turn : Turn). AnchorsOn machine (turned machine at turn))
-    (is_file_closed status && live.file_id == file_id) _ _
-    (λ gone. turn_none machine at _ tt) (λ there. turn_none machine at _ tt)
-write_failed_anchors machine at file_id number status sent (Phase.Offline parted) = turn_none machine at _ tt
-write_failed_anchors machine at file_id number status sent (Phase.Reconnecting parted) = turn_none machine at _ tt
-
 pub takes_anchor : (machine : Client) → HasTakes machine (λ reply step. AnchorsOn machine step)
-unfolding opened_turn reconnected_turn promoted_turn read_turn write_done_turn
+unfolding opened_turn reconnected_turn promoted_turn read_turn write_done_turn parked_closed closed_by_server
 takes_anchor machine = record {
   passed = λ reply why file. inl refl;
-  broken = λ at notice live found is. break_anchors machine at notice live
+  parked_closes = λ at notice live found is parked. turn_none machine at _
+      (writes_close_about live.file_id live.unsent [] tt);
+  lowered = λ at notice live found is stays. lowered_anchors machine at notice live
       (found_so machine (is_key_of machine notice.key) at found) is;
   opened = λ at file_id answer access share is. turn_none machine at _ tt;
   reconnected = λ at file_id answer parted is. turn_none machine at _ tt;
@@ -124,8 +101,9 @@ takes_anchor machine = record {
   not_reconnected = λ at status parted is. turn_none machine at _ tt;
   not_promoted = λ at status live asked is asks. turn_none machine at _ tt;
   read = λ at file_id bytes live is id some. turn_none machine at _ tt;
-  not_read = λ at file_id status live is id some. read_failed_anchors machine at live status;
+  read_closed = λ at file_id status live is id gone. turn_none machine at _ tt;
+  not_read = λ at file_id status live is id some. turn_none machine at _ tt;
   written = λ at file_id number has known. turn_none machine at _ tt;
-  not_written = λ at file_id number status has known. write_failed_anchors machine at file_id number status _
-      (machine.entries at).phase;
+  write_closed = λ at file_id number status live has known is id gone. turn_none machine at _ tt;
+  not_written = λ at file_id number status has known. turn_none machine at _ tt;
 }

@@ -57,15 +57,7 @@ neutral_served (Fact.Joined client) past c n e = absurd n
 neutral_served (Fact.Believes client file state) past c n e = absurd n
 neutral_served (Fact.Dropped client) past c n e = right_of (not (client == c)) (is_served c past) e
 neutral_served (Fact.Expired client file) past c n e = right_of (not (client == c)) (is_served c past) e
-neutral_served (Fact.Start file bytes) past c n e = e
-neutral_served (Fact.Sent client) past c n e = e
-neutral_served (Fact.Took client) past c n e = e
-neutral_served (Fact.Opened file client) past c n e = e
-neutral_served (Fact.Changed file client number patch) past c n e = e
-neutral_served (Fact.Wrote client file number patch buffered) past c n e = e
-neutral_served (Fact.Settled client number outcome) past c n e = e
-neutral_served (Fact.CachedRead client file bytes) past c n e = e
-neutral_served (Fact.Strayed client) past c n e = e
+neutral_served fact past c n e = e
 
 not_strayed : (fact : Fact) (past : List Fact) (c : ℕ) → not (has_strayed c (fact ∷ past)) ≡ true
     → not (has_strayed c past) ≡ true
@@ -108,8 +100,7 @@ neutral_always fact past n a = (neutral_cache fact past n (always_now past a), a
 
 told_neutral : (out : Out) → IsNeutral (fact_told out)
 told_neutral (Out.Sent client reply) = tt
-told_neutral (Out.Opened file client) = tt
-told_neutral (Out.Changed file client number patch) = tt
+told_neutral out = tt
 
 told_always : (past : List Fact) (outs : List Out) → Always past → Always (told past outs)
 told_always past [] a = a
@@ -165,9 +156,7 @@ note_good : (client : ℕ) (note : Note) (past : List Fact) (c : ℕ)
     → is_good c (fact_of client note ∷ past) ≡ is_good c past
 unfolding is_good is_served has_strayed
 note_good client (Note.Settled number outcome) past c = refl
-note_good client (Note.Wrote file number patch buffered) past c = refl
-note_good client (Note.Believes file state) past c = refl
-note_good client (Note.CachedRead file bytes) past c = refl
+note_good client note past c = refl
 
 notes_good : (client : ℕ) (past : List Fact) (notes : List Note) (c : ℕ)
     → is_good c (past_noted client past notes) ≡ is_good c past
@@ -179,10 +168,8 @@ notes_good client past (note ∷ notes) c =
 note_others : (client : ℕ) (note : Note) (past : List Fact) (c file : ℕ) → (client == c) ≡ false
     → believed c file (fact_of client note ∷ past) ≡ believed c file past
 unfolding believed
-note_others client (Note.Settled number outcome) past c file apart = refl
-note_others client (Note.Wrote f number patch buffered) past c file apart = refl
 note_others client (Note.Believes f state) past c file apart = rw (apart) refl
-note_others client (Note.CachedRead f bytes) past c file apart = refl
+note_others client note past c file apart = refl
 
 notes_others : (client : ℕ) (past : List Fact) (notes : List Note) (c file : ℕ) → (client == c) ≡ false
     → believed c file (past_noted client past notes) ≡ believed c file past
@@ -236,13 +223,9 @@ lasting : (c : ℕ) (client after : Client) (end : List Fact) (notes : List Note
     → ((file : ℕ) → believed c file end ≡ belief after file) → EachNote (IsFineNote client after) notes
     → EachNote (LastsTo c end) notes
 lasting c client after end [] agrees each = tt
-lasting c client after end (Note.Settled number outcome ∷ notes) agrees each =
-    (tt, lasting c client after end notes agrees each.1)
-lasting c client after end (Note.Wrote file number patch buffered ∷ notes) agrees each =
-    (tt, lasting c client after end notes agrees each.1)
 lasting c client after end (Note.Believes file state ∷ notes) agrees each =
     (each.0.1 ∙ sym (agrees file), lasting c client after end notes agrees each.1)
-lasting c client after end (Note.CachedRead file bytes ∷ notes) agrees each =
+lasting c client after end (note ∷ notes) agrees each =
     (tt, lasting c client after end notes agrees each.1)
 
 stepped_always : (world : World) (c : ℕ) (call : ClientCall) → IsSoundClient (world.clients c) → Always world.past
@@ -285,11 +268,8 @@ down_nothing client s off file = by_phase (client.entries file).phase (s.entries
   where
     by_phase : (phase : Phase) → IsSoundPhase client.is_online (client.entries file).sent phase
         → belief_in phase ≡ nothing_cached
-    by_phase Phase.Closed p = refl
-    by_phase (Phase.Opening access share) p = refl
     by_phase (Phase.Live live) p = clash client.is_online p.0 off
-    by_phase (Phase.Offline parted) p = refl
-    by_phase (Phase.Reconnecting parted) p = refl
+    by_phase phase p = refl
 
 -- ---- events
 
@@ -329,8 +309,7 @@ notice_always : (world : World) (client : ℕ) (link : Link) → IsReached world
 unfolding link_noticed
 notice_always world client Link.Cut r n a = stepped_always (record world { links = put world.links client Link.Down })
     client ClientCall.Noticed (r.sound client) a n.cache (n.agrees client)
-notice_always world client Link.Down r n a = a
-notice_always world client Link.Up r n a = a
+notice_always world client link r n a = a
 
 connect_always : (world : World) (client : ℕ) (link : Link) → world.links client ≡ link → IsReached world
     → IsReached (connect_over world client link) → Always world.past → Always (connect_over world client link).past
@@ -370,8 +349,7 @@ strayed_always : (world : World) (client : ℕ) (request : Request) (link : Link
     → Always (strayed_over world client request link).past
 unfolding strayed_over requests_sent
 strayed_always world client request Link.Up a = neutral_always (Fact.Strayed client) world.past tt a
-strayed_always world client request Link.Down a = a
-strayed_always world client request Link.Cut a = a
+strayed_always world client request link a = a
 
 applied_always : (world : World) (event : Event) → IsReached world → IsReached (applied world event)
     → Always world.past → Always (applied world event).past

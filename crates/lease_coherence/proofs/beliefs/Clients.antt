@@ -1,14 +1,13 @@
 -- Every step of a client keeps what is believed of each of its files.
-use Rattle.std.proofs.Common.{◌≡◌, ◌≢◌, ◌⊎◌, inl, inr, ℕ, ◌+◌, true, false, not, List, [], ◌∷◌, ◌++◌, take, Option, Some, None, refl, sym, ap, ap₂, ◌∙◌, subst, arith, ◌==◌}
-use Rattle.std.specs.Prelude.{⊤, ◌&&◌, bytes_eq, if◌then◌else◌}
+use Rattle.std.proofs.Common.{◌≡◌, ◌≢◌, ◌⊎◌, inl, inr, ℕ, ◌+◌, true, false, List, [], ◌∷◌, ◌++◌, take, Option, Some, None, refl, sym, ap, ap₂, ◌∙◌, subst, arith}
+use Rattle.std.specs.Prelude.{⊤, bytes_eq}
 use Rattle.std.proofs.lemmas.Slice.Eq.{bytes_eq-Decides}
 use Rattle.lease_state.specs.State.{State}
-use Rattle.lease_state.specs.declared.status.Status.{Status}
 use Rattle.lease_model.specs.client.Commanded.{create_request, next_write, cached_read, opened_anew, write_buffered, write_sent, flush_on_live, wrote_step}
 use Rattle.lease_model.specs.client.Commands.{Answer}
 use Rattle.lease_model.specs.client.State.{Client, Entry, LiveEntry, Asked, Pending, Phase, lease_key}
 use Rattle.lease_model.specs.client.Step.{Step, Turn, turned, quiet_step, write_requests}
-use Rattle.lease_model.specs.client.Taken.{given_state, is_key_of, break_turn, parked_closed, belief_lowered, acknowledgment, flushed, unflushed, opened_turn, reconnected_turn, promoted_turn, promoted_belief, read_turn, read_failed_turn, is_file_closed, closed_by_server, without_open, phase_with, write_done_turn, write_failed_in}
+use Rattle.lease_model.specs.client.Taken.{given_state, is_key_of, parked_closed, belief_lowered, acknowledgment, flushed, opened_turn, reconnected_turn, promoted_turn, promoted_belief, read_turn, closed_by_server, without_open, phase_with, write_done_turn}
 use Rattle.lease_model.specs.messages.Replies.{Reply, BreakNotice, CreateAnswer, LeaseGiven}
 use Rattle.lease_model.specs.messages.Requests.{FileRequest, Request}
 use Rattle.lease_model.specs.server.State.{Lease}
@@ -19,8 +18,9 @@ use Rattle.lease_laws.proofs.server.Lists.{if_cases, either, clash, and_parts, a
 use Rattle.lease_laws.proofs.world.Links.{by_client}
 use Rattle.lease_coherence.specs.Creates.{one_if}
 use Rattle.lease_coherence.specs.Names.{Each}
-use Rattle.lease_coherence.proofs.clients.Commands.{HasCommands, sent_of}
-use Rattle.lease_coherence.proofs.clients.Takes.{HasTakes, found_so, is_live}
+use Rattle.lease_laws.proofs.client.cases.Commands.{HasCommands, sent_of}
+use Rattle.lease_laws.proofs.client.cases.Replies.{HasTakes, is_live}
+use Rattle.lease_laws.proofs.client.cases.Files.{found_so}
 use Rattle.lease_coherence.proofs.names.Words.{each_append}
 use Rattle.lease_coherence.proofs.beliefs.Entries.{WasLive, step_kept, reply_kept, created_kept, break_kept}
 use Rattle.lease_coherence.proofs.beliefs.Words.{acks, acks_append, LowersWell, IsBelieved}
@@ -266,26 +266,13 @@ flushed_about : (file_id : ℕ) (old new : State) (unsent : List Pending)
     → Each IsAboutFile (write_requests file_id (flushed old new unsent))
 flushed_about file_id old new unsent = writes_about file_id (flushed old new unsent)
 
-break_takes : (machine : Client) (at : ℕ) (notice : BreakNotice) (live : LiveEntry)
+lowered_takes : (machine : Client) (at : ℕ) (notice : BreakNotice) (live : LiveEntry)
     → is_key_of machine notice.key at ≡ true → (machine.entries at).phase ≡ Phase.Live live
     → TakesBelief machine (Reply.Break (Some notice))
-    (turned machine at (break_turn live (sent_of machine at) notice (meet live.belief notice.lowered)))
-unfolding break_turn parked_closed belief_lowered
-break_takes machine at notice live own is formed =
+    (turned machine at (belief_lowered live (sent_of machine at) notice (meet live.belief notice.lowered)))
+unfolding belief_lowered
+lowered_takes machine at notice live own is formed =
     let new = meet live.belief notice.lowered in
-    if_cases (λ (turn : Turn). (file : ℕ) (lease : Lease) (asked : List Request) (queue : List Reply)
-    → IsBelieved (lease_key machine.guid file) file lease (machine.entries file).phase asked (Reply.Break (Some notice) ∷ queue)
-    → IsBelieved (lease_key machine.guid file) file lease ((turned machine at turn).client.entries file).phase
-    (asked ++ (turned machine at turn).requests) queue)
-    (live.handles == 0 && (live.belief.handle && not new.handle)) _ _
-    (λ parked. plain_takes machine (Reply.Break (Some notice)) (turned machine at (parked_closed live (sent_of machine at)))
-    (turned_believes machine at _ (writes_close_about live.file_id live.unsent [] tt)
-    (λ now e. never_live (machine.entries at).phase Phase.Closed refl now e)) formed)
-    (λ stays. let next : LiveEntry = record live {
-      belief = new;
-      base = if new.read then live.base else None;
-      unsent = unflushed live.belief new live.unsent;
-    } in
     let writes = write_requests live.file_id (flushed live.belief new live.unsent) in
     turn_takes machine (Reply.Break (Some notice)) at _
     (λ file ne. acks_append (lease_key machine.guid file) writes (acknowledgment notice new)
@@ -293,7 +280,7 @@ break_takes machine at notice live own is formed =
     (flushed_about live.file_id live.belief new live.unsent))
     (ack_elsewhere machine.guid file at notice new ne own) ∙ zeros)
     (λ lease asked queue b. lowered_believes (lease_key machine.guid at) at notice lease (machine.entries at).phase live
-    next asked writes queue is own formed refl (flushed_about live.file_id live.belief new live.unsent) b) formed)
+    _ asked writes queue is own formed refl (flushed_about live.file_id live.belief new live.unsent) b) formed
   where
     zeros : 0 + 0 ≡ 0
     zeros = omega arith
@@ -312,48 +299,10 @@ granted_takes machine at file_id answer turn next is about from =
     (created_kept (lease_key machine.guid at) at file_id answer lease (machine.entries at).phase next asked turn.requests
     queue from (file_no_acks (lease_key machine.guid at) turn.requests about) b))
 
-read_failed_takes : (machine : Client) (at file_id : ℕ) (status : Status) (live : LiveEntry)
-    → (machine.entries at).phase ≡ Phase.Live live
-    → TakesBelief machine (Reply.ReadFailed file_id status)
-    (turned machine at (read_failed_turn live (sent_of machine at) status))
-unfolding read_failed_turn closed_by_server
-read_failed_takes machine at file_id status live is = plain_takes machine (Reply.ReadFailed file_id status)
-    (turned machine at (read_failed_turn live (sent_of machine at) status))
-    (if_cases (λ (turn : Turn). BelievesOn machine (turned machine at turn)) (is_file_closed status) _ _
-    (λ gone. turned_believes machine at _ tt
-    (λ now e. never_live (machine.entries at).phase (without_open live.asking (sent_of machine at)).phase
-    (gone_believes live.asking (sent_of machine at)) now e))
-    (λ there. turned_believes machine at _ tt
-    (λ now e. was_same (machine.entries at).phase live _ is refl now e)))
-
-write_failed_takes : (machine : Client) (at file_id number : ℕ) (status : Status) (sent : List Pending) (phase : Phase)
-    → (machine.entries at).phase ≡ phase
-    → BelievesOn machine (turned machine at (write_failed_in file_id number status sent phase))
-unfolding closed_by_server
-write_failed_takes machine at file_id number status sent Phase.Closed is = turned_believes machine at _ tt
-    (λ now e. never_live (machine.entries at).phase Phase.Closed refl now e)
-write_failed_takes machine at file_id number status sent (Phase.Opening access share) is = turned_believes machine at _ tt
-    (λ now e. never_live (machine.entries at).phase (Phase.Opening access share) refl now e)
-write_failed_takes machine at file_id number status sent (Phase.Live live) is =
-    if_cases (λ (turn : Turn). BelievesOn machine (turned machine at turn))
-    (is_file_closed status && live.file_id == file_id) _ _
-    (λ gone. turned_believes machine at _ tt
-    (λ now e. never_live (machine.entries at).phase (without_open live.asking sent).phase
-    (gone_believes live.asking sent) now e))
-    (λ there. turned_believes machine at _ tt
-    (λ now e. was_same (machine.entries at).phase live live is refl now e))
-write_failed_takes machine at file_id number status sent (Phase.Offline parted) is = turned_believes machine at _ tt
-    (λ now e. never_live (machine.entries at).phase (Phase.Offline parted) refl now e)
-write_failed_takes machine at file_id number status sent (Phase.Reconnecting parted) is = turned_believes machine at _ tt
-    (λ now e. never_live (machine.entries at).phase (Phase.Reconnecting parted) refl now e)
-
 with_same : (old : Phase) (write : Option Pending) (phase : Phase) → old ≡ phase
     → (now : LiveEntry) → phase_with write phase ≡ Phase.Live now → WasLive old now.belief
-with_same old write Phase.Closed is now e = never_live old Phase.Closed refl now e
-with_same old write (Phase.Opening access share) is now e = never_live old (Phase.Opening access share) refl now e
 with_same old write (Phase.Live live) is now e = was_same old live _ is refl now e
-with_same old write (Phase.Offline parted) is now e = never_live old (Phase.Offline parted) refl now e
-with_same old write (Phase.Reconnecting parted) is now e = never_live old (Phase.Reconnecting parted) refl now e
+with_same old write phase is now e = never_live old phase refl now e
 
 same_takes : (machine : Client) (reply : Reply) (at : ℕ) (turn : Turn) → Each IsAboutFile turn.requests
     → ((now : LiveEntry) → turn.entry.phase ≡ Phase.Live now → WasLive (machine.entries at).phase now.belief)
@@ -366,10 +315,14 @@ on_takes : (machine : Client) (reply : Reply) (at : ℕ) (turn : Turn) → Belie
 on_takes machine reply at turn on = plain_takes machine reply (turned machine at turn) on
 
 pub takes_believe : (machine : Client) → HasTakes machine (TakesBelief machine)
-unfolding opened_turn reconnected_turn promoted_turn read_turn write_done_turn
+unfolding opened_turn reconnected_turn promoted_turn read_turn write_done_turn parked_closed closed_by_server
 takes_believe machine = record {
   passed = λ reply why. plain_takes machine reply (quiet_step machine) (idle_believes machine Answer.Quiet);
-  broken = λ at notice live found is. break_takes machine at notice live
+  parked_closes = λ at notice live found is parked. plain_takes machine (Reply.Break (Some notice))
+      (turned machine at (parked_closed live (sent_of machine at)))
+      (turned_believes machine at _ (writes_close_about live.file_id live.unsent [] tt)
+      (λ now e. never_live (machine.entries at).phase Phase.Closed refl now e));
+  lowered = λ at notice live found is stays. lowered_takes machine at notice live
       (found_so machine (is_key_of machine notice.key) at found) is;
   opened = λ at file_id answer access share is. granted_takes machine at file_id answer _ _ refl tt (λ w. inl refl);
   reconnected = λ at file_id answer parted is. granted_takes machine at file_id answer _ _ refl tt (λ w. inl refl);
@@ -383,9 +336,15 @@ takes_believe machine = record {
       (λ now e. was_same (machine.entries at).phase live _ is refl now e);
   read = λ at file_id bytes live is id some. same_takes machine (Reply.ReadDone file_id bytes) at _ tt
       (λ now e. was_same (machine.entries at).phase live _ is refl now e);
-  not_read = λ at file_id status live is id some. read_failed_takes machine at file_id status live is;
+  read_closed = λ at file_id status live is id gone. same_takes machine (Reply.ReadFailed file_id status) at _ tt
+      (λ now e. never_live (machine.entries at).phase _ (gone_believes live.asking _) now e);
+  not_read = λ at file_id status live is id some. same_takes machine (Reply.ReadFailed file_id status) at _ tt
+      (λ now e. was_same (machine.entries at).phase live _ is refl now e);
   written = λ at file_id number has known. same_takes machine (Reply.WriteDone file_id number) at _ tt
       (with_same (machine.entries at).phase _ (machine.entries at).phase refl);
-  not_written = λ at file_id number status has known. on_takes machine (Reply.WriteFailed file_id number status) at _
-      (write_failed_takes machine at file_id number status _ (machine.entries at).phase refl);
+  write_closed = λ at file_id number status live has known is id gone.
+      same_takes machine (Reply.WriteFailed file_id number status) at _ tt
+      (λ now e. never_live (machine.entries at).phase _ (gone_believes live.asking _) now e);
+  not_written = λ at file_id number status has known. same_takes machine (Reply.WriteFailed file_id number status) at _ tt
+      (λ now e. was_same (machine.entries at).phase now _ e refl now refl);
 }

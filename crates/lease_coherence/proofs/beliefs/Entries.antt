@@ -13,7 +13,7 @@ use Rattle.lease_model.specs.values.LeaseStates.{meet}
 use Rattle.lease_laws.proofs.server.Lists.{clash, and_parts, and_both}
 use Rattle.lease_coherence.specs.Creates.{one_if}
 use Rattle.lease_coherence.specs.Names.{Each}
-use Rattle.lease_coherence.proofs.clients.Takes.{is_live}
+use Rattle.lease_laws.proofs.client.cases.Replies.{is_live}
 use Rattle.lease_coherence.proofs.names.Words.{each_append}
 use Rattle.lease_coherence.proofs.beliefs.Words.{acks, acks_append, is_created, LowersWell, AckKeeps, met_fewer, met_mapped, met_none, IsAnswering, IsBelieved}
 
@@ -60,11 +60,8 @@ pub record WasLive (phase : Phase) (belief : State) : Type 0 where
   pub reads : belief.write ≡ true → live.belief.read ≡ true → belief.read ≡ true
 
 live_phase : (phase : Phase) (P : Type 0) → is_live phase ≡ true → ((live : LiveEntry) → phase ≡ Phase.Live live → P) → P
-live_phase Phase.Closed P e k = absurd (true≢false (sym e))
-live_phase (Phase.Opening access share) P e k = absurd (true≢false (sym e))
 live_phase (Phase.Live live) P e k = k live refl
-live_phase (Phase.Offline parted) P e k = absurd (true≢false (sym e))
-live_phase (Phase.Reconnecting parted) P e k = absurd (true≢false (sym e))
+live_phase phase P e k = absurd (true≢false (sym e))
 
 was_live : (old new : Phase) → ((live : LiveEntry) → new ≡ Phase.Live live → WasLive old live.belief)
     → is_live new ≡ true → is_live old ≡ true

@@ -1,5 +1,5 @@
 -- What the server does to one file's lease, and sends to its client, keeps what is believed of it.
-use Rattle.std.proofs.Common.{◌≡◌, inl, inr, ⊎_elim, ℕ, ◌+◌, true, false, List, [], ◌∷◌, ◌++◌, Some, None, sym, ap, ◌∙◌, arith, ◌==◌}
+use Rattle.std.proofs.Common.{◌≡◌, inl, inr, ⊎_elim, ℕ, ◌+◌, true, false, List, [], ◌∷◌, ◌++◌, Some, sym, ap, ◌∙◌, arith, ◌==◌}
 use Rattle.std.specs.Prelude.{bytes_eq}
 use Rattle.std.proofs.lemmas.Bool.{eq-eqb}
 use Rattle.lease_state.specs.State.{State}
@@ -10,7 +10,7 @@ use Rattle.lease_model.specs.server.State.{Lease, is_breaking}
 use Rattle.lease_laws.proofs.server.Lists.{clash}
 use Rattle.lease_coherence.specs.Creates.{one_if}
 use Rattle.lease_coherence.specs.Names.{Each}
-use Rattle.lease_coherence.proofs.clients.Takes.{is_live}
+use Rattle.lease_laws.proofs.client.cases.Replies.{is_live}
 use Rattle.lease_coherence.proofs.names.Words.{each_append, each_weaker}
 use Rattle.lease_coherence.proofs.beliefs.Words.{acks, is_created, is_ack_break, OnGiven, GivesNothing, HoldsWrites, AckKeeps, met_mapped, met_last, met_nowhere, IsBelieved}
 
@@ -19,18 +19,8 @@ each_last P xs x each last = each_append P xs (x ∷ []) each (last, tt)
 
 pub given_all : (T U : State → Type 0) (key : List ℕ) (file : ℕ) → ((s : State) → T s → U s) → (reply : Reply)
     → OnGiven T key file reply → OnGiven U key file reply
-given_all T U key file f (Reply.Created other id None) g = tt
 given_all T U key file f (Reply.Created other id (Some answer)) g = λ e. f _ (g e)
-given_all T U key file f (Reply.CreateFailed other status) g = tt
-given_all T U key file f (Reply.ReadDone id bytes) g = tt
-given_all T U key file f (Reply.ReadFailed id status) g = tt
-given_all T U key file f (Reply.WriteDone id number) g = tt
-given_all T U key file f (Reply.WriteFailed id number status) g = tt
-given_all T U key file f (Reply.Closed id) g = tt
-given_all T U key file f (Reply.CloseFailed id status) g = tt
-given_all T U key file f (Reply.Break notice) g = tt
-given_all T U key file f (Reply.AckDone response) g = tt
-given_all T U key file f (Reply.AckFailed status) g = tt
+given_all T U key file f reply g = tt
 
 -- a reply that gives no more than the lease, and no writes while it is breaking, and is no break that asks for an
 -- acknowledgment
@@ -109,19 +99,9 @@ lease_gone key file new phase asked queue idle none zero = record {
 }
   where
     not_given : (reply : Reply) → is_created file reply ≡ false → OnGiven (HoldsWrites new.state) key file reply
-    not_given (Reply.Created other id None) e = tt
     not_given (Reply.Created other id (Some answer)) e =
         λ same. clash (other == file) (eq-eqb other file same) e
-    not_given (Reply.CreateFailed other status) e = tt
-    not_given (Reply.ReadDone id bytes) e = tt
-    not_given (Reply.ReadFailed id status) e = tt
-    not_given (Reply.WriteDone id number) e = tt
-    not_given (Reply.WriteFailed id number status) e = tt
-    not_given (Reply.Closed id) e = tt
-    not_given (Reply.CloseFailed id status) e = tt
-    not_given (Reply.Break notice) e = tt
-    not_given (Reply.AckDone response) e = tt
-    not_given (Reply.AckFailed status) e = tt
+    not_given reply e = tt
 
 -- requests that leave the queue and are no acknowledgments of the key
 pub asked_less : (key : List ℕ) (file : ℕ) (lease : Lease) (phase : Phase) (asked left : List Request)

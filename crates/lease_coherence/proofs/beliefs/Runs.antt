@@ -24,8 +24,8 @@ use Rattle.lease_laws.proofs.server.Lists.{among_filter, among_filtered}
 use Rattle.lease_laws.proofs.world.Links.{stepped_links}
 use Rattle.lease_coherence.specs.Names.{Each, IsNamedAt, IsOwnCreate}
 use Rattle.lease_coherence.specs.Standing.{IsStandingAt}
-use Rattle.lease_coherence.proofs.clients.Commands.{any_command}
-use Rattle.lease_coherence.proofs.clients.Takes.{any_reply}
+use Rattle.lease_laws.proofs.client.cases.Commands.{any_command}
+use Rattle.lease_laws.proofs.client.cases.Replies.{any_reply}
 use Rattle.lease_coherence.proofs.moves.Deeds.{IsSource}
 use Rattle.lease_coherence.proofs.moves.Events.{reply_gone, reply_taken}
 use Rattle.lease_coherence.proofs.moves.Foreign.{IsUnmoved, off_sound}

@@ -105,9 +105,7 @@ bare_trusted world new c reply bare s leases t = sent_trusted world new c reply 
 
 pub refusal_bare : (request : FileRequest) (status : Status) → is_bare (refusal_of request status)
 refusal_bare (FileRequest.Create file access share contexts) status = tt
-refusal_bare (FileRequest.Read file_id) status = tt
-refusal_bare (FileRequest.Write file_id number patch) status = tt
-refusal_bare (FileRequest.Close file_id) status = tt
+refusal_bare request status = tt
 
 -- a reply, and nothing else
 pub told_trusted : (world : World) (c : ℕ) (reply : Reply) → is_bare reply → HasTrust world c

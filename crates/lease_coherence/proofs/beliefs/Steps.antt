@@ -21,7 +21,7 @@ use Rattle.lease_laws.proofs.world.Runs.{stepped_server}
 use Rattle.lease_coherence.specs.Creates.{held_by}
 use Rattle.lease_coherence.specs.Names.{Each}
 use Rattle.lease_coherence.specs.Standing.{IsNoClose, IsOpenFor, IsStandingAt, PhaseStands}
-use Rattle.lease_coherence.proofs.clients.Takes.{is_live}
+use Rattle.lease_laws.proofs.client.cases.Replies.{is_live}
 use Rattle.lease_coherence.proofs.creates.Creates.{stepped_machine, none_held}
 use Rattle.lease_coherence.proofs.moves.Events.{Ground, come_back, connected}
 use Rattle.lease_coherence.proofs.moves.Frames.{stepped_requests, stepped_replies}
@@ -195,28 +195,20 @@ connect_idle world c g down =
   where
     about : (file : ℕ) (sent : List Pending) (phase : Phase)
         → Each IsAboutFile (connect_turn (world.clients c) file sent phase).requests
-    about file sent Phase.Closed = tt
-    about file sent (Phase.Opening access share) = tt
-    about file sent (Phase.Live live) = tt
     about file sent (Phase.Offline parted) = (tt, tt)
-    about file sent (Phase.Reconnecting parted) = tt
+    about file sent phase = tt
 
     creates_alone : (file : ℕ) (sent : List Pending) (phase : Phase)
         → Each AsksCreate (connect_turn (world.clients c) file sent phase).requests
-    creates_alone file sent Phase.Closed = tt
-    creates_alone file sent (Phase.Opening access share) = tt
-    creates_alone file sent (Phase.Live live) = tt
     creates_alone file sent (Phase.Offline parted) = (tt, tt)
-    creates_alone file sent (Phase.Reconnecting parted) = tt
+    creates_alone file sent phase = tt
 
     idle : (file : ℕ) → (world.clients c).is_online ≡ false → (phase : Phase)
         → IsSoundPhase (world.clients c).is_online ((world.clients c).entries file).sent phase
         → is_live (connect_turn (world.clients c) file ((world.clients c).entries file).sent phase).entry.phase ≡ false
-    idle file off Phase.Closed sound = refl
-    idle file off (Phase.Opening access share) sound = refl
     idle file off (Phase.Live live) sound = clash (world.clients c).is_online sound.0 off
-    idle file off (Phase.Offline parted) sound = refl
     idle file off (Phase.Reconnecting parted) sound = clash (world.clients c).is_online sound.0 off
+    idle file off phase sound = refl
 
 pub connect_trusted : (world : World) (c : ℕ) → Ground world → world.links c ≡ Link.Down
     → HasTrust (connected world c) c

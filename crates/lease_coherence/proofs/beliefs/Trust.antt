@@ -18,7 +18,7 @@ use Rattle.lease_laws.proofs.server.Keys.{is_key-refl}
 use Rattle.lease_laws.proofs.server.Lists.{clash, not_true, has_any}
 use Rattle.lease_coherence.specs.Names.{Each, IsOwnOpen}
 use Rattle.lease_coherence.specs.Standing.{IsOpenFor, Stands, IsNoClose, GivenWell, PhaseStands, IsStandingAt}
-use Rattle.lease_coherence.proofs.clients.Takes.{is_live}
+use Rattle.lease_laws.proofs.client.cases.Replies.{is_live}
 use Rattle.lease_coherence.proofs.moves.Deeds.{IsSource, with_held}
 use Rattle.lease_coherence.proofs.moves.Ground.{among_put}
 use Rattle.lease_coherence.proofs.moves.Moves.{IsOldest, rest_of, popped}
@@ -93,16 +93,7 @@ nothing_stands world c file s own fresh none = (
     not_created : (reply : Reply) → GivenWell world c reply → is_created file reply ≡ false
     not_created (Reply.Created other file_id contexts) w = not_true (other == file)
         (λ same. never file_id (subst (λ f. Stands world c f file_id) (eqb-true other file same) w.stands))
-    not_created (Reply.CreateFailed other status) w = refl
-    not_created (Reply.ReadDone id bytes) w = refl
-    not_created (Reply.ReadFailed id status) w = refl
-    not_created (Reply.WriteDone id number) w = refl
-    not_created (Reply.WriteFailed id number status) w = refl
-    not_created (Reply.Closed id) w = refl
-    not_created (Reply.CloseFailed id status) w = refl
-    not_created (Reply.Break notice) w = refl
-    not_created (Reply.AckDone response) w = refl
-    not_created (Reply.AckFailed status) w = refl
+    not_created reply w = refl
 
 -- ---- what leaves the queue
 

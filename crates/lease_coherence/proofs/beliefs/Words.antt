@@ -11,7 +11,7 @@ use Rattle.lease_laws.proofs.server.Lists.{clash, or_true}
 use Rattle.lease_coherence.specs.Creates.{one_if}
 use Rattle.lease_coherence.specs.Names.{Each}
 use Rattle.lease_coherence.specs.Standing.{IsNoClose}
-use Rattle.lease_coherence.proofs.clients.Takes.{is_live}
+use Rattle.lease_laws.proofs.client.cases.Replies.{is_live}
 
 -- ---- messages of one file
 

@@ -28,18 +28,12 @@ live_open world c file live is fresh s = by_parts (subst (PhaseStands world c fi
     by_parts p = ⊎_elim (λ out. clash (world.server.expired (machine_key world c file)) out fresh) (λ o. o) p.0
 
 writer_live : (phase : Phase) → (belief_in phase).write ≡ true → (live : LiveEntry) × (phase ≡ Phase.Live live)
-writer_live Phase.Closed w = absurd (true≢false (sym w))
-writer_live (Phase.Opening access share) w = absurd (true≢false (sym w))
 writer_live (Phase.Live live) w = (live, refl)
-writer_live (Phase.Offline parted) w = absurd (true≢false (sym w))
-writer_live (Phase.Reconnecting parted) w = absurd (true≢false (sym w))
+writer_live phase w = absurd (true≢false (sym w))
 
 never_live : (phase : Phase) → ((live : LiveEntry) → phase ≡ Phase.Live live → ⊥) → belief_in phase ≡ nothing_cached
-never_live Phase.Closed never = refl
-never_live (Phase.Opening access share) never = refl
 never_live (Phase.Live live) never = absurd (never live refl)
-never_live (Phase.Offline parted) never = refl
-never_live (Phase.Reconnecting parted) never = refl
+never_live phase never = refl
 
 pub one_writer : (world : World) → HasLeases world → (file c other : ℕ) → other ≢ c
     → has_strayed c world.past ≡ false → is_up (world.links c) ≡ true

@@ -13,7 +13,7 @@ use Rattle.lease_laws.proofs.client.Thin.{put_same, put_other}
 use Rattle.lease_laws.proofs.server.Lists.{either, clash, and_both}
 use Rattle.lease_coherence.specs.Creates.{held_by}
 use Rattle.lease_coherence.specs.Standing.{IsNoClose}
-use Rattle.lease_coherence.proofs.clients.Files.{find_absent}
+use Rattle.lease_laws.proofs.client.cases.Files.{find_absent}
 use Rattle.lease_coherence.proofs.covered.Words.{ClosedBefore, closed_less}
 use Rattle.lease_coherence.proofs.moves.Deeds.{IsSource, WasHeld, with_held, held_in}
 use Rattle.lease_coherence.proofs.moves.Moves.{IsOldest, rest_of, popped}

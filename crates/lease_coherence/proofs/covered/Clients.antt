@@ -1,28 +1,28 @@
 -- Every step of a client keeps its opens covered, and reads and writes under the open of a live entry.
-use Rattle.std.proofs.Common.{◌≡◌, ◌≢◌, inl, inr, ⊎_elim, ℕ, ◌+◌, ◌≤◌, true, false, not, List, [], ◌∷◌, ◌++◌, Option, Some, None, refl, sym, ap, ◌∙◌, subst, arith, true≢false, ◌==◌}
-use Rattle.std.specs.Prelude.{◌&&◌, is_some}
+use Rattle.std.proofs.Common.{◌≡◌, ◌≢◌, inl, inr, ⊎_elim, ℕ, ◌+◌, ◌≤◌, true, false, List, [], ◌∷◌, ◌++◌, Option, Some, None, refl, sym, ap, ◌∙◌, subst, arith, true≢false, ◌==◌}
+use Rattle.std.specs.Prelude.{is_some}
 use Rattle.std.proofs.lemmas.Bool.{eqb-true, eq-eqb}
 use Rattle.lease_state.specs.declared.status.Status.{Status}
 use Rattle.lease_model.specs.client.Commanded.{create_request, next_write, cached_read, opened_anew, write_buffered, write_sent, flush_on_live, wrote_step, is_asking}
 use Rattle.lease_model.specs.client.Commands.{Answer}
 use Rattle.lease_model.specs.client.State.{Client, Entry, LiveEntry, Asked, Pending, Phase}
 use Rattle.lease_model.specs.client.Step.{Step, Turn, turned, quiet_step, write_requests}
-use Rattle.lease_model.specs.client.Taken.{break_turn, parked_closed, belief_lowered, opened_turn, reconnected_turn, promoted_turn, read_turn, read_failed_turn, is_file_closed, closed_by_server, phase_with, write_done_turn, write_failed_in}
-use Rattle.lease_model.specs.messages.Replies.{Reply, BreakNotice, CreateAnswer}
+use Rattle.lease_model.specs.client.Taken.{parked_closed, belief_lowered, opened_turn, reconnected_turn, promoted_turn, read_turn, is_file_closed, closed_by_server, phase_with, write_done_turn}
+use Rattle.lease_model.specs.messages.Replies.{Reply, CreateAnswer}
 use Rattle.lease_model.specs.messages.Requests.{FileRequest, Request}
-use Rattle.lease_model.specs.values.LeaseStates.{meet}
 use Rattle.lease_model.specs.values.Tables.{put}
 use Rattle.lease_laws.specs.client.Laws.{IsSoundClient}
 use Rattle.lease_laws.proofs.client.Thin.{put_same, put_other}
-use Rattle.lease_laws.proofs.server.Lists.{if_cases, either, and_parts}
+use Rattle.lease_laws.proofs.server.Lists.{either, and_parts}
 use Rattle.lease_laws.proofs.world.Links.{by_client}
-use Rattle.lease_coherence.specs.Creates.{answers, creates, asked_by, has_asked, one_if}
+use Rattle.lease_coherence.specs.Creates.{answers, creates, asked_by, one_if, has_asked}
 use Rattle.lease_coherence.specs.Standing.{FitsPhase}
-use Rattle.lease_coherence.proofs.clients.Commands.{HasCommands, sent_of}
-use Rattle.lease_coherence.proofs.clients.Takes.{HasTakes, PassesOver}
+use Rattle.lease_laws.proofs.client.cases.Commands.{HasCommands}
+use Rattle.lease_laws.proofs.client.cases.Replies.{HasTakes, PassesOver}
 use Rattle.lease_coherence.proofs.fresh.Clients.{sound_live}
 use Rattle.lease_coherence.proofs.standing.Clients.{FitsGiven}
 use Rattle.lease_coherence.proofs.covered.Words.{ClosedBefore, closed_more, closed_behind, closed_behind_writes, IsGrantOf, IsLiveUnder, IsCovered, cover_by, NotFailed}
+use Rattle.lease_coherence.proofs.creates.Counts.{none_asked}
 
 -- ---- commands
 
@@ -259,63 +259,6 @@ closed_status Status.FileClosed e = refl
 closed_status Status.AccessDenied e = absurd (true≢false (sym e))
 closed_status (_) e = cc
 
-read_failed_takes : (machine : Client) (at file_id : ℕ) (status : Status) (live : LiveEntry)
-    → (machine.entries at).phase ≡ Phase.Live live → live.file_id ≡ file_id
-    → TakeCovers machine (Reply.ReadFailed file_id status)
-    (turned machine at (read_failed_turn live (sent_of machine at) status))
-unfolding read_failed_turn closed_by_server
-read_failed_takes machine at file_id status live is id = if_cases
-    (λ (turn : Turn). TakeCovers machine (Reply.ReadFailed file_id status) (turned machine at turn)) (is_file_closed status) _ _
-    (λ gone. turn_takes machine (Reply.ReadFailed file_id status) at _ (λ file i ne g. g)
-    (λ queue i asked m u. absurd (m.not_failed (closed_status status gone)
-    (sym id ∙ ap (λ (l : LiveEntry). l.file_id) (one_live live u.live (sym is ∙ u.is)) ∙ u.id)))
-    (λ queue i asked m g. absurd g))
-    (λ there. plain_turn machine (Reply.ReadFailed file_id status) at _ (λ file i g. g) (same_turn at _ live _ _ is refl))
-  where
-    one_live : (x y : LiveEntry) → Phase.Live x ≡ Phase.Live y → x ≡ y
-    one_live x y e = cc
-
-write_failed_takes : (machine : Client) (at file_id number : ℕ) (status : Status) (sent : List Pending) (phase : Phase)
-    → (machine.entries at).phase ≡ phase
-    → TakeCovers machine (Reply.WriteFailed file_id number status)
-    (turned machine at (write_failed_in file_id number status sent phase))
-unfolding closed_by_server
-write_failed_takes machine at file_id number status sent Phase.Closed is =
-    plain_turn machine (Reply.WriteFailed file_id number status) at _ (λ file i g. g)
-    (idle_turn at _ _ _ (λ live e. not_live _ live is e))
-write_failed_takes machine at file_id number status sent (Phase.Opening access share) is =
-    plain_turn machine (Reply.WriteFailed file_id number status) at _ (λ file i g. g)
-    (idle_turn at _ _ _ (λ live e. never live (sym is ∙ e)))
-  where
-    never : (live : LiveEntry) → Phase.Opening access share ≡ Phase.Live live → ⊥
-    never live e = cc
-write_failed_takes machine at file_id number status sent (Phase.Live live) is = if_cases
-    (λ (turn : Turn). TakeCovers machine (Reply.WriteFailed file_id number status) (turned machine at turn))
-    (is_file_closed status && live.file_id == file_id) _ _
-    (λ gone. let parts = and_parts (is_file_closed status) (live.file_id == file_id) gone in
-    turn_takes machine (Reply.WriteFailed file_id number status) at _ (λ file i ne g. g)
-    (λ queue i asked m u. absurd (m.not_failed (closed_status status parts.0)
-    (sym (eqb-true live.file_id file_id parts.1)
-    ∙ ap (λ (l : LiveEntry). l.file_id) (one_live live u.live (sym is ∙ u.is)) ∙ u.id)))
-    (λ queue i asked m g. absurd g))
-    (λ there. plain_turn machine (Reply.WriteFailed file_id number status) at _ (λ file i g. g)
-    (same_turn at _ live live _ is refl))
-  where
-    one_live : (x y : LiveEntry) → Phase.Live x ≡ Phase.Live y → x ≡ y
-    one_live x y e = cc
-write_failed_takes machine at file_id number status sent (Phase.Offline parted) is =
-    plain_turn machine (Reply.WriteFailed file_id number status) at _ (λ file i g. g)
-    (idle_turn at _ _ _ (λ live e. never live (sym is ∙ e)))
-  where
-    never : (live : LiveEntry) → Phase.Offline parted ≡ Phase.Live live → ⊥
-    never live e = cc
-write_failed_takes machine at file_id number status sent (Phase.Reconnecting parted) is =
-    plain_turn machine (Reply.WriteFailed file_id number status) at _ (λ file i g. g)
-    (idle_turn at _ _ _ (λ live e. never live (sym is ∙ e)))
-  where
-    never : (live : LiveEntry) → Phase.Reconnecting parted ≡ Phase.Live live → ⊥
-    never live e = cc
-
 with_covers : (at : ℕ) (old : Phase) (write : Option Pending) (phase : Phase) → old ≡ phase
     → TurnCovers at old (phase_with write phase) []
 with_covers at old write Phase.Closed is = idle_turn at old _ [] (λ live e. not_live old live is e)
@@ -344,19 +287,6 @@ parked_idle live parked some = either (is_asking live)
     none : (n : ℕ) → n ≡ 0 → 1 ≤ n → ⊥
     none n e f = omega (arith, e, f)
 
-break_takes : (machine : Client) → IsSoundClient machine → (at : ℕ) (notice : BreakNotice) (live : LiveEntry)
-    → (machine.entries at).phase ≡ Phase.Live live
-    → TakeCovers machine (Reply.Break (Some notice))
-    (turned machine at (break_turn live (sent_of machine at) notice (meet live.belief notice.lowered)))
-unfolding break_turn parked_closed belief_lowered
-break_takes machine s at notice live is = if_cases
-    (λ (turn : Turn). TakeCovers machine (Reply.Break (Some notice)) (turned machine at turn))
-    (live.handles == 0 && (live.belief.handle && not (meet live.belief notice.lowered).handle)) _ _
-    (λ parked. plain_turn machine (Reply.Break (Some notice)) at _ (λ file i g. g)
-    (closing_turn at _ _ live live.unsent [] is
-    (parked_idle live (and_parts _ _ parked).0 (sound_live machine at live s is).asking_with_handles)))
-    (λ stays. plain_turn machine (Reply.Break (Some notice)) at _ (λ file i g. g) (same_turn at _ live _ _ is refl))
-
 -- a grant that is passed over isn't due
 passed_covers : (machine : Client) (reply : Reply) → PassesOver machine reply → TakeCovers machine reply (quiet_step machine)
 passed_covers machine (Reply.Created other id (Some answer)) why = unasked
@@ -368,35 +298,35 @@ passed_covers machine (Reply.Created other id (Some answer)) why = unasked
     unasked queue file file_id asked m c = still_covers (machine.entries file).phase file file_id asked [] queue
         (rest_covers (machine.entries file).phase (Reply.Created other id (Some answer)) queue file file_id asked
         (λ g. none (creates file asked) (answers file queue) (one_if (other == file)) (asked_by machine file) m.counted
-        (ap one_if (eq-eqb other file g.0)) (ap one_if (ap (λ f. has_asked (machine.entries f).phase) (sym g.0) ∙ why))) c)
+        (ap one_if (eq-eqb other file g.0)) (ap one_if (ap (λ f. has_asked (machine.entries f).phase) (sym g.0) ∙ none_asked
+        (machine.entries other).phase why))) c)
 passed_covers machine (Reply.Created other id None) why = plain_covers machine _ (quiet_step machine) (λ f i g. g)
     (idle_covers machine Answer.Quiet)
-passed_covers machine (Reply.CreateFailed other status) why = plain_covers machine _ (quiet_step machine) (λ f i g. g)
-    (idle_covers machine Answer.Quiet)
-passed_covers machine (Reply.ReadDone id bytes) why = plain_covers machine _ (quiet_step machine) (λ f i g. g)
-    (idle_covers machine Answer.Quiet)
-passed_covers machine (Reply.ReadFailed id status) why = plain_covers machine _ (quiet_step machine) (λ f i g. g)
-    (idle_covers machine Answer.Quiet)
-passed_covers machine (Reply.WriteDone id number) why = plain_covers machine _ (quiet_step machine) (λ f i g. g)
-    (idle_covers machine Answer.Quiet)
-passed_covers machine (Reply.WriteFailed id number status) why = plain_covers machine _ (quiet_step machine) (λ f i g. g)
-    (idle_covers machine Answer.Quiet)
-passed_covers machine (Reply.Closed id) why = plain_covers machine _ (quiet_step machine) (λ f i g. g)
-    (idle_covers machine Answer.Quiet)
-passed_covers machine (Reply.CloseFailed id status) why = plain_covers machine _ (quiet_step machine) (λ f i g. g)
-    (idle_covers machine Answer.Quiet)
-passed_covers machine (Reply.Break notice) why = plain_covers machine _ (quiet_step machine) (λ f i g. g)
-    (idle_covers machine Answer.Quiet)
-passed_covers machine (Reply.AckDone response) why = plain_covers machine _ (quiet_step machine) (λ f i g. g)
-    (idle_covers machine Answer.Quiet)
-passed_covers machine (Reply.AckFailed status) why = plain_covers machine _ (quiet_step machine) (λ f i g. g)
+passed_covers machine reply why = plain_covers machine _ (quiet_step machine) (λ f i g. g)
     (idle_covers machine Answer.Quiet)
 
+-- an open that is gone: the reply would have failed it
+gone_covers : (machine : Client) (reply : Reply) (at gone : ℕ) (live : LiveEntry) (turn : Turn)
+    → (machine.entries at).phase ≡ Phase.Live live → live.file_id ≡ gone → IsNoGrant reply
+    → (NotFailed gone reply → ⊥) → TakeCovers machine reply (turned machine at turn)
+gone_covers machine reply at gone live turn is id none failed = turn_takes machine reply at turn
+    (λ file other ne g. none file other g)
+    (λ queue other asked m u. absurd (failed (subst (λ n. NotFailed n reply)
+    (sym (ap (λ (l : LiveEntry). l.file_id) (one_live live u.live (sym is ∙ u.is)) ∙ u.id) ∙ id) m.not_failed)))
+    (λ queue other asked m g. absurd (none at other g))
+  where
+    one_live : (x y : LiveEntry) → Phase.Live x ≡ Phase.Live y → x ≡ y
+    one_live x y e = cc
+
 pub takes_cover : (machine : Client) → IsSoundClient machine → HasTakes machine (TakeCovers machine)
-unfolding opened_turn reconnected_turn promoted_turn read_turn write_done_turn
+unfolding opened_turn reconnected_turn promoted_turn read_turn write_done_turn parked_closed belief_lowered closed_by_server
 takes_cover machine s = record {
   passed = λ reply why. passed_covers machine reply why;
-  broken = λ at notice live found is. break_takes machine s at notice live is;
+  parked_closes = λ at notice live found is parked. plain_turn machine (Reply.Break (Some notice)) at _ (λ file i g. g)
+      (closing_turn at _ _ live live.unsent [] is
+      (parked_idle live (and_parts _ _ parked).0 (sound_live machine at live s is).asking_with_handles));
+  lowered = λ at notice live found is stays. plain_turn machine (Reply.Break (Some notice)) at _ (λ file i g. g)
+      (same_turn at _ live _ _ is refl);
   opened = λ at file_id answer access share is. granted_takes machine at file_id answer _ _ refl
       (λ queue id asked m u. absurd (opening u.live (sym is ∙ u.is))) (λ fits. refl);
   reconnected = λ at file_id answer parted is. granted_takes machine at file_id answer _ _ refl
@@ -412,11 +342,17 @@ takes_cover machine s = record {
       (same_turn at _ live _ _ is refl);
   read = λ at file_id bytes live is id some. plain_turn machine (Reply.ReadDone file_id bytes) at _ (λ file i g. g)
       (same_turn at _ live _ _ is refl);
-  not_read = λ at file_id status live is id some. read_failed_takes machine at file_id status live is id;
+  read_closed = λ at file_id status live is id gone. gone_covers machine (Reply.ReadFailed file_id status) at file_id live
+      _ is id (λ file i g. g) (λ n. n (closed_status status gone) refl);
+  not_read = λ at file_id status live is id some. plain_turn machine (Reply.ReadFailed file_id status) at _
+      (λ file i g. g) (same_turn at _ live _ _ is refl);
   written = λ at file_id number has known. plain_turn machine (Reply.WriteDone file_id number) at _ (λ file i g. g)
       (with_covers at (machine.entries at).phase _ (machine.entries at).phase refl);
-  not_written = λ at file_id number status has known.
-      write_failed_takes machine at file_id number status _ (machine.entries at).phase refl;
+  write_closed = λ at file_id number status live has known is id gone. gone_covers machine
+      (Reply.WriteFailed file_id number status) at file_id live _ is id (λ file i g. g)
+      (λ n. n (closed_status status gone) refl);
+  not_written = λ at file_id number status has known. plain_turn machine (Reply.WriteFailed file_id number status) at _
+      (λ file i g. g) (λ id asked queue quiet u. inl u);
 }
   where
     opening : {access : _} {share : _} (live : LiveEntry) → Phase.Opening access share ≡ Phase.Live live → ⊥

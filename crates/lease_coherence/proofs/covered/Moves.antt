@@ -98,9 +98,7 @@ pub uses_in : (world new : World) (c : ℕ) → KeepsOpens world new c → (requ
     → UsesUp new c request
 uses_in world new c k (Request.OnFile (FileRequest.Read id)) u = used_in world new c id k u
 uses_in world new c k (Request.OnFile (FileRequest.Write id number patch)) u = used_in world new c id k u
-uses_in world new c k (Request.OnFile (FileRequest.Create file access share contexts)) u = tt
-uses_in world new c k (Request.OnFile (FileRequest.Close id)) u = tt
-uses_in world new c k (Request.Acknowledge given) u = tt
+uses_in world new c k request u = tt
 
 lost_in : (world new : World) (c id : ℕ) → KeepsOpens world new c → IsLost world c id → IsLost new c id
 lost_in world new c id k l = record {
@@ -115,15 +113,7 @@ pub fails_in : (world new : World) (c : ℕ) → KeepsOpens world new c → (rep
     → FailsGone new c reply
 fails_in world new c k (Reply.ReadFailed id status) f = λ e. lost_in world new c id k (f e)
 fails_in world new c k (Reply.WriteFailed id number status) f = λ e. lost_in world new c id k (f e)
-fails_in world new c k (Reply.Created other id contexts) f = tt
-fails_in world new c k (Reply.CreateFailed other status) f = tt
-fails_in world new c k (Reply.ReadDone id bytes) f = tt
-fails_in world new c k (Reply.WriteDone id number) f = tt
-fails_in world new c k (Reply.Closed id) f = tt
-fails_in world new c k (Reply.CloseFailed id status) f = tt
-fails_in world new c k (Reply.Break notice) f = tt
-fails_in world new c k (Reply.AckDone response) f = tt
-fails_in world new c k (Reply.AckFailed status) f = tt
+fails_in world new c k reply f = tt
 
 -- ---- one client
 
@@ -235,19 +225,16 @@ refused_lost off c id u none = record {
 pub refusal_gone : (off : World) (c : ℕ) (request : FileRequest) (status : Status)
     → MayRefuse off.server c request status → UsesUp off c (Request.OnFile request)
     → FailsGone off c (refusal_of request status)
-refusal_gone off c (FileRequest.Create file access share contexts) status may u = tt
 refusal_gone off c (FileRequest.Read id) status may u = λ closed. refused_lost off c id u (may closed)
 refusal_gone off c (FileRequest.Write id number patch) status may u = λ closed. refused_lost off c id u (may closed)
-refusal_gone off c (FileRequest.Close id) status may u = tt
+refusal_gone off c request status may u = tt
 
 pub refusal_closes : (off : World) (c : ℕ) (request : FileRequest) (status : Status)
     → MayRefuse off.server c request status → (x : Open) → Among x off.server.opens → x.client ≡ c → x.connected ≡ true
     → IsNoClose x.file_id (Request.OnFile request)
-refusal_closes off c (FileRequest.Create file access share contexts) status may x there by up = tt
-refusal_closes off c (FileRequest.Read id) status may x there by up = tt
-refusal_closes off c (FileRequest.Write id number patch) status may x there by up = tt
 refusal_closes off c (FileRequest.Close id) status may x there by up =
     λ same. never_lost off.server c id x there by (sym same) up may
+refusal_closes off c request status may x there by up = tt
 
 -- a file is changed
 pub changed_covered : (off : World) (c file id number : ℕ) (patch : Patch)

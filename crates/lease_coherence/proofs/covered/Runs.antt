@@ -37,8 +37,8 @@ use Rattle.lease_coherence.specs.Names.{Each, IsNamedAt, IsNamedPhase}
 use Rattle.lease_coherence.specs.Standing.{AllAsked, IsNoClose, IsStandingAt, GivenWell, PhaseStands}
 use Rattle.lease_coherence.proofs.beliefs.Closed.{left_there}
 use Rattle.lease_coherence.proofs.beliefs.Steps.{AsksCreate, connect_idle}
-use Rattle.lease_coherence.proofs.clients.Commands.{any_command}
-use Rattle.lease_coherence.proofs.clients.Takes.{any_reply}
+use Rattle.lease_laws.proofs.client.cases.Commands.{any_command}
+use Rattle.lease_laws.proofs.client.cases.Replies.{any_reply}
 use Rattle.lease_coherence.proofs.covered.Asked.{popped_closed, held_closed}
 use Rattle.lease_coherence.proofs.covered.Clients.{IsQuiet, StepCovers, commands_cover, IsMetWith, TakeCovers, takes_cover}
 use Rattle.lease_coherence.proofs.covered.Moves.{itself, KeepsOpens, IsUsed, UsesUp, uses_in, FailsGone, fails_in, HasCovered, IsUpCovered, covered_in, IsLeftCovered, off_covered, told_covered, refusal_gone, refusal_closes, changed_covered, granted_covered, reconnected_covered}
@@ -276,10 +276,7 @@ connect_covered world c g down =
   where
     plain : (r : Request) → AsksCreate r → UsesUp (connected world c) c r
     plain (Request.OnFile (FileRequest.Create file access share contexts)) a = tt
-    plain (Request.OnFile (FileRequest.Read id)) a = absurd a
-    plain (Request.OnFile (FileRequest.Write id number patch)) a = absurd a
-    plain (Request.OnFile (FileRequest.Close id)) a = absurd a
-    plain (Request.Acknowledge given) a = absurd a
+    plain request a = absurd a
 
 -- ---- steps of the client
 
@@ -317,9 +314,7 @@ live_uses : (world : World) (c : ℕ) → IsKnownFor world c → (request : Requ
     → UsesUp world c request
 live_uses world c k (Request.OnFile (FileRequest.Read id)) u = used_live world c id k u
 live_uses world c k (Request.OnFile (FileRequest.Write id number patch)) u = used_live world c id k u
-live_uses world c k (Request.OnFile (FileRequest.Create file access share contexts)) u = tt
-live_uses world c k (Request.OnFile (FileRequest.Close id)) u = tt
-live_uses world c k (Request.Acknowledge given) u = tt
+live_uses world c k request u = tt
 
 step_covered : (world before : World) (c : ℕ) (step : Step) → is_up (before.links c) ≡ true
     → step.client.guid ≡ (before.clients c).guid → before.server ≡ world.server → before.clients ≡ world.clients
@@ -409,15 +404,7 @@ pub not_failed : (world : World) (c : ℕ) (reply : Reply) (x : Open) → Among 
 not_failed world c (Reply.ReadFailed id status) x there by fresh f = λ closed same. (f closed).gone x there by (sym same) fresh
 not_failed world c (Reply.WriteFailed id number status) x there by fresh f =
     λ closed same. (f closed).gone x there by (sym same) fresh
-not_failed world c (Reply.Created other id contexts) x there by fresh f = tt
-not_failed world c (Reply.CreateFailed other status) x there by fresh f = tt
-not_failed world c (Reply.ReadDone id bytes) x there by fresh f = tt
-not_failed world c (Reply.WriteDone id number) x there by fresh f = tt
-not_failed world c (Reply.Closed id) x there by fresh f = tt
-not_failed world c (Reply.CloseFailed id status) x there by fresh f = tt
-not_failed world c (Reply.Break notice) x there by fresh f = tt
-not_failed world c (Reply.AckDone response) x there by fresh f = tt
-not_failed world c (Reply.AckFailed status) x there by fresh f = tt
+not_failed world c reply x there by fresh f = tt
 
 -- what is met, of one file
 pub met_with : (world : World) (c : ℕ) (reply : Reply) (queue : List Reply) → world.replies c ≡ reply ∷ queue

@@ -1,6 +1,6 @@
 -- Each connected open of a client is its entry's, or a Close of it is asked, or it is granted by a reply on its way: in
 -- words of one file, its entry and its queues.
-use Rattle.std.proofs.Common.{◌≡◌, ◌≢◌, ◌⊎◌, inl, inr, ⊎_elim, ℕ, ◌+◌, List, [], ◌∷◌, ◌++◌, Some, None, refl, ap, arith, ◌==◌}
+use Rattle.std.proofs.Common.{◌≡◌, ◌≢◌, ◌⊎◌, inl, inr, ⊎_elim, ℕ, ◌+◌, List, [], ◌∷◌, ◌++◌, Some, refl, ap, arith, ◌==◌}
 use Rattle.std.specs.Prelude.{⊤}
 use Rattle.std.proofs.lemmas.Bool.{eq-eqb}
 use Rattle.lease_state.specs.declared.status.Status.{Status}
@@ -44,9 +44,6 @@ pub closed_less : (file file_id : ℕ) (before behind : List Request) (request :
 closed_less file file_id [] behind (Request.OnFile (FileRequest.Close other)) kept c =
     ⊎_elim (λ e. absurd (kept e)) (λ l. l) c
 closed_less file file_id [] behind (Request.OnFile (FileRequest.Create other access share contexts)) kept c = c.1
-closed_less file file_id [] behind (Request.OnFile (FileRequest.Read other)) kept c = c
-closed_less file file_id [] behind (Request.OnFile (FileRequest.Write other number patch)) kept c = c
-closed_less file file_id [] behind (Request.Acknowledge given) kept c = c
 closed_less file file_id (Request.OnFile (FileRequest.Close other) ∷ before) behind request kept c =
     ⊎_elim (λ e. inl e) (λ l. inr (closed_less file file_id before behind request kept l)) c
 closed_less file file_id (Request.OnFile (FileRequest.Create other access share contexts) ∷ before) behind request kept c =
@@ -57,6 +54,7 @@ closed_less file file_id (Request.OnFile (FileRequest.Write other number patch) 
     closed_less file file_id before behind request kept c
 closed_less file file_id (Request.Acknowledge given ∷ before) behind request kept c =
     closed_less file file_id before behind request kept c
+closed_less file file_id [] behind request kept c = c
 
 -- behind requests that create nothing of the file
 pub closed_behind : (file file_id : ℕ) (queue more : List Request) → creates file queue ≡ 0
@@ -121,17 +119,7 @@ grant_last file file_id (x ∷ queue) reply is = inr (grant_last file file_id qu
 
 pub grant_answers : (file file_id : ℕ) (reply : Reply) → IsGrantOf file file_id reply → answer_of file reply ≡ 1
 grant_answers file file_id (Reply.Created other given (Some answer)) g = ap one_if (eq-eqb other file g.0)
-grant_answers file file_id (Reply.Created other given None) g = absurd g
-grant_answers file file_id (Reply.CreateFailed other status) g = absurd g
-grant_answers file file_id (Reply.ReadDone id bytes) g = absurd g
-grant_answers file file_id (Reply.ReadFailed id status) g = absurd g
-grant_answers file file_id (Reply.WriteDone id number) g = absurd g
-grant_answers file file_id (Reply.WriteFailed id number status) g = absurd g
-grant_answers file file_id (Reply.Closed id) g = absurd g
-grant_answers file file_id (Reply.CloseFailed id status) g = absurd g
-grant_answers file file_id (Reply.Break notice) g = absurd g
-grant_answers file file_id (Reply.AckDone response) g = absurd g
-grant_answers file file_id (Reply.AckFailed status) g = absurd g
+grant_answers file file_id reply g = absurd g
 
 pub never_granted : (file file_id : ℕ) (queue : List Reply) → answers file queue ≡ 0 → HasGrant file file_id queue → ⊥
 never_granted file file_id [] none g = g

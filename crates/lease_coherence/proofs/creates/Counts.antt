@@ -1,15 +1,24 @@
 -- How many creates of a file are under way: asked, held, or answered and not yet taken.
-use Rattle.std.proofs.Common.{◌≡◌, ℕ, ◌+◌, true, List, [], ◌∷◌, ◌++◌, refl, sym, ap, ◌∙◌, arith, true≢false, ◌==◌}
+use Rattle.std.proofs.Common.{◌≡◌, ℕ, ◌+◌, true, List, [], ◌∷◌, ◌++◌, refl, sym, ap, ◌∙◌, arith, true≢false, ◌==◌, false}
 use Rattle.lease_state.specs.declared.status.Status.{Status}
-use Rattle.lease_model.specs.client.State.{Pending}
+use Rattle.lease_model.specs.client.State.{Pending, Phase}
 use Rattle.lease_model.specs.client.Step.{write_requests}
 use Rattle.lease_model.specs.messages.Replies.{Reply}
 use Rattle.lease_model.specs.messages.Requests.{FileRequest, Request}
 use Rattle.lease_model.specs.server.Progress.{refusal_of}
 use Rattle.lease_model.specs.server.State.{Held}
+use Rattle.lease_laws.proofs.client.cases.Replies.{AwaitsNone}
 use Rattle.lease_laws.proofs.server.Lists.{if_cases}
 use Rattle.lease_coherence.proofs.moves.Events.{chosen, not_chosen}
-use Rattle.lease_coherence.specs.Creates.{answer_of, answers, create_of, creates, held_by, held_creates}
+use Rattle.lease_coherence.specs.Creates.{answer_of, answers, create_of, creates, has_asked, held_by, held_creates}
+
+-- an entry that waits for no answer to a create has asked for none
+pub none_asked : (phase : Phase) → AwaitsNone phase → has_asked phase ≡ false
+none_asked Phase.Closed idle = refl
+none_asked (Phase.Opening access share) idle = absurd idle
+none_asked (Phase.Live live) idle = idle
+none_asked (Phase.Offline parted) idle = refl
+none_asked (Phase.Reconnecting parted) idle = absurd idle
 
 -- ---- sums
 
@@ -66,9 +75,7 @@ held_among file client (x ∷ before) behind one own = if_cases
 pub refusal_answers : (file : ℕ) (request : FileRequest) (status : Status)
     → answer_of file (refusal_of request status) ≡ create_of file request
 refusal_answers file (FileRequest.Create other access share contexts) status = refl
-refusal_answers file (FileRequest.Read file_id) status = refl
-refusal_answers file (FileRequest.Write file_id number patch) status = refl
-refusal_answers file (FileRequest.Close file_id) status = refl
+refusal_answers file request status = refl
 
 -- writes are no creates
 pub writes_create : (file file_id : ℕ) (writes : List Pending) → creates file (write_requests file_id writes) ≡ 0

@@ -31,10 +31,10 @@ use Rattle.lease_laws.proofs.client.Thin.{put_same, put_other}
 use Rattle.lease_laws.proofs.server.Lists.{if_cases, either, clash, not_true, among_behind}
 use Rattle.lease_laws.proofs.world.Links.{stepped_links}
 use Rattle.lease_laws.proofs.world.Runs.{stepped_server, stepped_clients}
-use Rattle.lease_coherence.specs.Creates.{IsCountedAt, answer_of, answers, asked_by, create_of, creates, has_asked, held_by, held_creates, one_if, under_way}
+use Rattle.lease_coherence.specs.Creates.{IsCountedAt, answer_of, answers, asked_by, create_of, creates, held_by, held_creates, one_if, under_way, has_asked}
 use Rattle.lease_coherence.specs.Names.{Each, IsNamedReply}
-use Rattle.lease_coherence.proofs.clients.Commands.{any_command}
-use Rattle.lease_coherence.proofs.clients.Takes.{any_reply}
+use Rattle.lease_laws.proofs.client.cases.Commands.{any_command}
+use Rattle.lease_laws.proofs.client.cases.Replies.{any_reply}
 use Rattle.lease_coherence.proofs.creates.Counts.{creates_append, answers_last, held_among, refusal_answers}
 use Rattle.lease_coherence.proofs.creates.Steps.{none_answered, IsCountedStep, IsCountedTake, commands_count, takes_count}
 use Rattle.lease_coherence.proofs.moves.Deeds.{IsSource, HasArrived, WasHeld, with_held, told_to, held_in, granted_in, reconnected_in, changed_in, without_opens, leased_in, granted_reply, reconnected_reply, done_reply}
@@ -74,9 +74,7 @@ create_here : (server : Server) (at file : ℕ) (request : FileRequest) → IsAb
     → create_of file request ≡ 0
 create_here server at file (FileRequest.Create other access share contexts) about ne =
     ap one_if (not_true (other == file) (λ e. ne (sym about ∙ eqb-true other file e)))
-create_here server at file (FileRequest.Read file_id) about ne = refl
-create_here server at file (FileRequest.Write file_id number patch) about ne = refl
-create_here server at file (FileRequest.Close file_id) about ne = refl
+create_here server at file request about ne = refl
 
 abbrev pub left_over : World → ℕ → ℕ → ℕ
 left_over world c file = creates file (world.requests c) + held_creates file (held_by c (world.server.held file))
@@ -219,9 +217,7 @@ hold_at world at one oldest turn a =
         → create_of file request ≡ 0
     not_its file (FileRequest.Create other access share contexts) e ne = ap one_if (not_true (other == file)
         (λ same. ne (sym (eqb-true other file same) ∙ asked_file world.server other at contexts e)))
-    not_its file (FileRequest.Read file_id) e ne = refl
-    not_its file (FileRequest.Write file_id number patch) e ne = refl
-    not_its file (FileRequest.Close file_id) e ne = refl
+    not_its file request e ne = refl
 
     moved : (q q1 r h h1 n t : ℕ) → q ≡ n + r → q1 ≡ r → h1 ≡ n + h → q1 + h1 + t ≡ q + h + t
     moved q q1 r h h1 n t e f i = omega (arith, e, f, i)
@@ -233,8 +229,7 @@ hold_at world at one oldest turn a =
 
 pub up_link : (link : Link) → is_up link ≡ true → link ≡ Link.Up
 up_link Link.Up e = refl
-up_link Link.Down e = absurd (true≢false (sym e))
-up_link Link.Cut e = absurd (true≢false (sym e))
+up_link link e = absurd (true≢false (sym e))
 
 -- the queues of a client whose link is up, after a step of it
 stepped_under_way : (world : World) (client : ℕ) (step : Step) → is_up (world.links client) ≡ true → (file : ℕ)
@@ -319,11 +314,10 @@ connect_sends : (client : Client) (file other : ℕ) (sent : List Pending) (phas
     → creates other (connect_turn client file sent phase).requests
     ≡ (if file == other then one_if (has_asked (connect_turn client file sent phase).entry.phase) else 0)
 connect_sends client file other sent Phase.Closed idle = neither (file == other) 0 refl
-connect_sends client file other sent (Phase.Opening access share) never = absurd (true≢false never)
 connect_sends client file other sent (Phase.Live live) idle =
     neither (file == other) 0 refl ∙ ap (λ b. if file == other then one_if b else 0) (sym idle)
 connect_sends client file other sent (Phase.Offline parted) idle = one (file == other)
-connect_sends client file other sent (Phase.Reconnecting parted) never = absurd (true≢false never)
+connect_sends client file other sent phase never = absurd (true≢false never)
 
 -- in files that are numbered, each sends once
 all_send : (client : Client) (file : ℕ) → ((f : ℕ) → has_asked (client.entries f).phase ≡ false) → (count : ℕ)
@@ -389,14 +383,13 @@ pub away_idle : (online : Bool) (entry : Entry) → online ≡ false → IsSound
 away_idle online entry off sound = by_phase entry.phase refl
   where
     by_phase : (phase : Phase) → entry.phase ≡ phase → has_asked entry.phase ≡ false
-    by_phase Phase.Closed is = ap has_asked is
     by_phase (Phase.Opening access share) is =
         clash online (subst (λ p. IsSoundPhase online entry.sent p) is sound) off
     by_phase (Phase.Live live) is =
         clash online (subst (λ p. IsSoundPhase online entry.sent p) is sound).0 off
-    by_phase (Phase.Offline parted) is = ap has_asked is
     by_phase (Phase.Reconnecting parted) is =
         clash online (subst (λ p. IsSoundPhase online entry.sent p) is sound).0 off
+    by_phase phase is = ap has_asked is
 
 unknown_idle : (client : Client) (file : ℕ) → (client.entries file).phase ≡ Phase.Closed → 0 ≡ sends_again client file
 unknown_idle client file closed =

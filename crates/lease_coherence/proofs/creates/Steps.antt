@@ -1,14 +1,13 @@
 -- What a client's step adds to the creates under way, and what it takes.
-use Rattle.std.proofs.Common.{◌≡◌, ◌≢◌, ℕ, ◌+◌, ◌≤◌, Bool, true, false, List, [], ◌∷◌, ◌++◌, Option, Some, None, refl, sym, ap, ap₂, ◌∙◌, subst, arith, ◌==◌}
-use Rattle.std.specs.Prelude.{is_some, ◌&&◌, not, if◌then◌else◌}
+use Rattle.std.proofs.Common.{◌≡◌, ◌≢◌, ℕ, ◌+◌, ◌≤◌, true, false, List, [], ◌∷◌, ◌++◌, Option, Some, None, refl, sym, ap, ap₂, ◌∙◌, subst, arith, ◌==◌}
+use Rattle.std.specs.Prelude.{is_some, if◌then◌else◌}
 use Rattle.std.proofs.lemmas.Bool.{eq-eqb, eqb-true}
 use Rattle.lease_state.specs.State.{State}
-use Rattle.lease_state.specs.declared.status.Status.{Status}
 use Rattle.lease_model.specs.client.Commanded.{is_asking, next_write, cached_read, opened_anew, write_buffered, write_sent, flush_on_live, wrote_step}
 use Rattle.lease_model.specs.client.Commands.{Answer}
 use Rattle.lease_model.specs.client.State.{Client, Entry, LiveEntry, Asked, Pending, Phase}
 use Rattle.lease_model.specs.client.Step.{Step, Turn, turned, write_requests}
-use Rattle.lease_model.specs.client.Taken.{break_turn, parked_closed, belief_lowered, flushed, opened_turn, reconnected_turn, promoted_turn, read_turn, read_failed_turn, is_file_closed, closed_by_server, without_open, phase_with, write_done_turn, write_failed_in}
+use Rattle.lease_model.specs.client.Taken.{parked_closed, belief_lowered, flushed, opened_turn, reconnected_turn, promoted_turn, read_turn, closed_by_server, without_open, phase_with, write_done_turn, acknowledgment, sent_without}
 use Rattle.lease_model.specs.messages.Replies.{Reply, BreakNotice}
 use Rattle.lease_model.specs.messages.Requests.{FileRequest, Request}
 use Rattle.lease_model.specs.records.Facts.{Fact}
@@ -16,11 +15,12 @@ use Rattle.lease_model.specs.values.Tables.{put}
 use Rattle.lease_laws.proofs.client.Thin.{put_same, put_other}
 use Rattle.lease_laws.proofs.server.Lists.{if_cases, either, and_parts}
 use Rattle.lease_laws.proofs.world.Links.{by_client}
-use Rattle.lease_coherence.specs.Creates.{answer_of, asked_by, creates, has_asked, one_if}
+use Rattle.lease_coherence.specs.Creates.{answer_of, asked_by, creates, one_if, has_asked}
 use Rattle.lease_coherence.specs.Names.{IsNamedReply}
-use Rattle.lease_coherence.proofs.clients.Commands.{HasCommands, sent_of}
-use Rattle.lease_coherence.proofs.clients.Takes.{HasTakes, PassesOver}
-use Rattle.lease_coherence.proofs.creates.Counts.{creates_append, writes_create}
+use Rattle.lease_laws.proofs.client.cases.Commands.{HasCommands, sent_of}
+use Rattle.lease_laws.proofs.client.cases.Replies.{HasTakes, PassesOver}
+use Rattle.lease_coherence.proofs.creates.Counts.{creates_append, writes_create, none_asked}
+use Rattle.lease_model.specs.values.LeaseStates.{meet}
 
 -- a step of the client: so many creates were answered to it
 abbrev pub IsCountedStep : Client → (ℕ → ℕ) → Step → Type 0
@@ -158,69 +158,18 @@ answered_turn client file turn asked done none = turned_counts client (λ other.
     one_less : 1 + 0 ≡ 0 + 1
     one_less = omega arith
 
-break_counts : (client : Client) (file : ℕ) (notice : BreakNotice) (live : LiveEntry) (new : State)
-    → (client.entries file).phase ≡ Phase.Live live → ((live.handles == 0) ≡ true → is_asking live ≡ false)
-    → IsCountedStep client none_answered (turned client file (break_turn live (sent_of client file) notice new))
-unfolding break_turn parked_closed belief_lowered
-break_counts client file notice live new is parked_idle =
-    if_cases (λ turn. IsCountedStep client none_answered (turned client file turn))
-    (live.handles == 0 && (live.belief.handle && not new.handle)) _ _
-    (λ parked. quiet_turn client file _ (λ other. close_none other live.file_id live.unsent)
-    (sym (phase_idle client file live is
-    (parked_idle (and_parts (live.handles == 0) _ parked).0))))
-    (λ stays. quiet_turn client file _
-    (λ other. creates_append other (write_requests live.file_id (flushed live.belief new live.unsent)) _
-    ∙ ap₂ (λ a b. a + b) (writes_create other live.file_id (flushed live.belief new live.unsent))
-    (ack_none other notice.ack_required) ∙ zeros)
-    (sym (ap has_asked is)))
-  where
-    ack_none : (other : ℕ) (b : Bool)
-        → creates other (if b then Request.Acknowledge (Some (record { key = notice.key; state = new })) ∷ [] else []) ≡ 0
-    ack_none other true = refl
-    ack_none other false = refl
-
-    zeros : 0 + 0 ≡ 0
-    zeros = omega arith
+ack_none : (other : ℕ) (notice : BreakNotice) (new : State) → creates other (acknowledgment notice new) ≡ 0
+ack_none other notice new = if_cases (λ asked. creates other asked ≡ 0) notice.ack_required _ [] (λ asks. refl)
+    (λ plain. refl)
 
 -- an entry whose open is gone asks as before
 open_gone : (asking : Option Asked) (sent : List Pending) → has_asked (without_open asking sent).phase ≡ is_some asking
 open_gone None sent = refl
 open_gone (Some asked) sent = refl
 
-read_failed_counts : (client : Client) (file : ℕ) (live : LiveEntry) (status : Status)
-    → (client.entries file).phase ≡ Phase.Live live
-    → IsCountedStep client none_answered (turned client file (read_failed_turn live (sent_of client file) status))
-unfolding read_failed_turn closed_by_server
-read_failed_counts client file live status is =
-    if_cases (λ turn. IsCountedStep client none_answered (turned client file turn)) (is_file_closed status) _ _
-    (λ gone. quiet_turn client file _ (λ other. refl)
-    (open_gone live.asking (sent_of client file) ∙ sym (ap has_asked is)))
-    (λ there. quiet_turn client file _ (λ other. refl) (sym (ap has_asked is)))
-
-write_failed_counts : (client : Client) (file file_id number : ℕ) (status : Status) (sent : List Pending)
-    (phase : Phase) → (client.entries file).phase ≡ phase
-    → IsCountedStep client none_answered (turned client file (write_failed_in file_id number status sent phase))
-unfolding closed_by_server
-write_failed_counts client file file_id number status sent Phase.Closed is =
-    quiet_turn client file _ (λ other. refl) (sym (ap has_asked is))
-write_failed_counts client file file_id number status sent (Phase.Opening access share) is =
-    quiet_turn client file _ (λ other. refl) (sym (ap has_asked is))
-write_failed_counts client file file_id number status sent (Phase.Live live) is =
-    if_cases (λ turn. IsCountedStep client none_answered (turned client file turn))
-    (is_file_closed status && live.file_id == file_id) _ _
-    (λ gone. quiet_turn client file _ (λ other. refl) (open_gone live.asking sent ∙ sym (ap has_asked is)))
-    (λ there. quiet_turn client file _ (λ other. refl) (sym (ap has_asked is)))
-write_failed_counts client file file_id number status sent (Phase.Offline parted) is =
-    quiet_turn client file _ (λ other. refl) (sym (ap has_asked is))
-write_failed_counts client file file_id number status sent (Phase.Reconnecting parted) is =
-    quiet_turn client file _ (λ other. refl) (sym (ap has_asked is))
-
 phase_with_asks : (write : Option Pending) (phase : Phase) → has_asked (phase_with write phase) ≡ has_asked phase
 phase_with_asks write Phase.Closed = refl
-phase_with_asks write (Phase.Opening access share) = refl
-phase_with_asks write (Phase.Live live) = refl
-phase_with_asks write (Phase.Offline parted) = refl
-phase_with_asks write (Phase.Reconnecting parted) = refl
+phase_with_asks write phase = refl
 
 -- a create's answer isn't passed over
 passed_none : (client : Client) (file : ℕ) → has_asked (client.entries file).phase ≡ false
@@ -236,18 +185,27 @@ passed_counts : (c : ℕ) (client : Client) (past : List Fact) (reply : Reply)
     → answer_of file reply + asked_by client file ≡ creates file [] + asked_by client file
 passed_counts c client past (Reply.Created at file_id None) why named low file = absurd named
 passed_counts c client past (Reply.Created at file_id (Some answer)) why named low file =
-    absurd (passed_none client at why low)
-passed_counts c client past (Reply.CreateFailed at status) why named low file = absurd (passed_none client at why low)
+    absurd (passed_none client at (none_asked (client.entries at).phase why) low)
+passed_counts c client past (Reply.CreateFailed at status) why named low file = absurd
+    (passed_none client at (none_asked (client.entries at).phase why) low)
 passed_counts c client past (_) why named low file = refl
 
 pub takes_count : (c : ℕ) (client : Client) (past : List Fact)
     → ((file : ℕ) (live : LiveEntry) → (client.entries file).phase ≡ Phase.Live live → (live.handles == 0) ≡ true
     → is_asking live ≡ false)
     → HasTakes client (IsCountedTake c client past)
-unfolding opened_turn reconnected_turn promoted_turn read_turn write_done_turn
+unfolding opened_turn reconnected_turn promoted_turn read_turn write_done_turn parked_closed belief_lowered closed_by_server
 takes_count c client past parked = record {
   passed = λ reply why named low file. passed_counts c client past reply why named low file;
-  broken = λ file notice live at is named low. break_counts client file notice live _ is (parked file live is);
+  parked_closes = λ file notice live at is closes named low. quiet_turn client file _
+      (λ other. close_none other live.file_id live.unsent)
+      (sym (phase_idle client file live is (parked file live is (and_parts (live.handles == 0) _ closes).0)));
+  lowered = λ file notice live at is stays named low.
+      let gone = flushed live.belief (meet live.belief notice.lowered) live.unsent in
+      quiet_turn client file _
+      (λ other. creates_append other (write_requests live.file_id gone) _
+      ∙ ap₂ (λ a b. a + b) (writes_create other live.file_id gone) (ack_none other notice _) ∙ zeros)
+      (sym (ap has_asked is));
   opened = λ file file_id answer access share is named low. answered_turn client file _ (ap has_asked is) refl
       (λ other. refl);
   reconnected = λ file file_id answer parted is named low. answered_turn client file _ (ap has_asked is) refl
@@ -260,11 +218,15 @@ takes_count c client past parked = record {
       (ap has_asked is ∙ ap is_some asks) refl (λ other. refl);
   read = λ file file_id bytes live is id some named low. quiet_turn client file _ (λ other. refl)
       (sym (ap has_asked is));
-  not_read = λ file file_id status live is id some named low. read_failed_counts client file live status is;
+  read_closed = λ file file_id status live is id gone named low. quiet_turn client file _ (λ other. refl)
+      (open_gone live.asking (sent_of client file) ∙ sym (ap has_asked is));
+  not_read = λ file file_id status live is id some named low. quiet_turn client file _ (λ other. refl)
+      (sym (ap has_asked is));
   written = λ file file_id number at known named low. quiet_turn client file _ (λ other. refl)
       (phase_with_asks _ (client.entries file).phase);
-  not_written = λ file file_id number status at known named low.
-      write_failed_counts client file file_id number status _ (client.entries file).phase refl;
+  write_closed = λ file file_id number status live at known is id gone named low. quiet_turn client file _ (λ other. refl)
+      (open_gone live.asking (sent_without number (sent_of client file)) ∙ sym (ap has_asked is));
+  not_written = λ file file_id number status at known named low. quiet_turn client file _ (λ other. refl) refl;
 }
   where
     zeros : 0 + 0 ≡ 0

@@ -25,13 +25,15 @@ use Rattle.lease_coherence.specs.Creates.{answer_of, asked_by, one_if}
 use Rattle.lease_coherence.specs.Names.{Each, WasWritten}
 use Rattle.lease_coherence.proofs.beliefs.Clients.{IsAboutFile, writes_about, writes_close_about, keys_apart}
 use Rattle.lease_coherence.proofs.beliefs.Words.{OnGiven, GivesNothing, is_ack_break}
-use Rattle.lease_coherence.proofs.clients.Commands.{HasCommands}
-use Rattle.lease_coherence.proofs.clients.Files.{never_found}
-use Rattle.lease_coherence.proofs.clients.Takes.{PassesOver, found_so, is_live}
+use Rattle.lease_laws.proofs.client.cases.Commands.{HasCommands}
+use Rattle.lease_laws.proofs.client.cases.Files.{never_found}
+use Rattle.lease_laws.proofs.client.cases.Replies.{PassesOver, is_live}
+use Rattle.lease_laws.proofs.client.cases.Files.{found_so}
 use Rattle.lease_coherence.proofs.fresh.Words.{reads_by, reads_after, AckReads, IsPatched, Follows, TellsBytes}
 use Rattle.lease_coherence.proofs.names.Words.{each_weaker}
 use Rattle.lease_coherence.proofs.writes.Counts.{settles_of, numbered_in, none_numbered}
 use Rattle.lease_coherence.proofs.writes.Steps.{IsKnownBy, IsOwnNumber}
+use Rattle.lease_coherence.proofs.creates.Counts.{none_asked}
 
 -- ---- entries that stay live as they were
 
@@ -183,11 +185,8 @@ live_known machine file live s is = not_false (knows_file machine file)
     no_live e = cc
 
 live_read : (phase : Phase) → (belief_in phase).read ≡ true → (live : LiveEntry) × (phase ≡ Phase.Live live)
-live_read Phase.Closed w = absurd (true≢false (sym w))
-live_read (Phase.Opening access share) w = absurd (true≢false (sym w))
 live_read (Phase.Live live) w = (live, refl)
-live_read (Phase.Offline parted) w = absurd (true≢false (sym w))
-live_read (Phase.Reconnecting parted) w = absurd (true≢false (sym w))
+live_read phase w = absurd (true≢false (sym w))
 
 about_acks : (key : List ℕ) (reads : Bool) (request : Request) → IsAboutFile request → AckReads key reads request
 about_acks key reads (Request.OnFile request) about = tt
@@ -339,7 +338,7 @@ passed_plain c machine past (Reply.Created at file_id (Some answer)) s why due f
     absurd (none (due.asked at))
   where
     none : one_if (at == at) ≤ asked_by machine at → ⊥
-    none low = above (ap one_if (eq-eqb at at refl)) (ap one_if why) low
+    none low = above (ap one_if (eq-eqb at at refl)) (ap one_if (none_asked (machine.entries at).phase why)) low
       where
         above : {a b : ℕ} → a ≡ 1 → b ≡ 0 → a ≤ b → ⊥
         above e f h = omega (arith, e, f, h)
@@ -365,13 +364,6 @@ passed_plain c machine past (Reply.WriteDone file_id number) s why due file = re
       where
         above : {a b : ℕ} → a ≡ 1 → b ≡ 0 → a ≤ b → ⊥
         above e f h = omega (arith, e, f, h)
-passed_plain c machine past (Reply.WriteFailed file_id number status) s why due file =
-    record { reads = λ e. refl; same = λ e old new f. f }
-passed_plain c machine past (Reply.Closed file_id) s why due file =
-    record { reads = λ e. refl; same = λ e old new f. f }
-passed_plain c machine past (Reply.CloseFailed file_id status) s why due file =
-    record { reads = λ e. refl; same = λ e old new f. f }
-passed_plain c machine past (Reply.Break None) s why due file = record { reads = λ e. refl; same = λ e old new f. f }
 passed_plain c machine past (Reply.Break (Some notice)) s why due file = record {
   reads = λ e. let l = live_read (machine.entries file).phase e in
       rw (not_true (bytes_eq (lease_key machine.guid file) notice.key) (λ own. never_passed machine notice s why file l.0 l.1
@@ -379,7 +371,4 @@ passed_plain c machine past (Reply.Break (Some notice)) s why due file = record 
       refl;
   same = λ e old new f. f;
 }
-passed_plain c machine past (Reply.AckDone response) s why due file =
-    record { reads = λ e. refl; same = λ e old new f. f }
-passed_plain c machine past (Reply.AckFailed status) s why due file =
-    record { reads = λ e. refl; same = λ e old new f. f }
+passed_plain c machine past reply s why due file = record { reads = λ e. refl; same = λ e old new f. f }

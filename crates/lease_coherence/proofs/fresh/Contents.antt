@@ -77,9 +77,7 @@ note_content : (client : ℕ) (note : Note) (past : List Fact) (file : ℕ)
     → content_of file (fact_of client note ∷ past) ≡ content_of file past
 unfolding content_of
 note_content client (Note.Settled number outcome) past file = refl
-note_content client (Note.Wrote f number patch buffered) past file = refl
-note_content client (Note.Believes f state) past file = refl
-note_content client (Note.CachedRead f bytes) past file = refl
+note_content client note past file = refl
 
 pub noted_content : (client : ℕ) (past : List Fact) (notes : List Note) (file : ℕ)
     → content_of file (past_noted client past notes) ≡ content_of file past
@@ -96,7 +94,6 @@ stepped_contents world client step h file = ap (λ (s : Server). s.contents file
 pub contents_moves : IsMoved Ground HasContents
 unfolding joined key_expired opens_dropped with_opens opens_disconnected client_forgotten requests_sent content_of
 contents_moves world (Move.Step step) next g h = step_deed world HasContents (deeds_contents world h) step next
-contents_moves world (Move.Cut client) up g h = h
 contents_moves world (Move.Expire client file) (on, breaks) g h = h
 contents_moves world (Move.Scavenge file_id) may g h = h
 contents_moves world (Move.Connect client) down g h = stepped_contents (come_back world client) client _ h
@@ -104,4 +101,4 @@ contents_moves world (Move.Commanded client command) may g h = stepped_contents 
 contents_moves world (Move.Take client reply queue) first g h = stepped_contents (reply_gone world client queue) client _ h
 contents_moves world (Move.Notice client) cut g h =
     stepped_contents (record world { links = put world.links client Link.Down }) client _ h
-contents_moves world (Move.Stray client request) up g h = h
+contents_moves world move up g h = h

@@ -111,9 +111,7 @@ told_fresh world c reply file bare still low f = sent_fresh world (told_to world
 
 pub refusal_still : (request : FileRequest) (status : Status) → is_still (refusal_of request status)
 refusal_still (FileRequest.Create file access share contexts) status = tt
-refusal_still (FileRequest.Read file_id) status = tt
-refusal_still (FileRequest.Write file_id number patch) status = tt
-refusal_still (FileRequest.Close file_id) status = tt
+refusal_still request status = tt
 
 -- ---- reads and writes
 

@@ -34,7 +34,7 @@ use Rattle.lease_laws.proofs.world.Kept.{served-clients}
 use Rattle.lease_laws.proofs.world.Timers.{timers_are_told}
 use Rattle.lease_coherence.specs.Parts.{InRuns}
 use Rattle.lease_coherence.proofs.beliefs.Between.{after_last, append_last}
-use Rattle.lease_coherence.proofs.clients.Commands.{IsEntry, sent_of}
+use Rattle.lease_laws.proofs.client.cases.Commands.{IsEntry, sent_of}
 use Rattle.lease_coherence.proofs.moves.Shift.{append_none}
 use Rattle.lease_coherence.proofs.moves.Frames.{stepped_past}
 use Rattle.lease_coherence.proofs.records.Later.{past_noted}
@@ -122,12 +122,10 @@ served_fresh world progress a = subst AllFresh
 plain_fresh : (c : ℕ) (past : List Fact) (notes : List Note) → EachNote IsPlainNote notes → AllFresh past
     → AllFresh (past_noted c past notes)
 plain_fresh c past [] each a = a
-plain_fresh c past (Note.Settled number outcome ∷ notes) each a =
-    plain_fresh c (fact_of c (Note.Settled number outcome) ∷ past) notes each.1 (tt, a)
 plain_fresh c past (Note.Wrote file number patch buffered ∷ notes) each a = absurd each.0
-plain_fresh c past (Note.Believes file state ∷ notes) each a =
-    plain_fresh c (fact_of c (Note.Believes file state) ∷ past) notes each.1 (tt, a)
 plain_fresh c past (Note.CachedRead file bytes ∷ notes) each a = absurd each.0
+plain_fresh c past (note ∷ notes) each a =
+    plain_fresh c (fact_of c note ∷ past) notes each.1 (tt, a)
 
 starts_fresh : (past : List Fact) → list_all is_start past ≡ true → AllFresh past
 starts_fresh [] all = tt
@@ -182,8 +180,7 @@ notice_fresh : (world : World) (client : ℕ) (link : Link) → IsSoundClient (w
 unfolding link_noticed
 notice_fresh world client Link.Cut s a = stepped_fresh (record world { links = put world.links client Link.Down })
     client _ (call_tells_writes (world.clients client) ClientCall.Noticed s) a
-notice_fresh world client Link.Down s a = a
-notice_fresh world client Link.Up s a = a
+notice_fresh world client link s a = a
 
 connect_fresh : (world : World) (client : ℕ) (link : Link) → IsSoundClient (world.clients client) → AllFresh world.past
     → AllFresh (connect_over world client link).past
@@ -196,8 +193,7 @@ connect_fresh world client Link.Down s a =
     (subst (λ (t : ℕ → Client). LeavesWrites (t client) (client_called (world.clients client) ClientCall.Connected)) (sym same)
     (call_tells_writes (world.clients client) ClientCall.Connected s))
     (served_fresh back (join world.server client) (tt, a))
-connect_fresh world client Link.Up s a = a
-connect_fresh world client Link.Cut s a = a
+connect_fresh world client link s a = a
 
 timer_fresh : (world : World) (client file : ℕ) → AllFresh world.past → AllFresh (timer_expired world client file).past
 unfolding timer_expired
@@ -212,8 +208,7 @@ strayed_fresh : (world : World) (client : ℕ) (request : Request) (link : Link)
     → AllFresh (strayed_over world client request link).past
 unfolding strayed_over requests_sent
 strayed_fresh world client request Link.Up a = (tt, a)
-strayed_fresh world client request Link.Down a = a
-strayed_fresh world client request Link.Cut a = a
+strayed_fresh world client request link a = a
 
 -- what a read from the cache has to be
 abbrev ReadsFresh : World → Type 0

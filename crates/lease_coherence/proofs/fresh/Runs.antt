@@ -40,8 +40,8 @@ use Rattle.lease_coherence.proofs.beliefs.Closed.{lease_stays, left_there}
 use Rattle.lease_coherence.proofs.beliefs.Sent.{off_fresh, off_trust, refusal_bare}
 use Rattle.lease_coherence.proofs.beliefs.Trust.{file_key, HasTrust}
 use Rattle.lease_coherence.proofs.beliefs.Words.{acks, is_ack_break, OnGiven, GivesNothing, BreaksAreMet}
-use Rattle.lease_coherence.proofs.clients.Commands.{any_command}
-use Rattle.lease_coherence.proofs.clients.Takes.{any_reply, is_live}
+use Rattle.lease_laws.proofs.client.cases.Commands.{any_command}
+use Rattle.lease_laws.proofs.client.cases.Replies.{any_reply, is_live}
 use Rattle.lease_coherence.proofs.fresh.Clients.{WasSoLive, KeepsLive, commands_keep, all_about, IsDueTo, TakesFresh}
 use Rattle.lease_coherence.proofs.fresh.Contents.{noted_content}
 use Rattle.lease_coherence.proofs.fresh.Sent.{IsFreshIn, IsUpFresh, left_reads, HasMore, seen_more, base_more, unmoved_fresh, sent_fresh, still_sends, gone_reads}
@@ -178,11 +178,7 @@ unfolding sendings takings
 noted_places c past [] = (refl, refl)
 noted_places c past (Note.Settled number outcome ∷ notes) =
     noted_places c (fact_of c (Note.Settled number outcome) ∷ past) notes
-noted_places c past (Note.Wrote file number patch buffered ∷ notes) =
-    noted_places c (fact_of c (Note.Wrote file number patch buffered) ∷ past) notes
-noted_places c past (Note.Believes file state ∷ notes) = noted_places c (fact_of c (Note.Believes file state) ∷ past) notes
-noted_places c past (Note.CachedRead file bytes ∷ notes) =
-    noted_places c (fact_of c (Note.CachedRead file bytes) ∷ past) notes
+noted_places c past (note ∷ notes) = noted_places c (fact_of c note ∷ past) notes
 
 noted_more : (c : ℕ) (past : List Fact) (notes : List Note) → HasMore c past (past_noted c past notes)
 noted_more c past notes = let n = noted_places c past notes in
@@ -229,12 +225,9 @@ stepped_was world c step up guid file fresh = ap (λ g. world.server.expired (ke
 
 kept_reads : (old new : Phase) → ((now : LiveEntry) → new ≡ Phase.Live now → WasSoLive old now)
     → (belief_in new).read ≡ true → (belief_in old).read ≡ true
-kept_reads old Phase.Closed live e = absurd (true≢false (sym e))
-kept_reads old (Phase.Opening access share) live e = absurd (true≢false (sym e))
 kept_reads old (Phase.Live now) live e = let w = live now refl in
     ap (λ p. (belief_in p).read) w.was ∙ ap (λ (b : State). b.read) (sym w.belief) ∙ e
-kept_reads old (Phase.Offline parted) live e = absurd (true≢false (sym e))
-kept_reads old (Phase.Reconnecting parted) live e = absurd (true≢false (sym e))
+kept_reads old phase live e = absurd (true≢false (sym e))
 
 command_fresh : (world : World) (c : ℕ) (command : Command) → is_up (world.links c) ≡ true → (file : ℕ)
     → IsFreshIn world c file → IsFreshIn (stepped_in world c (commanded (world.clients c) command)) c file
@@ -425,29 +418,20 @@ connect_fresh world c g down file =
   where
     about : (f : ℕ) (sent : List Pending) (phase : Phase)
         → Each IsAboutFile (connect_turn (world.clients c) f sent phase).requests
-    about f sent Phase.Closed = tt
-    about f sent (Phase.Opening access share) = tt
-    about f sent (Phase.Live live) = tt
     about f sent (Phase.Offline parted) = (tt, tt)
-    about f sent (Phase.Reconnecting parted) = tt
+    about f sent phase = tt
 
     idle : (f : ℕ) → (world.clients c).is_online ≡ false → (phase : Phase)
         → IsSoundPhase (world.clients c).is_online ((world.clients c).entries f).sent phase
         → (belief_in (connect_turn (world.clients c) f ((world.clients c).entries f).sent phase).entry.phase).read ≡ false
-    idle f off Phase.Closed sound = refl
-    idle f off (Phase.Opening access share) sound = refl
     idle f off (Phase.Live live) sound = clash (world.clients c).is_online sound.0 off
-    idle f off (Phase.Offline parted) sound = refl
-    idle f off (Phase.Reconnecting parted) sound = refl
+    idle f off phase sound = refl
 
     not_live : (f : ℕ) → (world.clients c).is_online ≡ false → (phase : Phase)
         → IsSoundPhase (world.clients c).is_online ((world.clients c).entries f).sent phase → (live : LiveEntry)
         → (connect_turn (world.clients c) f ((world.clients c).entries f).sent phase).entry.phase ≡ Phase.Live live → ⊥
-    not_live f off Phase.Closed sound live e = cc
-    not_live f off (Phase.Opening access share) sound live e = cc
     not_live f off (Phase.Live was) sound live e = clash (world.clients c).is_online sound.0 off
-    not_live f off (Phase.Offline parted) sound live e = cc
-    not_live f off (Phase.Reconnecting parted) sound live e = cc
+    not_live f off phase sound live e = cc
 
 -- ---- all moves
 

@@ -24,7 +24,7 @@ use Rattle.lease_coherence.proofs.beliefs.Clients.{keys_apart}
 use Rattle.lease_coherence.proofs.beliefs.Sent.{is_bare}
 use Rattle.lease_coherence.proofs.beliefs.Trust.{file_key, nothing_stands}
 use Rattle.lease_coherence.proofs.beliefs.Words.{acks}
-use Rattle.lease_coherence.proofs.clients.Takes.{is_live}
+use Rattle.lease_laws.proofs.client.cases.Replies.{is_live}
 use Rattle.lease_coherence.proofs.moves.Foreign.{IsUnmoved, key_client}
 use Rattle.lease_coherence.proofs.moves.Spared.{ends_as}
 use Rattle.lease_coherence.proofs.names.Words.{each_weaker}
@@ -281,15 +281,7 @@ pub bare_reads : (key : List ℕ) (file : ℕ) (reads : Bool) (reply : Reply) �
     → reads_by key file reads reply ≡ reads
 bare_reads key file reads (Reply.Created other id contexts) bare = absurd bare
 bare_reads key file reads (Reply.Break notice) bare = absurd bare
-bare_reads key file reads (Reply.CreateFailed other status) bare = refl
-bare_reads key file reads (Reply.ReadDone id bytes) bare = refl
-bare_reads key file reads (Reply.ReadFailed id status) bare = refl
-bare_reads key file reads (Reply.WriteDone id number) bare = refl
-bare_reads key file reads (Reply.WriteFailed id number status) bare = refl
-bare_reads key file reads (Reply.Closed id) bare = refl
-bare_reads key file reads (Reply.CloseFailed id status) bare = refl
-bare_reads key file reads (Reply.AckDone response) bare = refl
-bare_reads key file reads (Reply.AckFailed status) bare = refl
+bare_reads key file reads reply bare = refl
 
 -- and tell of no content, nor of a change
 abbrev pub is_still : Reply → Type 0
@@ -300,29 +292,11 @@ is_still reply = ⊤
 pub still_follows : (c file : ℕ) (past : List Fact) (old new : List ℕ) (reply : Reply) → is_still reply → new ≡ old
     → Follows c file past old new reply
 still_follows c file past old new (Reply.WriteDone id number) still e = absurd still
-still_follows c file past old new (Reply.Created other id contexts) still e = e
-still_follows c file past old new (Reply.CreateFailed other status) still e = e
-still_follows c file past old new (Reply.ReadDone id bytes) still e = e
-still_follows c file past old new (Reply.ReadFailed id status) still e = e
-still_follows c file past old new (Reply.WriteFailed id number status) still e = e
-still_follows c file past old new (Reply.Closed id) still e = e
-still_follows c file past old new (Reply.CloseFailed id status) still e = e
-still_follows c file past old new (Reply.Break notice) still e = e
-still_follows c file past old new (Reply.AckDone response) still e = e
-still_follows c file past old new (Reply.AckFailed status) still e = e
+still_follows c file past old new reply still e = e
 
 pub still_tells : (c : ℕ) (past place : List Fact) (reply : Reply) → is_still reply → TellsBytes c past place reply
 still_tells c past place (Reply.ReadDone id bytes) still = absurd still
-still_tells c past place (Reply.Created other id contexts) still = tt
-still_tells c past place (Reply.CreateFailed other status) still = tt
-still_tells c past place (Reply.ReadFailed id status) still = tt
-still_tells c past place (Reply.WriteDone id number) still = tt
-still_tells c past place (Reply.WriteFailed id number status) still = tt
-still_tells c past place (Reply.Closed id) still = tt
-still_tells c past place (Reply.CloseFailed id status) still = tt
-still_tells c past place (Reply.Break notice) still = tt
-still_tells c past place (Reply.AckDone response) still = tt
-still_tells c past place (Reply.AckFailed status) still = tt
+still_tells c past place reply still = tt
 
 -- such a reply, with the content as it was
 pub still_sends : (world new : World) (c : ℕ) (middle : List Fact) (reply : Reply) (file : ℕ) → is_still reply
@@ -353,8 +327,5 @@ gone_reads world c file s own fresh none =
     ∙ after_none (file_key world c file) file (world.replies c) x.1
   where
     not_live_reads : (phase : Phase) → is_live phase ≡ false → (belief_in phase).read ≡ false
-    not_live_reads Phase.Closed e = refl
-    not_live_reads (Phase.Opening access share) e = refl
     not_live_reads (Phase.Live live) e = absurd (true≢false e)
-    not_live_reads (Phase.Offline parted) e = refl
-    not_live_reads (Phase.Reconnecting parted) e = refl
+    not_live_reads phase e = refl

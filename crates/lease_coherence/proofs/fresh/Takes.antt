@@ -6,10 +6,9 @@ use Rattle.std.proofs.lemmas.Bool.{eqb-true, eq-eqb}
 use Rattle.std.proofs.lemmas.Slice.Eq.{bytes_eq-Decides}
 use Rattle.lease_state.specs.Content.{patch as patched}
 use Rattle.lease_state.specs.State.{State, nothing_cached}
-use Rattle.lease_state.specs.declared.status.Status.{Status}
 use Rattle.lease_model.specs.client.State.{Client, LiveEntry, Asked, Pending, Phase, lease_key, belief_in}
 use Rattle.lease_model.specs.client.Step.{Turn, turned, quiet_step, write_requests}
-use Rattle.lease_model.specs.client.Taken.{acknowledgment, break_turn, parked_closed, belief_lowered, flushed, is_key_of, given_state, opened_turn, reconnected_turn, promoted_turn, promoted_belief, read_turn, read_failed_turn, is_file_closed, closed_by_server, without_open, is_numbered, has_sent, base_with, phase_with, write_done_turn, write_failed_in}
+use Rattle.lease_model.specs.client.Taken.{acknowledgment, parked_closed, belief_lowered, flushed, is_key_of, given_state, opened_turn, reconnected_turn, promoted_turn, promoted_belief, read_turn, closed_by_server, without_open, is_numbered, has_sent, base_with, phase_with, write_done_turn}
 use Rattle.lease_model.specs.client.Commands.{Answer}
 use Rattle.lease_model.specs.messages.Replies.{Reply, BreakNotice, CreateAnswer, LeaseGiven}
 use Rattle.lease_model.specs.messages.Requests.{Request}
@@ -23,11 +22,12 @@ use Rattle.lease_laws.proofs.server.Lists.{if_cases, clash, and_both, or_true, f
 use Rattle.lease_laws.specs.server.Laws.{Among}
 use Rattle.lease_coherence.specs.Names.{Each, IsNamedPhase, WasWritten}
 use Rattle.lease_coherence.proofs.beliefs.Clients.{IsAboutFile, writes_about, writes_close_about, keys_apart}
-use Rattle.lease_coherence.proofs.clients.Commands.{sent_of}
-use Rattle.lease_coherence.proofs.clients.Files.{find_absent}
-use Rattle.lease_coherence.proofs.clients.Takes.{HasTakes, found_so, is_live}
+use Rattle.lease_laws.proofs.client.cases.Commands.{sent_of}
+use Rattle.lease_laws.proofs.client.cases.Files.{find_absent}
+use Rattle.lease_laws.proofs.client.cases.Replies.{HasTakes, is_live}
+use Rattle.lease_laws.proofs.client.cases.Files.{found_so}
 use Rattle.lease_coherence.proofs.fresh.Words.{given_reads, reads_by, reads_after, after_nothing, AckReads, Follows, HasBytes}
-use Rattle.lease_coherence.proofs.fresh.Clients.{KeepsLive, IsMetBy, TakesFresh, stays_so, not_live, turned_keeps, idle_keeps, plain_fresh, turn_fresh, here_fresh, base_reads, all_about, created_elsewhere, broken_elsewhere, number_elsewhere, written_elsewhere, passed_plain}
+use Rattle.lease_coherence.proofs.fresh.Clients.{IsMetBy, TakesFresh, stays_so, not_live, turned_keeps, idle_keeps, plain_fresh, turn_fresh, here_fresh, base_reads, all_about, created_elsewhere, broken_elsewhere, number_elsewhere, written_elsewhere, passed_plain}
 use Rattle.lease_coherence.proofs.names.Words.{each_append, opened_once}
 use Rattle.lease_coherence.proofs.writes.Steps.{IsKnownBy}
 
@@ -166,23 +166,18 @@ lowered_fresh c machine past at notice live new s own was is =
     read_so e = rw (own) (subst (λ p. ((belief_in p).read && notice.lowered.read) ≡ true) (sym was)
         (ap (λ (b : State). b.read) (sym is) ∙ e))
 
-break_fresh : (c : ℕ) (machine : Client) (past : List Fact) (at : ℕ) (notice : BreakNotice) (live : LiveEntry)
+parked_fresh : (c : ℕ) (machine : Client) (past : List Fact) (at : ℕ) (notice : BreakNotice) (live : LiveEntry)
     → IsSoundClient machine → bytes_eq (lease_key machine.guid at) notice.key ≡ true
-    → (machine.entries at).phase ≡ Phase.Live live
     → TakesFresh c machine past (Reply.Break (Some notice))
-    (turned machine at (break_turn live (sent_of machine at) notice (meet live.belief notice.lowered)))
-unfolding break_turn parked_closed
-break_fresh c machine past at notice live s own was =
-    let new = meet live.belief notice.lowered in
-    if_cases (λ (turn : Turn). TakesFresh c machine past (Reply.Break (Some notice)) (turned machine at turn))
-    (live.handles == 0 && (live.belief.handle && not new.handle)) _ _
-    (λ parked. turn_fresh c machine past (Reply.Break (Some notice)) at _ s
+    (turned machine at (parked_closed live (sent_of machine at)))
+unfolding parked_closed
+parked_fresh c machine past at notice live s own =
+    turn_fresh c machine past (Reply.Break (Some notice)) at _ s
     (λ file ne. broken_elsewhere c machine past at notice file own ne)
     (λ file reads ne. all_about (lease_key machine.guid file) reads _ (writes_close_about live.file_id live.unsent [] tt))
     (λ place queue old m. here_fresh machine (Reply.Break (Some notice)) at _ place queue
     (λ e. absurd (true≢false (sym e))) (λ now so bytes b. absurd (no_live now so))
-    (all_about (lease_key machine.guid at) _ _ (writes_close_about live.file_id live.unsent [] tt))))
-    (λ stays. lowered_fresh c machine past at notice live new s own was refl)
+    (all_about (lease_key machine.guid at) _ _ (writes_close_about live.file_id live.unsent [] tt)))
   where
     no_live : (now : LiveEntry) → Phase.Closed ≡ Phase.Live now → ⊥
     no_live now e = cc
@@ -273,10 +268,7 @@ written_fresh c machine past at file_id number s k has =
     same_reads : (write : Option Pending) (phase : Phase) → (belief_in (phase_with write phase)).read ≡ true
         → (belief_in phase).read ≡ true
     same_reads write Phase.Closed e = e
-    same_reads write (Phase.Opening access share) e = e
-    same_reads write (Phase.Live live) e = e
-    same_reads write (Phase.Offline parted) e = e
-    same_reads write (Phase.Reconnecting parted) e = e
+    same_reads write phase e = e
 
     patched_so : (write : Pending) (base : Option (List ℕ)) (bytes : List ℕ)
         → base_with (Some write) base ≡ Some bytes
@@ -301,16 +293,13 @@ written_fresh c machine past at file_id number s k has =
         (old : List ℕ) → IsMetBy c machine past (Reply.WriteDone file_id number) place queue at old → (now : LiveEntry)
         → phase_with (find (is_numbered number) (machine.entries at).sent) phase ≡ Phase.Live now
         → (bytes : List ℕ) → now.base ≡ Some bytes → bytes ≡ content_of at place
-    by_phase Phase.Closed is place queue old m now so bytes b = let x : ⊥ = cc in absurd x
-    by_phase (Phase.Opening access share) is place queue old m now so bytes b = let x : ⊥ = cc in absurd x
     by_phase (Phase.Live live) is place queue old m now so bytes b =
         let p = patched_so f.write live.base bytes (ap (λ w. base_with w live.base) (sym f.found)
         ∙ ap (λ (l : LiveEntry). l.base) (one_live now _ so) ∙ b) in
         p.2 ∙ ap (λ x. patched x (f.write).patch) (m.base live is p.0 p.1)
         ∙ sym (follow old (content_of at place)
         (m.follows (ap (λ q. (belief_in q).read) is ∙ base_reads machine at live p.0 s is p.1)))
-    by_phase (Phase.Offline parted) is place queue old m now so bytes b = let x : ⊥ = cc in absurd x
-    by_phase (Phase.Reconnecting parted) is place queue old m now so bytes b = let x : ⊥ = cc in absurd x
+    by_phase phase is place queue old m now so bytes b = let x : ⊥ = cc in absurd x
 
 -- ---- failures
 
@@ -318,45 +307,18 @@ gone_idle : (asking : Option Asked) (sent : List Pending) → is_live (without_o
 gone_idle None sent = refl
 gone_idle (Some asked) sent = refl
 
-read_failed_fresh : (machine : Client) (at : ℕ) (status : Status) (live : LiveEntry)
-    → (machine.entries at).phase ≡ Phase.Live live
-    → KeepsLive machine (turned machine at (read_failed_turn live (sent_of machine at) status))
-unfolding read_failed_turn closed_by_server
-read_failed_fresh machine at status live is =
-    if_cases (λ (turn : Turn). KeepsLive machine (turned machine at turn)) (is_file_closed status) _ _
-    (λ gone. turned_keeps machine at _ tt (not_live (machine.entries at).phase
-    (without_open live.asking (sent_of machine at)).phase (gone_idle live.asking (sent_of machine at))))
-    (λ there. turned_keeps machine at _ tt (stays_so (machine.entries at).phase live _ is refl refl))
-
-write_failed_fresh : (machine : Client) (at file_id number : ℕ) (status : Status) (sent : List Pending) (phase : Phase)
-    → (machine.entries at).phase ≡ phase
-    → KeepsLive machine (turned machine at (write_failed_in file_id number status sent phase))
-unfolding closed_by_server
-write_failed_fresh machine at file_id number status sent Phase.Closed is =
-    turned_keeps machine at _ tt (not_live (machine.entries at).phase Phase.Closed refl)
-write_failed_fresh machine at file_id number status sent (Phase.Opening access share) is =
-    turned_keeps machine at _ tt (not_live (machine.entries at).phase (Phase.Opening access share) refl)
-write_failed_fresh machine at file_id number status sent (Phase.Live live) is =
-    if_cases (λ (turn : Turn). KeepsLive machine (turned machine at turn)) (is_file_closed status && live.file_id == file_id)
-    _ _
-    (λ gone. turned_keeps machine at _ tt (not_live (machine.entries at).phase (without_open live.asking sent).phase
-    (gone_idle live.asking sent)))
-    (λ there. turned_keeps machine at _ tt (stays_so (machine.entries at).phase live live is refl refl))
-write_failed_fresh machine at file_id number status sent (Phase.Offline parted) is =
-    turned_keeps machine at _ tt (not_live (machine.entries at).phase (Phase.Offline parted) refl)
-write_failed_fresh machine at file_id number status sent (Phase.Reconnecting parted) is =
-    turned_keeps machine at _ tt (not_live (machine.entries at).phase (Phase.Reconnecting parted) refl)
-
 -- ---- every reply
 
 pub takes_fresh : (c : ℕ) (machine : Client) (past : List Fact) → IsSoundClient machine → IsKnownBy c machine past
     → HasTakes machine (TakesFresh c machine past)
-unfolding opened_turn reconnected_turn promoted_turn
+unfolding opened_turn reconnected_turn promoted_turn closed_by_server
 takes_fresh c machine past s k = record {
   passed = λ reply why. plain_fresh c machine past reply (quiet_step machine) s (idle_keeps machine Answer.Quiet [])
       (passed_plain c machine past reply s why);
-  broken = λ at notice live found is. break_fresh c machine past at notice live s
-      (found_so machine (is_key_of machine notice.key) at found) is;
+  parked_closes = λ at notice live found is parked. parked_fresh c machine past at notice live s
+      (found_so machine (is_key_of machine notice.key) at found);
+  lowered = λ at notice live found is stays. lowered_fresh c machine past at notice live _ s
+      (found_so machine (is_key_of machine notice.key) at found) is refl;
   opened = λ at file_id answer access share is. new_fresh c machine past at file_id answer _ _ s refl refl refl refl;
   reconnected = λ at file_id answer parted is. new_fresh c machine past at file_id answer _ _ s refl refl refl refl;
   promoted = λ at file_id answer live asked is asks. more_fresh c machine past at file_id answer _ live _ s is refl
@@ -372,12 +334,19 @@ takes_fresh c machine past s k = record {
       (turned_keeps machine at _ tt (stays_so (machine.entries at).phase live _ is refl refl))
       (λ due file. record { reads = λ e. refl; same = λ e old new f. f });
   read = λ at file_id bytes live is id some. read_fresh c machine past at file_id bytes live s k is id;
+  read_closed = λ at file_id status live is id gone. plain_fresh c machine past (Reply.ReadFailed file_id status) _ s
+      (turned_keeps machine at _ tt (not_live (machine.entries at).phase _ (gone_idle live.asking _)))
+      (λ due file. record { reads = λ e. refl; same = λ e old new f. f });
   not_read = λ at file_id status live is id some. plain_fresh c machine past (Reply.ReadFailed file_id status) _ s
-      (read_failed_fresh machine at status live is)
+      (turned_keeps machine at _ tt (stays_so (machine.entries at).phase live _ is refl refl))
       (λ due file. record { reads = λ e. refl; same = λ e old new f. f });
   written = λ at file_id number has known. written_fresh c machine past at file_id number s k has;
+  write_closed = λ at file_id number status live has known is id gone.
+      plain_fresh c machine past (Reply.WriteFailed file_id number status) _ s
+      (turned_keeps machine at _ tt (not_live (machine.entries at).phase _ (gone_idle live.asking _)))
+      (λ due file. record { reads = λ e. refl; same = λ e old new f. f });
   not_written = λ at file_id number status has known. plain_fresh c machine past (Reply.WriteFailed file_id number status) _ s
-      (write_failed_fresh machine at file_id number status _ (machine.entries at).phase refl)
+      (turned_keeps machine at _ tt (λ now e. stays_so (machine.entries at).phase now now e refl refl now refl))
       (λ due file. record { reads = λ e. refl; same = λ e old new f. f });
 }
   where

@@ -78,16 +78,7 @@ by_fewer key file reads less (Reply.Break (Some notice)) fewer e = either_way (b
         and_both reads notice.lowered.read (fewer p.0) p.1
     either_way false h = fewer h
 by_fewer key file reads less (Reply.Created other id None) fewer e = fewer e
-by_fewer key file reads less (Reply.Break None) fewer e = fewer e
-by_fewer key file reads less (Reply.CreateFailed other status) fewer e = fewer e
-by_fewer key file reads less (Reply.ReadDone id bytes) fewer e = fewer e
-by_fewer key file reads less (Reply.ReadFailed id status) fewer e = fewer e
-by_fewer key file reads less (Reply.WriteDone id number) fewer e = fewer e
-by_fewer key file reads less (Reply.WriteFailed id number status) fewer e = fewer e
-by_fewer key file reads less (Reply.Closed id) fewer e = fewer e
-by_fewer key file reads less (Reply.CloseFailed id status) fewer e = fewer e
-by_fewer key file reads less (Reply.AckDone response) fewer e = fewer e
-by_fewer key file reads less (Reply.AckFailed status) fewer e = fewer e
+by_fewer key file reads less reply fewer e = fewer e
 
 pub after_fewer : (key : List ℕ) (file : ℕ) (reads less : Bool) (queue : List Reply) → (less ≡ true → reads ≡ true)
     → reads_after key file less queue ≡ true → reads_after key file reads queue ≡ true
@@ -116,17 +107,7 @@ by_nothing key file reads (Reply.Created other id (Some answer)) g e = if_cases 
 by_nothing key file reads (Reply.Break (Some notice)) g e = if_cases (λ b. b ≡ true → reads ≡ true)
     (bytes_eq key notice.key) (reads && notice.lowered.read) reads
     (λ own h. (and_parts reads notice.lowered.read h).0) (λ other h. h) e
-by_nothing key file reads (Reply.Created other id None) g e = e
-by_nothing key file reads (Reply.Break None) g e = e
-by_nothing key file reads (Reply.CreateFailed other status) g e = e
-by_nothing key file reads (Reply.ReadDone id bytes) g e = e
-by_nothing key file reads (Reply.ReadFailed id status) g e = e
-by_nothing key file reads (Reply.WriteDone id number) g e = e
-by_nothing key file reads (Reply.WriteFailed id number status) g e = e
-by_nothing key file reads (Reply.Closed id) g e = e
-by_nothing key file reads (Reply.CloseFailed id status) g e = e
-by_nothing key file reads (Reply.AckDone response) g e = e
-by_nothing key file reads (Reply.AckFailed status) g e = e
+by_nothing key file reads reply g e = e
 
 pub after_nothing : (key : List ℕ) (file : ℕ) (reads : Bool) (queue : List Reply)
     → Each (OnGiven GivesNothing key file) queue → reads_after key file reads queue ≡ true → reads ≡ true
@@ -140,17 +121,7 @@ by_none : (key : List ℕ) (file : ℕ) (reply : Reply) → is_created file repl
 by_none key file (Reply.Created other id (Some answer)) e = rw (e) refl
 by_none key file (Reply.Break (Some notice)) e =
     if_cases (λ b. b ≡ false) (bytes_eq key notice.key) (false && notice.lowered.read) false (λ own. refl) (λ other. refl)
-by_none key file (Reply.Created other id None) e = refl
-by_none key file (Reply.Break None) e = refl
-by_none key file (Reply.CreateFailed other status) e = refl
-by_none key file (Reply.ReadDone id bytes) e = refl
-by_none key file (Reply.ReadFailed id status) e = refl
-by_none key file (Reply.WriteDone id number) e = refl
-by_none key file (Reply.WriteFailed id number status) e = refl
-by_none key file (Reply.Closed id) e = refl
-by_none key file (Reply.CloseFailed id status) e = refl
-by_none key file (Reply.AckDone response) e = refl
-by_none key file (Reply.AckFailed status) e = refl
+by_none key file reply e = refl
 
 pub after_none : (key : List ℕ) (file : ℕ) (queue : List Reply) → Each (λ reply. is_created file reply ≡ false) queue
     → reads_after key file false queue ≡ false
@@ -169,8 +140,7 @@ AckReads key reads request = ⊤
 pub acks_fewer : (key : List ℕ) (reads less : Bool) → (less ≡ true → reads ≡ true) → (request : Request)
     → AckReads key reads request → AckReads key less request
 acks_fewer key reads less fewer (Request.Acknowledge (Some lease)) a = λ own e. a own (fewer e)
-acks_fewer key reads less fewer (Request.Acknowledge None) a = tt
-acks_fewer key reads less fewer (Request.OnFile request) a = tt
+acks_fewer key reads less fewer request a = tt
 
 pub no_acks_read : (key : List ℕ) (reads : Bool) (queue : List Request) → acks key queue ≡ 0
     → Each (AckReads key reads) queue
@@ -248,31 +218,13 @@ follows_later c file past new old next (Reply.WriteDone id number) later f = ⊎
       apart = e.apart;
       is = e.is;
     })) f
-follows_later c file past new old next (Reply.Created other id contexts) later f = f
-follows_later c file past new old next (Reply.CreateFailed other status) later f = f
-follows_later c file past new old next (Reply.ReadDone id bytes) later f = f
-follows_later c file past new old next (Reply.ReadFailed id status) later f = f
-follows_later c file past new old next (Reply.WriteFailed id number status) later f = f
-follows_later c file past new old next (Reply.Closed id) later f = f
-follows_later c file past new old next (Reply.CloseFailed id status) later f = f
-follows_later c file past new old next (Reply.Break notice) later f = f
-follows_later c file past new old next (Reply.AckDone response) later f = f
-follows_later c file past new old next (Reply.AckFailed status) later f = f
+follows_later c file past new old next reply later f = f
 
 tells_later : (c : ℕ) (past new place : List Fact) (reply : Reply) → IsLater past new
     → TellsBytes c past place reply → TellsBytes c new place reply
 tells_later c past new place (Reply.ReadDone id bytes) later t =
     record { file = t.file; opened = later.opened id t.file c t.opened; is = t.is }
-tells_later c past new place (Reply.Created other id contexts) later t = tt
-tells_later c past new place (Reply.CreateFailed other status) later t = tt
-tells_later c past new place (Reply.ReadFailed id status) later t = tt
-tells_later c past new place (Reply.WriteDone id number) later t = tt
-tells_later c past new place (Reply.WriteFailed id number status) later t = tt
-tells_later c past new place (Reply.Closed id) later t = tt
-tells_later c past new place (Reply.CloseFailed id status) later t = tt
-tells_later c past new place (Reply.Break notice) later t = tt
-tells_later c past new place (Reply.AckDone response) later t = tt
-tells_later c past new place (Reply.AckFailed status) later t = tt
+tells_later c past new place reply later t = tt
 
 pub relayed_later : (c : ℕ) (key : List ℕ) (file : ℕ) (past new : List Fact) (reads : Bool) (old : List ℕ)
     (places : List (List Fact)) (queue : List Reply) (now : List ℕ) → IsLater past new

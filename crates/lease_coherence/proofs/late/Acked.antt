@@ -128,8 +128,7 @@ held_acked world c given (FileRequest.Write file_id number patch) safe plain = �
   clean = (sent_past c c world.past).touched x.file number ∙ (safe x there by id).clean;
 }
 held_acked world c given (FileRequest.Create f access share contexts) safe plain = tt
-held_acked world c given (FileRequest.Read file_id) safe plain = tt
-held_acked world c given (FileRequest.Close file_id) safe plain = tt
+held_acked world c given request safe plain = tt
 
 -- an entry that believes that it may cache writes keeps them by each acknowledgment on its way
 ack_kept : (world : World) (c : ℕ) (given : LeaseOf) → IsOldest world c (Request.Acknowledge (Some given))

@@ -22,8 +22,8 @@ use Rattle.lease_coherence.specs.Standing.{IsOpenFor, GivenWell, PhaseStands, Is
 use Rattle.lease_coherence.proofs.beliefs.Anchors.{AnchorsOn, commands_anchor, takes_anchor}
 use Rattle.lease_coherence.proofs.beliefs.Trust.{file_key, HasTrust}
 use Rattle.lease_coherence.proofs.beliefs.Words.{HoldsWrites, OnGiven}
-use Rattle.lease_coherence.proofs.clients.Commands.{any_command}
-use Rattle.lease_coherence.proofs.clients.Takes.{any_reply}
+use Rattle.lease_laws.proofs.client.cases.Commands.{any_command}
+use Rattle.lease_laws.proofs.client.cases.Replies.{any_reply}
 use Rattle.lease_coherence.proofs.late.Clients.{StepFrom, no_settles, commands_from, takes_from}
 use Rattle.lease_coherence.proofs.late.Entries.{StepSafe, TakesSafe, IsTakenSafe, commands_safe, takes_safe}
 use Rattle.lease_coherence.proofs.late.Likes.{ids_of, took_past, named_asked, writes_up, held_up, acks_like, grants_like}

@@ -1,15 +1,14 @@
 -- What a client does leaves its writes safe.
-use Rattle.std.proofs.Common.{◌≡◌, ◌≢◌, ◌⊎◌, inl, inr, ⊎_elim, ℕ, ◌+◌, Bool, true, false, not, List, [], ◌∷◌, ◌++◌, Option, Some, None, refl, sym, ap, ◌∙◌, subst, ◌==◌}
-use Rattle.std.specs.Prelude.{⊤, ◌&&◌, if◌then◌else◌}
+use Rattle.std.proofs.Common.{◌≡◌, ◌≢◌, ◌⊎◌, inl, inr, ⊎_elim, ℕ, ◌+◌, Bool, true, false, List, [], ◌∷◌, ◌++◌, Option, Some, None, refl, sym, ap, ◌∙◌, subst, ◌==◌}
+use Rattle.std.specs.Prelude.{⊤, if◌then◌else◌}
 use Rattle.std.proofs.lemmas.Bool.{eqb-true, eq-eqb}
 use Rattle.lease_state.specs.State.{State}
 use Rattle.lease_state.specs.declared.patch.Patch.{Patch}
-use Rattle.lease_state.specs.declared.status.Status.{Status}
 use Rattle.lease_model.specs.client.Commanded.{next_write, cached_read, opened_anew, write_buffered, write_sent, flush_on_live, wrote_step}
 use Rattle.lease_model.specs.client.Commands.{Answer, Note}
 use Rattle.lease_model.specs.client.State.{Client, Entry, LiveEntry, Asked, Parted, Pending, Phase, knows_file}
 use Rattle.lease_model.specs.client.Step.{Step, Turn, turned, quiet_step, write_requests}
-use Rattle.lease_model.specs.client.Taken.{acknowledgment, break_turn, parked_closed, belief_lowered, flushed, gives_up, opened_turn, reconnected_turn, promoted_turn, read_turn, read_failed_turn, is_file_closed, closed_by_server, without_open, has_sent, sent_without, phase_with, write_done_turn, write_failed_in, file_where}
+use Rattle.lease_model.specs.client.Taken.{acknowledgment, parked_closed, belief_lowered, flushed, gives_up, opened_turn, reconnected_turn, promoted_turn, read_turn, closed_by_server, without_open, has_sent, sent_without, phase_with, write_done_turn, file_where}
 use Rattle.lease_model.specs.messages.Replies.{Reply, BreakNotice}
 use Rattle.lease_model.specs.messages.Requests.{FileRequest, Request}
 use Rattle.lease_model.specs.values.LeaseStates.{meet}
@@ -21,9 +20,9 @@ use Rattle.lease_laws.proofs.server.Lists.{if_cases, clash, not_true, among_appe
 use Rattle.lease_laws.proofs.world.Links.{by_client}
 use Rattle.lease_coherence.specs.Creates.{one_if}
 use Rattle.lease_coherence.specs.Names.{Each}
-use Rattle.lease_coherence.proofs.clients.Commands.{HasCommands, sent_of}
-use Rattle.lease_coherence.proofs.clients.Files.{never_found}
-use Rattle.lease_coherence.proofs.clients.Takes.{HasTakes, PassesOver}
+use Rattle.lease_laws.proofs.client.cases.Commands.{HasCommands, sent_of}
+use Rattle.lease_laws.proofs.client.cases.Files.{never_found}
+use Rattle.lease_laws.proofs.client.cases.Replies.{HasTakes, PassesOver}
 use Rattle.lease_coherence.proofs.moves.Shift.{append_none}
 use Rattle.lease_coherence.proofs.writes.Counts.{settles_of}
 use Rattle.lease_coherence.proofs.writes.Settled.{number_there, number_append, rising_rest}
@@ -204,23 +203,16 @@ flushed_all : (b : Bool) (unsent : List Pending) (w : Pending) → Among w (if b
 flushed_all true unsent w a = a
 flushed_all false unsent w a = absurd a
 
-break_from : (client : Client) (at : ℕ) (notice : BreakNotice) (live : LiveEntry) (new : State)
+lowered_from : (client : Client) (at : ℕ) (notice : BreakNotice) (live : LiveEntry) (new : State)
     → (client.entries at).phase ≡ Phase.Live live
-    → StepFrom client no_settles (turned client at (break_turn live (sent_of client at) notice new))
-unfolding break_turn parked_closed belief_lowered
-break_from client at notice live new is = if_cases (λ (t : Turn). StepFrom client no_settles (turned client at t))
-    (live.handles == 0 && (live.belief.handle && not new.handle)) _ _
-    (λ parked. quiet_from client at _ (flush_sends client at _ live _ is (tt, tt) refl)
-    (flush_entry (client.entries at) _ live live.unsent is (λ w a. a) refl closed_again))
-    (λ stays. quiet_from client at _ (lowered_sends _ refl)
+    → StepFrom client no_settles (turned client at (belief_lowered live (sent_of client at) notice new))
+unfolding belief_lowered
+lowered_from client at notice live new is = quiet_from client at _
+    (flush_some client at _ live (flushed live.belief new live.unsent) is
+    (flushed_all (gives_up live.belief new) live.unsent) (acknowledgment notice new)
+    (if_cases (Each IsOther) notice.ack_required _ [] (λ asks. (tt, tt)) (λ plain. tt)) refl)
     (flush_entry (client.entries at) _ live (flushed live.belief new live.unsent) is
-    (flushed_all (gives_up live.belief new) live.unsent) refl (no_live_again _)))
-  where
-    lowered_sends : (turn : Turn) → turn.requests ≡ write_requests live.file_id (flushed live.belief new live.unsent)
-        ++ acknowledgment notice new → SendsWrites client (turned client at turn)
-    lowered_sends turn are = flush_some client at turn live (flushed live.belief new live.unsent) is
-        (flushed_all (gives_up live.belief new) live.unsent) (acknowledgment notice new)
-        (if_cases (Each IsOther) notice.ack_required _ [] (λ asks. (tt, tt)) (λ plain. tt)) are
+    (flushed_all (gives_up live.belief new) live.unsent) refl (no_live_again _))
 
 -- a write that is settled is of one file alone
 settles_one : (client : Client) → IsSoundClient client → (at used : ℕ) → has_sent client used at ≡ true → (file : ℕ)
@@ -274,11 +266,8 @@ left_entry client s at used has new same again = record {
 
 with_again : (write : Option Pending) (phase : Phase) (parted : Parted) → phase_with write phase ≡ Phase.Reconnecting parted
     → phase ≡ Phase.Reconnecting parted
-with_again write Phase.Closed parted e = let x : ⊥ = cc in absurd x
-with_again write (Phase.Opening access share) parted e = let x : ⊥ = cc in absurd x
-with_again write (Phase.Live live) parted e = let x : ⊥ = cc in absurd x
-with_again write (Phase.Offline other) parted e = let x : ⊥ = cc in absurd x
 with_again write (Phase.Reconnecting other) parted e = e
+with_again write phase parted e = let x : ⊥ = cc in absurd x
 
 gone_again : (asking : Option Asked) (sent : List Pending) (parted : Parted)
     → (without_open asking sent).phase ≡ Phase.Reconnecting parted → ⊥
@@ -288,44 +277,6 @@ gone_again (Some asked) sent parted e = cc
 gone_sent : (asking : Option Asked) (sent : List Pending) → (without_open asking sent).sent ≡ sent
 gone_sent None sent = refl
 gone_sent (Some asked) sent = refl
-
-read_failed_from : (client : Client) (at : ℕ) (live : LiveEntry) (status : Status)
-    → StepFrom client no_settles (turned client at (read_failed_turn live (sent_of client at) status))
-unfolding read_failed_turn closed_by_server
-read_failed_from client at live status = if_cases (λ (t : Turn). StepFrom client no_settles (turned client at t))
-    (is_file_closed status) _ _
-    (λ gone. quiet_from client at _ (plain_sends client at _ tt)
-    (plain_entry (client.entries at) _ (gone_sent live.asking (sent_of client at)) (gone_again live.asking (sent_of client at))))
-    (λ there. quiet_from client at _ (plain_sends client at _ tt)
-    (plain_entry (client.entries at) _ refl (no_live_again _)))
-
-write_failed_from : (client : Client) → IsSoundClient client → (at file_id used : ℕ) (status : Status)
-    → has_sent client used at ≡ true → (phase : Phase) → (client.entries at).phase ≡ phase
-    → StepFrom client (λ number. one_if (used == number))
-    (turned client at (write_failed_in file_id used status (sent_without used (sent_of client at)) phase))
-unfolding closed_by_server
-write_failed_from client s at file_id used status has Phase.Closed is = turned_from client at _ _
-    (plain_sends client at _ tt) (left_entry client s at used has _ refl (λ parted e. is ∙ e))
-    (λ file ne known. settles_one client s at used has file ne)
-write_failed_from client s at file_id used status has (Phase.Opening access share) is = turned_from client at _ _
-    (plain_sends client at _ tt) (left_entry client s at used has _ refl (λ parted e. is ∙ e))
-    (λ file ne known. settles_one client s at used has file ne)
-write_failed_from client s at file_id used status has (Phase.Live live) is =
-    if_cases (λ (t : Turn). StepFrom client (λ number. one_if (used == number)) (turned client at t))
-    (is_file_closed status && live.file_id == file_id) _ _
-    (λ gone. turned_from client at _ _ (plain_sends client at _ tt)
-    (left_entry client s at used has _ (gone_sent live.asking (sent_without used (sent_of client at)))
-    (λ parted e. absurd (gone_again live.asking (sent_without used (sent_of client at)) parted e)))
-    (λ file ne known. settles_one client s at used has file ne))
-    (λ there. turned_from client at _ _ (plain_sends client at _ tt)
-    (left_entry client s at used has _ refl (λ parted e. is ∙ e))
-    (λ file ne known. settles_one client s at used has file ne))
-write_failed_from client s at file_id used status has (Phase.Offline parted) is = turned_from client at _ _
-    (plain_sends client at _ tt) (left_entry client s at used has _ refl (λ other e. is ∙ e))
-    (λ file ne known. settles_one client s at used has file ne)
-write_failed_from client s at file_id used status has (Phase.Reconnecting parted) is = turned_from client at _ _
-    (plain_sends client at _ tt) (left_entry client s at used has _ refl (λ other e. is ∙ e))
-    (λ file ne known. settles_one client s at used has file ne)
 
 passed_from : (client : Client) (reply : Reply) → PassesOver client reply
     → StepFrom client (λ number. settles_of number reply) (quiet_step client)
@@ -343,24 +294,19 @@ passed_from client reply why = record {
 
     none : (r : Reply) → PassesOver client r → (file : ℕ) → knows_file client file ≡ true → (w : Pending)
         → Among w (sent_of client file) → settles_of w.number r ≡ 0
-    none (Reply.Created f id contexts) p file known w a = refl
-    none (Reply.CreateFailed f status) p file known w a = refl
-    none (Reply.ReadDone id bytes) p file known w a = refl
-    none (Reply.ReadFailed id status) p file known w a = refl
     none (Reply.WriteDone id used) p file known w a = absent used file p known w a
     none (Reply.WriteFailed id used status) p file known w a = absent used file p known w a
-    none (Reply.Closed id) p file known w a = refl
-    none (Reply.CloseFailed id status) p file known w a = refl
-    none (Reply.Break notice) p file known w a = refl
-    none (Reply.AckDone response) p file known w a = refl
-    none (Reply.AckFailed status) p file known w a = refl
+    none reply p file known w a = refl
 
 pub takes_from : (client : Client) → IsSoundClient client
     → HasTakes client (λ reply step. StepFrom client (λ number. settles_of number reply) step)
-unfolding opened_turn reconnected_turn promoted_turn read_turn write_done_turn
+unfolding opened_turn reconnected_turn promoted_turn read_turn write_done_turn parked_closed closed_by_server
 takes_from client s = record {
   passed = λ reply why. passed_from client reply why;
-  broken = λ at notice live found is. break_from client at notice live (meet live.belief notice.lowered) is;
+  parked_closes = λ at notice live found is parked. quiet_from client at _
+      (flush_sends client at _ live _ is (tt, tt) refl)
+      (flush_entry (client.entries at) _ live live.unsent is (λ w a. a) refl closed_again);
+  lowered = λ at notice live found is stays. lowered_from client at notice live (meet live.belief notice.lowered) is;
   opened = λ at file_id answer access share is. quiet_from client at _ (plain_sends client at _ tt)
       (plain_entry (client.entries at) _ refl (no_live_again _));
   reconnected = λ at file_id answer parted is. quiet_from client at _ (plain_sends client at _ tt)
@@ -375,10 +321,17 @@ takes_from client s = record {
       (plain_entry (client.entries at) _ refl (no_live_again _));
   read = λ at file_id bytes live is id some. quiet_from client at _ (plain_sends client at _ tt)
       (plain_entry (client.entries at) _ refl (no_live_again _));
-  not_read = λ at file_id status live is id some. read_failed_from client at live status;
+  read_closed = λ at file_id status live is id gone. quiet_from client at _ (plain_sends client at _ tt)
+      (plain_entry (client.entries at) _ (gone_sent live.asking _) (gone_again live.asking _));
+  not_read = λ at file_id status live is id some. quiet_from client at _ (plain_sends client at _ tt)
+      (plain_entry (client.entries at) _ refl (no_live_again _));
   written = λ at file_id number has known. turned_from client at _ _ (plain_sends client at _ tt)
       (left_entry client s at number has _ refl (with_again _ (client.entries at).phase))
       (λ file ne k. settles_one client s at number has file ne);
-  not_written = λ at file_id number status has known.
-      write_failed_from client s at file_id number status has (client.entries at).phase refl;
+  write_closed = λ at file_id number status live has known is id gone. turned_from client at _ _ (plain_sends client at _ tt)
+      (left_entry client s at number has _ (gone_sent live.asking _)
+      (λ parted e. absurd (gone_again live.asking _ parted e)))
+      (λ file ne k. settles_one client s at number has file ne);
+  not_written = λ at file_id number status has known. turned_from client at _ _ (plain_sends client at _ tt)
+      (left_entry client s at number has _ refl (λ parted e. e)) (λ file ne k. settles_one client s at number has file ne);
 }

@@ -1,13 +1,12 @@
 -- Each step of a client leaves its entries safe.
-use Rattle.std.proofs.Common.{◌≡◌, ◌⊎◌, inl, inr, ⊎_elim, ℕ, ◌+◌, Bool, true, false, not, List, [], ◌∷◌, ◌++◌, filter, Option, Some, None, refl, sym, ap, ◌∙◌, subst, true≢false, ◌==◌}
+use Rattle.std.proofs.Common.{◌≡◌, ◌⊎◌, inl, inr, ⊎_elim, ℕ, ◌+◌, Bool, true, false, not, List, [], ◌∷◌, ◌++◌, filter, Option, Some, None, refl, sym, ap, ◌∙◌, subst, true≢false}
 use Rattle.std.specs.Prelude.{◌&&◌, ◌||◌, if◌then◌else◌, bytes_eq}
 use Rattle.lease_state.specs.State.{State, nothing_cached}
-use Rattle.lease_state.specs.declared.status.Status.{Status}
 use Rattle.lease_model.specs.client.Commanded.{next_write, cached_read, opened_anew, write_buffered, write_sent, flush_on_live}
-use Rattle.lease_model.specs.client.Connection.{notice_turn, connect_turn, live_noticed, live_parted}
+use Rattle.lease_model.specs.client.Connection.{connect_turn}
 use Rattle.lease_model.specs.client.State.{Client, Entry, LiveEntry, Asked, Parted, Pending, Phase, live_entry, knows_file, lease_key}
 use Rattle.lease_model.specs.client.Step.{Step, Turn, turned}
-use Rattle.lease_model.specs.client.Taken.{given_state, break_turn, parked_closed, belief_lowered, gives_up, opened_turn, reconnected_turn, promoted_turn, promoted_belief, first_belief, read_turn, read_failed_turn, is_file_closed, closed_by_server, without_open, sent_without, phase_with, write_done_turn, write_failed_in}
+use Rattle.lease_model.specs.client.Taken.{given_state, parked_closed, belief_lowered, gives_up, opened_turn, reconnected_turn, promoted_turn, promoted_belief, first_belief, read_turn, closed_by_server, without_open, sent_without, phase_with, write_done_turn}
 use Rattle.lease_model.specs.messages.Replies.{Reply, BreakNotice, CreateAnswer, LeaseGiven}
 use Rattle.lease_model.specs.records.Past.{is_touched}
 use Rattle.lease_model.specs.server.State.{Open}
@@ -24,10 +23,11 @@ use Rattle.lease_coherence.specs.Names.{Each}
 use Rattle.lease_coherence.specs.Standing.{IsOpenFor, FitsPhase}
 use Rattle.lease_coherence.proofs.beliefs.Trust.{file_key}
 use Rattle.lease_coherence.proofs.beliefs.Words.{HoldsWrites, OnGiven}
-use Rattle.lease_coherence.proofs.clients.Commands.{HasCommands, sent_of}
-use Rattle.lease_coherence.proofs.clients.Takes.{HasTakes}
+use Rattle.lease_laws.proofs.client.cases.Commands.{HasCommands, sent_of}
+use Rattle.lease_laws.proofs.client.cases.Replies.{HasTakes}
 use Rattle.lease_coherence.proofs.late.Words.{holds_write, IsClean, LiveSafe, KeptWrite, KeptSafe, PhaseSafe, given_writes, GrantSafe}
 use Rattle.lease_coherence.proofs.names.Words.{each_append, each_weaker, each_without}
+use Rattle.lease_laws.proofs.client.cases.Links.{HasNotices}
 
 -- ---- lists
 
@@ -231,19 +231,15 @@ grant_taken world c client file file_id answer guid known t write x there by id 
       clean = from_among (IsClean c file world.past) (client.entries file).sent (λ p a b. safe.clean w p a b refl);
     }
 
-break_safe : (world : World) (c : ℕ) (client : Client) (at : ℕ) (notice : BreakNotice) (live : LiveEntry)
+lowered_safe : (world : World) (c : ℕ) (client : Client) (at : ℕ) (notice : BreakNotice) (live : LiveEntry)
     → (client.entries at).phase ≡ Phase.Live live
     → StepSafe world c client
-    (turned client at (break_turn live (sent_of client at) notice (meet live.belief notice.lowered)))
-unfolding break_turn parked_closed belief_lowered
-break_safe world c client at notice live is =
-    let new = meet live.belief notice.lowered in
-    if_cases (λ (t : Turn). StepSafe world c client (turned client at t))
-    (live.handles == 0 && (live.belief.handle && not new.handle)) _ _
-    (λ parked. turned_safe world c client at _ (λ p. tt))
-    (λ stays. less_turn world c client at live _ _ is refl refl
-    (λ w. (and_parts live.belief.write notice.lowered.write w).0)
-    (λ each. split (gives_up live.belief new) (each_parts (IsClean c at world.past) (sent_of client at) live.unsent each)))
+    (turned client at (belief_lowered live (sent_of client at) notice (meet live.belief notice.lowered)))
+unfolding belief_lowered
+lowered_safe world c client at notice live is =
+    less_turn world c client at live _ _ is refl refl (λ w. (and_parts live.belief.write notice.lowered.write w).0)
+    (λ each. split (gives_up live.belief (meet live.belief notice.lowered))
+    (each_parts (IsClean c at world.past) (sent_of client at) live.unsent each))
   where
     split : (b : Bool) → Each (IsClean c at world.past) (sent_of client at) × Each (IsClean c at world.past) live.unsent
         → Each (IsClean c at world.past)
@@ -257,15 +253,6 @@ gone_safe : (world : World) (c file : ℕ) (asking : Option Asked) (sent : List 
     → PhaseSafe world c file (without_open asking sent).sent (without_open asking sent).phase
 gone_safe world c file None sent = tt
 gone_safe world c file (Some asked) sent = tt
-
-read_failed_safe : (world : World) (c : ℕ) (client : Client) (at : ℕ) (live : LiveEntry) (status : Status)
-    → (client.entries at).phase ≡ Phase.Live live
-    → StepSafe world c client (turned client at (read_failed_turn live (sent_of client at) status))
-unfolding read_failed_turn closed_by_server
-read_failed_safe world c client at live status is = if_cases (λ (t : Turn). StepSafe world c client (turned client at t))
-    (is_file_closed status) _ _
-    (λ gone. turned_safe world c client at _ (λ p. gone_safe world c at live.asking (sent_of client at)))
-    (λ there. same_turn world c client at live _ _ is refl refl refl refl refl)
 
 -- fewer writes that were sent
 fewer_entry : (world : World) (c : ℕ) (client : Client) (at number : ℕ) (live now : LiveEntry) (entry : Entry)
@@ -284,8 +271,6 @@ fewer_entry world c client at number live now entry is so sent id belief unsent 
 written_safe : (world : World) (c : ℕ) (client : Client) (at number : ℕ) (write : Option Pending) (phase : Phase)
     → (client.entries at).phase ≡ phase → PhaseSafe world c at (client.entries at).sent (client.entries at).phase
     → PhaseSafe world c at (sent_without number (sent_of client at)) (phase_with write phase)
-written_safe world c client at number write Phase.Closed is p = tt
-written_safe world c client at number write (Phase.Opening access share) is p = tt
 written_safe world c client at number write (Phase.Live live) is p =
     fewer_entry world c client at number live _ (record {
       phase = phase_with write (Phase.Live live);
@@ -295,24 +280,17 @@ written_safe world c client at number write (Phase.Offline parted) is p =
     subst (PhaseSafe world c at (sent_of client at)) is p
 written_safe world c client at number write (Phase.Reconnecting parted) is p =
     subst (PhaseSafe world c at (sent_of client at)) is p
+written_safe world c client at number write phase is p = tt
 
-write_failed_safe : (world : World) (c : ℕ) (client : Client) (at file_id number : ℕ) (status : Status) (phase : Phase)
-    → (client.entries at).phase ≡ phase → StepSafe world c client
-    (turned client at (write_failed_in file_id number status (sent_without number (sent_of client at)) phase))
-unfolding closed_by_server
-write_failed_safe world c client at file_id number status Phase.Closed is = turned_safe world c client at _ (λ p. tt)
-write_failed_safe world c client at file_id number status (Phase.Opening access share) is =
-    turned_safe world c client at _ (λ p. tt)
-write_failed_safe world c client at file_id number status (Phase.Live live) is =
-    if_cases (λ (t : Turn). StepSafe world c client (turned client at t)) (is_file_closed status && live.file_id == file_id)
-    _ _
-    (λ gone. turned_safe world c client at _
-    (λ p. gone_safe world c at live.asking (sent_without number (sent_of client at))))
-    (λ there. turned_safe world c client at _ (fewer_entry world c client at number live live _ is refl refl refl refl refl))
-write_failed_safe world c client at file_id number status (Phase.Offline parted) is =
-    turned_safe world c client at _ (λ p. subst (PhaseSafe world c at (sent_of client at)) is p)
-write_failed_safe world c client at file_id number status (Phase.Reconnecting parted) is =
-    turned_safe world c client at _ (λ p. subst (PhaseSafe world c at (sent_of client at)) is p)
+failed_safe : (world : World) (c : ℕ) (client : Client) (at number : ℕ) (phase : Phase)
+    → (client.entries at).phase ≡ phase → PhaseSafe world c at (client.entries at).sent (client.entries at).phase
+    → PhaseSafe world c at (sent_without number (sent_of client at)) phase
+failed_safe world c client at number (Phase.Live live) is p =
+    fewer_entry world c client at number live live _ is refl refl refl refl refl p
+failed_safe world c client at number (Phase.Offline parted) is p = subst (PhaseSafe world c at (sent_of client at)) is p
+failed_safe world c client at number (Phase.Reconnecting parted) is p =
+    subst (PhaseSafe world c at (sent_of client at)) is p
+failed_safe world c client at number phase is p = tt
 
 -- an entry that asked for more
 promoted_safe : (world : World) (c : ℕ) (client : Client) (at file_id : ℕ) (answer : CreateAnswer) (live next : LiveEntry)
@@ -348,10 +326,11 @@ promoted_safe world c client at file_id answer live next turn so_next so_sent s 
 
 pub takes_safe : (world : World) (c : ℕ) (client : Client) → IsSoundClient client → client.guid ≡ (world.clients c).guid
     → HasTakes client (TakesSafe world c client)
-unfolding opened_turn reconnected_turn promoted_turn read_turn write_done_turn
+unfolding opened_turn reconnected_turn promoted_turn read_turn write_done_turn parked_closed closed_by_server
 takes_safe world c client s guid = record {
   passed = λ reply why t file p. p;
-  broken = λ at notice live found is t. break_safe world c client at notice live is;
+  parked_closes = λ at notice live found is parked t. turned_safe world c client at _ (λ p. tt);
+  lowered = λ at notice live found is stays t. lowered_safe world c client at notice live is;
   opened = λ at file_id answer access share is t. turned_safe world c client at _ (λ p. λ x there by id write.
       let g = grant_taken world c client at file_id answer guid
       (is_known client at (Phase.Opening access share) s is (λ e. opening_not_closed access share e)) t write x there by id in
@@ -372,11 +351,15 @@ takes_safe world c client s guid = record {
   not_reconnected = λ at status parted is t. turned_safe world c client at _ (λ p. tt);
   not_promoted = λ at status live asked is asks t. same_turn world c client at live _ _ is refl refl refl refl refl;
   read = λ at file_id bytes live is id some t. same_turn world c client at live _ _ is refl refl refl refl refl;
-  not_read = λ at file_id status live is id some t. read_failed_safe world c client at live status is;
+  read_closed = λ at file_id status live is id gone t. turned_safe world c client at _
+      (λ p. gone_safe world c at live.asking (sent_of client at));
+  not_read = λ at file_id status live is id some t. same_turn world c client at live _ _ is refl refl refl refl refl;
   written = λ at file_id number has known t. turned_safe world c client at _
       (written_safe world c client at number _ (client.entries at).phase refl);
-  not_written = λ at file_id number status has known t.
-      write_failed_safe world c client at file_id number status (client.entries at).phase refl;
+  write_closed = λ at file_id number status live has known is id gone t. turned_safe world c client at _
+      (λ p. gone_safe world c at live.asking (sent_without number (sent_of client at)));
+  not_written = λ at file_id number status has known t. turned_safe world c client at _
+      (failed_safe world c client at number (client.entries at).phase refl);
 }
   where
     some_kept : (b : Bool) (at : ℕ) (parted : Parted) → Each (KeptWrite world c at) parted.writes
@@ -401,26 +384,23 @@ kept_filter world c file (w ∷ writes) holds each = if_cases (Each (KeptWrite w
     (λ b. ((holds, (each.0) b), kept_filter world c file writes holds each.1))
     (λ b. kept_filter world c file writes holds each.1)
 
-pub notice_safe : (world : World) (c file : ℕ) (sent : List Pending) (phase : Phase) → PhaseSafe world c file sent phase
-    → PhaseSafe world c file (notice_turn sent phase).entry.sent (notice_turn sent phase).entry.phase
-unfolding live_noticed live_parted
-notice_safe world c file sent Phase.Closed p = tt
-notice_safe world c file sent (Phase.Opening access share) p = tt
-notice_safe world c file sent (Phase.Live live) p = if_cases
-    (λ (t : Turn). PhaseSafe world c file t.entry.sent t.entry.phase) live.durable _ _
-    (λ lasts. if_cases (λ (t : Turn). PhaseSafe world c file t.entry.sent t.entry.phase) live.belief.write _ _
-    (λ caches. λ x there by id. let old = p x there by id caches in
-    kept_filter world c file (sent ++ live.unsent) old.0 old.1)
-    (λ plain. λ x there by id. tt))
-    (λ ends. tt)
-notice_safe world c file sent (Phase.Offline parted) p = p
-notice_safe world c file sent (Phase.Reconnecting parted) p = p
+pub notices_safe : (world : World) (c file : ℕ) (sent : List Pending)
+    → HasNotices sent (λ phase turn. PhaseSafe world c file sent phase
+    → PhaseSafe world c file turn.entry.sent turn.entry.phase)
+notices_safe world c file sent = record {
+  closed = λ p. tt;
+  opening = λ access share p. tt;
+  ended = λ live p. tt;
+  kept = λ live writes p x there by id. let old = p x there by id writes in
+      kept_filter world c file (sent ++ live.unsent) old.0 old.1;
+  bare = λ live none p x there by id. tt;
+  offline = λ parted p. p;
+  reconnecting = λ parted p. p;
+}
 
 pub connect_safe : (world : World) (c file : ℕ) (client : Client) (sent : List Pending) (phase : Phase)
     → PhaseSafe world c file sent phase
     → PhaseSafe world c file (connect_turn client file sent phase).entry.sent (connect_turn client file sent phase).entry.phase
 connect_safe world c file client sent Phase.Closed p = tt
 connect_safe world c file client sent (Phase.Opening access share) p = tt
-connect_safe world c file client sent (Phase.Live live) p = p
-connect_safe world c file client sent (Phase.Offline parted) p = p
-connect_safe world c file client sent (Phase.Reconnecting parted) p = p
+connect_safe world c file client sent phase p = p

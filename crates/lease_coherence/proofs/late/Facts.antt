@@ -91,12 +91,8 @@ noted_none : (client : ℕ) (past : List Fact) (notes : List Note) → EachFact 
 noted_none client past [] l = l
 noted_none client past (Note.Settled number outcome ∷ notes) l =
     noted_none client (fact_of client (Note.Settled number outcome) ∷ past) notes (tt, l)
-noted_none client past (Note.Wrote file number patch buffered ∷ notes) l =
-    noted_none client (fact_of client (Note.Wrote file number patch buffered) ∷ past) notes (tt, l)
-noted_none client past (Note.Believes file state ∷ notes) l =
-    noted_none client (fact_of client (Note.Believes file state) ∷ past) notes (tt, l)
-noted_none client past (Note.CachedRead file bytes ∷ notes) l =
-    noted_none client (fact_of client (Note.CachedRead file bytes) ∷ past) notes (tt, l)
+noted_none client past (note ∷ notes) l =
+    noted_none client (fact_of client note ∷ past) notes (tt, l)
 
 stepped_none : (world : World) (client : ℕ) (step : Step) → NoneLate world → NoneLate (stepped_in world client step)
 stepped_none world client step l = subst (EachFact NoLateWrite) (sym (stepped_past world client step))
@@ -107,7 +103,6 @@ stepped_none world client step l = subst (EachFact NoLateWrite) (sym (stepped_pa
 none_moves : IsMoved HasRecord NoneLate
 unfolding requests_sent
 none_moves world (Move.Step step) next v l = step_deed world NoneLate (deeds_none world v l) step next
-none_moves world (Move.Cut client) up v l = (tt, l)
 none_moves world (Move.Expire client file) (on, breaks) v l = (tt, l)
 none_moves world (Move.Scavenge file_id) may v l = l
 none_moves world (Move.Connect client) down v l =
@@ -119,7 +114,7 @@ none_moves world (Move.Take client reply queue) first v l =
 none_moves world (Move.Notice client) cut v l =
     stepped_none (record world { links = put world.links client Link.Down }) client
     (noticed (world.clients client)) l
-none_moves world (Move.Stray client request) up v l = (tt, l)
+none_moves world move up v l = (tt, l)
 
 -- ---- runs
 

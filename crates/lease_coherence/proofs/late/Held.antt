@@ -40,9 +40,8 @@ AsksOn world file request = ⊤
 pub about_asks : (world : World) (file : ℕ) (request : FileRequest) → IsAbout world.server file request
     → AsksOn world file request
 about_asks world file (FileRequest.Create other access share contexts) a = a
-about_asks world file (FileRequest.Read file_id) a = tt
 about_asks world file (FileRequest.Write file_id number patch) a = a.is_on_file
-about_asks world file (FileRequest.Close file_id) a = tt
+about_asks world file request a = tt
 
 -- where the client's lease holds writes, no request of it on the file has to wait
 pub none_waits : (world : World) (c : ℕ) → IsSound world.server → IsNamedAt world c → (file : ℕ) (x : Open)
@@ -64,8 +63,7 @@ none_waits world c sound n file x there by on holds (FileRequest.Write file_id n
     (ap₂ key_under parts.1.0 (n.opens b.one found.0 parts.1.0)
     ∙ ap (λ g. Some (key_of c (lease_key (world.clients c).guid g))) here) there
     (own_has_key world c file x by on (n.opens x there by)) (on ∙ sym here) holds b.is_blocked
-none_waits world c sound n file x there by on holds (FileRequest.Read file_id) named asks b = absurd b
-none_waits world c sound n file x there by on holds (FileRequest.Close file_id) named asks b = absurd b
+none_waits world c sound n file x there by on holds request named asks b = absurd b
 
 -- the first that passes the test
 pub first_of : (test : Held → Bool) (held : List Held) → list_any test held ≡ true → (y : Held) × (find test held ≡ Some y)
@@ -94,9 +92,6 @@ held_plain world at one may turn sound ids n named safe = by_request one.request
     c = one.client
 
     by_request : (r : FileRequest) → one.request ≡ r → HeldPlain world one.client (Request.OnFile r)
-    by_request (FileRequest.Create f access share contexts) is = tt
-    by_request (FileRequest.Read file_id) is = tt
-    by_request (FileRequest.Close file_id) is = tt
     by_request (FileRequest.Write file_id number patch) is = λ x there by id.
         let w : WasWrittenOn one.client file_id number patch world.past =
         subst (IsNamedOnFile one.client (world.clients one.client).guid world.past) is named in
@@ -117,6 +112,7 @@ held_plain world at one may turn sound ids n named safe = by_request one.request
         (n.held at y.0 found.0 (eqb-true (y.0).client one.client found.1))
         (about_asks world at (y.0).request ((behind.0).is_orderly.held_about at y.0 found.0))
         ((behind.0).all_wait at one.client y.0 y.1)) may.1)
+    by_request request is = tt
 
 held_like : (world : World) (at : ℕ) (one : Held) → IsLike world (held_in world at one) one.client
 held_like world at one = record {

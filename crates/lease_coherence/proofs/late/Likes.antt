@@ -1,5 +1,5 @@
 -- What moves of the server leave of the writes and grants on their way.
-use Rattle.std.proofs.Common.{◌≡◌, inl, inr, ⊎_elim, ℕ, ◌≤◌, Bool, true, false, not, List, [], ◌∷◌, ◌++◌, Some, None, refl, sym, ap, ◌∙◌, subst, ◌==◌}
+use Rattle.std.proofs.Common.{◌≡◌, inl, inr, ⊎_elim, ℕ, ◌≤◌, Bool, true, false, not, List, [], ◌∷◌, ◌++◌, Some, refl, sym, ap, ◌∙◌, subst, ◌==◌}
 use Rattle.std.specs.Prelude.{◌&&◌, ◌||◌}
 use Rattle.std.proofs.lemmas.Bool.{eq-eqb}
 use Rattle.lease_state.specs.declared.patch.Patch.{Patch}
@@ -90,12 +90,8 @@ unfolding is_touched
 noted_touched c client file number past [] = refl
 noted_touched c client file number past (Note.Settled n outcome ∷ notes) =
     noted_touched c client file number (fact_of client (Note.Settled n outcome) ∷ past) notes
-noted_touched c client file number past (Note.Wrote f n patch buffered ∷ notes) =
-    noted_touched c client file number (fact_of client (Note.Wrote f n patch buffered) ∷ past) notes
-noted_touched c client file number past (Note.Believes f state ∷ notes) =
-    noted_touched c client file number (fact_of client (Note.Believes f state) ∷ past) notes
-noted_touched c client file number past (Note.CachedRead f bytes ∷ notes) =
-    noted_touched c client file number (fact_of client (Note.CachedRead f bytes) ∷ past) notes
+noted_touched c client file number past (note ∷ notes) =
+    noted_touched c client file number (fact_of client note ∷ past) notes
 
 -- ---- requests
 
@@ -133,10 +129,7 @@ writes_up world new c like ids holds requests held n a = asked_moved (WriteSafe 
     still (Request.OnFile (FileRequest.Write file_id number patch)) safe w =
         write_like world new c like ids file_id w.file number w.opened
         (λ b x there own on. holds w.file x there own on) safe
-    still (Request.OnFile (FileRequest.Create file access share contexts)) safe w = tt
-    still (Request.OnFile (FileRequest.Read file_id)) safe w = tt
-    still (Request.OnFile (FileRequest.Close file_id)) safe w = tt
-    still (Request.Acknowledge given) safe w = tt
+    still request safe w = tt
 
 pub held_up : (world new : World) (c : ℕ) → IsLike world new c → KnowsIds world c
     → new.server.held ≡ world.server.held → IsNamedAt world c
@@ -152,9 +145,7 @@ held_up world new c like ids held n plain file one a own =
         → IsNamedRequest c (world.clients c).guid world.past (Request.OnFile r) → HeldPlain new c (Request.OnFile r)
     still (FileRequest.Write file_id number patch) p w =
         plain_like world new c like ids file_id w.file number w.opened p
-    still (FileRequest.Create f access share contexts) p w = tt
-    still (FileRequest.Read file_id) p w = tt
-    still (FileRequest.Close file_id) p w = tt
+    still request p w = tt
 
 -- ---- acknowledgments
 
@@ -207,17 +198,7 @@ grant_like world new c file like ids sent front (Reply.Created other file_id (So
           ∙ safe.clean (ap (λ k. (given_state k answer.lease).write) (sym key) ∙ e) write
           a buffered none;
     }
-grant_like world new c file like ids sent front (Reply.Created other file_id None) n g = tt
-grant_like world new c file like ids sent front (Reply.CreateFailed other status) n g = tt
-grant_like world new c file like ids sent front (Reply.ReadDone file_id bytes) n g = tt
-grant_like world new c file like ids sent front (Reply.ReadFailed file_id status) n g = tt
-grant_like world new c file like ids sent front (Reply.WriteDone file_id number) n g = tt
-grant_like world new c file like ids sent front (Reply.WriteFailed file_id number status) n g = tt
-grant_like world new c file like ids sent front (Reply.Closed file_id) n g = tt
-grant_like world new c file like ids sent front (Reply.CloseFailed file_id status) n g = tt
-grant_like world new c file like ids sent front (Reply.Break notice) n g = tt
-grant_like world new c file like ids sent front (Reply.AckDone response) n g = tt
-grant_like world new c file like ids sent front (Reply.AckFailed status) n g = tt
+grant_like world new c file like ids sent front reply n g = tt
 
 pub grants_like : (world new : World) (c file : ℕ) → IsLike world new c → KnowsIds world c → (sent : List Pending)
     → (front queue : List Reply) → Each (IsNamedReply c world.past) queue → GrantsSafe world c file sent front queue

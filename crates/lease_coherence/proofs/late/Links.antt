@@ -18,7 +18,7 @@ use Rattle.lease_laws.proofs.server.Lists.{if_cases, among_filter, among_filtere
 use Rattle.lease_laws.proofs.world.Links.{stepped_links}
 use Rattle.lease_coherence.specs.Names.{Each, IsNamedAt}
 use Rattle.lease_coherence.proofs.beliefs.Words.{acks}
-use Rattle.lease_coherence.proofs.late.Entries.{notice_safe, connect_safe}
+use Rattle.lease_coherence.proofs.late.Entries.{notices_safe, connect_safe}
 use Rattle.lease_coherence.proofs.late.Likes.{dropped_past, joined_past}
 use Rattle.lease_coherence.proofs.late.Servers.{all_hold, entries_like, itself, closing_holds}
 use Rattle.lease_coherence.proofs.late.Steps.{stepped_entries}
@@ -27,6 +27,7 @@ use Rattle.lease_coherence.proofs.moves.Events.{Ground, cut_off, come_back, conn
 use Rattle.lease_coherence.proofs.moves.Frames.{stepped_replies}
 use Rattle.lease_coherence.proofs.names.Words.{each_weaker}
 use Rattle.lease_coherence.proofs.order.Runs.{IsCreate, connect_creates, connect_held}
+use Rattle.lease_laws.proofs.client.cases.Links.{any_notice}
 
 -- ---- a connection is lost
 
@@ -69,7 +70,8 @@ notice_late world c a =
     let base : World = record world { links = put world.links c Link.Down } in
     let machine = world.clients c in record {
       entries = stepped_entries base c (noticed machine) refl
-          (λ file p. notice_safe base c file (machine.entries file).sent (machine.entries file).phase p) a.entries;
+          (λ file. any_notice (machine.entries file).sent _ (notices_safe base c file (machine.entries file).sent)
+          (machine.entries file).phase) a.entries;
       up = λ up. absurd (true≢false (sym up
           ∙ ap (λ (l : ℕ → Link). is_up (l c)) (stepped_links base c (noticed machine))
           ∙ ap is_up (put_same world.links c Link.Down)));
@@ -92,10 +94,7 @@ no_acks key (Request.Acknowledge given ∷ queue) each = absurd each.0
 
 create_safe : (world : World) (c : ℕ) (r : Request) → IsCreate r → WriteSafe world c r
 create_safe world c (Request.OnFile (FileRequest.Create file access share contexts)) is = tt
-create_safe world c (Request.OnFile (FileRequest.Read file_id)) is = absurd is
-create_safe world c (Request.OnFile (FileRequest.Write file_id number patch)) is = absurd is
-create_safe world c (Request.OnFile (FileRequest.Close file_id)) is = absurd is
-create_safe world c (Request.Acknowledge given) is = absurd is
+create_safe world c request is = absurd is
 
 back_safe : (world : World) (c : ℕ) → KnowsIds world c → IsNamedAt world c → IsSafeAt world c
     → IsSafeAt (come_back world c) c

@@ -1,5 +1,5 @@
 -- What others do leaves a client's writes safe.
-use Rattle.std.proofs.Common.{◌≡◌, ◌⊎◌, inl, inr, ⊎_elim, ℕ, true, false, List, [], ◌∷◌, ◌++◌, Some, None, refl, sym, ap, ap₂, ◌∙◌, subst, ◌==◌}
+use Rattle.std.proofs.Common.{◌≡◌, ◌⊎◌, inl, inr, ⊎_elim, ℕ, true, false, List, [], ◌∷◌, ◌++◌, Some, refl, sym, ap, ap₂, ◌∙◌, subst, ◌==◌}
 use Rattle.std.proofs.lemmas.Bool.{eq-eqb}
 use Rattle.lease_model.specs.client.State.{Client, LiveEntry, Parted, Pending, Phase, knows_file, lease_key}
 use Rattle.lease_model.specs.client.Taken.{given_state}
@@ -49,8 +49,6 @@ phase_unmoved : (world new : World) (c file : ℕ) (sent : List Pending) (phase 
     → ((parted : Parted) → (phase ≡ Phase.Offline parted) ⊎ (phase ≡ Phase.Reconnecting parted)
     → was_opened parted.file_id file c world.past ≡ true)
     → PhaseSafe world c file sent phase → PhaseSafe new c file sent phase
-phase_unmoved world new c file sent Phase.Closed u n ids live_ids parted_ids p = tt
-phase_unmoved world new c file sent (Phase.Opening access share) u n ids live_ids parted_ids p = tt
 phase_unmoved world new c file sent (Phase.Live live) u n ids live_ids parted_ids p = λ x there by id write.
     let was = u.from x by there in
     let on = (ids.on live.file_id file (live_ids live refl) x was id).0 in
@@ -75,6 +73,7 @@ phase_unmoved world new c file sent (Phase.Reconnecting parted) u n ids live_ids
       holds_same world new c u file ∙ k.0,
       touched_same world new c u n file x was by on w.number (λ had. k.0) k.1,
     )) (p x was by id)
+phase_unmoved world new c file sent phase u n ids live_ids parted_ids p = tt
 
 -- ---- what is on its way
 
@@ -86,27 +85,19 @@ write_unmoved world new c u n (Request.OnFile (FileRequest.Write file_id number 
       held = λ b. holds_same world new c u x.file ∙ old.held (sym (u.spared.buffered x.file number) ∙ b);
       clean = touched_same world new c u n x.file x was by refl number old.held old.clean;
     }
-write_unmoved world new c u n (Request.OnFile (FileRequest.Create f access share contexts)) safe = tt
-write_unmoved world new c u n (Request.OnFile (FileRequest.Read file_id)) safe = tt
-write_unmoved world new c u n (Request.OnFile (FileRequest.Close file_id)) safe = tt
-write_unmoved world new c u n (Request.Acknowledge given) safe = tt
+write_unmoved world new c u n request safe = tt
 
 plain_unmoved : (world new : World) (c : ℕ) → IsUnmoved world new c → (r : FileRequest)
     → HeldPlain world c (Request.OnFile r) → HeldPlain new c (Request.OnFile r)
 plain_unmoved world new c u (FileRequest.Write file_id number patch) p = λ x there by id.
     u.spared.buffered x.file number ∙ p x (u.from x by there) by id
-plain_unmoved world new c u (FileRequest.Create f access share contexts) p = tt
-plain_unmoved world new c u (FileRequest.Read file_id) p = tt
-plain_unmoved world new c u (FileRequest.Close file_id) p = tt
+plain_unmoved world new c u request p = tt
 
 not_buffered_unmoved : (world new : World) (c file : ℕ) → IsUnmoved world new c → (r : Request)
     → NotBuffered world c file r → NotBuffered new c file r
 not_buffered_unmoved world new c file u (Request.OnFile (FileRequest.Write file_id number patch)) p = λ x there by id on.
     u.spared.buffered file number ∙ p x (u.from x by there) by id on
-not_buffered_unmoved world new c file u (Request.OnFile (FileRequest.Create f access share contexts)) p = tt
-not_buffered_unmoved world new c file u (Request.OnFile (FileRequest.Read file_id)) p = tt
-not_buffered_unmoved world new c file u (Request.OnFile (FileRequest.Close file_id)) p = tt
-not_buffered_unmoved world new c file u (Request.Acknowledge given) p = tt
+not_buffered_unmoved world new c file u request p = tt
 
 acks_unmoved : (world new : World) (c : ℕ) → IsUnmoved world new c → (queue : List Request) → AcksKeep world c queue
     → AcksKeep new c queue
@@ -140,17 +131,7 @@ grant_unmoved world new c file u n ids sent front (Reply.Created other file_id (
           let holds = (bears (timely (given_so (file_key world c file) answer.lease gives)) same gives).1 in
           touched_same world new c u n file x was by on write.number (λ b. holds) (safe.clean gives write a buffered none);
     }
-grant_unmoved world new c file u n ids sent front (Reply.Created other file_id None) m bears g = tt
-grant_unmoved world new c file u n ids sent front (Reply.CreateFailed other status) m bears g = tt
-grant_unmoved world new c file u n ids sent front (Reply.ReadDone file_id bytes) m bears g = tt
-grant_unmoved world new c file u n ids sent front (Reply.ReadFailed file_id status) m bears g = tt
-grant_unmoved world new c file u n ids sent front (Reply.WriteDone file_id number) m bears g = tt
-grant_unmoved world new c file u n ids sent front (Reply.WriteFailed file_id number status) m bears g = tt
-grant_unmoved world new c file u n ids sent front (Reply.Closed file_id) m bears g = tt
-grant_unmoved world new c file u n ids sent front (Reply.CloseFailed file_id status) m bears g = tt
-grant_unmoved world new c file u n ids sent front (Reply.Break notice) m bears g = tt
-grant_unmoved world new c file u n ids sent front (Reply.AckDone response) m bears g = tt
-grant_unmoved world new c file u n ids sent front (Reply.AckFailed status) m bears g = tt
+grant_unmoved world new c file u n ids sent front reply m bears g = tt
 
 grants_unmoved : (world new : World) (c file : ℕ) → IsUnmoved world new c → IsNamedAt world c → KnowsIds world c
     → (sent : List Pending) (front queue : List Reply) → Each (IsNamedReply c world.past) queue

@@ -171,6 +171,5 @@ late_moves = record {
 }
   where
     online_by : (link : Link) → is_up link ≡ true → not (is_down link) ≡ true
-    online_by Link.Up up = refl
-    online_by Link.Cut up = refl
     online_by Link.Down up = absurd (true≢false (sym up))
+    online_by link up = refl

@@ -176,15 +176,7 @@ pub grant_bare : (world : World) (c file : ℕ) (sent : List Pending) (front : L
     → is_bare reply → GrantSafe world c file sent front reply
 grant_bare world c file sent front (Reply.Created other file_id contexts) bare = absurd bare
 grant_bare world c file sent front (Reply.Break notice) bare = absurd bare
-grant_bare world c file sent front (Reply.CreateFailed other status) bare = tt
-grant_bare world c file sent front (Reply.ReadDone file_id bytes) bare = tt
-grant_bare world c file sent front (Reply.ReadFailed file_id status) bare = tt
-grant_bare world c file sent front (Reply.WriteDone file_id number) bare = tt
-grant_bare world c file sent front (Reply.WriteFailed file_id number status) bare = tt
-grant_bare world c file sent front (Reply.Closed file_id) bare = tt
-grant_bare world c file sent front (Reply.CloseFailed file_id status) bare = tt
-grant_bare world c file sent front (Reply.AckDone response) bare = tt
-grant_bare world c file sent front (Reply.AckFailed status) bare = tt
+grant_bare world c file sent front reply bare = tt
 
 -- one more reply, where it is safe
 pub grants_more : (off new : World) (c : ℕ) (reply : Reply) (file : ℕ) → IsLike off new c → KnowsIds off c
@@ -217,9 +209,7 @@ write_in P number (FileRequest.Write file_id used patch) p some = either (used =
       so = subst (λ n. P (Request.OnFile (FileRequest.Write file_id n patch))) (eqb-true used number same) p;
     })
     (λ other. absurd (some (ap one_if other)))
-write_in P number (FileRequest.Create f access share contexts) p some = absurd (some refl)
-write_in P number (FileRequest.Read file_id) p some = absurd (some refl)
-write_in P number (FileRequest.Close file_id) p some = absurd (some refl)
+write_in P number request p some = absurd (some refl)
 
 queued_write : (P : Request → Type 0) (number : ℕ) (queue : List Request) → Each P queue
     → (writes number queue ≡ 0 → ⊥) → IsWriteOf P number

@@ -156,8 +156,6 @@ any_same world c step guid =
 
 phase_same : (world new : World) (c file : ℕ) (sent : List Pending) (phase : Phase) → IsSameIn world new c
     → PhaseSafe world c file sent phase → PhaseSafe new c file sent phase
-phase_same world new c file sent Phase.Closed i p = tt
-phase_same world new c file sent (Phase.Opening access share) i p = tt
 phase_same world new c file sent (Phase.Live live) i p = λ x there by id write.
     let old = p x (subst (λ (l : List Open). Among x l) i.opens there) by id write in (
       i.holds file ∙ old.0,
@@ -172,6 +170,7 @@ phase_same world new c file sent (Phase.Reconnecting parted) i p = λ x there by
     each_weaker (KeptWrite world c file) (KeptWrite new c file) parted.writes
     (λ w k. (i.holds file ∙ k.0, i.touched file w.number ∙ k.1))
     (p x (subst (λ (l : List Open). Among x l) i.opens there) by id)
+phase_same world new c file sent phase i p = tt
 
 pub stepped_entries : (world : World) (c : ℕ) (step : Step) → step.client.guid ≡ (world.clients c).guid
     → StepSafe world c (world.clients c) step → IsSafeAt world c → IsSafeAt (stepped_in world c step) c
@@ -198,9 +197,8 @@ old_safe world c settles step w (Request.OnFile (FileRequest.Write file_id numbe
         ∙ noted_buffered c f number (world.clients c).last_number step.client.last_number world.past step.notes w.tells
         (w.known.low number (written_number c n.file number patch world.past n.written))
 old_safe world c settles step w (Request.OnFile (FileRequest.Create f access share contexts)) safe n = tt
-old_safe world c settles step w (Request.OnFile (FileRequest.Read file_id)) safe n = tt
-old_safe world c settles step w (Request.OnFile (FileRequest.Close file_id)) safe n = tt
 old_safe world c settles step w (Request.Acknowledge given) safe n = tt
+old_safe world c settles step w (Request.OnFile request) safe n = tt
 
 old_plain : (world : World) (c : ℕ) (settles : ℕ → ℕ) (step : Step) → IsStepWell world c settles step → (r : FileRequest)
     → HeldPlain world c (Request.OnFile r) → IsNamedRequest c (world.clients c).guid world.past (Request.OnFile r)
@@ -211,23 +209,15 @@ old_plain world c settles step w (FileRequest.Write file_id number patch) plain 
     ∙ noted_buffered c x.file number (world.clients c).last_number step.client.last_number world.past step.notes w.tells
     (w.known.low number (written_number c n.file number patch world.past n.written))
     ∙ plain x (subst (λ (l : List Open). Among x l) i.opens there) by id
-old_plain world c settles step w (FileRequest.Create f access share contexts) plain n = tt
-old_plain world c settles step w (FileRequest.Read file_id) plain n = tt
-old_plain world c settles step w (FileRequest.Close file_id) plain n = tt
+old_plain world c settles step w request plain n = tt
 
 other_safe : (world : World) (c : ℕ) (r : Request) → IsOther r → WriteSafe world c r
 other_safe world c (Request.OnFile (FileRequest.Write file_id number patch)) o = absurd o
-other_safe world c (Request.OnFile (FileRequest.Create f access share contexts)) o = tt
-other_safe world c (Request.OnFile (FileRequest.Read file_id)) o = tt
-other_safe world c (Request.OnFile (FileRequest.Close file_id)) o = tt
-other_safe world c (Request.Acknowledge given) o = tt
+other_safe world c request o = tt
 
 other_plain : (world : World) (c file : ℕ) (r : Request) → IsOther r → NotBuffered world c file r
 other_plain world c file (Request.OnFile (FileRequest.Write file_id number patch)) o = absurd o
-other_plain world c file (Request.OnFile (FileRequest.Create f access share contexts)) o = tt
-other_plain world c file (Request.OnFile (FileRequest.Read file_id)) o = tt
-other_plain world c file (Request.OnFile (FileRequest.Close file_id)) o = tt
-other_plain world c file (Request.Acknowledge given) o = tt
+other_plain world c file request o = tt
 
 each_writes : (P : Request → Type 0) (file_id : ℕ) (writes : List Pending) (tail : List Request)
     → ((w : Pending) → Among w writes → P (Request.OnFile (FileRequest.Write file_id w.number w.patch))) → Each P tail
@@ -459,16 +449,7 @@ grant_after world c settles step w e file from front left sum (Reply.Created oth
         (unsent_safe world c settles step w e file live is write there o.one o.there o.by o.id).1
     by_from safe given write buffered none (SentFrom.Plain plain) = clash write.buffered buffered plain
 grant_after world c settles step w e file from front left sum (Reply.Created other file_id None) g = tt
-grant_after world c settles step w e file from front left sum (Reply.CreateFailed other status) g = tt
-grant_after world c settles step w e file from front left sum (Reply.ReadDone file_id bytes) g = tt
-grant_after world c settles step w e file from front left sum (Reply.ReadFailed file_id status) g = tt
-grant_after world c settles step w e file from front left sum (Reply.WriteDone file_id number) g = tt
-grant_after world c settles step w e file from front left sum (Reply.WriteFailed file_id number status) g = tt
-grant_after world c settles step w e file from front left sum (Reply.Closed file_id) g = tt
-grant_after world c settles step w e file from front left sum (Reply.CloseFailed file_id status) g = tt
-grant_after world c settles step w e file from front left sum (Reply.Break notice) g = tt
-grant_after world c settles step w e file from front left sum (Reply.AckDone response) g = tt
-grant_after world c settles step w e file from front left sum (Reply.AckFailed status) g = tt
+grant_after world c settles step w e file from front left sum reply g = tt
 
 grants_after : (world : World) (c : ℕ) (settles : ℕ → ℕ) (step : Step) → IsStepWell world c settles step
     → IsSafeAt world c → (file : ℕ) → EntryFrom ((world.clients c).entries file) (step.client.entries file) settles

@@ -62,11 +62,10 @@ KeptSafe world c file parted = (x : Open) → Among x world.server.opens → x.c
     → Each (KeptWrite world c file) parted.writes
 
 abbrev pub PhaseSafe : World → ℕ → ℕ → List Pending → Phase → Type 0
-PhaseSafe world c file sent Phase.Closed = ⊤
-PhaseSafe world c file sent (Phase.Opening access share) = ⊤
 PhaseSafe world c file sent (Phase.Live live) = LiveSafe world c file sent live
 PhaseSafe world c file sent (Phase.Offline parted) = KeptSafe world c file parted
 PhaseSafe world c file sent (Phase.Reconnecting parted) = KeptSafe world c file parted
+PhaseSafe world c file sent phase = ⊤
 
 -- over any link
 abbrev pub IsSafeAt : World → ℕ → Type 0
@@ -185,8 +184,6 @@ pub phase_like : (world new : World) (c file : ℕ) (sent : List Pending) (phase
     → Among x new.server.opens → x.client ≡ c → x.file ≡ file → holds_write world c file ≡ true
     → holds_write new c file ≡ true)
     → PhaseSafe world c file sent phase → PhaseSafe new c file sent phase
-phase_like world new c file sent Phase.Closed like ids live_ids parted_ids live_holds parted_holds p = tt
-phase_like world new c file sent (Phase.Opening access share) like ids live_ids parted_ids live_holds parted_holds p = tt
 phase_like world new c file sent (Phase.Live live) like ids live_ids parted_ids live_holds parted_holds p =
     λ x there by id write.
     let opened = live_ids live refl in
@@ -216,6 +213,7 @@ phase_like world new c file sent (Phase.Reconnecting parted) like ids live_ids p
       parted_holds parted (inr refl) x there (sym w.client ∙ on.1) (sym w.file ∙ on.0) kept.0,
       like.past.touched file write.number ∙ kept.1,
     )) (p w.was w.there (w.client ∙ by) (w.id ∙ id))
+phase_like world new c file sent phase like ids live_ids parted_ids live_holds parted_holds p = tt
 
 -- a write on its way, by the FileId that the record tells of
 pub write_like : (world new : World) (c : ℕ) → IsLike world new c → KnowsIds world c → (file_id file number : ℕ)

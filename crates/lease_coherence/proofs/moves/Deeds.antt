@@ -304,9 +304,8 @@ step_deed world P h (SmallStep.Answer client request outcome) next =
     }) next.guarded
   where
     up_of : (o : Outcome) → MayEnd world.server client request o → world.server.present client ≡ true
-    up_of (Outcome.Refused status) may = may.0
     up_of Outcome.Waits may = absurd may
-    up_of Outcome.Ready may = may.0
+    up_of outcome may = may.0
 step_deed world P h (SmallStep.AnswerHeld file before one behind outcome) next =
     request_deed world (with_held world file (before ++ behind)) P h one.client one.request outcome
     (record {
@@ -322,9 +321,8 @@ step_deed world P h (SmallStep.AnswerHeld file before one behind outcome) next =
     }) (same_end outcome one.request next.guarded.1)
   where
     up_of : (o : Outcome) → MayEnd world.server one.client one.request o → world.server.present one.client ≡ true
-    up_of (Outcome.Refused status) may = may.0
     up_of Outcome.Waits may = absurd may
-    up_of Outcome.Ready may = may.0
+    up_of outcome may = may.0
 
     same_create : (f : ℕ) (access : Access) (share : Share) (lease : Option LeaseOf) (again : Option ℕ)
         → MayCreate world.server one.client f access share lease again
@@ -351,9 +349,7 @@ step_deed world P h (SmallStep.AnswerHeld file before one behind outcome) next =
     same_refuse : (r : FileRequest) (status : Status) → MayRefuse world.server one.client r status
         → MayRefuse (with_held world file (before ++ behind)).server one.client r status
     same_refuse (FileRequest.Create f access share contexts) status may = tt
-    same_refuse (FileRequest.Read file_id) status may = may
-    same_refuse (FileRequest.Write file_id number patch) status may = may
-    same_refuse (FileRequest.Close file_id) status may = may
+    same_refuse request status may = may
 
     same_end : (o : Outcome) (r : FileRequest) → MayEnd world.server one.client r o
         → MayEnd (with_held world file (before ++ behind)).server one.client r o

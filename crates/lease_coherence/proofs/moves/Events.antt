@@ -114,12 +114,11 @@ MayMove world (Move.Step step) = IsNext world step
 MayMove world (Move.Cut client) = world.links client ≡ Link.Up
 MayMove world (Move.Expire client file) =
     (has_file world.server file ≡ true) × (breaking world.server (machine_key world client file) ≡ true)
-MayMove world (Move.Scavenge file_id) = ⊤
 MayMove world (Move.Connect client) = world.links client ≡ Link.Down
-MayMove world (Move.Commanded client command) = ⊤
 MayMove world (Move.Take client reply queue) = world.replies client ≡ reply ∷ queue
 MayMove world (Move.Notice client) = world.links client ≡ Link.Cut
 MayMove world (Move.Stray client request) = world.links client ≡ Link.Up
+MayMove world move = ⊤
 
 abbrev pub moved_by : World → Move → World
 moved_by world (Move.Step step) = moved world step
@@ -178,11 +177,8 @@ quiet_call V k world call f w other v = go call other v
     go : (c : Call) → ((request : Request) (client : ℕ) → c ≡ Call.Receive client request → ⊥)
         → V (record world { server = (call_begun world.server c).server })
         → V (served world (called world.server c))
-    go (Call.Join client) other v = from (Call.Join client) refl v
     go (Call.Receive client request) other v = absurd (other request client refl)
-    go (Call.Cut client) other v = from (Call.Cut client) refl v
-    go (Call.Expire key) other v = from (Call.Expire key) refl v
-    go (Call.Scavenge file_id) other v = from (Call.Scavenge file_id) refl v
+    go call other v = from call refl v
 
 -- the server takes the oldest request of a client that is there
 request_call : (V : World → Type 0) → IsCarried V → (world : World) (client : ℕ) (request : Request)
@@ -256,15 +252,13 @@ cut_moves V ground k world client Link.Up e at =
     (sym (ap (λ (p : Progress). p.server) (chosen (world.server.present client) _ (begun world.server)
     ((g.tied client).present ∙ ap is_up e))))
     (k world (Move.Cut client) e at.holds))
-cut_moves V ground k world client Link.Down e at = at.holds
-cut_moves V ground k world client Link.Cut e at = at.holds
+cut_moves V ground k world client link e at = at.holds
 
 notice_moves : (V : World → Type 0) → IsCarried V → (world : World) (client : ℕ) (link : Link)
     → world.links client ≡ link → V world → V (notice_over world client link)
 unfolding link_noticed
 notice_moves V k world client Link.Cut e v = k world (Move.Notice client) e v
-notice_moves V k world client Link.Down e v = v
-notice_moves V k world client Link.Up e v = v
+notice_moves V k world client link e v = v
 
 connect_moves : (V : World → Type 0) → ((world : World) → V world → Ground world) → IsCarried V
     → (world : World) (client : ℕ) (link : Link) → world.links client ≡ link → V world
@@ -277,8 +271,7 @@ connect_moves V ground k world client Link.Down e v =
     (sym (not_chosen (world.server.present client) (begun world.server) (joined client (begun world.server))
     ((g.tied client).present ∙ ap is_up e)))
     (k world (Move.Connect client) e v)
-connect_moves V ground k world client Link.Up e v = v
-connect_moves V ground k world client Link.Cut e v = v
+connect_moves V ground k world client link e v = v
 
 timer_moves : (V : World → Type 0) → ((world : World) → V world → Ground world) → IsCarried V
     → (world : World) (client file : ℕ) → has_file world.server file ≡ true
@@ -308,8 +301,7 @@ strayed_moves : (V : World → Type 0) → IsCarried V → (world : World) (clie
     → world.links client ≡ link → V world → V (strayed_over world client request link)
 unfolding strayed_over
 strayed_moves V k world client request Link.Up e v = k world (Move.Stray client request) e v
-strayed_moves V k world client request Link.Down e v = v
-strayed_moves V k world client request Link.Cut e v = v
+strayed_moves V k world client request link e v = v
 
 applied_moves : (V : World → Type 0) → ((world : World) → V world → Ground world) → IsCarried V
     → (world : World) (event : Event) → IsAt V world → V (applied world event)

@@ -94,9 +94,7 @@ step_well (SmallStep.Hold file one) progress f may turn = λ at x a. ⊎_elim
     (λ none. absurd none) last)
     (among_append x (progress.server.held file) (one ∷ []) new.1))
     (among_put progress.server.held file (progress.server.held file ++ one ∷ []) at x a)
-step_well (SmallStep.Drop key) progress f may turn = λ at x a. held_well progress.server at x f.orderly a
-step_well (SmallStep.Lower key lowered) progress f may turn = λ at x a. held_well progress.server at x f.orderly a
-step_well (SmallStep.Begin key lowered) progress f may turn = λ at x a. held_well progress.server at x f.orderly a
+step_well step progress f may turn = λ at x a. held_well progress.server at x f.orderly a
 
 pub step_fine : (step : SmallStep) (progress : Progress) → IsFine progress.server → IsGuarded step progress.server
     → IsInTurn step progress.server → IsFine (step_taken step progress).server
@@ -123,38 +121,20 @@ off_tied : (step : SmallStep) (world : World) (c : ℕ) → IsTied world c → I
 off_tied (SmallStep.Answer client request outcome) world c t = popped_tied world client c t
 off_tied (SmallStep.Hold file one) world c t = popped_tied world one.client c t
 off_tied (SmallStep.Acknowledge client given) world c t = popped_tied world client c t
-off_tied (SmallStep.AnswerHeld file before one behind outcome) world c t = t
-off_tied (SmallStep.Drop key) world c t = t
-off_tied (SmallStep.Lower key lowered) world c t = t
-off_tied (SmallStep.Begin key lowered) world c t = t
+off_tied step world c t = t
 
 -- a request that leaves its queue changes nothing else
 pub off_past : (step : SmallStep) (world : World) → (taken_off step world).past ≡ world.past
 off_past (SmallStep.Answer client request outcome) world = refl
-off_past (SmallStep.Hold file one) world = refl
-off_past (SmallStep.Acknowledge client given) world = refl
-off_past (SmallStep.AnswerHeld file before one behind outcome) world = refl
-off_past (SmallStep.Drop key) world = refl
-off_past (SmallStep.Lower key lowered) world = refl
-off_past (SmallStep.Begin key lowered) world = refl
+off_past step world = refl
 
 pub off_clients : (step : SmallStep) (world : World) → (taken_off step world).clients ≡ world.clients
 off_clients (SmallStep.Answer client request outcome) world = refl
-off_clients (SmallStep.Hold file one) world = refl
-off_clients (SmallStep.Acknowledge client given) world = refl
-off_clients (SmallStep.AnswerHeld file before one behind outcome) world = refl
-off_clients (SmallStep.Drop key) world = refl
-off_clients (SmallStep.Lower key lowered) world = refl
-off_clients (SmallStep.Begin key lowered) world = refl
+off_clients step world = refl
 
 pub off_links : (step : SmallStep) (world : World) → (taken_off step world).links ≡ world.links
 off_links (SmallStep.Answer client request outcome) world = refl
-off_links (SmallStep.Hold file one) world = refl
-off_links (SmallStep.Acknowledge client given) world = refl
-off_links (SmallStep.AnswerHeld file before one behind outcome) world = refl
-off_links (SmallStep.Drop key) world = refl
-off_links (SmallStep.Lower key lowered) world = refl
-off_links (SmallStep.Begin key lowered) world = refl
+off_links step world = refl
 
 -- the server after a move, its clients and links, and its record
 pub moved_server : (world : World) (step : SmallStep)

@@ -59,8 +59,7 @@ delivered_rest : (world : World) (server : Server) (requests : ℕ → List Requ
     → delivered (with_rest world server requests) out ≡ with_rest (delivered world out) server requests
 unfolding delivered
 delivered_rest world server requests (Out.Sent client reply) = refl
-delivered_rest world server requests (Out.Opened file client) = refl
-delivered_rest world server requests (Out.Changed file client number patch) = refl
+delivered_rest world server requests out = refl
 
 all_delivered_rest : (world : World) (server : Server) (requests : ℕ → List Request) (outs : List Out)
     → all_delivered (with_rest world server requests) outs ≡ with_rest (all_delivered world outs) server requests
@@ -79,8 +78,7 @@ all_delivered_append world (out ∷ outs) more = all_delivered_append (delivered
 delivered_requests : (world : World) (out : Out) → (delivered world out).requests ≡ world.requests
 unfolding delivered
 delivered_requests world (Out.Sent client reply) = refl
-delivered_requests world (Out.Opened file client) = refl
-delivered_requests world (Out.Changed file client number patch) = refl
+delivered_requests world out = refl
 
 all_delivered_requests : (world : World) (outs : List Out) → (all_delivered world outs).requests ≡ world.requests
 unfolding all_delivered
@@ -126,10 +124,7 @@ taken_off_served : (step : SmallStep) (base : World) (progress : Progress)
 taken_off_served (SmallStep.Answer client request outcome) base progress = popped_served base progress client
 taken_off_served (SmallStep.Hold file one) base progress = popped_served base progress one.client
 taken_off_served (SmallStep.Acknowledge client given) base progress = popped_served base progress client
-taken_off_served (SmallStep.AnswerHeld file before one behind outcome) base progress = refl
-taken_off_served (SmallStep.Drop key) base progress = refl
-taken_off_served (SmallStep.Lower key lowered) base progress = refl
-taken_off_served (SmallStep.Begin key lowered) base progress = refl
+taken_off_served step base progress = refl
 
 -- The whole call with its outs delivered afterwards is its steps with their outs delivered at once.
 pub moved_served : (base : World) (progress : Progress) (step : SmallStep)
@@ -164,9 +159,7 @@ due_served (SmallStep.Acknowledge client given) base progress due = record {
   is_first = ap (λ (r : ℕ → List Request). r client) (served_requests base progress) ∙ due.is_first;
 }
 due_served (SmallStep.AnswerHeld file before one behind outcome) base progress due = tt
-due_served (SmallStep.Drop key) base progress due = tt
-due_served (SmallStep.Lower key lowered) base progress due = tt
-due_served (SmallStep.Begin key lowered) base progress due = tt
+due_served step base progress due = tt
 
 -- what each next step keeps, all steps of a call keep
 pub steps_keep : (V : World → Type 0)
@@ -203,11 +196,7 @@ none_due [] base e = (tt, refl)
 none_due (SmallStep.Answer client request outcome ∷ steps) base e = absurd (no_suc (own_count steps) e)
 none_due (SmallStep.Hold file one ∷ steps) base e = absurd (no_suc (own_count steps) e)
 none_due (SmallStep.Acknowledge client given ∷ steps) base e = absurd (no_suc (own_count steps) e)
-none_due (SmallStep.AnswerHeld file before one behind outcome ∷ steps) base e =
-    let r = none_due steps base e in ((tt, r.0), r.1)
-none_due (SmallStep.Drop key ∷ steps) base e = let r = none_due steps base e in ((tt, r.0), r.1)
-none_due (SmallStep.Lower key lowered ∷ steps) base e = let r = none_due steps base e in ((tt, r.0), r.1)
-none_due (SmallStep.Begin key lowered ∷ steps) base e = let r = none_due steps base e in ((tt, r.0), r.1)
+none_due (step ∷ steps) base e = let r = none_due steps base e in ((tt, r.0), r.1)
 
 -- a call of one request is no call of another
 same_client : (client other : ℕ) (request asked : Request) → Call.Receive client request ≡ Call.Receive other asked
@@ -247,11 +236,5 @@ once_due (SmallStep.Acknowledge other given ∷ steps) base client request queue
       (oldest_of base client other request (Request.Acknowledge given) queue first of.0, r.0),
       r.1 ∙ ap (popped base) (sym (same_client client other request (Request.Acknowledge given) of.0)),
     )
-once_due (SmallStep.AnswerHeld file before one behind outcome ∷ steps) base client request queue of e first =
-    let r = once_due steps base client request queue of.1 e first in ((tt, r.0), r.1)
-once_due (SmallStep.Drop key ∷ steps) base client request queue of e first =
-    let r = once_due steps base client request queue of.1 e first in ((tt, r.0), r.1)
-once_due (SmallStep.Lower key lowered ∷ steps) base client request queue of e first =
-    let r = once_due steps base client request queue of.1 e first in ((tt, r.0), r.1)
-once_due (SmallStep.Begin key lowered ∷ steps) base client request queue of e first =
+once_due (step ∷ steps) base client request queue of e first =
     let r = once_due steps base client request queue of.1 e first in ((tt, r.0), r.1)

@@ -115,7 +115,4 @@ step_follows (SmallStep.AnswerHeld file before one behind outcome) progress =
     let fresh = step_taken (SmallStep.AnswerHeld file before one behind outcome) (begun progress.server) in
     record { server = f.server; outs = f.outs ∙ ap (λ outs. outs ++ fresh.outs) (append_none progress.outs) }
 step_follows (SmallStep.Acknowledge client given) progress = acknowledged_follows client given progress
-step_follows (SmallStep.Hold file one) progress = record { server = refl; outs = refl }
-step_follows (SmallStep.Drop key) progress = record { server = refl; outs = refl }
-step_follows (SmallStep.Lower key lowered) progress = record { server = refl; outs = refl }
-step_follows (SmallStep.Begin key lowered) progress = record { server = refl; outs = refl }
+step_follows step progress = record { server = refl; outs = refl }

@@ -281,10 +281,8 @@ spared_two c opens leases fact other past s t = spared_then c opens opens leases
 
 note_spares : (c : ℕ) (opens : List Open) (leases : Key → Lease) (client : ℕ) (note : Note) → client ≢ c
     → Spares c opens leases (fact_of client note)
-note_spares c opens leases client (Note.Settled number outcome) ne = tt
 note_spares c opens leases client (Note.Wrote file number patch buffered) ne = ne
-note_spares c opens leases client (Note.Believes file state) ne = tt
-note_spares c opens leases client (Note.CachedRead file bytes) ne = tt
+note_spares c opens leases client note ne = tt
 
 pub spared_noted : (c : ℕ) (opens : List Open) (leases : Key → Lease) (client : ℕ) (past : List Fact)
     (notes : List Note) → client ≢ c → IsSpared c opens leases past (past_noted client past notes)

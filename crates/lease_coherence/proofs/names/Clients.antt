@@ -1,18 +1,17 @@
 -- What a client's step names is in the record already, and a write that it settles as done was accepted.
 use Rattle.std.proofs.Common.{◌≡◌, ℕ, Bool, true, false, List, [], ◌∷◌, ◌++◌, flat_map, Option, Some, None, refl, sym, subst, ◌==◌}
-use Rattle.std.specs.Prelude.{⊤, ◌&&◌, not, bytes_eq, find, if◌then◌else◌}
+use Rattle.std.specs.Prelude.{⊤, bytes_eq, find, if◌then◌else◌}
 use Rattle.std.proofs.lemmas.Bool.{eq-eqb}
 use Rattle.std.proofs.lemmas.Slice.Eq.{bytes_eq-Decides}
 use Rattle.lease_state.specs.State.{State}
 use Rattle.lease_state.specs.declared.patch.Patch.{Patch}
-use Rattle.lease_state.specs.declared.status.Status.{Status}
 use Rattle.lease_model.specs.client.Calls.{ClientCall, client_called}
 use Rattle.lease_model.specs.client.Commanded.{create_request, joint_terms, wrote_step, next_write, cached_read, opened_anew, write_buffered, write_sent, flush_on_live}
 use Rattle.lease_model.specs.client.Commands.{Answer, Note, OpenTerms, Settlement}
-use Rattle.lease_model.specs.client.Connection.{all_turned, noticed, connection_made, notice_turn, connect_turn, live_noticed, live_parted, reconnect_request}
+use Rattle.lease_model.specs.client.Connection.{all_turned, noticed, connection_made, notice_turn, connect_turn, reconnect_request, silent_turn}
 use Rattle.lease_model.specs.client.State.{Client, Entry, LiveEntry, Asked, Parted, Pending, Phase, lease_key, belief_of}
 use Rattle.lease_model.specs.client.Step.{Step, Turn, turned, believes_noted, settled_as, write_requests}
-use Rattle.lease_model.specs.client.Taken.{is_key_of, flushed, unflushed, gives_up, acknowledgment, belief_lowered, parked_closed, break_turn, opened_turn, reconnected_turn, promoted_turn, promoted_belief, first_belief, read_turn, read_failed_turn, is_file_closed, without_open, closed_by_server, is_numbered, phase_with, write_done_turn, write_failed_in, sent_without}
+use Rattle.lease_model.specs.client.Taken.{is_key_of, flushed, unflushed, gives_up, acknowledgment, belief_lowered, parked_closed, opened_turn, reconnected_turn, promoted_turn, promoted_belief, first_belief, read_turn, without_open, closed_by_server, is_numbered, phase_with, write_done_turn, sent_without}
 use Rattle.lease_model.specs.messages.Replies.{Reply, BreakNotice}
 use Rattle.lease_model.specs.messages.Requests.{FileRequest, Request}
 use Rattle.lease_model.specs.records.Facts.{Fact}
@@ -26,11 +25,13 @@ use Rattle.lease_laws.proofs.client.Thin.{put_same, put_other}
 use Rattle.lease_laws.proofs.server.Lists.{if_cases, true_or, and_both}
 use Rattle.lease_laws.proofs.world.Links.{by_client}
 use Rattle.lease_coherence.specs.Names.{Each, IsNamedEntry, IsNamedPhase, IsNamedReply, IsNamedRequest, WasWritten}
-use Rattle.lease_coherence.proofs.clients.Commands.{HasCommands, any_command, sent_of}
-use Rattle.lease_coherence.proofs.clients.Takes.{HasTakes, any_reply, found_so}
+use Rattle.lease_laws.proofs.client.cases.Commands.{HasCommands, any_command, sent_of}
+use Rattle.lease_laws.proofs.client.cases.Replies.{HasTakes, any_reply}
+use Rattle.lease_laws.proofs.client.cases.Files.{found_so}
 use Rattle.lease_coherence.proofs.names.Words.{each_append, each_filter, each_without, each_either, request_later, writes_later, entry_later}
 use Rattle.lease_coherence.proofs.records.Later.{IsLater, later_fact, later_noted, past_noted}
 use Rattle.lease_coherence.proofs.wellformed.Notes.{EachNote, notes_append}
+use Rattle.lease_laws.proofs.client.cases.Links.{HasNotices, any_notice}
 
 -- a write that is settled as done was accepted
 abbrev pub IsTrueDone : ℕ → List Fact → Note → Type 0
@@ -56,9 +57,7 @@ settled_true client past outcome (write ∷ writes) never =
   where
     one : (o : Settlement) → (o ≡ Settlement.Done → ⊥) → IsTrueDone client past (Note.Settled write.number o)
     one Settlement.Done never = absurd (never refl)
-    one Settlement.Failed never = tt
-    one Settlement.Unknown never = tt
-    one Settlement.Lost never = tt
+    one settlement never = tt
 
 believed_true : (client : ℕ) (past : List Fact) (file : ℕ) (old new : State)
     → EachNote (IsTrueDone client past) (believes_noted file old new)
@@ -271,35 +270,6 @@ ack_named client machine past file notice state own =
     ))
     (λ plain. tt)
 
-break_named : (client : ℕ) (machine : Client) (past : List Fact) (file : ℕ) (live : LiveEntry) (notice : BreakNotice)
-    (new : State) → HasNames client machine past → (machine.entries file).phase ≡ Phase.Live live
-    → is_key_of machine notice.key file ≡ true
-    → IsStepNamed client machine past (turned machine file (break_turn live (sent_of machine file) notice new))
-unfolding break_turn parked_closed belief_lowered
-break_named client machine past file live notice new names is own =
-    let n = live_named client machine past file live names is in
-    if_cases (λ turn. IsStepNamed client machine past (turned machine file turn))
-    (live.handles == 0 && (live.belief.handle && not new.handle)) _ _
-    (λ parked. turned_named client machine past file _ names
-    (record {
-      sent = each_append (WasWritten client file past) (sent_of machine file) live.unsent (names file).sent n.1;
-      phase = tt;
-    })
-    (each_append (IsNamedRequest client machine.guid past) (write_requests live.file_id live.unsent) _
-    (writes_named client machine.guid past file live.file_id live.unsent n.0 n.1)
-    (close_named client machine.guid past file live.file_id n.0, tt)) tt)
-    (λ stays. let parts = flushed_named (WasWritten client file past) live.belief new live.unsent n.1 in
-    turned_named client machine past file _ names
-    (record {
-      sent = each_append (WasWritten client file past) (sent_of machine file) (flushed live.belief new live.unsent)
-          (names file).sent parts.0;
-      phase = (n.0, parts.1);
-    })
-    (each_append (IsNamedRequest client machine.guid past)
-    (write_requests live.file_id (flushed live.belief new live.unsent)) (acknowledgment notice new)
-    (writes_named client machine.guid past file live.file_id (flushed live.belief new live.unsent) n.0 parts.0)
-    (ack_named client machine past file notice new own)) tt)
-
 either_true : (client : ℕ) (past : List Fact) (b : Bool) (outcome : Settlement) (writes : List Pending)
     → (outcome ≡ Settlement.Done → ⊥)
     → EachNote (IsTrueDone client past) (if b then [] else settled_as outcome writes)
@@ -311,9 +281,7 @@ phase_written : (client file : ℕ) (past : List Fact) (write : Option Pending) 
     → IsNamedPhase client file past phase → IsNamedPhase client file past (phase_with write phase)
 phase_written client file past write Phase.Closed n = tt
 phase_written client file past write (Phase.Opening access share) n = tt
-phase_written client file past write (Phase.Live live) n = n
-phase_written client file past write (Phase.Offline parted) n = n
-phase_written client file past write (Phase.Reconnecting parted) n = n
+phase_written client file past write phase n = n
 
 opening_named : (client file : ℕ) (past : List Fact) (asking : Option Asked) (sent : List Pending)
     → Each (WasWritten client file past) sent → IsNamedEntry client file past (without_open asking sent)
@@ -329,63 +297,35 @@ no_lost e = cc
 no_unknown : Settlement.Unknown ≡ Settlement.Done → ⊥
 no_unknown e = cc
 
-read_failed_named : (client : ℕ) (machine : Client) (past : List Fact) (file : ℕ) (live : LiveEntry) (status : Status)
-    → HasNames client machine past → (machine.entries file).phase ≡ Phase.Live live
-    → IsStepNamed client machine past (turned machine file (read_failed_turn live (sent_of machine file) status))
-unfolding read_failed_turn closed_by_server
-read_failed_named client machine past file live status names is =
-    if_cases (λ turn. IsStepNamed client machine past (turned machine file turn)) (is_file_closed status) _ _
-    (λ gone. turned_named client machine past file _ names
-    (opening_named client file past live.asking (sent_of machine file) (names file).sent) tt
-    (settled_true client past Settlement.Failed live.unsent no_failed))
-    (λ there. turned_named client machine past file _ names
-    (record { sent = (names file).sent; phase = live_named client machine past file live names is }) tt tt)
-
-write_failed_named : (client : ℕ) (machine : Client) (past : List Fact) (file file_id number : ℕ) (status : Status)
-    (phase : Phase) → HasNames client machine past → (machine.entries file).phase ≡ phase
-    → IsStepNamed client machine past (turned machine file
-    (write_failed_in file_id number status (sent_without number (sent_of machine file)) phase))
-unfolding closed_by_server
-write_failed_named client machine past file file_id number status Phase.Closed names is =
-    turned_named client machine past file _ names
-    (record { sent = each_without (WasWritten client file past) number (sent_of machine file) (names file).sent; phase = tt }) tt
-    (tt, tt)
-write_failed_named client machine past file file_id number status (Phase.Opening access share) names is =
-    turned_named client machine past file _ names
-    (record { sent = each_without (WasWritten client file past) number (sent_of machine file) (names file).sent; phase = tt }) tt
-    (tt, tt)
-write_failed_named client machine past file file_id number status (Phase.Live live) names is =
-    let left = each_without (WasWritten client file past) number (sent_of machine file) (names file).sent in
-    if_cases (λ turn. IsStepNamed client machine past (turned machine file turn))
-    (is_file_closed status && live.file_id == file_id) _ _
-    (λ gone. turned_named client machine past file _ names
-    (opening_named client file past live.asking (sent_without number (sent_of machine file)) left) tt
-    (tt, settled_true client past Settlement.Failed live.unsent no_failed))
-    (λ there. turned_named client machine past file _ names
-    (record { sent = left; phase = live_named client machine past file live names is }) tt (tt, tt))
-write_failed_named client machine past file file_id number status (Phase.Offline parted) names is =
-    turned_named client machine past file _ names
-    (record {
-      sent = each_without (WasWritten client file past) number (sent_of machine file) (names file).sent;
-      phase = subst (IsNamedPhase client file past) is (names file).phase;
-    }) tt (tt, tt)
-write_failed_named client machine past file file_id number status (Phase.Reconnecting parted) names is =
-    turned_named client machine past file _ names
-    (record {
-      sent = each_without (WasWritten client file past) number (sent_of machine file) (names file).sent;
-      phase = subst (IsNamedPhase client file past) is (names file).phase;
-    }) tt (tt, tt)
-
 abbrev TakesNamed : ℕ → Client → List Fact → Reply → Step → Type 0
 TakesNamed client machine past reply step = IsNamedReply client past reply → IsStepNamed client machine past step
 
 takes_named : (client : ℕ) (machine : Client) (past : List Fact) → HasNames client machine past
     → HasTakes machine (TakesNamed client machine past)
-unfolding opened_turn reconnected_turn promoted_turn read_turn write_done_turn
+unfolding opened_turn reconnected_turn promoted_turn read_turn write_done_turn parked_closed belief_lowered closed_by_server
 takes_named client machine past names = record {
   passed = λ reply why named. idle_named client machine past Answer.Quiet names;
-  broken = λ file notice live at is named. break_named client machine past file live notice
-      (meet live.belief notice.lowered) names is (found_so machine (is_key_of machine notice.key) file at);
+  parked_closes = λ file notice live at is parked named. let n = live_named client machine past file live names is in
+      turned_named client machine past file _ names
+      (record {
+        sent = each_append (WasWritten client file past) (sent_of machine file) live.unsent (names file).sent n.1;
+        phase = tt;
+      })
+      (each_append (IsNamedRequest client machine.guid past) (write_requests live.file_id live.unsent) _
+      (writes_named client machine.guid past file live.file_id live.unsent n.0 n.1)
+      (close_named client machine.guid past file live.file_id n.0, tt)) tt;
+  lowered = λ file notice live at is stays named. let n = live_named client machine past file live names is in
+      let new = meet live.belief notice.lowered in
+      let gone = flushed live.belief new live.unsent in
+      let parts = flushed_named (WasWritten client file past) live.belief new live.unsent n.1 in
+      turned_named client machine past file _ names
+      (record {
+        sent = each_append (WasWritten client file past) (sent_of machine file) gone (names file).sent parts.0;
+        phase = (n.0, parts.1);
+      })
+      (each_append (IsNamedRequest client machine.guid past) (write_requests live.file_id gone) (acknowledgment notice new)
+      (writes_named client machine.guid past file live.file_id gone n.0 parts.0)
+      (ack_named client machine past file notice new (found_so machine (is_key_of machine notice.key) file at))) tt;
   opened = λ file file_id answer access share is named. turned_named client machine past file _ names
       (record { sent = (names file).sent; phase = (named, tt) }) tt tt;
   reconnected = λ file file_id answer parted is named.
@@ -420,16 +360,26 @@ takes_named client machine past names = record {
       (record { sent = (names file).sent; phase = live_named client machine past file live names is }) tt tt;
   read = λ file file_id bytes live is id some named. turned_named client machine past file _ names
       (record { sent = (names file).sent; phase = live_named client machine past file live names is }) tt tt;
-  not_read = λ file file_id status live is id some named.
-      read_failed_named client machine past file live status names is;
+  read_closed = λ file file_id status live is id gone named. turned_named client machine past file _ names
+      (opening_named client file past live.asking (sent_of machine file) (names file).sent) tt
+      (settled_true client past Settlement.Failed live.unsent no_failed);
+  not_read = λ file file_id status live is id some named. turned_named client machine past file _ names
+      (record { sent = (names file).sent; phase = live_named client machine past file live names is }) tt tt;
   written = λ file file_id number at known named. turned_named client machine past file _ names
       (record {
         sent = each_without (WasWritten client file past) number (sent_of machine file) (names file).sent;
         phase = phase_written client file past (find (is_numbered number) (sent_of machine file))
             (machine.entries file).phase (names file).phase;
       }) tt (named, tt);
-  not_written = λ file file_id number status at known named.
-      write_failed_named client machine past file file_id number status (machine.entries file).phase names refl;
+  write_closed = λ file file_id number status live at known is id gone named. turned_named client machine past file _ names
+      (opening_named client file past live.asking (sent_without number (sent_of machine file))
+      (each_without (WasWritten client file past) number (sent_of machine file) (names file).sent)) tt
+      (tt, settled_true client past Settlement.Failed live.unsent no_failed);
+  not_written = λ file file_id number status at known named. turned_named client machine past file _ names
+      (record {
+        sent = each_without (WasWritten client file past) number (sent_of machine file) (names file).sent;
+        phase = (names file).phase;
+      }) tt (tt, tt);
 }
 
 -- ---- connections
@@ -468,54 +418,32 @@ all_named client machine past online turn each =
         (believed_true client past file (belief_of (machine.entries file))
         (belief_of (turn file (machine.entries file)).entry))) (all_done files)
 
-notice_named : (client : ℕ) (guid : List ℕ) (past : List Fact) (file : ℕ) (sent : List Pending) (phase : Phase)
-    → Each (WasWritten client file past) sent → IsNamedPhase client file past phase
-    → IsTurnNamed client guid past file (notice_turn sent phase)
-unfolding live_noticed live_parted
-notice_named client guid past file sent Phase.Closed each n = record {
-  entry = record { sent = tt; phase = tt };
-  requests = tt;
-  settled = settled_true client past Settlement.Unknown sent no_unknown;
-}
-notice_named client guid past file sent (Phase.Opening access share) each n = record {
-  entry = record { sent = tt; phase = tt };
-  requests = tt;
-  settled = settled_true client past Settlement.Unknown sent no_unknown;
-}
-notice_named client guid past file sent (Phase.Live live) each n =
-    if_cases (IsTurnNamed client guid past file) live.durable _ _
-    (λ lasts. if_cases (IsTurnNamed client guid past file) live.belief.write _ _
-    (λ caches. record {
-      entry = record {
-        sent = tt;
-        phase = (
-          n.0,
-          each_filter (WasWritten client file past) (λ write. write.buffered) (sent ++ live.unsent)
-              (each_append (WasWritten client file past) sent live.unsent each n.1),
-        );
-      };
-      requests = tt;
-      settled = settled_true client past Settlement.Unknown _ no_unknown;
-    })
-    (λ plain. record {
-      entry = record { sent = tt; phase = (n.0, tt) };
-      requests = tt;
-      settled = settled_true client past Settlement.Unknown _ no_unknown;
-    }))
-    (λ ends. record {
-      entry = record { sent = tt; phase = tt };
-      requests = tt;
-      settled = settled_true client past Settlement.Unknown _ no_unknown;
-    })
-notice_named client guid past file sent (Phase.Offline parted) each n = record {
+-- what an entry is left with where the connection is lost
+lost_turn : (client : ℕ) (guid : List ℕ) (past : List Fact) (file : ℕ) (phase : Phase) (unanswered : List Pending)
+    → IsNamedPhase client file past phase
+    → IsTurnNamed client guid past file
+    (silent_turn (record { phase = phase; sent = [] }) (settled_as Settlement.Unknown unanswered))
+lost_turn client guid past file phase unanswered n = record {
   entry = record { sent = tt; phase = n };
   requests = tt;
-  settled = settled_true client past Settlement.Unknown sent no_unknown;
+  settled = settled_true client past Settlement.Unknown unanswered no_unknown;
 }
-notice_named client guid past file sent (Phase.Reconnecting parted) each n = record {
-  entry = record { sent = tt; phase = n };
-  requests = tt;
-  settled = settled_true client past Settlement.Unknown sent no_unknown;
+
+notices_named : (client : ℕ) (guid : List ℕ) (past : List Fact) (file : ℕ) (sent : List Pending)
+    → HasNotices sent (λ phase turn. Each (WasWritten client file past) sent → IsNamedPhase client file past phase
+    → IsTurnNamed client guid past file turn)
+notices_named client guid past file sent = record {
+  closed = λ each n. lost_turn client guid past file Phase.Closed sent tt;
+  opening = λ access share each n. lost_turn client guid past file Phase.Closed sent tt;
+  ended = λ live each n. lost_turn client guid past file Phase.Closed (sent ++ live.unsent) tt;
+  kept = λ live writes each n. lost_turn client guid past file (Phase.Offline _) _ (
+    n.0,
+    each_filter (WasWritten client file past) (λ write. write.buffered) (sent ++ live.unsent)
+        (each_append (WasWritten client file past) sent live.unsent each n.1),
+  );
+  bare = λ live none each n. lost_turn client guid past file (Phase.Offline _) _ (n.0, tt);
+  offline = λ parted each n. lost_turn client guid past file (Phase.Offline parted) sent n;
+  reconnecting = λ parted each n. lost_turn client guid past file (Phase.Offline parted) sent n;
 }
 
 again_named : (client : ℕ) (machine : Client) (past : List Fact) (file : ℕ) (parted : Parted)
@@ -534,18 +462,12 @@ again_named client machine past file parted opened = record {
 connect_named : (client : ℕ) (machine : Client) (past : List Fact) (file : ℕ) (sent : List Pending) (phase : Phase)
     → Each (WasWritten client file past) sent → IsNamedPhase client file past phase
     → IsTurnNamed client machine.guid past file (connect_turn machine file sent phase)
-connect_named client machine past file sent Phase.Closed each n =
-    record { entry = record { sent = each; phase = n }; requests = tt; settled = tt }
-connect_named client machine past file sent (Phase.Opening access share) each n =
-    record { entry = record { sent = each; phase = n }; requests = tt; settled = tt }
-connect_named client machine past file sent (Phase.Live live) each n =
-    record { entry = record { sent = each; phase = n }; requests = tt; settled = tt }
 connect_named client machine past file sent (Phase.Offline parted) each n = record {
   entry = record { sent = each; phase = n };
   requests = (again_named client machine past file parted n.0, tt);
   settled = tt;
 }
-connect_named client machine past file sent (Phase.Reconnecting parted) each n =
+connect_named client machine past file sent other each n =
     record { entry = record { sent = each; phase = n }; requests = tt; settled = tt }
 
 -- ---- any call
@@ -563,7 +485,8 @@ call_named client machine past (ClientCall.Taken reply) names named =
     any_reply machine (TakesNamed client machine past) (takes_named client machine past names) reply named
 call_named client machine past ClientCall.Noticed names named = all_named client machine past false
     (λ file entry. notice_turn entry.sent entry.phase)
-    (λ file. notice_named client machine.guid past file (machine.entries file).sent (machine.entries file).phase
+    (λ file. any_notice (machine.entries file).sent _ (notices_named client machine.guid past file (machine.entries file).sent)
+    (machine.entries file).phase
     (names file).sent (names file).phase)
 call_named client machine past ClientCall.Connected names named = all_named client machine past true
     (λ file entry. connect_turn machine file entry.sent entry.phase)

@@ -47,8 +47,7 @@ use Rattle.lease_coherence.proofs.wellformed.Notes.{EachNote}
 sent_each : (P : Request → Type 0) (link : Link) (queue requests : List Request) → Each P queue
     → Each P requests → Each P (sent_over link queue requests)
 sent_each P Link.Up queue requests old new = each_append P queue requests old new
-sent_each P Link.Down queue requests old new = old
-sent_each P Link.Cut queue requests old new = old
+sent_each P link queue requests old new = old
 
 -- the client that steps
 here_named : (world : World) (client : ℕ) (call : ClientCall)

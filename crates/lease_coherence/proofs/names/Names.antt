@@ -126,9 +126,7 @@ off_named world off client request c source n = ⊎_elim
 refusal_named : (client : ℕ) (past : List Fact) (request : FileRequest) (status : Status)
     → IsNamedReply client past (refusal_of request status)
 refusal_named client past (FileRequest.Create file access share contexts) status = tt
-refusal_named client past (FileRequest.Read file_id) status = tt
-refusal_named client past (FileRequest.Write file_id number patch) status = tt
-refusal_named client past (FileRequest.Close file_id) status = tt
+refusal_named client past request status = tt
 
 -- one reply, and nothing else
 reply_named : (world : World) (client : ℕ) (reply : Reply) (c : ℕ) → IsNamedReply c (Fact.Sent client ∷ world.past) reply

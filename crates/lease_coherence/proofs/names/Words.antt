@@ -86,14 +86,13 @@ writes_later client file past new l writes each = each_weaker (WasWritten client
 
 pub phase_later : (client file : ℕ) (past new : List Fact) → IsLater past new → (phase : Phase)
     → IsNamedPhase client file past phase → IsNamedPhase client file new phase
-phase_later client file past new l Phase.Closed n = tt
-phase_later client file past new l (Phase.Opening access share) n = tt
 phase_later client file past new l (Phase.Live live) n =
     (l.opened live.file_id file client n.0, writes_later client file past new l live.unsent n.1)
 phase_later client file past new l (Phase.Offline parted) n =
     (l.opened parted.file_id file client n.0, writes_later client file past new l parted.writes n.1)
 phase_later client file past new l (Phase.Reconnecting parted) n =
     (l.opened parted.file_id file client n.0, writes_later client file past new l parted.writes n.1)
+phase_later client file past new l phase n = tt
 
 pub entry_later : (client file : ℕ) (past new : List Fact) → IsLater past new → (entry : Entry)
     → IsNamedEntry client file past entry → IsNamedEntry client file new entry

@@ -35,8 +35,8 @@ use Rattle.lease_laws.proofs.world.Runs.{stepped_server}
 use Rattle.lease_coherence.specs.Creates.{held_by}
 use Rattle.lease_coherence.specs.Names.{Each, IsNamedAt, IsNamedPhase}
 use Rattle.lease_coherence.specs.Standing.{AllAsked, IsNoClose, NotClosed, Stands, IsStandingAt, PhaseStands}
-use Rattle.lease_coherence.proofs.clients.Commands.{any_command}
-use Rattle.lease_coherence.proofs.clients.Takes.{any_reply}
+use Rattle.lease_laws.proofs.client.cases.Commands.{any_command}
+use Rattle.lease_laws.proofs.client.cases.Replies.{any_reply}
 use Rattle.lease_coherence.proofs.creates.Creates.{none_held}
 use Rattle.lease_coherence.proofs.moves.Deeds.{IsSource, HasArrived, WasHeld, told_to, held_in, granted_in, reconnected_in, changed_in, without_opens, leased_in, done_reply}
 use Rattle.lease_coherence.proofs.moves.Events.{Ground, timed_out, come_back, connected, reply_gone}
@@ -91,9 +91,7 @@ left_writes world off c file_id one source g found o = ⊎_elim arrived was_held
         by_request : (r : FileRequest) → x.request ≡ r → IsNoWrite file_id (Request.OnFile r)
         by_request (FileRequest.Write other number patch) is =
             λ same. never number patch (is ∙ ap (λ i. FileRequest.Write i number patch) same)
-        by_request (FileRequest.Create file access share contexts) is = tt
-        by_request (FileRequest.Read other) is = tt
-        by_request (FileRequest.Close other) is = tt
+        by_request request is = tt
 
     own_among : (x : Held) (held : List Held) → Among x held → x.client ≡ c → is_behind c held ≡ true
     own_among x [] a own = absurd a
@@ -212,9 +210,8 @@ closed_order world off c file_id one source g found o =
           (false_not (x.file_id == file_id) (apart x.file_id file_id (λ e. ne (sym same ∙ e))))) s.stands;
     }
     still (Request.OnFile (FileRequest.Create file access share contexts)) s ne = tt
-    still (Request.OnFile (FileRequest.Read other)) s ne = tt
-    still (Request.OnFile (FileRequest.Close other)) s ne = tt
     still (Request.Acknowledge given) s ne = tt
+    still (Request.OnFile request) s ne = tt
 
 popped_order : (world : World) (c : ℕ) (request : Request) → IsOldest world c request → IsInOrder world c
     → IsInOrder (popped world c) c
@@ -295,10 +292,7 @@ stepped_order world c step up guid sends s opened o = record {
         subst (λ i. Each (IsNoClose i) (asked_of world c file)) u.id
         (each_append (IsNoClose u.live.file_id) (as_requests (held_by c (world.server.held file))) (world.requests c)
         (not_closed_held c u.live.file_id (world.server.held file) (λ one a own. n.held file one a own)) n.queued)
-    open_in file (Request.OnFile (FileRequest.Create f access share contexts)) u = tt
-    open_in file (Request.OnFile (FileRequest.Read file_id)) u = tt
-    open_in file (Request.OnFile (FileRequest.Close file_id)) u = tt
-    open_in file (Request.Acknowledge given) u = tt
+    open_in file request u = tt
 
     new_stands : (r : Request) → UnderLive (world.clients c) r → WriteStands (stepped_in world c step) c r
     new_stands (Request.OnFile (FileRequest.Write file_id number patch)) u = record {
@@ -311,9 +305,8 @@ stepped_order world c step up guid sends s opened o = record {
           u.live.file_id (live_stands u.file u.live u.is).0);
     }
     new_stands (Request.OnFile (FileRequest.Create f access share contexts)) u = tt
-    new_stands (Request.OnFile (FileRequest.Read file_id)) u = tt
-    new_stands (Request.OnFile (FileRequest.Close file_id)) u = tt
     new_stands (Request.Acknowledge given) u = tt
+    new_stands (Request.OnFile request) u = tt
 
 live_opened : (world : World) (c : ℕ) → IsNamedAt world c → (file : ℕ) (live : LiveEntry)
     → ((world.clients c).entries file).phase ≡ Phase.Live live → was_opened live.file_id file c world.past ≡ true
@@ -338,10 +331,7 @@ creates_ordered (Request.Acknowledge given ∷ queue) each = absurd each.0
 
 create_stands : (world : World) (c : ℕ) (r : Request) → IsCreate r → WriteStands world c r
 create_stands world c (Request.OnFile (FileRequest.Create file access share contexts)) is = tt
-create_stands world c (Request.OnFile (FileRequest.Read file_id)) is = absurd is
-create_stands world c (Request.OnFile (FileRequest.Write file_id number patch)) is = absurd is
-create_stands world c (Request.OnFile (FileRequest.Close file_id)) is = absurd is
-create_stands world c (Request.Acknowledge given) is = absurd is
+create_stands world c request is = absurd is
 
 -- a client that connects asks only for creates
 pub connect_creates : (world : World) (c : ℕ) → Ground world → world.links c ≡ Link.Down
@@ -361,11 +351,8 @@ connect_creates world c g down =
   where
     only : (f : ℕ) (sent : List Pending) (phase : Phase)
         → Each IsCreate (connect_turn (world.clients c) f sent phase).requests
-    only f sent Phase.Closed = tt
-    only f sent (Phase.Opening access share) = tt
-    only f sent (Phase.Live live) = tt
     only f sent (Phase.Offline parted) = (tt, tt)
-    only f sent (Phase.Reconnecting parted) = tt
+    only f sent phase = tt
 
 -- and has none that is held
 pub connect_held : (world : World) (c : ℕ) → Ground world → world.links c ≡ Link.Down → (file : ℕ)

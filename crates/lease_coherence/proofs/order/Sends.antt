@@ -1,13 +1,10 @@
 -- What clients send stands in order, and stays so in other worlds.
-use Rattle.std.proofs.Common.{◌≡◌, ⊎_elim, ℕ, not, List, [], ◌∷◌, ◌++◌, refl, sym, ap, subst, ◌==◌}
-use Rattle.std.specs.Prelude.{⊤, ◌&&◌}
-use Rattle.lease_state.specs.State.{State}
-use Rattle.lease_state.specs.declared.status.Status.{Status}
+use Rattle.std.proofs.Common.{◌≡◌, ⊎_elim, ℕ, List, [], ◌∷◌, ◌++◌, refl, sym, ap, subst}
+use Rattle.std.specs.Prelude.{⊤}
 use Rattle.lease_model.specs.client.Commanded.{cached_read, opened_anew, write_buffered, write_sent, flush_on_live}
 use Rattle.lease_model.specs.client.State.{Client, LiveEntry, Pending, Phase}
-use Rattle.lease_model.specs.client.Step.{Step, Turn, turned, write_requests}
-use Rattle.lease_model.specs.client.Taken.{acknowledgment, break_turn, parked_closed, belief_lowered, flushed, opened_turn, reconnected_turn, promoted_turn, read_turn, read_failed_turn, is_file_closed, closed_by_server, write_done_turn, write_failed_in}
-use Rattle.lease_model.specs.messages.Replies.{BreakNotice}
+use Rattle.lease_model.specs.client.Step.{Step, turned, write_requests}
+use Rattle.lease_model.specs.client.Taken.{acknowledgment, parked_closed, belief_lowered, flushed, opened_turn, reconnected_turn, promoted_turn, read_turn, closed_by_server, write_done_turn}
 use Rattle.lease_model.specs.messages.Requests.{FileRequest, Request}
 use Rattle.lease_model.specs.server.State.{Held}
 use Rattle.lease_model.specs.world.World.{World}
@@ -17,8 +14,8 @@ use Rattle.lease_coherence.specs.Creates.{held_by}
 use Rattle.lease_coherence.specs.Names.{Each}
 use Rattle.lease_coherence.specs.Standing.{Stands}
 use Rattle.lease_coherence.proofs.moves.Shift.{append_none}
-use Rattle.lease_coherence.proofs.clients.Commands.{HasCommands, sent_of}
-use Rattle.lease_coherence.proofs.clients.Takes.{HasTakes}
+use Rattle.lease_laws.proofs.client.cases.Commands.{HasCommands}
+use Rattle.lease_laws.proofs.client.cases.Replies.{HasTakes}
 use Rattle.lease_coherence.proofs.moves.Deeds.{IsSource, with_held}
 use Rattle.lease_coherence.proofs.moves.Moves.{popped}
 use Rattle.lease_coherence.proofs.names.Words.{each_weaker}
@@ -27,6 +24,7 @@ use Rattle.lease_coherence.proofs.order.Words.{AreOrdered, off_ordered, WriteSta
 use Rattle.lease_coherence.proofs.records.Later.{IsLater, later_same}
 use Rattle.lease_coherence.proofs.standing.Servers.{stands_by}
 use Rattle.lease_coherence.proofs.standing.Words.{asked_weaker, asked_off}
+use Rattle.lease_model.specs.values.LeaseStates.{meet}
 
 -- ---- what clients send
 
@@ -92,45 +90,21 @@ commands_send client = record {
       (writes_ordered live.file_id live.unsent [] tt) (writes_under client file live is.is_so live.unsent [] tt);
 }
 
-pub break_sends : (client : Client) (file : ℕ) (notice : BreakNotice) (live : LiveEntry) (new : State)
-    → (client.entries file).phase ≡ Phase.Live live
-    → SendsInOrder client (turned client file (break_turn live (sent_of client file) notice new))
-unfolding break_turn parked_closed belief_lowered turned
-break_sends client file notice live new is = if_cases (λ (t : Turn). SendsInOrder client (turned client file t))
-    (live.handles == 0 && (live.belief.handle && not new.handle)) _ _
-    (λ parked. record {
-      ordered = writes_ordered live.file_id live.unsent _ (tt, tt);
-      under = writes_under client file live is live.unsent _ (tt, tt);
-    })
-    (λ stays. record {
-      ordered = writes_ordered live.file_id (flushed live.belief new live.unsent) (acknowledgment notice new)
-          (if_cases AreOrdered notice.ack_required _ [] (λ asks. (tt, tt)) (λ plain. tt));
-      under = writes_under client file live is (flushed live.belief new live.unsent) (acknowledgment notice new)
-          (if_cases (Each (UnderLive client)) notice.ack_required _ [] (λ asks. (tt, tt)) (λ plain. tt));
-    })
-
-pub read_failed_sends : (client : Client) (file : ℕ) (live : LiveEntry) (status : Status)
-    → SendsInOrder client (turned client file (read_failed_turn live (sent_of client file) status))
-unfolding read_failed_turn closed_by_server turned
-read_failed_sends client file live status = if_cases (λ (t : Turn). SendsInOrder client (turned client file t))
-    (is_file_closed status) _ _ (λ gone. record { ordered = tt; under = tt }) (λ there. record { ordered = tt; under = tt })
-
-pub write_failed_sends : (client : Client) (file file_id number : ℕ) (status : Status) (sent : List Pending) (phase : Phase)
-    → SendsInOrder client (turned client file (write_failed_in file_id number status sent phase))
-unfolding closed_by_server turned
-write_failed_sends client file file_id number status sent Phase.Closed = record { ordered = tt; under = tt }
-write_failed_sends client file file_id number status sent (Phase.Opening access share) = record { ordered = tt; under = tt }
-write_failed_sends client file file_id number status sent (Phase.Live live) =
-    if_cases (λ (t : Turn). SendsInOrder client (turned client file t)) (is_file_closed status && live.file_id == file_id)
-    _ _ (λ gone. record { ordered = tt; under = tt }) (λ there. record { ordered = tt; under = tt })
-write_failed_sends client file file_id number status sent (Phase.Offline parted) = record { ordered = tt; under = tt }
-write_failed_sends client file file_id number status sent (Phase.Reconnecting parted) = record { ordered = tt; under = tt }
-
 pub takes_send : (client : Client) → HasTakes client (λ reply step. SendsInOrder client step)
-unfolding opened_turn reconnected_turn promoted_turn read_turn write_done_turn turned
+unfolding opened_turn reconnected_turn promoted_turn read_turn write_done_turn turned parked_closed belief_lowered
+    closed_by_server
 takes_send client = record {
   passed = λ reply why. record { ordered = tt; under = tt };
-  broken = λ file notice live at is. break_sends client file notice live _ is;
+  parked_closes = λ file notice live at is parked. record {
+    ordered = writes_ordered live.file_id live.unsent _ (tt, tt);
+    under = writes_under client file live is live.unsent _ (tt, tt);
+  };
+  lowered = λ file notice live at is stays. let new = meet live.belief notice.lowered in record {
+    ordered = writes_ordered live.file_id (flushed live.belief new live.unsent) (acknowledgment notice new)
+        (if_cases AreOrdered notice.ack_required _ [] (λ asks. (tt, tt)) (λ plain. tt));
+    under = writes_under client file live is (flushed live.belief new live.unsent) (acknowledgment notice new)
+        (if_cases (Each (UnderLive client)) notice.ack_required _ [] (λ asks. (tt, tt)) (λ plain. tt));
+  };
   opened = λ file file_id answer access share is. record { ordered = tt; under = tt };
   reconnected = λ file file_id answer parted is. record { ordered = tt; under = tt };
   promoted = λ file file_id answer live asked is asks. record { ordered = (tt, tt); under = (tt, tt) };
@@ -138,10 +112,11 @@ takes_send client = record {
   not_reconnected = λ file status parted is. record { ordered = tt; under = tt };
   not_promoted = λ file status live asked is asks. record { ordered = tt; under = tt };
   read = λ file file_id bytes live is id some. record { ordered = tt; under = tt };
-  not_read = λ file file_id status live is id some. read_failed_sends client file live status;
+  read_closed = λ file file_id status live is id gone. record { ordered = tt; under = tt };
+  not_read = λ file file_id status live is id some. record { ordered = tt; under = tt };
   written = λ file file_id number at known. record { ordered = tt; under = tt };
-  not_written = λ file file_id number status at known.
-      write_failed_sends client file file_id number status _ (client.entries file).phase;
+  write_closed = λ file file_id number status live at known is id gone. record { ordered = tt; under = tt };
+  not_written = λ file file_id number status at known. record { ordered = tt; under = tt };
 }
 
 -- ---- in another world
@@ -155,9 +130,8 @@ stands_later world new c later stays (Request.OnFile (FileRequest.Write file_id 
   stands = stays s.file file_id s.stands;
 }
 stands_later world new c later stays (Request.OnFile (FileRequest.Create file access share contexts)) s = tt
-stands_later world new c later stays (Request.OnFile (FileRequest.Read file_id)) s = tt
-stands_later world new c later stays (Request.OnFile (FileRequest.Close file_id)) s = tt
 stands_later world new c later stays (Request.Acknowledge given) s = tt
+stands_later world new c later stays (Request.OnFile request) s = tt
 
 -- with the same requests
 pub same_order : (world new : World) (c : ℕ) → new.requests c ≡ world.requests c → new.server.held ≡ world.server.held

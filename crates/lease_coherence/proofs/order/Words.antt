@@ -47,10 +47,7 @@ each_less P xs ys x e = let r = each_part P xs (x ∷ ys) e in each_append P xs 
 allows_less : (request : Request) (xs ys : List Request) (x : Request) → Allows request (xs ++ x ∷ ys)
     → Allows request (xs ++ ys)
 allows_less (Request.OnFile (FileRequest.Close file_id)) xs ys x a = each_less (IsNoWrite file_id) xs ys x a
-allows_less (Request.OnFile (FileRequest.Create file access share contexts)) xs ys x a = tt
-allows_less (Request.OnFile (FileRequest.Read file_id)) xs ys x a = tt
-allows_less (Request.OnFile (FileRequest.Write file_id number patch)) xs ys x a = tt
-allows_less (Request.Acknowledge given) xs ys x a = tt
+allows_less request xs ys x a = tt
 
 -- one less
 pub ordered_less : (xs ys : List Request) (x : Request) → AreOrdered (xs ++ x ∷ ys) → AreOrdered (xs ++ ys)
@@ -95,10 +92,7 @@ allows_more : (request : Request) (xs more : List Request) → Allows request xs
     → Allows request (xs ++ more)
 allows_more (Request.OnFile (FileRequest.Close file_id)) xs more a each =
     each_append (IsNoWrite file_id) xs more a (no_write_of file_id xs more each)
-allows_more (Request.OnFile (FileRequest.Create file access share contexts)) xs more a each = tt
-allows_more (Request.OnFile (FileRequest.Read file_id)) xs more a each = tt
-allows_more (Request.OnFile (FileRequest.Write file_id number patch)) xs more a each = tt
-allows_more (Request.Acknowledge given) xs more a each = tt
+allows_more request xs more a each = tt
 
 -- and more, of which no write is closed before
 pub ordered_more : (xs more : List Request) → AreOrdered xs → AreOrdered more → Each (IsOpenIn xs) more

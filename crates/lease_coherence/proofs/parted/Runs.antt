@@ -10,9 +10,9 @@ use Rattle.lease_state.specs.declared.access.Share.{Share}
 use Rattle.lease_state.specs.declared.patch.Patch.{Patch}
 use Rattle.lease_state.specs.declared.status.Status.{Status}
 use Rattle.lease_model.specs.client.Commanded.{commanded}
-use Rattle.lease_model.specs.client.Connection.{noticed, connection_made, all_turned, notice_turn, connect_turn, live_noticed, live_parted}
+use Rattle.lease_model.specs.client.Connection.{noticed, connection_made, all_turned, connect_turn}
 use Rattle.lease_model.specs.client.State.{Client, LiveEntry, Parted, Pending, Phase, lease_key, new_client}
-use Rattle.lease_model.specs.client.Step.{Step, Turn}
+use Rattle.lease_model.specs.client.Step.{Step}
 use Rattle.lease_model.specs.client.Taken.{taken}
 use Rattle.lease_model.specs.messages.Replies.{Reply}
 use Rattle.lease_model.specs.messages.Requests.{FileRequest, CreateAsk, LeaseOf}
@@ -38,14 +38,14 @@ use Rattle.lease_laws.proofs.server.Lists.{if_cases, either, clash, among_append
 use Rattle.lease_laws.proofs.world.Links.{stepped_links}
 use Rattle.lease_laws.proofs.world.Runs.{stepped_server}
 use Rattle.lease_coherence.specs.Agreement.{touched_since_lost}
-use Rattle.lease_coherence.specs.Creates.{answers, asked_by, create_of, has_asked, one_if, under_way}
+use Rattle.lease_coherence.specs.Creates.{answers, asked_by, create_of, one_if, under_way, has_asked}
 use Rattle.lease_coherence.specs.Names.{Each, IsNamedAt, IsNamedRequest}
 use Rattle.lease_coherence.specs.Standing.{AskFits, again_of, IsStandingAt}
 use Rattle.lease_coherence.proofs.beliefs.Clients.{keys_apart}
 use Rattle.lease_coherence.proofs.beliefs.Closed.{left_there}
 use Rattle.lease_coherence.proofs.beliefs.Runs.{own_create}
-use Rattle.lease_coherence.proofs.clients.Commands.{any_command}
-use Rattle.lease_coherence.proofs.clients.Takes.{any_reply}
+use Rattle.lease_laws.proofs.client.cases.Commands.{any_command}
+use Rattle.lease_laws.proofs.client.cases.Replies.{any_reply}
 use Rattle.lease_coherence.proofs.creates.Creates.{left_over, source_counts, stepped_machine}
 use Rattle.lease_coherence.proofs.late.Likes.{ids_of}
 use Rattle.lease_coherence.proofs.late.Servers.{live_id, parted_id, own_has_key}
@@ -62,6 +62,7 @@ use Rattle.lease_coherence.proofs.parted.Words.{UntouchedUnder, PhaseUntouched, 
 use Rattle.lease_coherence.proofs.standing.AllRuns.{structure_carried, first_structure}
 use Rattle.lease_coherence.proofs.standing.Words.{asked_off}
 use Rattle.lease_coherence.proofs.standing.Structure.{HasStructure}
+use Rattle.lease_laws.proofs.client.cases.Links.{HasNotices, any_notice}
 
 -- ---- the same client and link
 
@@ -270,11 +271,10 @@ cut_untouched : (world : World) (c : ℕ) → IsUntouched (cut_off world c) c
 cut_untouched world c file = by_phase ((world.clients c).entries file).phase
   where
     by_phase : (phase : Phase) → PhaseUntouched (cut_off world c) c file phase
-    by_phase Phase.Closed = tt
-    by_phase (Phase.Opening access share) = tt
     by_phase (Phase.Live live) = λ off x there by same w. just_lost c file world.past
     by_phase (Phase.Offline parted) = λ x there by same w. just_lost c file world.past
     by_phase (Phase.Reconnecting parted) = λ x there by same w. just_lost c file world.past
+    by_phase phase = tt
 
 -- a step of the client, in a world that has its server
 stepped_untouched : (world before : World) (c : ℕ) (step : Step) → before.server.opens ≡ world.server.opens
@@ -305,12 +305,11 @@ stepped_untouched world before c step opens leases guid past phases a file = sub
 
     by_phase : (phase : Phase) → PhaseUntouched (record world { links = before.links }) c file phase
         → PhaseUntouched (stepped_in before c step) c file phase
-    by_phase Phase.Closed p = tt
-    by_phase (Phase.Opening access share) p = tt
     by_phase (Phase.Live live) p = λ off. under live.file_id
         (p (ap (λ (l : ℕ → Link). is_up (l c)) (sym (stepped_links before c step)) ∙ off))
     by_phase (Phase.Offline parted) p = under parted.file_id p
     by_phase (Phase.Reconnecting parted) p = under parted.file_id p
+    by_phase phase p = tt
 
 -- by what a step makes of entries
 parts_untouched : (world : World) (links : ℕ → Link) (c file : ℕ) (up : Bool) (old new : Phase)
@@ -330,28 +329,27 @@ parts_untouched world links c file up old (Phase.Offline parted) down by p = sub
 parts_untouched world links c file up old (Phase.Reconnecting parted) down by p = subst (PhaseUntouched world c file) by p
 
 -- an entry goes offline
-notice_phase : (world : World) (links : ℕ → Link) (c file : ℕ) (sent : List Pending) (phase : Phase)
-    → is_up (world.links c) ≡ false → PhaseUntouched world c file phase
-    → PhaseUntouched (record world { links = links }) c file (notice_turn sent phase).entry.phase
-unfolding live_noticed live_parted
-notice_phase world links c file sent Phase.Closed off p = tt
-notice_phase world links c file sent (Phase.Opening access share) off p = tt
-notice_phase world links c file sent (Phase.Live live) off p = if_cases
-    (λ (t : Turn). PhaseUntouched (record world { links = links }) c file t.entry.phase) live.durable _ _
-    (λ lasts. if_cases (λ (t : Turn). PhaseUntouched (record world { links = links }) c file t.entry.phase) live.belief.write _ _
-    (λ caches. p off) (λ plain. p off)) (λ ends. tt)
-notice_phase world links c file sent (Phase.Offline parted) off p = p
-notice_phase world links c file sent (Phase.Reconnecting parted) off p = p
+notices_untouched : (world : World) (links : ℕ → Link) (c file : ℕ) (sent : List Pending)
+    → HasNotices sent (λ phase turn. is_up (world.links c) ≡ false → PhaseUntouched world c file phase
+    → PhaseUntouched (record world { links = links }) c file turn.entry.phase)
+notices_untouched world links c file sent = record {
+  closed = λ off p. tt;
+  opening = λ access share off p. tt;
+  ended = λ live off p. tt;
+  kept = λ live writes off p. p off;
+  bare = λ live none off p. p off;
+  offline = λ parted off p. p;
+  reconnecting = λ parted off p. p;
+}
 
 -- and reconnects
 connect_phase : (world : World) (links : ℕ → Link) (c file : ℕ) (machine : Client) (sent : List Pending) (phase : Phase)
     → is_up (links c) ≡ true → PhaseUntouched world c file phase
     → PhaseUntouched (record world { links = links }) c file (connect_turn machine file sent phase).entry.phase
-connect_phase world links c file machine sent Phase.Closed up p = tt
-connect_phase world links c file machine sent (Phase.Opening access share) up p = tt
 connect_phase world links c file machine sent (Phase.Live live) up p = λ off. clash (is_up (links c)) up off
 connect_phase world links c file machine sent (Phase.Offline parted) up p = p
 connect_phase world links c file machine sent (Phase.Reconnecting parted) up p = p
+connect_phase world links c file machine sent phase up p = tt
 
 notice_untouched : (world : World) (c : ℕ) → world.links c ≡ Link.Cut → IsUntouched world c → IsUntouched (noticed_by world c) c
 unfolding noticed all_turned
@@ -359,8 +357,9 @@ notice_untouched world c cut a =
     let machine = world.clients c in
     stepped_untouched world (record world { links = put world.links c Link.Down }) c (noticed machine) refl refl refl
     (λ file. refl)
-    (λ file p. notice_phase world (put world.links c Link.Down) c file (machine.entries file).sent
-    (machine.entries file).phase (ap is_up cut) p) a
+    (λ file. any_notice (machine.entries file).sent _ (notices_untouched world (put world.links c Link.Down) c file
+    (machine.entries file).sent)
+    (machine.entries file).phase (ap is_up cut)) a
 
 connect_untouched : (world : World) (c : ℕ) → IsUntouched world c → IsUntouched (connected world c) c
 unfolding connection_made all_turned joined

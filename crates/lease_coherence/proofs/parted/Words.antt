@@ -4,26 +4,22 @@ use Rattle.std.proofs.Common.{◌≡◌, ◌⊎◌, inl, inr, ℕ, Bool, true, f
 use Rattle.std.specs.Prelude.{⊤, ◌&&◌, ◌||◌}
 use Rattle.std.proofs.lemmas.Bool.{eq-eqb}
 use Rattle.lease_state.specs.declared.patch.Patch.{Patch}
-use Rattle.lease_state.specs.declared.status.Status.{Status}
 use Rattle.lease_model.specs.client.Commanded.{cached_read, opened_anew, write_buffered, write_sent, flush_on_live}
 use Rattle.lease_model.specs.client.Commands.{Note}
 use Rattle.lease_model.specs.client.State.{Client, Entry, LiveEntry, Asked, Parted, Pending, Phase}
-use Rattle.lease_model.specs.client.Step.{Step, Turn, turned}
-use Rattle.lease_model.specs.client.Taken.{break_turn, parked_closed, belief_lowered, opened_turn, reconnected_turn, promoted_turn, read_turn, read_failed_turn, is_file_closed, closed_by_server, without_open, phase_with, write_done_turn, write_failed_in}
-use Rattle.lease_model.specs.messages.Replies.{BreakNotice}
+use Rattle.lease_model.specs.client.Step.{Step, turned}
+use Rattle.lease_model.specs.client.Taken.{parked_closed, belief_lowered, opened_turn, reconnected_turn, promoted_turn, read_turn, closed_by_server, without_open, phase_with, write_done_turn, sent_without}
 use Rattle.lease_model.specs.records.Facts.{Fact}
 use Rattle.lease_model.specs.server.State.{Open}
-use Rattle.lease_model.specs.values.LeaseStates.{meet}
 use Rattle.lease_model.specs.values.Tables.{put}
 use Rattle.lease_model.specs.world.World.{World, fact_of}
 use Rattle.lease_laws.specs.server.Laws.{Among}
 use Rattle.lease_laws.specs.world.Links.{is_up}
 use Rattle.lease_laws.proofs.client.Thin.{put_same, put_other}
-use Rattle.lease_laws.proofs.server.Lists.{if_cases}
 use Rattle.lease_laws.proofs.world.Links.{by_client}
 use Rattle.lease_coherence.specs.Agreement.{touched_since_lost}
-use Rattle.lease_coherence.proofs.clients.Commands.{HasCommands, sent_of}
-use Rattle.lease_coherence.proofs.clients.Takes.{HasTakes}
+use Rattle.lease_laws.proofs.client.cases.Commands.{HasCommands, sent_of}
+use Rattle.lease_laws.proofs.client.cases.Replies.{HasTakes}
 use Rattle.lease_coherence.proofs.covered.Words.{IsLiveUnder}
 use Rattle.lease_coherence.proofs.late.Words.{holds_write}
 use Rattle.lease_coherence.proofs.records.Later.{past_noted}
@@ -36,11 +32,10 @@ UntouchedUnder world c file id = (x : Open) → Among x world.server.opens → x
     → holds_write world c file ≡ true → touched_since_lost c file world.past ≡ false
 
 abbrev pub PhaseUntouched : World → ℕ → ℕ → Phase → Type 0
-PhaseUntouched world c file Phase.Closed = ⊤
-PhaseUntouched world c file (Phase.Opening access share) = ⊤
 PhaseUntouched world c file (Phase.Live live) = is_up (world.links c) ≡ false → UntouchedUnder world c file live.file_id
 PhaseUntouched world c file (Phase.Offline parted) = UntouchedUnder world c file parted.file_id
 PhaseUntouched world c file (Phase.Reconnecting parted) = UntouchedUnder world c file parted.file_id
+PhaseUntouched world c file phase = ⊤
 
 abbrev pub IsUntouched : World → ℕ → Type 0
 IsUntouched world c = (file : ℕ) → PhaseUntouched world c file ((world.clients c).entries file).phase
@@ -91,12 +86,8 @@ unfolding touched_since_lost
 noted_touched c client file past [] = refl
 noted_touched c client file past (Note.Settled number outcome ∷ notes) =
     noted_touched c client file (fact_of client (Note.Settled number outcome) ∷ past) notes
-noted_touched c client file past (Note.Wrote at number patch buffered ∷ notes) =
-    noted_touched c client file (fact_of client (Note.Wrote at number patch buffered) ∷ past) notes
-noted_touched c client file past (Note.Believes at state ∷ notes) =
-    noted_touched c client file (fact_of client (Note.Believes at state) ∷ past) notes
-noted_touched c client file past (Note.CachedRead at bytes ∷ notes) =
-    noted_touched c client file (fact_of client (Note.CachedRead at bytes) ∷ past) notes
+noted_touched c client file past (note ∷ notes) =
+    noted_touched c client file (fact_of client note ∷ past) notes
 
 -- ---- in another world
 
@@ -119,31 +110,28 @@ pub phase_by : (world new : World) (c file : ℕ) (phase : Phase)
     → ((parted : Parted) → (phase ≡ Phase.Offline parted) ⊎ (phase ≡ Phase.Reconnecting parted)
     → UntouchedUnder world c file parted.file_id → UntouchedUnder new c file parted.file_id)
     → PhaseUntouched world c file phase → PhaseUntouched new c file phase
-phase_by world new c file Phase.Closed live parted p = tt
-phase_by world new c file (Phase.Opening access share) live parted p = tt
 phase_by world new c file (Phase.Live entry) live parted p = λ off. live entry refl off p
 phase_by world new c file (Phase.Offline kept) live parted p = parted kept (inl refl) p
 phase_by world new c file (Phase.Reconnecting kept) live parted p = parted kept (inr refl) p
+phase_by world new c file phase live parted p = tt
 
 -- ---- what steps of the client make of entries
 
 -- an entry that is parted was so; one that is live was under the same FileId, or may be of any
 abbrev pub PartedBy : Bool → Phase → Phase → Type 0
-PartedBy up old Phase.Closed = ⊤
-PartedBy up old (Phase.Opening access share) = ⊤
 PartedBy up old (Phase.Live live) = (up ≡ false) → IsLiveUnder old live.file_id
 PartedBy up old (Phase.Offline parted) = old ≡ Phase.Offline parted
 PartedBy up old (Phase.Reconnecting parted) = old ≡ Phase.Reconnecting parted
+PartedBy up old phase = ⊤
 
 abbrev pub StepParts : Bool → Client → Step → Type 0
 StepParts up machine step = (file : ℕ) → PartedBy up (machine.entries file).phase (step.client.entries file).phase
 
 pub same_parts : (up : Bool) (phase : Phase) → PartedBy up phase phase
-same_parts up Phase.Closed = tt
-same_parts up (Phase.Opening access share) = tt
 same_parts up (Phase.Live live) = λ off. record { live = live; is = refl; id = refl }
 same_parts up (Phase.Offline parted) = refl
 same_parts up (Phase.Reconnecting parted) = refl
+same_parts up phase = tt
 
 put_parts : (up : Bool) (machine : Client) (at : ℕ) (entry : Entry)
     → PartedBy up (machine.entries at).phase entry.phase → (file : ℕ)
@@ -183,47 +171,18 @@ gone_parts up old (Some asked) sent = tt
 
 with_parts : (old : Phase) (write : Option Pending) (phase : Phase) → old ≡ phase
     → PartedBy true old (phase_with write phase)
-with_parts old write Phase.Closed is = tt
-with_parts old write (Phase.Opening access share) is = tt
 with_parts old write (Phase.Live live) is = λ off. absurd (true≢false off)
 with_parts old write (Phase.Offline parted) is = is
 with_parts old write (Phase.Reconnecting parted) is = is
-
-break_parts : (machine : Client) (file : ℕ) (notice : BreakNotice) (live : LiveEntry)
-    → StepParts true machine (turned machine file (break_turn live (sent_of machine file) notice
-    (meet live.belief notice.lowered)))
-unfolding break_turn parked_closed belief_lowered turned
-break_parts machine file notice live = if_cases (λ (t : Turn). StepParts true machine (turned machine file t))
-    (live.handles == 0 && (live.belief.handle && not (meet live.belief notice.lowered).handle)) _ _
-    (λ parked. put_parts true machine file _ tt)
-    (λ stays. put_parts true machine file _ (λ off. absurd (true≢false off)))
-
-read_failed_parts : (machine : Client) (file : ℕ) (live : LiveEntry) (status : Status)
-    → StepParts true machine (turned machine file (read_failed_turn live (sent_of machine file) status))
-unfolding read_failed_turn closed_by_server turned
-read_failed_parts machine file live status = if_cases (λ (t : Turn). StepParts true machine (turned machine file t))
-    (is_file_closed status) _ _
-    (λ gone. put_parts true machine file _ (gone_parts true _ live.asking (sent_of machine file)))
-    (λ there. put_parts true machine file _ (λ off. absurd (true≢false off)))
-
-write_failed_parts : (machine : Client) (file id number : ℕ) (status : Status) (sent : List Pending) (phase : Phase)
-    → (machine.entries file).phase ≡ phase
-    → StepParts true machine (turned machine file (write_failed_in id number status sent phase))
-unfolding closed_by_server turned
-write_failed_parts machine file id number status sent Phase.Closed is = put_parts true machine file _ tt
-write_failed_parts machine file id number status sent (Phase.Opening access share) is = put_parts true machine file _ tt
-write_failed_parts machine file id number status sent (Phase.Live live) is =
-    if_cases (λ (t : Turn). StepParts true machine (turned machine file t)) (is_file_closed status && live.file_id == id) _ _
-    (λ gone. put_parts true machine file _ (gone_parts true _ live.asking sent))
-    (λ there. put_parts true machine file _ (λ off. absurd (true≢false off)))
-write_failed_parts machine file id number status sent (Phase.Offline parted) is = put_parts true machine file _ is
-write_failed_parts machine file id number status sent (Phase.Reconnecting parted) is = put_parts true machine file _ is
+with_parts old write phase is = tt
 
 pub takes_part : (machine : Client) → HasTakes machine (λ reply step. StepParts true machine step)
-unfolding opened_turn reconnected_turn promoted_turn read_turn write_done_turn turned
+unfolding opened_turn reconnected_turn promoted_turn read_turn write_done_turn turned parked_closed belief_lowered
+    closed_by_server
 takes_part machine = record {
   passed = λ reply why file. same_parts true (machine.entries file).phase;
-  broken = λ file notice live at is. break_parts machine file notice live;
+  parked_closes = λ file notice live at is parked. put_parts true machine file _ tt;
+  lowered = λ file notice live at is stays. put_parts true machine file _ (λ off. absurd (true≢false off));
   opened = λ file id answer access share is. put_parts true machine file _ (λ off. absurd (true≢false off));
   reconnected = λ file id answer parted is. put_parts true machine file _ (λ off. absurd (true≢false off));
   promoted = λ file id answer live asked is asks. put_parts true machine file _ (λ off. absurd (true≢false off));
@@ -231,9 +190,13 @@ takes_part machine = record {
   not_reconnected = λ file status parted is. put_parts true machine file _ tt;
   not_promoted = λ file status live asked is asks. put_parts true machine file _ (λ off. absurd (true≢false off));
   read = λ file id bytes live is same some. put_parts true machine file _ (λ off. absurd (true≢false off));
-  not_read = λ file id status live is same some. read_failed_parts machine file live status;
+  read_closed = λ file id status live is same gone. put_parts true machine file _
+      (gone_parts true _ live.asking (sent_of machine file));
+  not_read = λ file id status live is same some. put_parts true machine file _ (λ off. absurd (true≢false off));
   written = λ file id number has known. put_parts true machine file _
       (with_parts _ _ (machine.entries file).phase refl);
-  not_written = λ file id number status has known.
-      write_failed_parts machine file id number status _ (machine.entries file).phase refl;
+  write_closed = λ file id number status live has known is same gone. put_parts true machine file _
+      (gone_parts true _ live.asking (sent_without number (sent_of machine file)));
+  not_written = λ file id number status has known. put_parts true machine file _
+      (same_parts true (machine.entries file).phase);
 }

@@ -1,12 +1,11 @@
 -- A client closes only what it gives up with the same step, and asks as its entries say.
-use Rattle.std.proofs.Common.{◌≡◌, ◌≢◌, ◌⊎◌, inl, inr, ℕ, ◌+◌, true, not, List, [], ◌∷◌, ◌++◌, Option, Some, None, refl, sym, ap, ◌∙◌, subst, ◌==◌}
-use Rattle.std.specs.Prelude.{⊤, is_some, ◌&&◌, if◌then◌else◌}
+use Rattle.std.proofs.Common.{◌≡◌, ◌≢◌, ◌⊎◌, inl, inr, ℕ, ◌+◌, true, List, [], ◌∷◌, ◌++◌, Option, Some, None, refl, sym, ap, ◌∙◌, subst}
+use Rattle.std.specs.Prelude.{⊤, is_some, if◌then◌else◌}
 use Rattle.lease_state.specs.State.{State}
-use Rattle.lease_state.specs.declared.status.Status.{Status}
 use Rattle.lease_model.specs.client.Commanded.{create_request, joint_terms, cached_read, opened_anew, write_buffered, write_sent, flush_on_live}
 use Rattle.lease_model.specs.client.State.{Entry, LiveEntry, Asked, Pending, Phase, lease_key}
-use Rattle.lease_model.specs.client.Step.{Step, Turn, turned, write_requests}
-use Rattle.lease_model.specs.client.Taken.{break_turn, parked_closed, belief_lowered, acknowledgment, flushed, unflushed, opened_turn, reconnected_turn, promoted_turn, promoted_belief, first_belief, read_turn, read_failed_turn, is_file_closed, closed_by_server, without_open, phase_with, write_done_turn, write_failed_in}
+use Rattle.lease_model.specs.client.Step.{Step, turned, write_requests}
+use Rattle.lease_model.specs.client.Taken.{parked_closed, belief_lowered, acknowledgment, flushed, unflushed, opened_turn, reconnected_turn, promoted_turn, promoted_belief, first_belief, read_turn, closed_by_server, without_open, phase_with, write_done_turn}
 use Rattle.lease_model.specs.messages.Replies.{Reply, BreakNotice}
 use Rattle.lease_model.specs.messages.Requests.{FileRequest, Request}
 use Rattle.lease_model.specs.values.Tables.{put}
@@ -15,8 +14,8 @@ use Rattle.lease_laws.proofs.server.Lists.{if_cases}
 use Rattle.lease_coherence.specs.Creates.{has_asked}
 use Rattle.lease_coherence.specs.Names.{Each}
 use Rattle.lease_coherence.specs.Standing.{AllAsked, FitsPhase, GivenWell, IsNoClose, NotClosed, PhaseStands, Stands, again_of}
-use Rattle.lease_coherence.proofs.clients.Commands.{HasCommands, sent_of}
-use Rattle.lease_coherence.proofs.clients.Takes.{HasTakes}
+use Rattle.lease_laws.proofs.client.cases.Commands.{HasCommands, sent_of}
+use Rattle.lease_laws.proofs.client.cases.Replies.{HasTakes}
 use Rattle.lease_coherence.proofs.names.Words.{each_append, each_weaker}
 
 -- an entry isn't under this FileId
@@ -103,32 +102,14 @@ same_turn world c file queue live new requests same s asks closes = record {
   where
     fits : (reply : Reply) → FitsGiven file (Phase.Live live) reply → FitsGiven file (Phase.Live new) reply
     fits (Reply.Created other id contexts) f = λ e g. f e (g ∙ same)
-    fits (Reply.CreateFailed other status) f = tt
-    fits (Reply.ReadDone id bytes) f = tt
-    fits (Reply.ReadFailed id status) f = tt
-    fits (Reply.WriteDone id number) f = tt
-    fits (Reply.WriteFailed id number status) f = tt
-    fits (Reply.Closed id) f = tt
-    fits (Reply.CloseFailed id status) f = tt
-    fits (Reply.Break notice) f = tt
-    fits (Reply.AckDone response) f = tt
-    fits (Reply.AckFailed status) f = tt
+    fits reply f = tt
 
 -- replies fit an entry that has no FileId
 pub free_given : (file : ℕ) (phase : Phase) → ((id : ℕ) → FitsPhase phase id) → (queue : List Reply)
     → Each (FitsGiven file phase) queue
 free_given file phase free [] = tt
 free_given file phase free (Reply.Created other id contexts ∷ queue) = (λ e. free id, free_given file phase free queue)
-free_given file phase free (Reply.CreateFailed other status ∷ queue) = (tt, free_given file phase free queue)
-free_given file phase free (Reply.ReadDone id bytes ∷ queue) = (tt, free_given file phase free queue)
-free_given file phase free (Reply.ReadFailed id status ∷ queue) = (tt, free_given file phase free queue)
-free_given file phase free (Reply.WriteDone id number ∷ queue) = (tt, free_given file phase free queue)
-free_given file phase free (Reply.WriteFailed id number status ∷ queue) = (tt, free_given file phase free queue)
-free_given file phase free (Reply.Closed id ∷ queue) = (tt, free_given file phase free queue)
-free_given file phase free (Reply.CloseFailed id status ∷ queue) = (tt, free_given file phase free queue)
-free_given file phase free (Reply.Break notice ∷ queue) = (tt, free_given file phase free queue)
-free_given file phase free (Reply.AckDone response ∷ queue) = (tt, free_given file phase free queue)
-free_given file phase free (Reply.AckFailed status ∷ queue) = (tt, free_given file phase free queue)
+free_given file phase free (reply ∷ queue) = (tt, free_given file phase free queue)
 
 -- grants that fit a live entry are of other opens
 others_given : (file : ℕ) (live : LiveEntry) (queue : List Reply) → Each (FitsGiven file (Phase.Live live)) queue
@@ -138,16 +119,7 @@ others_given file live queue each = each_weaker (FitsGiven file (Phase.Live live
   where
     not_given : (reply : Reply) → FitsGiven file (Phase.Live live) reply → IsNotGiven file live.file_id reply
     not_given (Reply.Created other id contexts) f = f
-    not_given (Reply.CreateFailed other status) f = tt
-    not_given (Reply.ReadDone id bytes) f = tt
-    not_given (Reply.ReadFailed id status) f = tt
-    not_given (Reply.WriteDone id number) f = tt
-    not_given (Reply.WriteFailed id number status) f = tt
-    not_given (Reply.Closed id) f = tt
-    not_given (Reply.CloseFailed id status) f = tt
-    not_given (Reply.Break notice) f = tt
-    not_given (Reply.AckDone response) f = tt
-    not_given (Reply.AckFailed status) f = tt
+    not_given reply f = tt
 
 -- an entry that gives its open up
 leave_turn : (world : World) (c file : ℕ) (queue : List Reply) (live : LiveEntry) (new : Phase) (more : List Request)
@@ -249,16 +221,7 @@ unanswered file phase queue each = each_weaker (IsNoAnswer file) (FitsGiven file
   where
     never : (reply : Reply) → IsNoAnswer file reply → FitsGiven file phase reply
     never (Reply.Created other id contexts) n = λ e. absurd (n e)
-    never (Reply.CreateFailed other status) n = tt
-    never (Reply.ReadDone id bytes) n = tt
-    never (Reply.ReadFailed id status) n = tt
-    never (Reply.WriteDone id number) n = tt
-    never (Reply.WriteFailed id number status) n = tt
-    never (Reply.Closed id) n = tt
-    never (Reply.CloseFailed id status) n = tt
-    never (Reply.Break notice) n = tt
-    never (Reply.AckDone response) n = tt
-    never (Reply.AckFailed status) n = tt
+    never reply n = tt
 
 -- where a create is answered, no other is under way
 abbrev pub AnswersLast : World → ℕ → List Reply → Reply → Type 0
@@ -279,16 +242,13 @@ ack_asks file phase notice state = if_cases (Each (TurnAsks file phase)) notice.
 ack_closes : (id : ℕ) (notice : BreakNotice) (state : State) → Each (IsNoClose id) (acknowledgment notice state)
 ack_closes id notice state = if_cases (Each (IsNoClose id)) notice.ack_required _ [] (λ e. (tt, tt)) (λ e. tt)
 
-break_stands : (world : World) (c : ℕ) (queue : List Reply) (file : ℕ) (live : LiveEntry) (sent : List Pending)
+lowered_stands : (world : World) (c : ℕ) (queue : List Reply) (file : ℕ) (live : LiveEntry) (sent : List Pending)
     (notice : BreakNotice) (new : State) → EntryStands world c file (Phase.Live live) queue
-    → TurnStands world c file (Phase.Live live) queue (break_turn live sent notice new).entry.phase
-    (break_turn live sent notice new).requests
-unfolding break_turn parked_closed belief_lowered
-break_stands world c queue file live sent notice new s =
-    if_cases (λ (turn : Turn). TurnStands world c file (Phase.Live live) queue turn.entry.phase turn.requests)
-    (live.handles == 0 && (live.belief.handle && not new.handle)) _ _
-    (λ parked. leave_turn world c file queue live Phase.Closed [] s refl (λ id. tt) (λ id. tt) tt tt (λ id. tt))
-    (λ stays. let next : LiveEntry = record live {
+    → TurnStands world c file (Phase.Live live) queue (belief_lowered live sent notice new).entry.phase
+    (belief_lowered live sent notice new).requests
+unfolding belief_lowered
+lowered_stands world c queue file live sent notice new s =
+    let next : LiveEntry = record live {
       belief = new;
       base = if new.read then live.base else None;
       unsent = unflushed live.belief new live.unsent;
@@ -300,7 +260,7 @@ break_stands world c queue file live sent notice new s =
     (ack_asks file (Phase.Live next) notice new))
     (λ id. each_append (IsNoClose id) (write_requests live.file_id (flushed live.belief new live.unsent))
     (acknowledgment notice new) (writes_close live.file_id id (flushed live.belief new live.unsent))
-    (ack_closes id notice new)))
+    (ack_closes id notice new))
 
 -- an entry whose open is gone
 gone_turn : (world : World) (c : ℕ) (queue : List Reply) (file : ℕ) (live : LiveEntry) (sent : List Pending)
@@ -328,51 +288,20 @@ still_turn world c queue file phase s =
 
 with_turn : (world : World) (c : ℕ) (queue : List Reply) (file : ℕ) (write : Option Pending) (phase : Phase)
     → EntryStands world c file phase queue → TurnStands world c file phase queue (phase_with write phase) []
-with_turn world c queue file write Phase.Closed s = still_turn world c queue file Phase.Closed s
-with_turn world c queue file write (Phase.Opening access share) s =
-    still_turn world c queue file (Phase.Opening access share) s
 with_turn world c queue file write (Phase.Live live) s =
     same_turn world c file queue live _ [] refl s tt (λ id. tt)
-with_turn world c queue file write (Phase.Offline parted) s = still_turn world c queue file (Phase.Offline parted) s
-with_turn world c queue file write (Phase.Reconnecting parted) s =
-    still_turn world c queue file (Phase.Reconnecting parted) s
-
-read_failed_stands : (world : World) (c : ℕ) (queue : List Reply) (file : ℕ) (live : LiveEntry) (sent : List Pending)
-    (status : Status) → EntryStands world c file (Phase.Live live) queue
-    → TurnStands world c file (Phase.Live live) queue (read_failed_turn live sent status).entry.phase
-    (read_failed_turn live sent status).requests
-unfolding read_failed_turn closed_by_server
-read_failed_stands world c queue file live sent status s =
-    if_cases (λ (turn : Turn). TurnStands world c file (Phase.Live live) queue turn.entry.phase turn.requests)
-    (is_file_closed status) _ _ (λ gone. gone_turn world c queue file live sent live.asking)
-    (λ there. same_turn world c file queue live _ [] refl s tt (λ id. tt))
-
-write_failed_stands : (world : World) (c : ℕ) (queue : List Reply) (file file_id number : ℕ) (status : Status)
-    (sent : List Pending) (phase : Phase) → EntryStands world c file phase queue
-    → TurnStands world c file phase queue (write_failed_in file_id number status sent phase).entry.phase
-    (write_failed_in file_id number status sent phase).requests
-unfolding closed_by_server
-write_failed_stands world c queue file file_id number status sent Phase.Closed s =
-    still_turn world c queue file Phase.Closed s
-write_failed_stands world c queue file file_id number status sent (Phase.Opening access share) s =
-    still_turn world c queue file (Phase.Opening access share) s
-write_failed_stands world c queue file file_id number status sent (Phase.Live live) s =
-    if_cases (λ (turn : Turn). TurnStands world c file (Phase.Live live) queue turn.entry.phase turn.requests)
-    (is_file_closed status && live.file_id == file_id) _ _
-    (λ gone. gone_turn world c queue file live sent live.asking)
-    (λ there. still_turn world c queue file (Phase.Live live) s)
-write_failed_stands world c queue file file_id number status sent (Phase.Offline parted) s =
-    still_turn world c queue file (Phase.Offline parted) s
-write_failed_stands world c queue file file_id number status sent (Phase.Reconnecting parted) s =
-    still_turn world c queue file (Phase.Reconnecting parted) s
+with_turn world c queue file write phase s = still_turn world c queue file phase s
 
 pub takes_stand : (world : World) (c : ℕ) (queue : List Reply) → AllEntries world c queue
     → HasTakes (world.clients c) (TakeStands world c queue)
-unfolding turned opened_turn reconnected_turn promoted_turn read_turn write_done_turn
+unfolding turned opened_turn reconnected_turn promoted_turn read_turn write_done_turn parked_closed closed_by_server
 takes_stand world c queue all = record {
   passed = λ reply why given last. StepStands.Idle refl refl;
-  broken = λ file notice live at is given last. StepStands.Turns file _ refl refl (from file (Phase.Live live) is
-      (break_stands world c queue file live _ notice _ (known file live is)));
+  parked_closes = λ file notice live at is parked given last. StepStands.Turns file _ refl refl
+      (from file (Phase.Live live) is (leave_turn world c file queue live Phase.Closed [] (known file live is) refl
+      (λ id. tt) (λ id. tt) tt tt (λ id. tt)));
+  lowered = λ file notice live at is stays given last. StepStands.Turns file _ refl refl (from file (Phase.Live live) is
+      (lowered_stands world c queue file live _ notice _ (known file live is)));
   opened = λ file file_id answer access share is given last. StepStands.Turns file _ refl refl
       (from file (Phase.Opening access share) is (record {
         phase = (given.stands, given.not_closed);
@@ -432,12 +361,16 @@ takes_stand world c queue all = record {
       (from file (Phase.Live live) is (same_turn world c file queue live _ [] refl (known file live is) tt (λ id. tt)));
   read = λ file file_id bytes live is id some given last. StepStands.Turns file _ refl refl
       (from file (Phase.Live live) is (same_turn world c file queue live _ [] refl (known file live is) tt (λ i. tt)));
+  read_closed = λ file file_id status live is id gone given last. StepStands.Turns file _ refl refl
+      (from file (Phase.Live live) is (gone_turn world c queue file live _ live.asking));
   not_read = λ file file_id status live is id some given last. StepStands.Turns file _ refl refl
-      (from file (Phase.Live live) is (read_failed_stands world c queue file live _ status (known file live is)));
+      (from file (Phase.Live live) is (same_turn world c file queue live _ [] refl (known file live is) tt (λ i. tt)));
   written = λ file file_id number at known given last. StepStands.Turns file _ refl refl
       (with_turn world c queue file _ ((world.clients c).entries file).phase (all file));
+  write_closed = λ file file_id number status live at known is id gone given last. StepStands.Turns file _ refl refl
+      (from file (Phase.Live live) is (gone_turn world c queue file live _ live.asking));
   not_written = λ file file_id number status at known given last. StepStands.Turns file _ refl refl
-      (write_failed_stands world c queue file file_id number status _ ((world.clients c).entries file).phase (all file));
+      (still_turn world c queue file ((world.clients c).entries file).phase (all file));
 }
   where
     from : (file : ℕ) (old : Phase) {new : Phase} {requests : List Request}

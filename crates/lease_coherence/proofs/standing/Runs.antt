@@ -28,11 +28,11 @@ use Rattle.lease_laws.proofs.client.Thin.{put_same}
 use Rattle.lease_laws.proofs.server.Lists.{clash, among_filtered}
 use Rattle.lease_laws.proofs.world.Links.{stepped_links}
 use Rattle.lease_laws.proofs.world.Runs.{stepped_server}
-use Rattle.lease_coherence.specs.Creates.{IsCountedAt, answer_of, answers, create_of, creates, has_asked, held_by, held_creates, one_if}
+use Rattle.lease_coherence.specs.Creates.{IsCountedAt, answer_of, answers, create_of, creates, held_by, held_creates, one_if, has_asked}
 use Rattle.lease_coherence.specs.Names.{Each}
 use Rattle.lease_coherence.specs.Standing.{AllAsked, AskFits, FitsPhase, GivenWell, IsNoClose, IsStandingAt, IsUpStanding, NotClosed, PhaseStands, Stands, again_of}
-use Rattle.lease_coherence.proofs.clients.Commands.{any_command}
-use Rattle.lease_coherence.proofs.clients.Takes.{any_reply}
+use Rattle.lease_laws.proofs.client.cases.Commands.{any_command}
+use Rattle.lease_laws.proofs.client.cases.Replies.{any_reply}
 use Rattle.lease_coherence.proofs.creates.Creates.{none_held, off_rest, stepped_machine}
 use Rattle.lease_coherence.proofs.moves.Deeds.{IsSource, done_reply}
 use Rattle.lease_coherence.proofs.moves.Moves.{popped}
@@ -69,9 +69,7 @@ no_creates file (Request.OnFile request ∷ queue) e = (
     not_this : (r : FileRequest) → create_of file r ≡ 0 → IsNoCreate file (Request.OnFile r)
     not_this (FileRequest.Create other access share contexts) n =
         λ same. none_one (one_if (other == file)) (ap one_if (eq-eqb other file same)) n
-    not_this (FileRequest.Read id) n = tt
-    not_this (FileRequest.Write id number patch) n = tt
-    not_this (FileRequest.Close id) n = tt
+    not_this request n = tt
 no_creates file (Request.Acknowledge given ∷ queue) e = (tt, no_creates file queue e)
 
 no_held : (file : ℕ) (held : List Held) (one : Held) → held_creates file held ≡ 0 → Among one held
@@ -106,16 +104,7 @@ no_answers file (reply ∷ queue) e = (
     not_this : (r : Reply) → answer_of file r ≡ 0 → IsNoAnswer file r
     not_this (Reply.Created other id contexts) n =
         λ same. none_one (one_if (other == file)) (ap one_if (eq-eqb other file same)) n
-    not_this (Reply.CreateFailed other status) n = tt
-    not_this (Reply.ReadDone id bytes) n = tt
-    not_this (Reply.ReadFailed id status) n = tt
-    not_this (Reply.WriteDone id number) n = tt
-    not_this (Reply.WriteFailed id number status) n = tt
-    not_this (Reply.Closed id) n = tt
-    not_this (Reply.CloseFailed id status) n = tt
-    not_this (Reply.Break notice) n = tt
-    not_this (Reply.AckDone response) n = tt
-    not_this (Reply.AckFailed status) n = tt
+    not_this reply n = tt
 
 -- where an answer is taken, it is the last
 last_create : (world : World) (c : ℕ) (reply : Reply) (queue : List Reply) → Ground world
@@ -163,9 +152,7 @@ last_create world c reply queue g up counted first file one asks =
             (no_held file (held_by c (world.server.held file)) x none
             (among_filtered (λ h. h.client == c) x (world.server.held file)
             (subst (λ n. Among x (world.server.held n)) (sym about ∙ same) a) (eq-eqb x.client c own)))
-        by_request (FileRequest.Read id) is = tt
-        by_request (FileRequest.Write id number patch) is = tt
-        by_request (FileRequest.Close id) is = tt
+        by_request request is = tt
 
 answers_last : (world : World) (c : ℕ) (reply : Reply) (queue : List Reply) → Ground world
     → is_up (world.links c) ≡ true → IsCountedAt world c → world.replies c ≡ reply ∷ queue
@@ -176,15 +163,7 @@ answers_last world c (Reply.Created file id contexts) queue g up counted first =
 answers_last world c (Reply.CreateFailed file status) queue g up counted first =
     λ asks. last_create world c (Reply.CreateFailed file status) queue g up counted first file
     (ap one_if (eq-eqb file file refl)) asks
-answers_last world c (Reply.ReadDone id bytes) queue g up counted first = tt
-answers_last world c (Reply.ReadFailed id status) queue g up counted first = tt
-answers_last world c (Reply.WriteDone id number) queue g up counted first = tt
-answers_last world c (Reply.WriteFailed id number status) queue g up counted first = tt
-answers_last world c (Reply.Closed id) queue g up counted first = tt
-answers_last world c (Reply.CloseFailed id status) queue g up counted first = tt
-answers_last world c (Reply.Break notice) queue g up counted first = tt
-answers_last world c (Reply.AckDone response) queue g up counted first = tt
-answers_last world c (Reply.AckFailed status) queue g up counted first = tt
+answers_last world c reply queue g up counted first = tt
 
 -- ---- steps of the client
 
@@ -192,16 +171,7 @@ pub fits_of : (world : World) (c file : ℕ) (reply : Reply) → GivenWell world
     → FitsGiven file ((world.clients c).entries file).phase reply
 fits_of world c file (Reply.Created other id contexts) w =
     λ same. subst (λ f. FitsPhase ((world.clients c).entries f).phase id) same w.fits
-fits_of world c file (Reply.CreateFailed other status) w = tt
-fits_of world c file (Reply.ReadDone id bytes) w = tt
-fits_of world c file (Reply.ReadFailed id status) w = tt
-fits_of world c file (Reply.WriteDone id number) w = tt
-fits_of world c file (Reply.WriteFailed id number status) w = tt
-fits_of world c file (Reply.Closed id) w = tt
-fits_of world c file (Reply.CloseFailed id status) w = tt
-fits_of world c file (Reply.Break notice) w = tt
-fits_of world c file (Reply.AckDone response) w = tt
-fits_of world c file (Reply.AckFailed status) w = tt
+fits_of world c file reply w = tt
 
 pub entries_of : (world : World) (c : ℕ) → IsStandingAt world c → AllEntries world c (world.replies c)
 entries_of world c s file = record {
@@ -243,25 +213,14 @@ gone_standing world c reply queue first s = record {
 
     phase_same : (file : ℕ) (phase : Phase) → PhaseStands world c file phase
         → PhaseStands (reply_gone world c queue) c file phase
-    phase_same file Phase.Closed p = tt
-    phase_same file (Phase.Opening access share) p = tt
     phase_same file (Phase.Live live) p = (stands_same p.0, closed_same p.1)
-    phase_same file (Phase.Offline parted) p = tt
     phase_same file (Phase.Reconnecting parted) p = closed_same p
+    phase_same file phase p = tt
 
     given_same : (r : Reply) → GivenWell world c r → GivenWell (reply_gone world c queue) c r
     given_same (Reply.Created file id contexts) w =
         record { stands = stands_same w.stands; not_closed = closed_same w.not_closed; fits = w.fits }
-    given_same (Reply.CreateFailed other status) w = tt
-    given_same (Reply.ReadDone id bytes) w = tt
-    given_same (Reply.ReadFailed id status) w = tt
-    given_same (Reply.WriteDone id number) w = tt
-    given_same (Reply.WriteFailed id number status) w = tt
-    given_same (Reply.Closed id) w = tt
-    given_same (Reply.CloseFailed id status) w = tt
-    given_same (Reply.Break notice) w = tt
-    given_same (Reply.AckDone response) w = tt
-    given_same (Reply.AckFailed status) w = tt
+    given_same reply w = tt
 
 -- ---- a client connects
 
@@ -311,28 +270,19 @@ connect_standing world c g down =
         → Each (AskFits (connection_made (world.clients c)).client)
         (connect_turn (world.clients c) file ((world.clients c).entries file).sent
         ((world.clients c).entries file).phase).requests
-    fits_at file Phase.Closed is = subst (λ p. Each (AskFits (connection_made (world.clients c)).client)
-        (connect_turn (world.clients c) file ((world.clients c).entries file).sent p).requests) (sym is) tt
-    fits_at file (Phase.Opening access share) is = subst (λ p. Each (AskFits (connection_made (world.clients c)).client)
-        (connect_turn (world.clients c) file ((world.clients c).entries file).sent p).requests) (sym is) tt
-    fits_at file (Phase.Live live) is = subst (λ p. Each (AskFits (connection_made (world.clients c)).client)
-        (connect_turn (world.clients c) file ((world.clients c).entries file).sent p).requests) (sym is) tt
     fits_at file (Phase.Offline parted) is = subst (λ p. Each (AskFits (connection_made (world.clients c)).client)
         (connect_turn (world.clients c) file ((world.clients c).entries file).sent p).requests) (sym is) (
           sym (ap (λ p. again_of
               (connect_turn (world.clients c) file ((world.clients c).entries file).sent p).entry.phase) is),
           tt,
         )
-    fits_at file (Phase.Reconnecting parted) is = subst (λ p. Each (AskFits (connection_made (world.clients c)).client)
+    fits_at file phase is = subst (λ p. Each (AskFits (connection_made (world.clients c)).client)
         (connect_turn (world.clients c) file ((world.clients c).entries file).sent p).requests) (sym is) tt
 
     no_close : (id file : ℕ) (sent : List Pending) (phase : Phase)
         → Each (IsNoClose id) (connect_turn (world.clients c) file sent phase).requests
-    no_close id file sent Phase.Closed = tt
-    no_close id file sent (Phase.Opening access share) = tt
-    no_close id file sent (Phase.Live live) = tt
     no_close id file sent (Phase.Offline parted) = (tt, tt)
-    no_close id file sent (Phase.Reconnecting parted) = tt
+    no_close id file sent phase = tt
 
     all_open : (new : World) (id : ℕ) → new.requests c ≡ flat_map
         (λ f. (connect_turn (world.clients c) f ((world.clients c).entries f).sent ((world.clients c).entries f).phase).requests)
@@ -361,11 +311,10 @@ connect_standing world c g down =
         by_phase : (p : Phase) → IsSoundPhase (world.clients c).is_online ((world.clients c).entries file).sent p
             → PhaseStands new c file
             (connect_turn (world.clients c) file ((world.clients c).entries file).sent p).entry.phase
-        by_phase Phase.Closed sound = tt
-        by_phase (Phase.Opening access share) sound = tt
         by_phase (Phase.Live live) sound = clash (world.clients c).is_online sound.0 off
         by_phase (Phase.Offline parted) sound = all_open new parted.file_id queued none
         by_phase (Phase.Reconnecting parted) sound = clash (world.clients c).is_online sound.0 off
+        by_phase phase sound = tt
 
 -- a message that is taken makes no client stray
 pub took_strayed : (c : ℕ) (past : List Fact) → has_strayed c past ≡ false → has_strayed c (Fact.Took c ∷ past) ≡ false

@@ -131,9 +131,7 @@ told_standing world c reply plain s = given_more world (told_to world c reply) c
 
 pub refusal_plain : (request : FileRequest) (status : Status) → plain_reply (refusal_of request status)
 refusal_plain (FileRequest.Create file access share contexts) status = tt
-refusal_plain (FileRequest.Read file_id) status = tt
-refusal_plain (FileRequest.Write file_id number patch) status = tt
-refusal_plain (FileRequest.Close file_id) status = tt
+refusal_plain request status = tt
 
 -- ---- grants
 
@@ -151,13 +149,10 @@ new_open_asked off c counted n = record {
 
     request_low : (r : Request) → IsNamedRequest c (off.clients c).guid off.past r
         → IsNoClose (off.server.last_id + 1) r
-    request_low (Request.OnFile (FileRequest.Create file access share contexts)) named = tt
-    request_low (Request.OnFile (FileRequest.Read file_id)) named = tt
-    request_low (Request.OnFile (FileRequest.Write file_id number patch)) named = tt
     request_low (Request.OnFile (FileRequest.Close file_id)) named = λ same. above off.server.last_id
         (subst (λ m. off.server.last_id + 1 ≤ m) (sym counted.last)
         (subst (λ m. m ≤ opened_count off.past) same (opened_within file_id named.file c off.past named.opened)))
-    request_low (Request.Acknowledge given) named = tt
+    request_low request named = tt
 
 -- the FileId of a live entry was given
 pub named_live : (world : World) (c file : ℕ) (live : LiveEntry) → IsNamedAt world c
@@ -180,14 +175,12 @@ new_fits off c file counted n plain = by_phase ((off.clients c).entries file).ph
 
     by_phase : (phase : Phase) → ((off.clients c).entries file).phase ≡ phase → again_of phase ≡ None
         → FitsPhase phase (off.server.last_id + 1)
-    by_phase Phase.Closed is e = tt
-    by_phase (Phase.Opening access share) is e = tt
     by_phase (Phase.Live live) is e = λ same. above off.server.last_id
         (subst (λ m. off.server.last_id + 1 ≤ m) (sym counted.last)
         (subst (λ m. m ≤ opened_count off.past) (sym same)
         (opened_within live.file_id file c off.past (named_live off c file live n is))))
-    by_phase (Phase.Offline parted) is e = tt
     by_phase (Phase.Reconnecting parted) is e = absurd (no_some parted.file_id e)
+    by_phase phase is e = tt
 
 off_phase : (world off : World) (c : ℕ) (request : FileRequest) → IsSource world off c request → off.clients c ≡ world.clients c
 off_phase world off c request source = ap (λ (t : ℕ → Client). t c) (off_rest world off c request source).0
@@ -252,12 +245,9 @@ reconnected_standing off c file access share ask file_id fits again waits s =
 
     by_phase : (phase : Phase) → ((off.clients c).entries file).phase ≡ phase → again_of phase ≡ Some file_id
         → NotClosed off c file_id × FitsPhase phase file_id
-    by_phase Phase.Closed is e = absurd (no_some file_id e)
-    by_phase (Phase.Opening access share) is e = absurd (no_some file_id e)
-    by_phase (Phase.Live live) is e = absurd (no_some file_id e)
-    by_phase (Phase.Offline parted) is e = absurd (no_some file_id e)
     by_phase (Phase.Reconnecting parted) is e = let same = some_same parted.file_id file_id e in
         (subst (NotClosed off c) (sym same) (subst (PhaseStands off c file) is (s.phases file)), same)
+    by_phase phase is e = absurd (no_some file_id e)
 
     again_there : (o : Open) → o.file_id ≡ file_id → o.client ≡ c → o.file ≡ file → Among o off.server.opens
         → IsOpenFor (reconnected_in off c file ask file_id) c file file_id

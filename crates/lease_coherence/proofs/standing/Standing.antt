@@ -86,15 +86,13 @@ idle_standing world new c machine is same replies s =
     }
   where
     phase_after : (file : ℕ) (phase : Phase) → PhaseStands world c file phase → PhaseStands new c file phase
-    phase_after file Phase.Closed p = tt
-    phase_after file (Phase.Opening access share) p = tt
     phase_after file (Phase.Live live) p = (
       stands_after world new c machine [] is file live.file_id p.0,
       asked_after (IsNoClose live.file_id) world new c machine [] is p.1 tt,
     )
-    phase_after file (Phase.Offline parted) p = tt
     phase_after file (Phase.Reconnecting parted) p =
         asked_after (IsNoClose parted.file_id) world new c machine [] is p tt
+    phase_after file phase p = tt
 
     given_after : new.clients c ≡ world.clients c → (reply : Reply) → GivenWell world c reply → GivenWell new c reply
     given_after mine (Reply.Created file file_id contexts) w = record {
@@ -102,16 +100,7 @@ idle_standing world new c machine is same replies s =
       not_closed = asked_after (IsNoClose file_id) world new c machine [] is w.not_closed tt;
       fits = subst (λ (m : Client). FitsPhase (m.entries file).phase file_id) (sym mine) w.fits;
     }
-    given_after mine (Reply.CreateFailed file status) w = tt
-    given_after mine (Reply.ReadDone file_id bytes) w = tt
-    given_after mine (Reply.ReadFailed file_id status) w = tt
-    given_after mine (Reply.WriteDone file_id number) w = tt
-    given_after mine (Reply.WriteFailed file_id number status) w = tt
-    given_after mine (Reply.Closed file_id) w = tt
-    given_after mine (Reply.CloseFailed file_id status) w = tt
-    given_after mine (Reply.Break notice) w = tt
-    given_after mine (Reply.AckDone response) w = tt
-    given_after mine (Reply.AckFailed status) w = tt
+    given_after mine reply w = tt
 
 -- ---- a step that changes one
 
@@ -197,19 +186,17 @@ turn_standing world new c file queue machine entry requests is entries here repl
     closes other id opened away = kept_open world c file queue entry requests t n other id opened away
 
     own_phase : (phase : Phase) → entry.phase ≡ phase → PhaseStands world c file phase → PhaseStands new c file phase
-    own_phase Phase.Closed e p = tt
-    own_phase (Phase.Opening access share) e p = tt
     own_phase (Phase.Live live) e p = (
       stands_after world new c machine requests is file live.file_id p.0,
       asked_after (IsNoClose live.file_id) world new c machine requests is p.1
           (⊎_elim (λ none. none live.file_id)
           (λ old. old.only live.file_id (λ same. subst (IsNotUnder old.live.file_id) e old.left (sym same))) t.closes),
     )
-    own_phase (Phase.Offline parted) e p = tt
     own_phase (Phase.Reconnecting parted) e p =
         asked_after (IsNoClose parted.file_id) world new c machine requests is p
         (⊎_elim (λ none. none parted.file_id)
         (λ old. old.only parted.file_id (λ same. subst (IsNotUnder old.live.file_id) e old.left (sym same))) t.closes)
+    own_phase phase e p = tt
 
     named_live_at : (f : ℕ) (live : LiveEntry) → ((world.clients c).entries f).phase ≡ Phase.Live live
         → was_opened live.file_id f c world.past ≡ true
@@ -223,30 +210,19 @@ turn_standing world new c file queue machine entry requests is entries here repl
 
     other_phase : (f : ℕ) → f ≢ file → (phase : Phase) → ((world.clients c).entries f).phase ≡ phase
         → PhaseStands world c f phase → PhaseStands new c f phase
-    other_phase f ne Phase.Closed e p = tt
-    other_phase f ne (Phase.Opening access share) e p = tt
     other_phase f ne (Phase.Live live) e p = (
       stands_after world new c machine requests is f live.file_id p.0,
       asked_after (IsNoClose live.file_id) world new c machine requests is p.1
           (closes f live.file_id (named_live_at f live e) (λ old was same left given x. ne same)),
     )
-    other_phase f ne (Phase.Offline parted) e p = tt
     other_phase f ne (Phase.Reconnecting parted) e p =
         asked_after (IsNoClose parted.file_id) world new c machine requests is p
         (closes f parted.file_id (named_parted_at f parted e) (λ old was same left given x. ne same))
+    other_phase f ne phase e p = tt
 
     open_alone : ((id : ℕ) → Each (IsNoClose id) requests) → (reply : Reply) → GivenOpen requests reply
     open_alone none (Reply.Created g id contexts) = none id
-    open_alone none (Reply.CreateFailed g status) = tt
-    open_alone none (Reply.ReadDone id bytes) = tt
-    open_alone none (Reply.ReadFailed id status) = tt
-    open_alone none (Reply.WriteDone id number) = tt
-    open_alone none (Reply.WriteFailed id number status) = tt
-    open_alone none (Reply.Closed id) = tt
-    open_alone none (Reply.CloseFailed id status) = tt
-    open_alone none (Reply.Break notice) = tt
-    open_alone none (Reply.AckDone response) = tt
-    open_alone none (Reply.AckFailed status) = tt
+    open_alone none reply = tt
 
     open_beside : (old : ClosesOld file ((world.clients c).entries file).phase entry.phase queue requests)
         → (reply : Reply) → IsNamedReply c world.past reply → IsNotGiven file old.live.file_id reply
@@ -257,16 +233,7 @@ turn_standing world new c file queue machine entry requests is entries here repl
         subst (IsNamedPhase c file world.past) old.was (n.entries file).phase in
         away (sym (opened_once id file c g c world.past
         (subst (λ i. was_opened i file c world.past ≡ true) same mine.0) named)) (sym same))
-    open_beside old (Reply.CreateFailed g status) named away = tt
-    open_beside old (Reply.ReadDone id bytes) named away = tt
-    open_beside old (Reply.ReadFailed id status) named away = tt
-    open_beside old (Reply.WriteDone id number) named away = tt
-    open_beside old (Reply.WriteFailed id number status) named away = tt
-    open_beside old (Reply.Closed id) named away = tt
-    open_beside old (Reply.CloseFailed id status) named away = tt
-    open_beside old (Reply.Break notice) named away = tt
-    open_beside old (Reply.AckDone response) named away = tt
-    open_beside old (Reply.AckFailed status) named away = tt
+    open_beside old reply named away = tt
 
     names_here : Each (IsNamedReply c world.past) queue
     names_here = subst (Each (IsNamedReply c world.past)) here n.replies
@@ -294,41 +261,24 @@ turn_standing world new c file queue machine entry requests is entries here repl
       not_closed = asked_after (IsNoClose id) world new c machine requests is w.not_closed open_so;
       fits = subst (λ (m : Client). FitsPhase (m.entries g).phase id) (sym is.clients) (fits_after g id w.fits own);
     }
-    given_after (Reply.CreateFailed g status) w open_so own = tt
-    given_after (Reply.ReadDone id bytes) w open_so own = tt
-    given_after (Reply.ReadFailed id status) w open_so own = tt
-    given_after (Reply.WriteDone id number) w open_so own = tt
-    given_after (Reply.WriteFailed id number status) w open_so own = tt
-    given_after (Reply.Closed id) w open_so own = tt
-    given_after (Reply.CloseFailed id status) w open_so own = tt
-    given_after (Reply.Break notice) w open_so own = tt
-    given_after (Reply.AckDone response) w open_so own = tt
-    given_after (Reply.AckFailed status) w open_so own = tt
+    given_after reply w open_so own = tt
 
     again_other : (g : ℕ) → g ≢ file → again_of ((world.clients c).entries g).phase ≡ again_of (machine.entries g).phase
     again_other g ne = ap (λ (x : Entry). again_of x.phase) (sym (entry_at g ne))
 
     ask_same : again_of entry.phase ≡ again_of ((world.clients c).entries file).phase → (r : Request)
         → AskFits (world.clients c) r → AskFits machine r
-    ask_same same (Request.OnFile (FileRequest.Create g access share None)) fits = tt
     ask_same same (Request.OnFile (FileRequest.Create g access share (Some ask))) fits = fits ∙ either (g == file)
         (λ e. let own = eqb-true g file e in
         ap (λ f. again_of ((world.clients c).entries f).phase) own ∙ sym same
         ∙ sym (ap (λ (x : Entry). again_of x.phase) entry_here)
         ∙ ap (λ f. again_of (machine.entries f).phase) (sym own))
         (λ e. again_other g (λ x. clash (g == file) (eq-eqb g file x) e))
-    ask_same same (Request.OnFile (FileRequest.Read id)) fits = tt
-    ask_same same (Request.OnFile (FileRequest.Write id number patch)) fits = tt
-    ask_same same (Request.OnFile (FileRequest.Close id)) fits = tt
-    ask_same same (Request.Acknowledge given) fits = tt
+    ask_same same request fits = tt
 
     ask_none : (r : Request) → AskFits (world.clients c) r → IsNoCreate file r → AskFits machine r
-    ask_none (Request.OnFile (FileRequest.Create g access share None)) fits none = tt
     ask_none (Request.OnFile (FileRequest.Create g access share (Some ask))) fits none = fits ∙ again_other g none
-    ask_none (Request.OnFile (FileRequest.Read id)) fits none = tt
-    ask_none (Request.OnFile (FileRequest.Write id number patch)) fits none = tt
-    ask_none (Request.OnFile (FileRequest.Close id)) fits none = tt
-    ask_none (Request.Acknowledge given) fits none = tt
+    ask_none request fits none = tt
 
     old_asks : AllAsked (AskFits machine) world c
     old_asks = ⊎_elim
@@ -337,13 +287,9 @@ turn_standing world new c file queue machine entry requests is entries here repl
         t.again
 
     new_ask : (r : Request) → TurnAsks file entry.phase r → AskFits machine r
-    new_ask (Request.OnFile (FileRequest.Create g access share None)) asks = tt
     new_ask (Request.OnFile (FileRequest.Create g access share (Some ask))) asks =
         asks.1 ∙ ap (λ (x : Entry). again_of x.phase) (sym (ap machine.entries asks.0 ∙ entry_here))
-    new_ask (Request.OnFile (FileRequest.Read id)) asks = tt
-    new_ask (Request.OnFile (FileRequest.Write id number patch)) asks = tt
-    new_ask (Request.OnFile (FileRequest.Close id)) asks = tt
-    new_ask (Request.Acknowledge given) asks = tt
+    new_ask request asks = tt
 
 -- ---- any step of one
 

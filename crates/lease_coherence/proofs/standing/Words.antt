@@ -103,12 +103,10 @@ pub record IsFrame (world : World) (new : World) (client : ℕ) : Type 0 where
 
 pub framed_phase : (world new : World) (c file : ℕ) (phase : Phase) → IsFrame world new c
     → PhaseStands world c file phase → PhaseStands new c file phase
-framed_phase world new c file Phase.Closed f p = tt
-framed_phase world new c file (Phase.Opening access share) f p = tt
 framed_phase world new c file (Phase.Live live) f p =
     (f.stands file live.file_id p.1 p.0, f.closes live.file_id p.1)
-framed_phase world new c file (Phase.Offline parted) f p = tt
 framed_phase world new c file (Phase.Reconnecting parted) f p = f.closes parted.file_id p
+framed_phase world new c file phase f p = tt
 
 pub framed_given : (world new : World) (c : ℕ) → IsFrame world new c → (reply : Reply) → GivenWell world c reply
     → GivenWell new c reply

@@ -4,12 +4,11 @@ use Rattle.std.specs.Prelude.{⊤, ◌&&◌, ◌||◌, bytes_eq}
 use Rattle.std.proofs.lemmas.Bool.{eqb-true, eq-eqb}
 use Rattle.std.proofs.lemmas.Slice.Eq.{bytes_eq-Decides}
 use Rattle.lease_state.specs.State.{State}
-use Rattle.lease_state.specs.declared.status.Status.{Status}
 use Rattle.lease_model.specs.client.Commanded.{create_request, next_write, cached_read, opened_anew, write_buffered, write_sent, flush_on_live, wrote_step, is_asking}
 use Rattle.lease_model.specs.client.Commands.{Answer}
 use Rattle.lease_model.specs.client.State.{Client, Entry, LiveEntry, Pending, Phase, lease_key}
 use Rattle.lease_model.specs.client.Step.{Step, Turn, turned, quiet_step, write_requests}
-use Rattle.lease_model.specs.client.Taken.{is_key_of, break_turn, parked_closed, belief_lowered, acknowledgment, flushed, opened_turn, reconnected_turn, promoted_turn, read_turn, read_failed_turn, is_file_closed, closed_by_server, phase_with, write_done_turn, write_failed_in}
+use Rattle.lease_model.specs.client.Taken.{is_key_of, parked_closed, belief_lowered, acknowledgment, flushed, opened_turn, reconnected_turn, promoted_turn, read_turn, closed_by_server, phase_with, write_done_turn}
 use Rattle.lease_model.specs.messages.Replies.{Reply, BreakNotice, CreateAnswer}
 use Rattle.lease_model.specs.messages.Requests.{FileRequest, Request}
 use Rattle.lease_model.specs.records.Facts.{Fact}
@@ -19,16 +18,18 @@ use Rattle.lease_laws.specs.client.Laws.{IsSoundClient}
 use Rattle.lease_laws.proofs.client.Thin.{put_same, put_other}
 use Rattle.lease_laws.proofs.server.Lists.{if_cases, either, clash, and_parts, or_true, not_true}
 use Rattle.lease_laws.proofs.world.Links.{by_client}
-use Rattle.lease_coherence.specs.Creates.{answers, creates, asked_by, has_asked, one_if}
+use Rattle.lease_coherence.specs.Creates.{answers, creates, asked_by, one_if, has_asked}
 use Rattle.lease_coherence.specs.Names.{Each, IsNamedReply}
 use Rattle.lease_coherence.proofs.beliefs.Clients.{IsAboutFile, writes_about, keys_apart}
 use Rattle.lease_coherence.proofs.beliefs.Words.{acks, acks_append, is_created, is_ack_break}
-use Rattle.lease_coherence.proofs.clients.Commands.{HasCommands, sent_of}
-use Rattle.lease_coherence.proofs.clients.Takes.{HasTakes, PassesOver, found_so, is_live}
+use Rattle.lease_laws.proofs.client.cases.Commands.{HasCommands, sent_of}
+use Rattle.lease_laws.proofs.client.cases.Replies.{HasTakes, PassesOver, is_live}
+use Rattle.lease_laws.proofs.client.cases.Files.{found_so}
 use Rattle.lease_coherence.proofs.covered.Clients.{IsCounted, closed_status, parked_idle}
 use Rattle.lease_coherence.proofs.covered.Words.{ClosedBefore, closed_behind, closed_behind_writes, NotFailed}
 use Rattle.lease_coherence.proofs.fresh.Clients.{never_passed, sound_live}
 use Rattle.lease_coherence.proofs.told.Words.{HasMet, met_more, IsClosing}
+use Rattle.lease_coherence.proofs.creates.Counts.{none_asked}
 
 -- ---- commands
 
@@ -121,17 +122,7 @@ IsWhole reply = ⊤
 
 pub whole_of : (c : ℕ) (past : List Fact) (reply : Reply) → IsNamedReply c past reply → IsWhole reply
 whole_of c past (Reply.Created file file_id None) n = n
-whole_of c past (Reply.Created file file_id (Some answer)) n = tt
-whole_of c past (Reply.CreateFailed other status) n = tt
-whole_of c past (Reply.ReadDone id bytes) n = tt
-whole_of c past (Reply.ReadFailed id status) n = tt
-whole_of c past (Reply.WriteDone id number) n = tt
-whole_of c past (Reply.WriteFailed id number status) n = tt
-whole_of c past (Reply.Closed id) n = tt
-whole_of c past (Reply.CloseFailed id status) n = tt
-whole_of c past (Reply.Break notice) n = tt
-whole_of c past (Reply.AckDone response) n = tt
-whole_of c past (Reply.AckFailed status) n = tt
+whole_of c past reply n = tt
 
 abbrev pub TakeTold : Client → Reply → Step → Type 0
 TakeTold machine reply step = IsWhole reply → (queue : List Reply) (file : ℕ) (asked : List Request)
@@ -227,19 +218,12 @@ passed_leaves machine (Reply.Created other id (Some answer)) why = leaves
     leaves whole queue file asked m e = ⊎_elim (λ live. live)
         (λ here. absurd (none (creates file asked) (answers file queue) (one_if (other == file)) (asked_by machine file)
         m.counted (ap one_if here)
-        (ap one_if (ap (λ f. has_asked (machine.entries f).phase) (sym (eqb-true other file here)) ∙ why))))
+        (ap one_if (ap (λ f. has_asked (machine.entries f).phase) (sym (eqb-true other file here))
+        ∙ none_asked (machine.entries other).phase why))))
         (or_true (is_live (machine.entries file).phase) (other == file) e)
 passed_leaves machine (Reply.Created other id None) why = λ whole. absurd whole
 passed_leaves machine (Reply.Break notice) why = idle_leaves machine (Reply.Break notice) (λ f. refl)
-passed_leaves machine (Reply.CreateFailed other status) why = idle_leaves machine _ (λ f. refl)
-passed_leaves machine (Reply.ReadDone id bytes) why = idle_leaves machine _ (λ f. refl)
-passed_leaves machine (Reply.ReadFailed id status) why = idle_leaves machine _ (λ f. refl)
-passed_leaves machine (Reply.WriteDone id number) why = idle_leaves machine _ (λ f. refl)
-passed_leaves machine (Reply.WriteFailed id number status) why = idle_leaves machine _ (λ f. refl)
-passed_leaves machine (Reply.Closed id) why = idle_leaves machine _ (λ f. refl)
-passed_leaves machine (Reply.CloseFailed id status) why = idle_leaves machine _ (λ f. refl)
-passed_leaves machine (Reply.AckDone response) why = idle_leaves machine _ (λ f. refl)
-passed_leaves machine (Reply.AckFailed status) why = idle_leaves machine _ (λ f. refl)
+passed_leaves machine reply why = idle_leaves machine _ (λ f. refl)
 
 passed_no_break : (machine : Client) (reply : Reply) → IsSoundClient machine → PassesOver machine reply
     → IsNoBreak machine reply
@@ -252,22 +236,10 @@ passed_no_break machine (Reply.Break (Some notice)) s why = never
         own = (and_parts notice.ack_required (bytes_eq (lease_key machine.guid file) notice.key) is).1
 
         live_case : (phase : Phase) → (machine.entries file).phase ≡ phase → is_live (machine.entries file).phase ≡ true → ⊥
-        live_case Phase.Closed at e = clash (is_live (machine.entries file).phase) e (ap is_live at)
-        live_case (Phase.Opening access share) at e = clash (is_live (machine.entries file).phase) e (ap is_live at)
         live_case (Phase.Live entry) at e = never_passed machine notice s why file entry at own
-        live_case (Phase.Offline parted) at e = clash (is_live (machine.entries file).phase) e (ap is_live at)
-        live_case (Phase.Reconnecting parted) at e = clash (is_live (machine.entries file).phase) e (ap is_live at)
+        live_case other at e = clash (is_live (machine.entries file).phase) e (ap is_live at)
 passed_no_break machine (Reply.Break None) s why = λ f e is. true≢false (sym is)
-passed_no_break machine (Reply.Created other id contexts) s why = λ f e is. true≢false (sym is)
-passed_no_break machine (Reply.CreateFailed other status) s why = λ f e is. true≢false (sym is)
-passed_no_break machine (Reply.ReadDone id bytes) s why = λ f e is. true≢false (sym is)
-passed_no_break machine (Reply.ReadFailed id status) s why = λ f e is. true≢false (sym is)
-passed_no_break machine (Reply.WriteDone id number) s why = λ f e is. true≢false (sym is)
-passed_no_break machine (Reply.WriteFailed id number status) s why = λ f e is. true≢false (sym is)
-passed_no_break machine (Reply.Closed id) s why = λ f e is. true≢false (sym is)
-passed_no_break machine (Reply.CloseFailed id status) s why = λ f e is. true≢false (sym is)
-passed_no_break machine (Reply.AckDone response) s why = λ f e is. true≢false (sym is)
-passed_no_break machine (Reply.AckFailed status) s why = λ f e is. true≢false (sym is)
+passed_no_break machine reply s why = λ f e is. true≢false (sym is)
 
 passed_told : (machine : Client) (reply : Reply) → IsSoundClient machine → PassesOver machine reply
     → TakeTold machine reply (quiet_step machine)
@@ -276,51 +248,16 @@ passed_told machine reply s why = left_told machine reply (quiet_step machine) (
 
 -- ---- replies that fail
 
-read_failed_leaves : (machine : Client) (at file_id : ℕ) (status : Status) (live : LiveEntry)
-    → (machine.entries at).phase ≡ Phase.Live live → live.file_id ≡ file_id
-    → LeavesLive machine (Reply.ReadFailed file_id status)
-    (turned machine at (read_failed_turn live (sent_of machine at) status))
-unfolding read_failed_turn closed_by_server
-read_failed_leaves machine at file_id status live is id =
-    if_cases (λ (turn : Turn). LeavesLive machine (Reply.ReadFailed file_id status) (turned machine at turn))
-    (is_file_closed status) _ _
-    (λ gone. turn_leaves machine (Reply.ReadFailed file_id status) at _ (λ f ne. refl)
-    (λ whole queue asked m. absurd (m.not_failed live is (closed_status status gone) (sym id))))
-    (λ there. plain_leaves machine (Reply.ReadFailed file_id status) at _ (λ f. refl) (λ e. refl))
-
-write_failed_leaves : (machine : Client) (at file_id number : ℕ) (status : Status) (sent : List Pending) (phase : Phase)
-    → (machine.entries at).phase ≡ phase
-    → LeavesLive machine (Reply.WriteFailed file_id number status)
-    (turned machine at (write_failed_in file_id number status sent phase))
-unfolding closed_by_server
-write_failed_leaves machine at file_id number status sent Phase.Closed is =
-    plain_leaves machine (Reply.WriteFailed file_id number status) at _ (λ f. refl)
-    (λ e. clash (is_live (machine.entries at).phase) e (ap is_live is))
-write_failed_leaves machine at file_id number status sent (Phase.Opening access share) is =
-    plain_leaves machine (Reply.WriteFailed file_id number status) at _ (λ f. refl)
-    (λ e. clash (is_live (machine.entries at).phase) e (ap is_live is))
-write_failed_leaves machine at file_id number status sent (Phase.Live live) is =
-    if_cases (λ (turn : Turn). LeavesLive machine (Reply.WriteFailed file_id number status) (turned machine at turn))
-    (is_file_closed status && live.file_id == file_id) _ _
-    (λ gone. let parts = and_parts (is_file_closed status) (live.file_id == file_id) gone in
-    turn_leaves machine (Reply.WriteFailed file_id number status) at _ (λ f ne. refl)
-    (λ whole queue asked m. absurd (m.not_failed live is (closed_status status parts.0)
-    (sym (eqb-true live.file_id file_id parts.1)))))
-    (λ there. plain_leaves machine (Reply.WriteFailed file_id number status) at _ (λ f. refl)
-    (λ e. refl))
-write_failed_leaves machine at file_id number status sent (Phase.Offline parted) is =
-    plain_leaves machine (Reply.WriteFailed file_id number status) at _ (λ f. refl)
-    (λ e. clash (is_live (machine.entries at).phase) e (ap is_live is))
-write_failed_leaves machine at file_id number status sent (Phase.Reconnecting parted) is =
-    plain_leaves machine (Reply.WriteFailed file_id number status) at _ (λ f. refl)
-    (λ e. clash (is_live (machine.entries at).phase) e (ap is_live is))
+-- an open that is gone: the reply would have failed it
+gone_leaves : (machine : Client) (reply : Reply) (at : ℕ) (live : LiveEntry) (turn : Turn)
+    → (machine.entries at).phase ≡ Phase.Live live → ((file : ℕ) → is_created file reply ≡ false)
+    → (NotFailed live.file_id reply → ⊥) → LeavesLive machine reply (turned machine at turn)
+gone_leaves machine reply at live turn is none failed = turn_leaves machine reply at turn (λ file ne. none file)
+    (λ whole queue asked m. absurd (failed (m.not_failed live is)))
 
 with_live : (write : Option Pending) (phase : Phase) → is_live phase ≡ true → is_live (phase_with write phase) ≡ true
-with_live write Phase.Closed e = e
-with_live write (Phase.Opening access share) e = e
 with_live write (Phase.Live live) e = refl
-with_live write (Phase.Offline parted) e = e
-with_live write (Phase.Reconnecting parted) e = e
+with_live write phase e = e
 
 -- ---- breaks
 
@@ -348,59 +285,71 @@ acks_sent key notice state writes about is = if_cases (λ q. acks key (writes ++
     one_more : (a b : ℕ) → a + b ≡ 0 → b ≡ 1 + 0 → ⊥
     one_more a b e f = omega (arith, e, f)
 
-break_told : (machine : Client) → IsSoundClient machine → (at : ℕ) (notice : BreakNotice) (live : LiveEntry)
-    → is_key_of machine notice.key at ≡ true → (machine.entries at).phase ≡ Phase.Live live
-    → TakeTold machine (Reply.Break (Some notice))
-    (turned machine at (break_turn live (sent_of machine at) notice (meet live.belief notice.lowered)))
-unfolding break_turn parked_closed belief_lowered turned
-break_told machine s at notice live own is whole queue file asked m met =
-    let new = meet live.belief notice.lowered in
-    if_cases (λ (turn : Turn). IsToldStill machine (turned machine at turn) queue file)
-    (live.handles == 0 && (live.belief.handle && not new.handle)) _ _
-    (λ parked. either (file == at)
-    (λ here. let e = eqb-true file at here in inr (inr (subst (λ f. IsClosing machine
-    (turned machine at (parked_closed live (sent_of machine at))) f) (sym e) (record {
-      live = live;
-      was = is;
-      idle = parked_idle live (and_parts _ _ parked).0 (sound_live machine at live s is).asking_with_handles;
-      closes = λ before none. closed_behind at live.file_id before _ none (closed_behind_writes at live.file_id live.unsent []);
-    }))))
-    (λ there. elsewhere (parked_closed live (sent_of machine at)) there))
-    (λ stays. either (file == at)
-    (λ here. let e = eqb-true file at here in met_here e)
-    (λ there. elsewhere (belief_lowered live (sent_of machine at) notice new) there))
+abbrev lowered_by : Client → ℕ → BreakNotice → LiveEntry → Turn
+lowered_by machine at notice live = belief_lowered live (sent_of machine at) notice (meet live.belief notice.lowered)
+
+-- what a break does to another file
+elsewhere_told : (machine : Client) (at : ℕ) (notice : BreakNotice) (turn : Turn) (queue : List Reply) (file : ℕ)
+    → is_key_of machine notice.key at ≡ true → (file == at) ≡ false
+    → HasMet (lease_key machine.guid file) file (is_live (machine.entries file).phase) (Reply.Break (Some notice) ∷ queue)
+    → IsToldStill machine (turned machine at turn) queue file
+unfolding turned
+elsewhere_told machine at notice turn queue file own there met = ⊎_elim
+    (λ here. absurd (break_apart machine at notice own file ne here.1))
+    (λ later. inr (inl (met_more (lease_key machine.guid file) file (is_live (machine.entries file).phase || false)
+    (is_live (put machine.entries at turn.entry file).phase) queue
+    (λ e. ap (λ (x : Entry). is_live x.phase) (put_other machine.entries at turn.entry file ne)
+    ∙ was (is_live (machine.entries file).phase) e) later))) met
   where
+    ne : file ≢ at
+    ne e = clash (file == at) (eq-eqb file at e) there
+
     was : (a : Bool) → (a || false) ≡ true → a ≡ true
     was true e = refl
     was false e = e
 
-    ne_of : (file == at) ≡ false → file ≢ at
-    ne_of there e = clash (file == at) (eq-eqb file at e) there
+parked_told : (machine : Client) → IsSoundClient machine → (at : ℕ) (notice : BreakNotice) (live : LiveEntry)
+    → is_key_of machine notice.key at ≡ true → (machine.entries at).phase ≡ Phase.Live live
+    → (live.handles == 0) ≡ true
+    → TakeTold machine (Reply.Break (Some notice)) (turned machine at (parked_closed live (sent_of machine at)))
+unfolding parked_closed turned
+parked_told machine s at notice live own is parked whole queue file asked m met = either (file == at)
+    (λ here. let e = eqb-true file at here in inr (inr (subst (λ f. IsClosing machine
+    (turned machine at (parked_closed live (sent_of machine at))) f) (sym e) (record {
+      live = live;
+      was = is;
+      idle = parked_idle live parked (sound_live machine at live s is).asking_with_handles;
+      closes = λ before none. closed_behind at live.file_id before _ none (closed_behind_writes at live.file_id live.unsent []);
+    }))))
+    (λ there. elsewhere_told machine at notice (parked_closed live (sent_of machine at)) queue file own there met)
 
-    elsewhere : (turn : Turn) → (file == at) ≡ false → IsToldStill machine (turned machine at turn) queue file
-    elsewhere turn there = ⊎_elim (λ here. absurd (break_apart machine at notice own file (ne_of there) here.1))
-        (λ later. inr (inl (met_more (lease_key machine.guid file) file (is_live (machine.entries file).phase || false)
-        (is_live (put machine.entries at turn.entry file).phase) queue
-        (λ e. ap (λ (x : Entry). is_live x.phase) (put_other machine.entries at turn.entry file (ne_of there))
-        ∙ was (is_live (machine.entries file).phase) e) later))) met
+lowered_told : (machine : Client) (at : ℕ) (notice : BreakNotice) (live : LiveEntry)
+    → is_key_of machine notice.key at ≡ true
+    → TakeTold machine (Reply.Break (Some notice)) (turned machine at (lowered_by machine at notice live))
+unfolding belief_lowered turned
+lowered_told machine at notice live own whole queue file asked m met = either (file == at)
+    (λ here. met_here (eqb-true file at here))
+    (λ there. elsewhere_told machine at notice (lowered_by machine at notice live) queue file own there met)
+  where
+    gone : List Pending
+    gone = flushed live.belief (meet live.belief notice.lowered) live.unsent
 
-    met_here : file ≡ at → IsToldStill machine (turned machine at (belief_lowered live (sent_of machine at) notice
-        (meet live.belief notice.lowered))) queue file
+    met_here : file ≡ at → IsToldStill machine (turned machine at (lowered_by machine at notice live)) queue file
     met_here e = ⊎_elim
         (λ now. inl (acks_sent (lease_key machine.guid file) notice (meet live.belief notice.lowered)
-        (write_requests live.file_id (flushed live.belief (meet live.belief notice.lowered) live.unsent))
-        (writes_about live.file_id (flushed live.belief (meet live.belief notice.lowered) live.unsent)) now.1))
+        (write_requests live.file_id gone) (writes_about live.file_id gone) now.1))
         (λ later. inr (inl (met_more (lease_key machine.guid file) file (is_live (machine.entries file).phase || false) _ queue
-        (λ x. ap (λ f. is_live (put machine.entries at (belief_lowered live (sent_of machine at) notice
-        (meet live.belief notice.lowered)).entry f).phase) e
+        (λ x. ap (λ f. is_live (put machine.entries at (lowered_by machine at notice live).entry f).phase) e
         ∙ ap (λ (y : Entry). is_live y.phase) (put_same machine.entries at _)) later))) met
 
 pub takes_told : (machine : Client) → IsSoundClient machine → HasTakes machine (TakeTold machine)
-unfolding opened_turn reconnected_turn promoted_turn read_turn write_done_turn
+unfolding opened_turn reconnected_turn promoted_turn read_turn write_done_turn closed_by_server
 takes_told machine s = record {
   passed = λ reply why. passed_told machine reply s why;
-  broken = λ at notice live found is. break_told machine s at notice live
-      (found_so machine (is_key_of machine notice.key) at found) is;
+  parked_closes = λ at notice live found is parked. parked_told machine s at notice live
+      (found_so machine (is_key_of machine notice.key) at found) is (and_parts (live.handles == 0) _ parked).0;
+  lowered = λ at notice live found is stays. lowered_told machine at notice live
+      (found_so machine (is_key_of machine notice.key) at found);
   opened = λ at file_id answer access share is. granted_told machine at file_id answer _ refl;
   reconnected = λ at file_id answer parted is. granted_told machine at file_id answer _ refl;
   promoted = λ at file_id answer live asked is asks. granted_told machine at file_id answer _ refl;
@@ -412,12 +361,19 @@ takes_told machine s = record {
       (λ f e b. true≢false (sym b)) (λ e. refl);
   read = λ at file_id bytes live is id some. plain_told machine (Reply.ReadDone file_id bytes) at _ (λ f. refl)
       (λ f e b. true≢false (sym b)) (λ e. refl);
-  not_read = λ at file_id status live is id some. left_told machine (Reply.ReadFailed file_id status) _
-      (λ f e b. true≢false (sym b)) (read_failed_leaves machine at file_id status live is id);
+  read_closed = λ at file_id status live is id gone. left_told machine (Reply.ReadFailed file_id status) _
+      (λ f e b. true≢false (sym b)) (gone_leaves machine (Reply.ReadFailed file_id status) at live _ is (λ f. refl)
+      (λ n. n (closed_status status gone) (sym id)));
+  not_read = λ at file_id status live is id some. plain_told machine (Reply.ReadFailed file_id status) at _ (λ f. refl)
+      (λ f e b. true≢false (sym b)) (λ e. refl);
   written = λ at file_id number has known. plain_told machine (Reply.WriteDone file_id number) at _ (λ f. refl)
       (λ f e b. true≢false (sym b)) (with_live _ (machine.entries at).phase);
-  not_written = λ at file_id number status has known. left_told machine (Reply.WriteFailed file_id number status) _
-      (λ f e b. true≢false (sym b)) (write_failed_leaves machine at file_id number status _ (machine.entries at).phase refl);
+  write_closed = λ at file_id number status live has known is id gone.
+      left_told machine (Reply.WriteFailed file_id number status) _ (λ f e b. true≢false (sym b))
+      (gone_leaves machine (Reply.WriteFailed file_id number status) at live _ is (λ f. refl)
+      (λ n. n (closed_status status gone) (sym id)));
+  not_written = λ at file_id number status has known. plain_told machine (Reply.WriteFailed file_id number status) at _
+      (λ f. refl) (λ f e b. true≢false (sym b)) (λ e. e);
 }
 
 -- ---- breaks that end an entry
@@ -453,18 +409,13 @@ granted_lives : (machine : Client) (at file_id : ℕ) (answer : CreateAnswer) (t
 granted_lives machine at file_id answer turn live = lives machine (Reply.Created at file_id (Some answer))
     (turned machine at turn) (granted_leaves machine at file_id answer turn live)
 
-break_lives : (machine : Client) → IsSoundClient machine → (at : ℕ) (notice : BreakNotice) (live : LiveEntry)
+parked_lives : (machine : Client) → IsSoundClient machine → (at : ℕ) (notice : BreakNotice) (live : LiveEntry)
     → is_key_of machine notice.key at ≡ true → (machine.entries at).phase ≡ Phase.Live live
-    → TakeLives machine (Reply.Break (Some notice))
-    (turned machine at (break_turn live (sent_of machine at) notice (meet live.belief notice.lowered)))
-unfolding break_turn belief_lowered turned
-break_lives machine s at notice live own is whole queue file asked m =
-    let new = meet live.belief notice.lowered in
-    if_cases (λ (turn : Turn). ((is_live (machine.entries file).phase || false) ≡ true
-    → is_live (put machine.entries at turn.entry file).phase ≡ true) ⊎ IsParkedBreak machine (Reply.Break (Some notice)) file)
-    (live.handles == 0 && (live.belief.handle && not new.handle)) _ _
-    (λ parked. either (file == at)
-    (λ here. let e = eqb-true file at here in inr (subst (IsParkedBreak machine (Reply.Break (Some notice))) (sym e) (record {
+    → (live.handles == 0 && (live.belief.handle && not (meet live.belief notice.lowered).handle)) ≡ true
+    → TakeLives machine (Reply.Break (Some notice)) (turned machine at (parked_closed live (sent_of machine at)))
+unfolding turned
+parked_lives machine s at notice live own is parked whole queue file asked m = either (file == at)
+    (λ here. inr (subst (IsParkedBreak machine (Reply.Break (Some notice))) (sym (eqb-true file at here)) (record {
       notice = notice;
       is = refl;
       own = own;
@@ -473,28 +424,20 @@ break_lives machine s at notice live own is whole queue file asked m =
       idle = parked_idle live (and_parts _ _ parked).0 (sound_live machine at live s is).asking_with_handles;
       handles = (and_parts live.belief.handle _ (and_parts (live.handles == 0) _ parked).1).0;
     })))
-    (λ there. inl (elsewhere (parked_closed live (sent_of machine at)) there)))
-    (λ stays. either (file == at)
-    (λ here. let e = eqb-true file at here in
-    inl (λ x. ap (λ f. is_live (put machine.entries at (belief_lowered live (sent_of machine at) notice new).entry f).phase) e
-    ∙ ap (λ (y : Entry). is_live y.phase) (put_same machine.entries at _)))
-    (λ there. inl (elsewhere (belief_lowered live (sent_of machine at) notice new) there)))
+    (λ there. inl (λ e. ap (λ (x : Entry). is_live x.phase) (put_other machine.entries at _ file
+    (λ same. clash (file == at) (eq-eqb file at same) there)) ∙ was (is_live (machine.entries file).phase) e))
   where
     was : (a : Bool) → (a || false) ≡ true → a ≡ true
     was true e = refl
     was false e = e
 
-    elsewhere : (turn : Turn) → (file == at) ≡ false → (is_live (machine.entries file).phase || false) ≡ true
-        → is_live (put machine.entries at turn.entry file).phase ≡ true
-    elsewhere turn there e = ap (λ (x : Entry). is_live x.phase) (put_other machine.entries at turn.entry file
-        (λ same. clash (file == at) (eq-eqb file at same) there)) ∙ was (is_live (machine.entries file).phase) e
-
 pub takes_live : (machine : Client) → IsSoundClient machine → HasTakes machine (TakeLives machine)
-unfolding opened_turn reconnected_turn promoted_turn read_turn write_done_turn
+unfolding opened_turn reconnected_turn promoted_turn read_turn write_done_turn belief_lowered closed_by_server
 takes_live machine s = record {
   passed = λ reply why. lives machine reply (quiet_step machine) (passed_leaves machine reply why);
-  broken = λ at notice live found is. break_lives machine s at notice live
-      (found_so machine (is_key_of machine notice.key) at found) is;
+  parked_closes = λ at notice live found is parked. parked_lives machine s at notice live
+      (found_so machine (is_key_of machine notice.key) at found) is parked;
+  lowered = λ at notice live found is stays. plain_lives machine (Reply.Break (Some notice)) at _ (λ f. refl) (λ e. refl);
   opened = λ at file_id answer access share is.
       granted_lives machine at file_id answer _ refl;
   reconnected = λ at file_id answer parted is.
@@ -509,10 +452,16 @@ takes_live machine s = record {
       (λ e. refl);
   read = λ at file_id bytes live is id some. plain_lives machine (Reply.ReadDone file_id bytes) at _ (λ f. refl)
       (λ e. refl);
-  not_read = λ at file_id status live is id some whole queue file asked m.
-      inl (read_failed_leaves machine at file_id status live is id whole queue file asked m);
+  read_closed = λ at file_id status live is id gone whole queue file asked m.
+      inl (gone_leaves machine (Reply.ReadFailed file_id status) at live _ is (λ f. refl)
+      (λ n. n (closed_status status gone) (sym id)) whole queue file asked m);
+  not_read = λ at file_id status live is id some. plain_lives machine (Reply.ReadFailed file_id status) at _ (λ f. refl)
+      (λ e. refl);
   written = λ at file_id number has known. plain_lives machine (Reply.WriteDone file_id number) at _ (λ f. refl)
       (with_live _ (machine.entries at).phase);
-  not_written = λ at file_id number status has known whole queue file asked m.
-      inl (write_failed_leaves machine at file_id number status _ (machine.entries at).phase refl whole queue file asked m);
+  write_closed = λ at file_id number status live has known is id gone whole queue file asked m.
+      inl (gone_leaves machine (Reply.WriteFailed file_id number status) at live _ is (λ f. refl)
+      (λ n. n (closed_status status gone) (sym id)) whole queue file asked m);
+  not_written = λ at file_id number status has known. plain_lives machine (Reply.WriteFailed file_id number status) at _
+      (λ f. refl) (λ e. e);
 }

@@ -141,9 +141,7 @@ off_lone world off c request source h = from_source world off c request (λ o. H
 refusal_no_break : (request : FileRequest) (status : Status) (key : List ℕ)
     → is_lone_break key (refusal_of request status) ≡ false
 refusal_no_break (FileRequest.Create file access share contexts) status key = refl
-refusal_no_break (FileRequest.Read file_id) status key = refl
-refusal_no_break (FileRequest.Write file_id number patch) status key = refl
-refusal_no_break (FileRequest.Close file_id) status key = refl
+refusal_no_break request status key = refl
 
 with_handles : (server : Server) (opens : List Open) (key : Key) → ((with_opens server opens).leases key).state.handle ≡ true
     → (server.leases key).state.handle ≡ true

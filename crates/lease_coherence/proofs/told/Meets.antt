@@ -15,13 +15,13 @@ use Rattle.lease_model.specs.world.World.{World, Link}
 use Rattle.lease_laws.specs.world.Links.{is_up}
 use Rattle.lease_laws.proofs.server.Lists.{clash, either, and_parts, and_both}
 use Rattle.lease_coherence.specs.Agreement.{taken_all, IsTold, lease_of}
-use Rattle.lease_coherence.specs.Creates.{answers, answer_of, asked_by, creates, has_asked, one_if}
+use Rattle.lease_coherence.specs.Creates.{answers, answer_of, asked_by, creates, one_if, has_asked}
 use Rattle.lease_coherence.specs.Names.{Each, IsNamedReply}
 use Rattle.lease_coherence.specs.Agreement.{asked_of}
 use Rattle.lease_coherence.proofs.agreed.Taken.{IsTaken, one_taken, left_behind_it, still_fresh}
 use Rattle.lease_coherence.proofs.beliefs.Trust.{file_key}
 use Rattle.lease_coherence.proofs.beliefs.Words.{is_created, is_ack_break}
-use Rattle.lease_coherence.proofs.clients.Takes.{any_reply, is_live}
+use Rattle.lease_laws.proofs.client.cases.Replies.{any_reply, is_live}
 use Rattle.lease_coherence.proofs.covered.Moves.{FailsGone}
 use Rattle.lease_coherence.proofs.covered.Runs.{counted_of}
 use Rattle.lease_coherence.proofs.moves.Events.{reply_taken, Move}
@@ -48,16 +48,7 @@ break_of key (Reply.Break (Some notice)) e = let parts = and_parts notice.ack_re
   asks = parts.0;
 }
 break_of key (Reply.Break None) e = absurd (true≢false (sym e))
-break_of key (Reply.Created other id contexts) e = absurd (true≢false (sym e))
-break_of key (Reply.CreateFailed other status) e = absurd (true≢false (sym e))
-break_of key (Reply.ReadDone id bytes) e = absurd (true≢false (sym e))
-break_of key (Reply.ReadFailed id status) e = absurd (true≢false (sym e))
-break_of key (Reply.WriteDone id number) e = absurd (true≢false (sym e))
-break_of key (Reply.WriteFailed id number status) e = absurd (true≢false (sym e))
-break_of key (Reply.Closed id) e = absurd (true≢false (sym e))
-break_of key (Reply.CloseFailed id status) e = absurd (true≢false (sym e))
-break_of key (Reply.AckDone response) e = absurd (true≢false (sym e))
-break_of key (Reply.AckFailed status) e = absurd (true≢false (sym e))
+break_of key reply e = absurd (true≢false (sym e))
 
 -- where no create is answered none is granted
 none_granted : (file : ℕ) (queue : List Reply) → answers file queue ≡ 0 → NoneCreated file queue
@@ -74,16 +65,7 @@ none_granted file (reply ∷ queue) e = let p = both (answer_of file reply) (ans
 
     not_made : (r : Reply) → answer_of file r ≡ 0 → is_created file r ≡ false
     not_made (Reply.Created other id contexts) n = no_one (other == file) n
-    not_made (Reply.CreateFailed other status) n = refl
-    not_made (Reply.ReadDone id bytes) n = refl
-    not_made (Reply.ReadFailed id status) n = refl
-    not_made (Reply.WriteDone id number) n = refl
-    not_made (Reply.WriteFailed id number status) n = refl
-    not_made (Reply.Closed id) n = refl
-    not_made (Reply.CloseFailed id status) n = refl
-    not_made (Reply.Break notice) n = refl
-    not_made (Reply.AckDone response) n = refl
-    not_made (Reply.AckFailed status) n = refl
+    not_made reply n = refl
 
 -- ---- one client
 
@@ -139,11 +121,8 @@ record WillMeet (world : World) (c file : ℕ) (lowered : State) (queue : List R
   meets : ((taken_all (world.clients c) before).entries file).phase ≡ Phase.Live live
 
 live_so : (phase : Phase) → is_live phase ≡ true → (live : LiveEntry) × (phase ≡ Phase.Live live)
-live_so Phase.Closed e = absurd (true≢false (sym e))
-live_so (Phase.Opening access share) e = absurd (true≢false (sym e))
 live_so (Phase.Live live) e = (live, refl)
-live_so (Phase.Offline parted) e = absurd (true≢false (sym e))
-live_so (Phase.Reconnecting parted) e = absurd (true≢false (sym e))
+live_so phase e = absurd (true≢false (sym e))
 
 -- it is met now
 meets_now : (world : World) (c file : ℕ) (lowered : State) (reply : Reply) (queue : List Reply)

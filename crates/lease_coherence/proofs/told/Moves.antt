@@ -23,7 +23,7 @@ use Rattle.lease_coherence.specs.Standing.{IsNoClose}
 use Rattle.lease_coherence.proofs.beliefs.Clients.{keys_apart}
 use Rattle.lease_coherence.proofs.beliefs.Trust.{file_key, file_acks}
 use Rattle.lease_coherence.proofs.beliefs.Words.{acks}
-use Rattle.lease_coherence.proofs.clients.Takes.{is_live}
+use Rattle.lease_laws.proofs.client.cases.Replies.{is_live}
 use Rattle.lease_coherence.proofs.covered.Asked.{off_closed}
 use Rattle.lease_coherence.proofs.covered.Words.{ClosedBefore}
 use Rattle.lease_coherence.proofs.creates.Creates.{off_rest}

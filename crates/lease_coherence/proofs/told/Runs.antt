@@ -22,14 +22,14 @@ use Rattle.lease_laws.proofs.client.Thin.{put_same}
 use Rattle.lease_laws.proofs.server.Lists.{clash}
 use Rattle.lease_laws.proofs.world.Links.{stepped_links}
 use Rattle.lease_laws.proofs.world.Runs.{stepped_server}
-use Rattle.lease_coherence.specs.Creates.{answers, asked_by, creates, has_asked, held_by, one_if, under_way}
+use Rattle.lease_coherence.specs.Creates.{answers, asked_by, creates, held_by, one_if, under_way, has_asked}
 use Rattle.lease_coherence.specs.Names.{Each, IsNamedAt, IsNamedReply, IsOwnOpen}
 use Rattle.lease_coherence.specs.Standing.{IsStandingAt, PhaseStands}
 use Rattle.lease_coherence.proofs.beliefs.Runs.{own_create}
 use Rattle.lease_coherence.proofs.beliefs.Trust.{file_key}
 use Rattle.lease_coherence.proofs.beliefs.Words.{acks, acks_append}
-use Rattle.lease_coherence.proofs.clients.Commands.{any_command}
-use Rattle.lease_coherence.proofs.clients.Takes.{any_reply, is_live}
+use Rattle.lease_laws.proofs.client.cases.Commands.{any_command}
+use Rattle.lease_laws.proofs.client.cases.Replies.{any_reply, is_live}
 use Rattle.lease_coherence.proofs.covered.Moves.{FailsGone, HasCovered}
 use Rattle.lease_coherence.proofs.covered.Runs.{counted_of, quiet_of, not_failed}
 use Rattle.lease_coherence.proofs.covered.Words.{ClosedBefore, closed_more, never_granted, NotFailed}

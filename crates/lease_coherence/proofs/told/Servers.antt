@@ -36,7 +36,7 @@ use Rattle.lease_coherence.proofs.beliefs.Closed.{left_there}
 use Rattle.lease_coherence.proofs.beliefs.Grants.{grant_settled}
 use Rattle.lease_coherence.proofs.beliefs.Trust.{file_key, file_acks}
 use Rattle.lease_coherence.proofs.beliefs.Words.{acks, is_created, is_ack_break}
-use Rattle.lease_coherence.proofs.clients.Takes.{is_live}
+use Rattle.lease_laws.proofs.client.cases.Replies.{is_live}
 use Rattle.lease_coherence.proofs.covered.Asked.{popped_closed, held_closed, first_asked}
 use Rattle.lease_coherence.proofs.covered.Moves.{HasCovered, refusal_closes}
 use Rattle.lease_coherence.proofs.covered.Runs.{own_place}
@@ -321,17 +321,7 @@ grant_is_made file id (reply ∷ queue) g = ⊎_elim (λ x. true_or (is_created 
   where
     made : (r : Reply) → IsGrantOf file id r → is_created file r ≡ true
     made (Reply.Created other given (Some answer)) x = eq-eqb other file x.0
-    made (Reply.Created other given None) x = absurd x
-    made (Reply.CreateFailed other status) x = absurd x
-    made (Reply.ReadDone given bytes) x = absurd x
-    made (Reply.ReadFailed given status) x = absurd x
-    made (Reply.WriteDone given number) x = absurd x
-    made (Reply.WriteFailed given number status) x = absurd x
-    made (Reply.Closed given) x = absurd x
-    made (Reply.CloseFailed given status) x = absurd x
-    made (Reply.Break notice) x = absurd x
-    made (Reply.AckDone response) x = absurd x
-    made (Reply.AckFailed status) x = absurd x
+    made reply x = absurd x
 
 -- a break begins: each open of the key is live, granted, or being closed
 pub begin_told : (world : World) (key : Key) (lowered : State) → MayLower world.server key lowered

@@ -1,29 +1,28 @@
 -- The notes of a client name files that it knows, and writes that end within the limit.
-use Rattle.std.proofs.Common.{◌≡◌, ℕ, Bool, true, false, List, [], ◌∷◌, ◌++◌, flat_map, refl, sym, ap, ◌∙◌, inl, inr, ◌==◌}
-use Rattle.std.specs.Prelude.{⊤, ◌&&◌, not, if◌then◌else◌}
+use Rattle.std.proofs.Common.{◌≡◌, ℕ, Bool, true, false, List, [], ◌∷◌, ◌++◌, flat_map, refl, sym, ap, ◌∙◌, inl, inr}
+use Rattle.std.specs.Prelude.{⊤, if◌then◌else◌}
 use Rattle.lease_state.specs.State.{State}
 use Rattle.lease_state.specs.declared.access.Access.{Access}
 use Rattle.lease_state.specs.declared.access.Share.{Share}
-use Rattle.lease_state.specs.declared.status.Status.{Status}
 use Rattle.lease_model.specs.client.Calls.{ClientCall, client_called}
 use Rattle.lease_model.specs.client.Commands.{Note, Settlement}
-use Rattle.lease_model.specs.client.Connection.{all_turned, noticed, connection_made, notice_turn, connect_turn, live_noticed, live_parted}
+use Rattle.lease_model.specs.client.Connection.{all_turned, noticed, connection_made, notice_turn, connect_turn}
 use Rattle.lease_model.specs.client.State.{Client, Entry, LiveEntry, Parted, Pending, Phase, belief, belief_of, knows_file, lease_key}
 use Rattle.lease_model.specs.client.Step.{Step, Turn, turned, believes_noted, settled_as}
 use Rattle.lease_model.specs.client.Commanded.{cached_read, opened_anew, write_buffered, write_sent, flush_on_live}
-use Rattle.lease_model.specs.client.Taken.{read_failed_turn, is_file_closed, closed_by_server, write_failed_in, is_key_of, break_turn, parked_closed, belief_lowered, opened_turn, reconnected_turn, promoted_turn, promoted_belief, first_belief, read_turn, write_done_turn, sent_without}
-use Rattle.lease_model.specs.messages.Replies.{BreakNotice}
-use Rattle.lease_model.specs.values.LeaseStates.{same_state, meet}
+use Rattle.lease_model.specs.client.Taken.{closed_by_server, is_key_of, parked_closed, belief_lowered, opened_turn, reconnected_turn, promoted_turn, promoted_belief, first_belief, read_turn, write_done_turn}
+use Rattle.lease_model.specs.values.LeaseStates.{same_state}
 use Rattle.lease_model.specs.values.Lists.{numbers_to}
 use Rattle.lease_model.specs.values.Patches.{is_within_limit}
 use Rattle.lease_model.specs.values.Tables.{put}
 use Rattle.lease_laws.specs.client.Laws.{IsSoundClient}
 use Rattle.lease_laws.specs.server.Laws.{Among}
-use Rattle.lease_laws.proofs.client.InFiles.{numbers_known, found_known}
+use Rattle.lease_laws.proofs.client.cases.Files.{numbers_known, found_known}
 use Rattle.lease_laws.proofs.client.Thin.{put_same}
 use Rattle.lease_laws.proofs.server.Lists.{if_cases, not_false}
-use Rattle.lease_coherence.proofs.clients.Commands.{HasCommands, any_command, sent_of}
-use Rattle.lease_coherence.proofs.clients.Takes.{HasTakes, any_reply}
+use Rattle.lease_laws.proofs.client.cases.Commands.{HasCommands, any_command}
+use Rattle.lease_laws.proofs.client.cases.Replies.{HasTakes, any_reply}
+use Rattle.lease_laws.proofs.client.cases.Links.{HasNotices, any_notice}
 
 abbrev pub EachNote : (Note → Type 0) → List Note → Type 0
 EachNote P [] = ⊤
@@ -51,9 +50,7 @@ settling_fine : (client after : Client) (notes : List Note) → EachNote IsSettl
     → EachNote (IsFineNote client after) notes
 settling_fine client after [] each = tt
 settling_fine client after (Note.Settled number outcome ∷ notes) each = (tt, settling_fine client after notes each.1)
-settling_fine client after (Note.Wrote file number patch buffered ∷ notes) each = absurd each.0
-settling_fine client after (Note.Believes file state ∷ notes) each = absurd each.0
-settling_fine client after (Note.CachedRead file bytes ∷ notes) each = absurd each.0
+settling_fine client after (note ∷ notes) each = absurd each.0
 
 pub settles : (outcome : Settlement) (writes : List Pending)
     → EachNote IsSettling (settled_as outcome writes)
@@ -103,44 +100,19 @@ pub known_open : (client : Client) (file : ℕ) → IsSoundClient client
 known_open client file s open_phase =
     not_false (knows_file client file) (λ unknown. open_phase (s.in_files file unknown))
 
-read_failed_fine : (client : Client) (file : ℕ) (live : LiveEntry) (status : Status) → knows_file client file ≡ true
-    → EachNote (IsFineNote client (turned client file (read_failed_turn live (sent_of client file) status)).client)
-    (turned client file (read_failed_turn live (sent_of client file) status)).notes
-unfolding read_failed_turn closed_by_server
-read_failed_fine client file live status known = turned_fine client file _ known
-    (if_cases (λ (t : Turn). EachNote IsSettling t.settled) (is_file_closed status) _ _
-    (λ gone. settles Settlement.Failed live.unsent) (λ there. tt))
-
-pub write_failed_settles : (file_id number : ℕ) (status : Status) (sent : List Pending) (phase : Phase)
-    → EachNote IsSettling (write_failed_in file_id number status sent phase).settled
-unfolding closed_by_server
-write_failed_settles file_id number status sent Phase.Closed = (tt, tt)
-write_failed_settles file_id number status sent (Phase.Opening access share) = (tt, tt)
-write_failed_settles file_id number status sent (Phase.Live live) =
-    if_cases (λ (t : Turn). EachNote IsSettling t.settled)
-    (is_file_closed status && live.file_id == file_id) _ _
-    (λ gone. (tt, settles Settlement.Failed live.unsent)) (λ there. (tt, tt))
-write_failed_settles file_id number status sent (Phase.Offline parted) = (tt, tt)
-write_failed_settles file_id number status sent (Phase.Reconnecting parted) = (tt, tt)
-
-pub break_settles : (live : LiveEntry) (sent : List Pending) (notice : BreakNotice) (new : State)
-    → EachNote IsSettling (break_turn live sent notice new).settled
-unfolding break_turn parked_closed belief_lowered
-break_settles live sent notice new = if_cases (λ (t : Turn). EachNote IsSettling t.settled)
-    (live.handles == 0 && (live.belief.handle && not new.handle)) _ _ (λ parked. tt) (λ stays. tt)
-
 pub either_settles : (b : Bool) (outcome : Settlement) (writes : List Pending)
     → EachNote IsSettling (if b then [] else settled_as outcome writes)
 either_settles b outcome writes = if_cases (EachNote IsSettling) b [] (settled_as outcome writes)
     (λ keeps. tt) (λ loses. settles outcome writes)
 
 takes_fine : (client : Client) → IsSoundClient client → HasTakes client (λ reply step. HasFineNotes client step)
-unfolding opened_turn reconnected_turn promoted_turn read_turn write_done_turn
+unfolding opened_turn reconnected_turn promoted_turn read_turn write_done_turn parked_closed belief_lowered closed_by_server
 takes_fine client s = record {
   passed = λ reply why. tt;
-  broken = λ file notice live at is. turned_fine client file _
-      (found_known client (is_key_of client notice.key) file at)
-      (break_settles live (sent_of client file) notice (meet live.belief notice.lowered));
+  parked_closes = λ file notice live at is parked. turned_fine client file _
+      (found_known client (is_key_of client notice.key) file at) tt;
+  lowered = λ file notice live at is stays. turned_fine client file _
+      (found_known client (is_key_of client notice.key) file at) tt;
   opened = λ file file_id answer access share is. turned_fine client file _
       (open_known file (λ e. no_opening access share (sym is ∙ e))) tt;
   reconnected = λ file file_id answer parted is. turned_fine client file _
@@ -158,12 +130,14 @@ takes_fine client s = record {
       (open_known file (λ e. no_live live (sym is ∙ e))) tt;
   read = λ file file_id bytes live is id some. turned_fine client file _
       (open_known file (λ e. no_live live (sym is ∙ e))) tt;
-  not_read = λ file file_id status live is id some. read_failed_fine client file live status
-      (open_known file (λ e. no_live live (sym is ∙ e)));
+  read_closed = λ file file_id status live is id gone. turned_fine client file _
+      (open_known file (λ e. no_live live (sym is ∙ e))) (settles Settlement.Failed live.unsent);
+  not_read = λ file file_id status live is id some. turned_fine client file _
+      (open_known file (λ e. no_live live (sym is ∙ e))) tt;
   written = λ file file_id number at known. turned_fine client file _ known (tt, tt);
-  not_written = λ file file_id number status at known. turned_fine client file _ known
-      (write_failed_settles file_id number status (sent_without number (sent_of client file))
-      (client.entries file).phase);
+  write_closed = λ file file_id number status live at known is id gone. turned_fine client file _ known
+      (tt, settles Settlement.Failed live.unsent);
+  not_written = λ file file_id number status at known. turned_fine client file _ known (tt, tt);
 }
   where
     open_known : (file : ℕ) → ((client.entries file).phase ≡ Phase.Closed → ⊥) → knows_file client file ≡ true
@@ -201,26 +175,21 @@ unfolding all_turned
 all_fine client online turn settled = each_fine client (all_turned client online turn).client turn (λ file. refl)
     settled (numbers_to client.files) (λ file a. numbers_known client.files file a)
 
-pub notice_settles : (sent : List Pending) (phase : Phase)
-    → EachNote IsSettling (notice_turn sent phase).settled
-unfolding live_noticed live_parted
-notice_settles sent Phase.Closed = settles Settlement.Unknown sent
-notice_settles sent (Phase.Opening access share) = settles Settlement.Unknown sent
-notice_settles sent (Phase.Live live) = if_cases (λ (t : Turn). EachNote IsSettling t.settled)
-    live.durable _ _
-    (λ lasts. if_cases (λ (t : Turn). EachNote IsSettling t.settled) live.belief.write _ _
-    (λ caches. settles Settlement.Unknown _) (λ not. settles Settlement.Unknown _))
-    (λ ends. settles Settlement.Unknown _)
-notice_settles sent (Phase.Offline parted) = settles Settlement.Unknown sent
-notice_settles sent (Phase.Reconnecting parted) = settles Settlement.Unknown sent
+pub notices_settle : (sent : List Pending) → HasNotices sent (λ phase turn. EachNote IsSettling turn.settled)
+notices_settle sent = record {
+  closed = settles Settlement.Unknown sent;
+  opening = λ access share. settles Settlement.Unknown sent;
+  ended = λ live. settles Settlement.Unknown (sent ++ live.unsent);
+  kept = λ live writes. settles Settlement.Unknown _;
+  bare = λ live none. settles Settlement.Unknown (sent ++ live.unsent);
+  offline = λ parted. settles Settlement.Unknown sent;
+  reconnecting = λ parted. settles Settlement.Unknown sent;
+}
 
 pub connect_settles : (client : Client) (file : ℕ) (sent : List Pending) (phase : Phase)
     → EachNote IsSettling (connect_turn client file sent phase).settled
 connect_settles client file sent Phase.Closed = tt
-connect_settles client file sent (Phase.Opening access share) = tt
-connect_settles client file sent (Phase.Live live) = tt
-connect_settles client file sent (Phase.Offline parted) = tt
-connect_settles client file sent (Phase.Reconnecting parted) = tt
+connect_settles client file sent phase = tt
 
 -- any call
 pub call_fine : (client : Client) (call : ClientCall) → IsSoundClient client
@@ -231,7 +200,7 @@ call_fine client (ClientCall.Commanded command) s =
 call_fine client (ClientCall.Taken reply) s =
     any_reply client (λ r step. HasFineNotes client step) (takes_fine client s) reply
 call_fine client ClientCall.Noticed s = all_fine client false (λ file entry. notice_turn entry.sent entry.phase)
-    (λ file. notice_settles (client.entries file).sent (client.entries file).phase)
+    (λ file. any_notice (client.entries file).sent _ (notices_settle (client.entries file).sent) (client.entries file).phase)
 call_fine client ClientCall.Connected s = all_fine client true
     (λ file entry. connect_turn client file entry.sent entry.phase)
     (λ file. connect_settles client file (client.entries file).sent (client.entries file).phase)

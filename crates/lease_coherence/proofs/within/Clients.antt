@@ -1,14 +1,13 @@
 -- Every step of a client keeps what it believes of each of its files within the lease.
-use Rattle.std.proofs.Common.{◌≡◌, ◌≢◌, ◌⊎◌, inl, inr, ℕ, ◌+◌, true, false, not, List, [], ◌∷◌, ◌++◌, Option, Some, None, refl, sym, ap, ap₂, ◌∙◌, subst, arith, ◌==◌}
-use Rattle.std.specs.Prelude.{◌&&◌, bytes_eq, if◌then◌else◌}
+use Rattle.std.proofs.Common.{◌≡◌, ◌≢◌, ◌⊎◌, inl, inr, ℕ, ◌+◌, true, false, List, [], ◌∷◌, ◌++◌, Option, Some, None, refl, sym, ap, ap₂, ◌∙◌, subst, arith}
+use Rattle.std.specs.Prelude.{bytes_eq}
 use Rattle.std.proofs.lemmas.Slice.Eq.{bytes_eq-Decides}
 use Rattle.lease_state.specs.State.{nothing_cached}
-use Rattle.lease_state.specs.declared.status.Status.{Status}
 use Rattle.lease_model.specs.client.Commanded.{create_request, next_write, cached_read, opened_anew, write_buffered, write_sent, flush_on_live, wrote_step}
 use Rattle.lease_model.specs.client.Commands.{Answer}
 use Rattle.lease_model.specs.client.State.{Client, Entry, LiveEntry, Asked, Pending, Phase, lease_key}
 use Rattle.lease_model.specs.client.Step.{Step, Turn, turned, quiet_step, write_requests}
-use Rattle.lease_model.specs.client.Taken.{given_state, is_key_of, break_turn, parked_closed, belief_lowered, acknowledgment, unflushed, flushed, opened_turn, reconnected_turn, promoted_turn, promoted_belief, read_turn, read_failed_turn, is_file_closed, closed_by_server, without_open, phase_with, write_done_turn, write_failed_in}
+use Rattle.lease_model.specs.client.Taken.{given_state, is_key_of, parked_closed, belief_lowered, acknowledgment, flushed, opened_turn, reconnected_turn, promoted_turn, promoted_belief, read_turn, closed_by_server, without_open, phase_with, write_done_turn}
 use Rattle.lease_model.specs.messages.Replies.{Reply, BreakNotice, CreateAnswer, LeaseGiven}
 use Rattle.lease_model.specs.messages.Requests.{FileRequest, Request}
 use Rattle.lease_model.specs.server.State.{Lease}
@@ -20,8 +19,9 @@ use Rattle.lease_laws.proofs.server.Lists.{if_cases, either, clash}
 use Rattle.lease_laws.proofs.world.Links.{by_client}
 use Rattle.lease_coherence.specs.Agreement.{lone_break, reads_alone}
 use Rattle.lease_coherence.specs.Names.{Each}
-use Rattle.lease_coherence.proofs.clients.Commands.{HasCommands, sent_of}
-use Rattle.lease_coherence.proofs.clients.Takes.{HasTakes, PassesOver, found_so, is_live}
+use Rattle.lease_laws.proofs.client.cases.Commands.{HasCommands, sent_of}
+use Rattle.lease_laws.proofs.client.cases.Replies.{HasTakes, PassesOver, is_live}
+use Rattle.lease_laws.proofs.client.cases.Files.{found_so}
 use Rattle.lease_coherence.proofs.names.Words.{each_append}
 use Rattle.lease_coherence.proofs.beliefs.Clients.{IsAboutFile, file_no_acks, writes_about, writes_close_about, keys_apart, ack_elsewhere}
 use Rattle.lease_coherence.proofs.beliefs.Words.{acks, acks_append, IsBelieved}
@@ -223,28 +223,26 @@ break_apart machine at notice own file ne same = clash (bytes_eq (lease_key mach
     ∙ sym ((bytes_eq-Decides (lease_key machine.guid at) notice.key).0 own)))
     (keys_apart machine.guid file at ne)
 
-break_takes : (machine : Client) (at : ℕ) (notice : BreakNotice) (live : LiveEntry)
-    → is_key_of machine notice.key at ≡ true → (machine.entries at).phase ≡ Phase.Live live
-    → TakesWithin machine (Reply.Break (Some notice))
-    (turned machine at (break_turn live (sent_of machine at) notice (meet live.belief notice.lowered)))
-unfolding break_turn parked_closed belief_lowered
-break_takes machine at notice live own is formed =
-    let new = meet live.belief notice.lowered in
-    if_cases (λ (turn : Turn). (file : ℕ) (lease : Lease) (asked : List Request) (queue : List Reply)
-    → IsBelieved (lease_key machine.guid file) file lease (machine.entries file).phase asked (Reply.Break (Some notice) ∷ queue)
-    → IsWithinFor (lease_key machine.guid file) file lease (machine.entries file).phase asked (Reply.Break (Some notice) ∷ queue)
-    → IsWithinFor (lease_key machine.guid file) file lease ((turned machine at turn).client.entries file).phase
-    (asked ++ (turned machine at turn).requests) queue)
-    (live.handles == 0 && (live.belief.handle && not new.handle)) _ _
-    (λ parked. turn_takes machine (Reply.Break (Some notice)) at (parked_closed live (sent_of machine at))
+parked_takes : (machine : Client) (at : ℕ) (notice : BreakNotice) (live : LiveEntry)
+    → is_key_of machine notice.key at ≡ true
+    → TakesWithin machine (Reply.Break (Some notice)) (turned machine at (parked_closed live (sent_of machine at)))
+unfolding parked_closed
+parked_takes machine at notice live own = turn_takes machine (Reply.Break (Some notice)) at _
     (λ file ne. break_apart machine at notice own file ne)
     (λ file ne. file_no_acks (lease_key machine.guid file) _ (writes_close_about live.file_id live.unsent [] tt))
-    (λ lease asked queue b w. closed_here lease asked queue w) formed)
-    (λ stays. let next : LiveEntry = record live {
-      belief = new;
-      base = if new.read then live.base else None;
-      unsent = unflushed live.belief new live.unsent;
-    } in
+    (λ lease asked queue b w. reply_within (lease_key machine.guid at) at lease Phase.Closed _ (Reply.Break (Some notice))
+    queue (λ now e. clash (is_live Phase.Closed) (ap is_live e) refl)
+    (step_within (lease_key machine.guid at) at lease (machine.entries at).phase Phase.Closed asked _
+    (Reply.Break (Some notice) ∷ queue) (λ now e. never_live (machine.entries at).phase Phase.Closed refl now e)
+    (file_no_acks (lease_key machine.guid at) _ (writes_close_about live.file_id live.unsent [] tt)) w))
+
+lowered_takes : (machine : Client) (at : ℕ) (notice : BreakNotice) (live : LiveEntry)
+    → is_key_of machine notice.key at ≡ true → (machine.entries at).phase ≡ Phase.Live live
+    → TakesWithin machine (Reply.Break (Some notice))
+    (turned machine at (belief_lowered live (sent_of machine at) notice (meet live.belief notice.lowered)))
+unfolding belief_lowered
+lowered_takes machine at notice live own is formed =
+    let new = meet live.belief notice.lowered in
     let writes = write_requests live.file_id (flushed live.belief new live.unsent) in
     turn_takes machine (Reply.Break (Some notice)) at _
     (λ file ne. break_apart machine at notice own file ne)
@@ -253,29 +251,11 @@ break_takes machine at notice live own is formed =
     (writes_about live.file_id (flushed live.belief new live.unsent)))
     (ack_elsewhere machine.guid file at notice new ne own) ∙ zeros)
     (λ lease asked queue b w. lowered_stays (lease_key machine.guid at) at notice lease (machine.entries at).phase live
-    next asked writes queue is own formed refl
-    (writes_about live.file_id (flushed live.belief new live.unsent)) b w) formed)
+    _ asked writes queue is own formed refl
+    (writes_about live.file_id (flushed live.belief new live.unsent)) b w) formed
   where
     zeros : 0 + 0 ≡ 0
     zeros = omega arith
-
-    closing : List Request
-    closing = write_requests live.file_id live.unsent ++ Request.OnFile (FileRequest.Close live.file_id) ∷ []
-
-    closed_here : (lease : Lease) (asked : List Request) (queue : List Reply)
-        → IsWithinFor (lease_key machine.guid at) at lease (machine.entries at).phase asked (Reply.Break (Some notice) ∷ queue)
-        → IsWithinFor (lease_key machine.guid at) at lease Phase.Closed
-        (asked ++ (write_requests live.file_id live.unsent ++ Request.OnFile (FileRequest.Close live.file_id) ∷ [])) queue
-    closed_here lease asked queue w =
-        let key = lease_key machine.guid at in
-        let less : (now : LiveEntry) → Phase.Closed ≡ Phase.Live now → IsLess (machine.entries at).phase now.belief =
-        λ now e. never_live (machine.entries at).phase Phase.Closed refl now e in
-        let none = file_no_acks key (write_requests live.file_id live.unsent
-        ++ Request.OnFile (FileRequest.Close live.file_id) ∷ []) (writes_close_about live.file_id live.unsent [] tt) in
-        reply_within key at lease Phase.Closed
-        (asked ++ (write_requests live.file_id live.unsent ++ Request.OnFile (FileRequest.Close live.file_id) ∷ []))
-        (Reply.Break (Some notice)) queue (λ now e. clash (is_live Phase.Closed) (ap is_live e) refl)
-        (step_within key at lease (machine.entries at).phase Phase.Closed asked _ (Reply.Break (Some notice) ∷ queue) less none w)
 
 -- ---- grants
 
@@ -298,72 +278,28 @@ granted_takes machine at file_id answer turn next is about from =
 
 -- ---- other replies
 
-read_failed_stays : (machine : Client) (at : ℕ) (status : Status) (live : LiveEntry)
-    → (machine.entries at).phase ≡ Phase.Live live
-    → StaysWithin machine (turned machine at (read_failed_turn live (sent_of machine at) status))
-unfolding read_failed_turn closed_by_server
-read_failed_stays machine at status live is =
-    if_cases (λ (turn : Turn). StaysWithin machine (turned machine at turn)) (is_file_closed status) _ _
-    (λ gone. turned_stays machine at _ tt
-    (λ now e. never_live (machine.entries at).phase (without_open live.asking (sent_of machine at)).phase
-    (gone_idle live.asking (sent_of machine at)) now e))
-    (λ there. turned_stays machine at _ tt
-    (λ now e. less_same (machine.entries at).phase live _ is refl now e))
-
-write_failed_stays : (machine : Client) (at file_id number : ℕ) (status : Status) (sent : List Pending) (phase : Phase)
-    → (machine.entries at).phase ≡ phase
-    → StaysWithin machine (turned machine at (write_failed_in file_id number status sent phase))
-unfolding closed_by_server
-write_failed_stays machine at file_id number status sent Phase.Closed is = turned_stays machine at _ tt
-    (λ now e. never_live (machine.entries at).phase Phase.Closed refl now e)
-write_failed_stays machine at file_id number status sent (Phase.Opening access share) is = turned_stays machine at _ tt
-    (λ now e. never_live (machine.entries at).phase (Phase.Opening access share) refl now e)
-write_failed_stays machine at file_id number status sent (Phase.Live live) is =
-    if_cases (λ (turn : Turn). StaysWithin machine (turned machine at turn))
-    (is_file_closed status && live.file_id == file_id) _ _
-    (λ gone. turned_stays machine at _ tt
-    (λ now e. never_live (machine.entries at).phase (without_open live.asking sent).phase
-    (gone_idle live.asking sent) now e))
-    (λ there. turned_stays machine at _ tt
-    (λ now e. less_same (machine.entries at).phase live live is refl now e))
-write_failed_stays machine at file_id number status sent (Phase.Offline parted) is = turned_stays machine at _ tt
-    (λ now e. never_live (machine.entries at).phase (Phase.Offline parted) refl now e)
-write_failed_stays machine at file_id number status sent (Phase.Reconnecting parted) is = turned_stays machine at _ tt
-    (λ now e. never_live (machine.entries at).phase (Phase.Reconnecting parted) refl now e)
-
 with_same : (old : Phase) (write : Option Pending) (phase : Phase) → old ≡ phase
     → (now : LiveEntry) → phase_with write phase ≡ Phase.Live now → IsLess old now.belief
-with_same old write Phase.Closed is now e = never_live old Phase.Closed refl now e
-with_same old write (Phase.Opening access share) is now e = never_live old (Phase.Opening access share) refl now e
 with_same old write (Phase.Live live) is now e = less_same old live _ is refl now e
-with_same old write (Phase.Offline parted) is now e = never_live old (Phase.Offline parted) refl now e
-with_same old write (Phase.Reconnecting parted) is now e = never_live old (Phase.Reconnecting parted) refl now e
+with_same old write phase is now e = never_live old phase refl now e
 
 passed_lone : (machine : Client) (reply : Reply) → IsSoundClient machine → PassesOver machine reply → NotLone machine reply
 passed_lone machine (Reply.Break (Some notice)) s why file live is same = never_passed machine notice s why file live is
     ((bytes_eq-Decides (lease_key machine.guid file) notice.key).1 (key_of_break (lease_key machine.guid file) notice same))
-passed_lone machine (Reply.Break None) s why file live is same = cc
-passed_lone machine (Reply.Created other id contexts) s why file live is same = cc
-passed_lone machine (Reply.CreateFailed other status) s why file live is same = cc
-passed_lone machine (Reply.ReadDone id bytes) s why file live is same = cc
-passed_lone machine (Reply.ReadFailed id status) s why file live is same = cc
-passed_lone machine (Reply.WriteDone id number) s why file live is same = cc
-passed_lone machine (Reply.WriteFailed id number status) s why file live is same = cc
-passed_lone machine (Reply.Closed id) s why file live is same = cc
-passed_lone machine (Reply.CloseFailed id status) s why file live is same = cc
-passed_lone machine (Reply.AckDone response) s why file live is same = cc
-passed_lone machine (Reply.AckFailed status) s why file live is same = cc
+passed_lone machine reply s why file live is same = cc
 
 turn_plain : (machine : Client) (reply : Reply) (at : ℕ) (turn : Turn) → NotLone machine reply
     → StaysWithin machine (turned machine at turn) → TakesWithin machine reply (turned machine at turn)
 turn_plain machine reply at turn other on = plain_takes machine reply (turned machine at turn) other on
 
 pub takes_stay : (machine : Client) → IsSoundClient machine → HasTakes machine (TakesWithin machine)
-unfolding opened_turn reconnected_turn promoted_turn read_turn write_done_turn
+unfolding opened_turn reconnected_turn promoted_turn read_turn write_done_turn closed_by_server
 takes_stay machine s = record {
   passed = λ reply why. plain_takes machine reply (quiet_step machine) (passed_lone machine reply s why)
       (idle_stays machine Answer.Quiet);
-  broken = λ at notice live found is. break_takes machine at notice live
+  parked_closes = λ at notice live found is parked. parked_takes machine at notice live
+      (found_so machine (is_key_of machine notice.key) at found);
+  lowered = λ at notice live found is stays. lowered_takes machine at notice live
       (found_so machine (is_key_of machine notice.key) at found) is;
   opened = λ at file_id answer access share is. granted_takes machine at file_id answer _ _ refl tt (inl refl);
   reconnected = λ at file_id answer parted is. granted_takes machine at file_id answer _ _ refl tt (inl refl);
@@ -378,11 +314,18 @@ takes_stay machine s = record {
       (turned_stays machine at _ tt (λ now e. less_same (machine.entries at).phase live _ is refl now e));
   read = λ at file_id bytes live is id some. turn_plain machine (Reply.ReadDone file_id bytes) at _ (λ file l was e. cc)
       (turned_stays machine at _ tt (λ now e. less_same (machine.entries at).phase live _ is refl now e));
+  read_closed = λ at file_id status live is id gone. turn_plain machine (Reply.ReadFailed file_id status) at _
+      (λ file l was e. cc) (turned_stays machine at _ tt
+      (λ now e. never_live (machine.entries at).phase _ (gone_idle live.asking _) now e));
   not_read = λ at file_id status live is id some. turn_plain machine (Reply.ReadFailed file_id status) at _
-      (λ file l was e. cc) (read_failed_stays machine at status live is);
+      (λ file l was e. cc)
+      (turned_stays machine at _ tt (λ now e. less_same (machine.entries at).phase live _ is refl now e));
   written = λ at file_id number has known. turn_plain machine (Reply.WriteDone file_id number) at _ (λ file l was e. cc)
       (turned_stays machine at _ tt (with_same (machine.entries at).phase _ (machine.entries at).phase refl));
+  write_closed = λ at file_id number status live has known is id gone.
+      turn_plain machine (Reply.WriteFailed file_id number status) at _ (λ file l was e. cc) (turned_stays machine at _ tt
+      (λ now e. never_live (machine.entries at).phase _ (gone_idle live.asking _) now e));
   not_written = λ at file_id number status has known. turn_plain machine (Reply.WriteFailed file_id number status) at _
       (λ file l was e. cc)
-      (write_failed_stays machine at file_id number status _ (machine.entries at).phase refl);
+      (turned_stays machine at _ tt (λ now e. less_same (machine.entries at).phase now _ e refl now refl));
 }

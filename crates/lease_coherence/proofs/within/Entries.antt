@@ -13,7 +13,7 @@ use Rattle.lease_laws.proofs.server.Lists.{clash, and_parts, and_both}
 use Rattle.lease_coherence.specs.Agreement.{lone_break}
 use Rattle.lease_coherence.specs.Names.{Each}
 use Rattle.lease_coherence.proofs.beliefs.Words.{acks, is_created, IsBelieved}
-use Rattle.lease_coherence.proofs.clients.Takes.{is_live}
+use Rattle.lease_laws.proofs.client.cases.Replies.{is_live}
 use Rattle.lease_coherence.proofs.names.Words.{each_append, each_weaker}
 use Rattle.lease_coherence.proofs.within.Words.{IsWithin, LowersFormed, tell_fewer, no_acks_fit, fit_less, IsAckFit, AckFit, within_rest, IsWithinFor}
 
@@ -26,11 +26,8 @@ pub record IsLess (phase : Phase) (belief : State) : Type 0 where
   pub formed : belief.handle ≡ true → live.belief.read ≡ true → belief.read ≡ true
 
 live_phase : (phase : Phase) (P : Type 0) → is_live phase ≡ true → ((live : LiveEntry) → phase ≡ Phase.Live live → P) → P
-live_phase Phase.Closed P e k = absurd (true≢false (sym e))
-live_phase (Phase.Opening access share) P e k = absurd (true≢false (sym e))
 live_phase (Phase.Live live) P e k = k live refl
-live_phase (Phase.Offline parted) P e k = absurd (true≢false (sym e))
-live_phase (Phase.Reconnecting parted) P e k = absurd (true≢false (sym e))
+live_phase phase P e k = absurd (true≢false (sym e))
 
 pub was_live : (old new : Phase) → ((live : LiveEntry) → new ≡ Phase.Live live → IsLess old live.belief)
     → is_live new ≡ true → is_live old ≡ true

@@ -12,7 +12,7 @@ use Rattle.lease_coherence.specs.Agreement.{lone_break}
 use Rattle.lease_coherence.specs.Names.{Each}
 use Rattle.lease_coherence.proofs.beliefs.Leases.{settled_none}
 use Rattle.lease_coherence.proofs.beliefs.Words.{acks, is_created, OnGiven, GivesNothing, IsMet, IsAnswering, IsBelieved}
-use Rattle.lease_coherence.proofs.clients.Takes.{is_live}
+use Rattle.lease_laws.proofs.client.cases.Replies.{is_live}
 use Rattle.lease_coherence.proofs.within.Words.{IsWithin, AreGiven, within_in, given_last, given_changed, given_nowhere, TellsState, tell_none, tell_last, tell_nowhere, no_acks_fit, IsAckFit, AckFit, IsWithinFor}
 
 -- one more reply: a lease that is as it was
@@ -141,12 +141,4 @@ ack_more key file lease new phase given left queue own is b zero a w = record {
           λ r. clash _ r nothing.1,
         )
         both (Reply.CreateFailed other status) n g = tt
-        both (Reply.ReadDone id bytes) n g = tt
-        both (Reply.ReadFailed id status) n g = tt
-        both (Reply.WriteDone id number) n g = tt
-        both (Reply.WriteFailed id number status) n g = tt
-        both (Reply.Closed id) n g = tt
-        both (Reply.CloseFailed id status) n g = tt
-        both (Reply.Break notice) n g = tt
-        both (Reply.AckDone response) n g = tt
-        both (Reply.AckFailed status) n g = tt
+        both reply n g = tt

@@ -36,8 +36,8 @@ use Rattle.lease_coherence.proofs.beliefs.Sent.{refusal_bare, off_trust}
 use Rattle.lease_coherence.proofs.beliefs.Steps.{IsIdle, connect_idle}
 use Rattle.lease_coherence.proofs.beliefs.Trust.{file_key, HasTrust, nothing_stands}
 use Rattle.lease_coherence.proofs.beliefs.Words.{IsBelieved}
-use Rattle.lease_coherence.proofs.clients.Commands.{any_command}
-use Rattle.lease_coherence.proofs.clients.Takes.{any_reply}
+use Rattle.lease_laws.proofs.client.cases.Commands.{any_command}
+use Rattle.lease_laws.proofs.client.cases.Replies.{any_reply}
 use Rattle.lease_coherence.proofs.moves.Deeds.{told_to, held_in, without_opens}
 use Rattle.lease_coherence.proofs.moves.Events.{timed_out, connected, reply_gone, reply_taken}
 use Rattle.lease_coherence.proofs.moves.Foreign.{IsUnmoved, off_sound}

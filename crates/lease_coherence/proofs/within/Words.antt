@@ -15,7 +15,7 @@ use Rattle.lease_coherence.specs.Creates.{one_if}
 use Rattle.lease_coherence.specs.Names.{Each}
 use Rattle.lease_coherence.proofs.beliefs.Leases.{given_all}
 use Rattle.lease_coherence.proofs.beliefs.Words.{acks, is_created, is_ack_break, OnGiven, IsMet, BreaksAreMet}
-use Rattle.lease_coherence.proofs.clients.Takes.{is_live}
+use Rattle.lease_laws.proofs.client.cases.Replies.{is_live}
 
 -- ---- beliefs
 
@@ -118,18 +118,8 @@ given_nowhere key file held (reply ∷ queue) none = (
 )
   where
     not_given : (r : Reply) → is_created file r ≡ false → OnGiven (IsWithin key held queue) key file r
-    not_given (Reply.Created other id None) e = tt
     not_given (Reply.Created other id (Some answer)) e = λ same. clash (other == file) (eq-eqb other file same) e
-    not_given (Reply.CreateFailed other status) e = tt
-    not_given (Reply.ReadDone id bytes) e = tt
-    not_given (Reply.ReadFailed id status) e = tt
-    not_given (Reply.WriteDone id number) e = tt
-    not_given (Reply.WriteFailed id number status) e = tt
-    not_given (Reply.Closed id) e = tt
-    not_given (Reply.CloseFailed id status) e = tt
-    not_given (Reply.Break notice) e = tt
-    not_given (Reply.AckDone response) e = tt
-    not_given (Reply.AckFailed status) e = tt
+    not_given reply e = tt
 
 -- ---- breaks along the queue
 
@@ -161,17 +151,7 @@ tell_none key file breaking count broken_to live (reply ∷ queue) never b = (
   where
     not_told : (r : Reply) → (is_ack_break key r ≡ true → ⊥) → TellsState key broken_to r
     not_told (Reply.Break (Some notice)) none = λ is. absurd (none is)
-    not_told (Reply.Break None) none = tt
-    not_told (Reply.Created other id contexts) none = tt
-    not_told (Reply.CreateFailed other status) none = tt
-    not_told (Reply.ReadDone id bytes) none = tt
-    not_told (Reply.ReadFailed id status) none = tt
-    not_told (Reply.WriteDone id number) none = tt
-    not_told (Reply.WriteFailed id number status) none = tt
-    not_told (Reply.Closed id) none = tt
-    not_told (Reply.CloseFailed id status) none = tt
-    not_told (Reply.AckDone response) none = tt
-    not_told (Reply.AckFailed status) none = tt
+    not_told reply none = tt
 
 pub tell_last : (key : List ℕ) (file : ℕ) (broken_to : Option State) (live : Bool) (queue : List Reply) (last : Reply)
     → TellsState key broken_to last → BreaksTell key file broken_to live queue
@@ -227,8 +207,7 @@ pub fit_less : (key : List ℕ) (lease : Lease) (old new : Phase) (request : Req
     → ((state : State) → IsAckFit lease old state → IsAckFit lease new state)
     → AckFit key lease old request → AckFit key lease new request
 fit_less key lease old new (Request.Acknowledge (Some given)) less a = λ own. less given.state (a own)
-fit_less key lease old new (Request.Acknowledge None) less a = tt
-fit_less key lease old new (Request.OnFile request) less a = tt
+fit_less key lease old new request less a = tt
 
 -- ---- one that leaves its queue
 

@@ -77,11 +77,9 @@ pub not_counted : (world : World) (c file number : ℕ) (request : FileRequest) 
     → (at : ℕ) → at ≢ file
     → ((file_id used : ℕ) (patch : Patch) → request ≡ FileRequest.Write file_id used patch
     → has_written c at used patch world.past ≡ true) → write_of number request ≡ 0
-not_counted world c file number (FileRequest.Create f access share contexts) counts at ne written = refl
-not_counted world c file number (FileRequest.Read file_id) counts at ne written = refl
 not_counted world c file number (FileRequest.Write file_id used patch) counts at ne written =
     ap one_if (counts at file_id used patch refl (written file_id used patch refl) ne)
-not_counted world c file number (FileRequest.Close file_id) counts at ne written = refl
+not_counted world c file number request counts at ne written = refl
 
 pub source_left : (world off : World) (c : ℕ) (request : FileRequest) → IsSource world off c request → IsSentOnce world c
     → (file number : ℕ) → CountsOf world c file number request

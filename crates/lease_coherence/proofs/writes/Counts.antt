@@ -109,9 +109,7 @@ held_writes_among number client (x ∷ before) behind one own = if_cases
 pub refusal_settles : (number : ℕ) (request : FileRequest) (status : Status)
     → settles_of number (refusal_of request status) ≡ write_of number request
 refusal_settles number (FileRequest.Create file access share contexts) status = refl
-refusal_settles number (FileRequest.Read file_id) status = refl
-refusal_settles number (FileRequest.Write file_id used patch) status = refl
-refusal_settles number (FileRequest.Close file_id) status = refl
+refusal_settles number request status = refl
 
 -- writes as requests
 pub writes_asked : (number file_id : ℕ) (pending : List Pending)

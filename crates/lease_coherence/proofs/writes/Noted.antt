@@ -17,7 +17,7 @@ use Rattle.lease_laws.specs.records.Runs.{open_writes}
 use Rattle.lease_laws.proofs.client.Thin.{put_same, put_other}
 use Rattle.lease_laws.proofs.server.Lists.{if_cases, clash, not_true}
 use Rattle.lease_laws.proofs.world.Links.{by_client}
-use Rattle.lease_coherence.proofs.clients.Commands.{IsEntry, sent_of}
+use Rattle.lease_laws.proofs.client.cases.Commands.{IsEntry, sent_of}
 use Rattle.lease_coherence.proofs.records.Later.{past_noted}
 use Rattle.lease_coherence.proofs.wellformed.Notes.{EachNote, notes_append, IsSettling, settles}
 use Rattle.lease_coherence.proofs.writes.Settled.{or_later, filter_same, filter_alike, filter_again, number_there, number_append, settles_in, settles_append, settles_these, left_of, left_all, left_front}
@@ -51,10 +51,9 @@ noted_left c file past (Note.Settled number outcome ∷ notes) each =
     both : (a b : Bool) → (not a && not b) ≡ not (a || b)
     both true b = refl
     both false b = refl
-noted_left c file past (Note.Wrote f number patch buffered ∷ notes) each = absurd each.0
 noted_left c file past (Note.Believes f state ∷ notes) each =
     noted_left c file (Fact.Believes c f state ∷ past) notes each.1
-noted_left c file past (Note.CachedRead f bytes ∷ notes) each = absurd each.0
+noted_left c file past (note ∷ notes) each = absurd each.0
 
 -- ---- a client's steps
 
@@ -87,9 +86,7 @@ pub record TurnLeaves (old : Entry) (turn : Turn) : Type 0 where
 pub settling_none : (notes : List Note) → EachNote IsSettling notes → EachNote IsPlainNote notes
 settling_none [] each = tt
 settling_none (Note.Settled number outcome ∷ notes) each = (tt, settling_none notes each.1)
-settling_none (Note.Wrote file number patch buffered ∷ notes) each = absurd each.0
-settling_none (Note.Believes file state ∷ notes) each = absurd each.0
-settling_none (Note.CachedRead file bytes ∷ notes) each = absurd each.0
+settling_none (note ∷ notes) each = absurd each.0
 
 pub believed_none : (file : ℕ) (old new : State) → EachNote IsPlainNote (believes_noted file old new)
 believed_none file old new = if_cases (EachNote IsPlainNote) (same_state old new) [] (Note.Believes file new ∷ [])

@@ -38,8 +38,8 @@ use Rattle.lease_laws.proofs.world.Links.{stepped_links}
 use Rattle.lease_laws.proofs.world.Runs.{stepped_server}
 use Rattle.lease_coherence.specs.Creates.{held_by}
 use Rattle.lease_coherence.specs.Names.{IsNamedOnFile, IsNamedRequest, WasWrittenOn}
-use Rattle.lease_coherence.proofs.clients.Commands.{any_command}
-use Rattle.lease_coherence.proofs.clients.Takes.{any_reply}
+use Rattle.lease_laws.proofs.client.cases.Commands.{any_command}
+use Rattle.lease_laws.proofs.client.cases.Replies.{any_reply}
 use Rattle.lease_coherence.proofs.creates.Creates.{up_link, stepped_machine, none_held}
 use Rattle.lease_coherence.proofs.moves.Deeds.{told_to, held_in, granted_in, reconnected_in, changed_in, without_opens, leased_in, granted_reply, reconnected_reply, done_reply}
 use Rattle.lease_coherence.proofs.moves.Events.{Ground, timed_out, come_back, connected, reply_gone, reply_taken}
@@ -250,10 +250,8 @@ away_sent online entry off sound = by_phase entry.phase refl
     by_phase Phase.Closed is = (subst (λ p. IsSoundPhase online entry.sent p) is sound) off
     by_phase (Phase.Opening access share) is =
         clash online (subst (λ p. IsSoundPhase online entry.sent p) is sound) off
-    by_phase (Phase.Live live) is =
-        clash online (subst (λ p. IsSoundPhase online entry.sent p) is sound).0 off
     by_phase (Phase.Offline parted) is = (subst (λ p. IsSoundPhase online entry.sent p) is sound).1
-    by_phase (Phase.Reconnecting parted) is =
+    by_phase phase is =
         clash online (subst (λ p. IsSoundPhase online entry.sent p) is sound).0 off
 
 connect_none : (client : Client) (number file : ℕ) (sent : List Pending) (phase : Phase)
@@ -279,10 +277,7 @@ all_none number turn (file ∷ files) none = writes_append number (turn file) (f
 connect_sent : (client : Client) (file : ℕ) (sent : List Pending) (phase : Phase)
     → (connect_turn client file sent phase).entry.sent ≡ sent
 connect_sent client file sent Phase.Closed = refl
-connect_sent client file sent (Phase.Opening access share) = refl
-connect_sent client file sent (Phase.Live live) = refl
-connect_sent client file sent (Phase.Offline parted) = refl
-connect_sent client file sent (Phase.Reconnecting parted) = refl
+connect_sent client file sent phase = refl
 
 connect_once : (world : World) (c : ℕ) → Ground world → world.links c ≡ Link.Down → IsSentOnce (connected world c) c
 unfolding joined connection_made all_turned

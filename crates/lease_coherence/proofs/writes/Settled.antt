@@ -120,9 +120,7 @@ parts_apart write low last (x ∷ keep) gone e a = let r = rising_rest x low las
 abbrev pub settles_in : List Note → ℕ → Bool
 settles_in [] number = false
 settles_in (Note.Settled settled outcome ∷ notes) number = number == settled || settles_in notes number
-settles_in (Note.Wrote file n patch buffered ∷ notes) number = settles_in notes number
-settles_in (Note.Believes file state ∷ notes) number = settles_in notes number
-settles_in (Note.CachedRead file bytes ∷ notes) number = settles_in notes number
+settles_in (note ∷ notes) number = settles_in notes number
 
 pub settles_append : (notes more : List Note) (number : ℕ)
     → settles_in (notes ++ more) number ≡ (settles_in notes number || settles_in more number)
@@ -135,8 +133,7 @@ settles_append (Note.Settled settled outcome ∷ notes) more number =
     three true b c = refl
     three false b c = refl
 settles_append (Note.Wrote file n patch buffered ∷ notes) more number = settles_append notes more number
-settles_append (Note.Believes file state ∷ notes) more number = settles_append notes more number
-settles_append (Note.CachedRead file bytes ∷ notes) more number = settles_append notes more number
+settles_append (note ∷ notes) more number = settles_append notes more number
 
 pub settles_these : (outcome : Settlement) (pending : List Pending) (number : ℕ)
     → settles_in (settled_as outcome pending) number ≡ has_number number pending

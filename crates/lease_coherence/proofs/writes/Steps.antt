@@ -1,16 +1,15 @@
 -- What a client's step adds to the writes under way, and what it takes.
 use Rattle.std.proofs.Common.{◌≡◌, ◌≢◌, ◌⊎◌, inl, inr, ⊎_elim, ℕ, ◌+◌, ◌≤◌, ◌<◌, Bool, true, false, List, [], ◌∷◌, ◌++◌, Option, Some, None, refl, sym, ap, ap₂, ◌∙◌, subst, arith, true≢false, ◌==◌}
-use Rattle.std.specs.Prelude.{◌&&◌, not, if◌then◌else◌, nat_le}
+use Rattle.std.specs.Prelude.{◌&&◌, if◌then◌else◌, nat_le}
 use Rattle.std.specs.List.{list_any}
 use Rattle.std.proofs.lemmas.Bool.{eqb-true}
 use Rattle.lease_state.specs.State.{State}
 use Rattle.lease_state.specs.declared.patch.Patch.{Patch}
-use Rattle.lease_state.specs.declared.status.Status.{Status}
 use Rattle.lease_model.specs.client.Commanded.{next_write, cached_read, opened_anew, write_buffered, write_sent, flush_on_live, wrote_step}
 use Rattle.lease_model.specs.client.Commands.{Answer, Note}
 use Rattle.lease_model.specs.client.State.{Client, Entry, LiveEntry, Asked, Pending, Phase, knows_file}
 use Rattle.lease_model.specs.client.Step.{Step, Turn, turned, quiet_step, write_requests}
-use Rattle.lease_model.specs.client.Taken.{break_turn, parked_closed, belief_lowered, flushed, gives_up, opened_turn, reconnected_turn, promoted_turn, read_turn, read_failed_turn, is_file_closed, closed_by_server, without_open, is_numbered, has_sent, sent_without, write_done_turn, write_failed_in, file_where}
+use Rattle.lease_model.specs.client.Taken.{parked_closed, belief_lowered, flushed, gives_up, opened_turn, reconnected_turn, promoted_turn, read_turn, closed_by_server, without_open, is_numbered, has_sent, sent_without, write_done_turn, file_where}
 use Rattle.lease_model.specs.messages.Replies.{Reply, BreakNotice}
 use Rattle.lease_model.specs.messages.Requests.{FileRequest, Request}
 use Rattle.lease_model.specs.records.Facts.{Fact}
@@ -19,13 +18,13 @@ use Rattle.lease_model.specs.values.Tables.{put}
 use Rattle.lease_model.specs.world.World.{fact_of, World}
 use Rattle.lease_laws.specs.client.Laws.{TellNumbers}
 use Rattle.lease_laws.proofs.client.Thin.{put_same, put_other}
-use Rattle.lease_laws.proofs.server.Lists.{if_cases, either, clash, or_true, and_parts, not_true}
+use Rattle.lease_laws.proofs.server.Lists.{either, clash, or_true, and_parts, not_true}
 use Rattle.lease_laws.proofs.world.Links.{by_client}
 use Rattle.lease_coherence.specs.Creates.{one_if}
 use Rattle.lease_coherence.specs.Names.{Each, IsNamedPhase, WasWritten}
-use Rattle.lease_coherence.proofs.clients.Commands.{HasCommands, sent_of}
-use Rattle.lease_coherence.proofs.clients.Files.{never_found}
-use Rattle.lease_coherence.proofs.clients.Takes.{HasTakes, PassesOver}
+use Rattle.lease_laws.proofs.client.cases.Commands.{HasCommands, sent_of}
+use Rattle.lease_laws.proofs.client.cases.Files.{never_found}
+use Rattle.lease_laws.proofs.client.cases.Replies.{HasTakes, PassesOver}
 use Rattle.lease_coherence.proofs.moves.Shift.{append_none}
 use Rattle.lease_coherence.proofs.names.Clients.{HasNames}
 use Rattle.lease_coherence.proofs.records.Later.{past_noted}
@@ -80,8 +79,7 @@ told_up last new [] tells = let t = tells in omega (arith, t)
 told_up last new (Note.Settled n outcome ∷ notes) tells = told_up last new notes tells.1
 told_up last new (Note.Wrote f n p buffered ∷ notes) tells =
     let h = tells.0 in let k = told_up n new notes tells.1 in omega (arith, h, k)
-told_up last new (Note.Believes f state ∷ notes) tells = told_up last new notes tells
-told_up last new (Note.CachedRead f bytes ∷ notes) tells = told_up last new notes tells
+told_up last new (note ∷ notes) tells = told_up last new notes tells
 
 pub own_before : (c last new : ℕ) (past : List Fact) (notes : List Note) → TellNumbers last notes new
     → (file number : ℕ) → IsOwnNumber c new (past_noted c past notes) file number
@@ -348,31 +346,19 @@ passed_adds c client past reply why low file number known own after = record {
 
     none : (r : Reply) → PassesOver client r → settles_of number r ≤ numbered_in number (client.entries file).sent
         → settles_of number r ≡ 0
-    none (Reply.Created f id contexts) w h = refl
-    none (Reply.CreateFailed f status) w h = refl
-    none (Reply.ReadDone id bytes) w h = refl
-    none (Reply.ReadFailed id status) w h = refl
     none (Reply.WriteDone id used) w h = settle used w h
     none (Reply.WriteFailed id used status) w h = settle used w h
-    none (Reply.Closed id) w h = refl
-    none (Reply.CloseFailed id status) w h = refl
-    none (Reply.Break notice) w h = refl
-    none (Reply.AckDone response) w h = refl
-    none (Reply.AckFailed status) w h = refl
+    none reply w h = refl
 
-break_adds : (c : ℕ) (client : Client) (past : List Fact) → IsKnownBy c client past → (file : ℕ) (notice : BreakNotice)
+lowered_adds : (c : ℕ) (client : Client) (past : List Fact) → IsKnownBy c client past → (file : ℕ) (notice : BreakNotice)
     (live : LiveEntry) (new : State) → (client.entries file).phase ≡ Phase.Live live
-    → AddsUpWell c client past no_answers (turned client file (break_turn live (sent_of client file) notice new))
-unfolding break_turn parked_closed belief_lowered
-break_adds c client past k file notice live new is =
-    if_cases (λ turn. AddsUpWell c client past no_answers (turned client file turn))
-    (live.handles == 0 && (live.belief.handle && not new.handle)) _ _
-    (λ parked. sends_adds c client past k file _ live.unsent (unsent_named c client past k file live is) refl
-    (λ n. then_close n live.file_id live.file_id live.unsent [] refl))
-    (λ stays. sends_adds c client past k file _ (flushed live.belief new live.unsent)
+    → AddsUpWell c client past no_answers (turned client file (belief_lowered live (sent_of client file) notice new))
+unfolding belief_lowered
+lowered_adds c client past k file notice live new is =
+    sends_adds c client past k file _ (flushed live.belief new live.unsent)
     (some_named (gives_up live.belief new)) refl
     (λ n. writes_append n (write_requests live.file_id (flushed live.belief new live.unsent)) _
-    ∙ whole _ _ _ (writes_asked n live.file_id (flushed live.belief new live.unsent)) (ack_none n notice.ack_required)))
+    ∙ whole _ _ _ (writes_asked n live.file_id (flushed live.belief new live.unsent)) (ack_none n notice.ack_required))
   where
     some_named : (b : Bool) → Each (WasWritten c file past) (if b then live.unsent else [])
     some_named true = unsent_named c client past k file live is
@@ -390,41 +376,15 @@ gone_sent : (asking : Option Asked) (sent : List Pending) → (without_open aski
 gone_sent None sent = refl
 gone_sent (Some asked) sent = refl
 
-read_failed_adds : (c : ℕ) (client : Client) (past : List Fact) → IsKnownBy c client past → (file : ℕ)
-    (live : LiveEntry) (status : Status)
-    → AddsUpWell c client past no_answers (turned client file (read_failed_turn live (sent_of client file) status))
-unfolding read_failed_turn closed_by_server
-read_failed_adds c client past k file live status =
-    if_cases (λ turn. AddsUpWell c client past no_answers (turned client file turn)) (is_file_closed status) _ _
-    (λ gone. idle_adds c client past k file _ (gone_sent live.asking (sent_of client file)) (λ n. refl))
-    (λ there. idle_adds c client past k file _ refl (λ n. refl))
-
-write_failed_adds : (c : ℕ) (client : Client) (past : List Fact) → IsKnownBy c client past
-    → (file file_id used : ℕ) (status : Status) → has_sent client used file ≡ true → (phase : Phase)
-    → AddsUpWell c client past (λ number. one_if (used == number))
-    (turned client file (write_failed_in file_id used status (sent_without used (sent_of client file)) phase))
-unfolding closed_by_server
-write_failed_adds c client past k file file_id used status at Phase.Closed =
-    found_adds c client past k file used _ at refl refl
-write_failed_adds c client past k file file_id used status at (Phase.Opening access share) =
-    found_adds c client past k file used _ at refl refl
-write_failed_adds c client past k file file_id used status at (Phase.Live live) =
-    if_cases (λ turn. AddsUpWell c client past (λ number. one_if (used == number)) (turned client file turn))
-    (is_file_closed status && live.file_id == file_id) _ _
-    (λ gone. found_adds c client past k file used _ at
-    (gone_sent live.asking (sent_without used (sent_of client file))) refl)
-    (λ there. found_adds c client past k file used _ at refl refl)
-write_failed_adds c client past k file file_id used status at (Phase.Offline parted) =
-    found_adds c client past k file used _ at refl refl
-write_failed_adds c client past k file file_id used status at (Phase.Reconnecting parted) =
-    found_adds c client past k file used _ at refl refl
-
 pub takes_add : (c : ℕ) (client : Client) (past : List Fact) → IsKnownBy c client past
     → HasTakes client (AddsUpTaken c client past)
-unfolding opened_turn reconnected_turn promoted_turn read_turn write_done_turn
+unfolding opened_turn reconnected_turn promoted_turn read_turn write_done_turn parked_closed closed_by_server
 takes_add c client past k = record {
   passed = λ reply why. passed_adds c client past reply why;
-  broken = λ file notice live at is low. break_adds c client past k file notice live _ is;
+  parked_closes = λ file notice live at is parked low. sends_adds c client past k file _ live.unsent
+      (unsent_named c client past k file live is) refl
+      (λ n. then_close n live.file_id live.file_id live.unsent [] refl);
+  lowered = λ file notice live at is stays low. lowered_adds c client past k file notice live _ is;
   opened = λ file file_id answer access share is low. idle_adds c client past k file _ refl (λ n. refl);
   reconnected = λ file file_id answer parted is low. idle_adds c client past k file _ refl (λ n. refl);
   promoted = λ file file_id answer live asked is asks low. idle_adds c client past k file _ refl (λ n. zeros);
@@ -432,10 +392,13 @@ takes_add c client past k = record {
   not_reconnected = λ file status parted is low. idle_adds c client past k file _ refl (λ n. refl);
   not_promoted = λ file status live asked is asks low. idle_adds c client past k file _ refl (λ n. refl);
   read = λ file file_id bytes live is id some low. idle_adds c client past k file _ refl (λ n. refl);
-  not_read = λ file file_id status live is id some low. read_failed_adds c client past k file live status;
+  read_closed = λ file file_id status live is id gone low. idle_adds c client past k file _
+      (gone_sent live.asking (sent_of client file)) (λ n. refl);
+  not_read = λ file file_id status live is id some low. idle_adds c client past k file _ refl (λ n. refl);
   written = λ file file_id number at known low. found_adds c client past k file number _ at refl refl;
-  not_written = λ file file_id number status at known low.
-      write_failed_adds c client past k file file_id number status at (client.entries file).phase;
+  write_closed = λ file file_id number status live at known is id gone low. found_adds c client past k file number _ at
+      (gone_sent live.asking (sent_without number (sent_of client file))) refl;
+  not_written = λ file file_id number status at known low. found_adds c client past k file number _ at refl refl;
 }
   where
     zeros : 0 + 0 ≡ 0

@@ -1,17 +1,15 @@
 -- The record has the unanswered writes of each client, in the order in which its entries have them.
-use Rattle.std.proofs.Common.{◌≡◌, ◌≢◌, ⊎_elim, ℕ, Bool, true, false, not, List, [], ◌∷◌, ◌++◌, flat_map, Option, Some, None, refl, sym, ap, ap₂, ◌∙◌, subst, true≢false, ◌==◌}
+use Rattle.std.proofs.Common.{◌≡◌, ◌≢◌, ⊎_elim, ℕ, Bool, true, false, not, List, [], ◌∷◌, ◌++◌, flat_map, Option, Some, None, refl, sym, ap, ap₂, ◌∙◌, subst, true≢false, ◌==◌, filter}
 use Rattle.std.specs.Prelude.{◌&&◌, ◌||◌, if◌then◌else◌}
 use Rattle.std.proofs.lemmas.Bool.{eqb-true, eq-eqb}
-use Rattle.lease_state.specs.State.{State}
-use Rattle.lease_state.specs.declared.status.Status.{Status}
 use Rattle.lease_model.specs.client.Calls.{ClientCall, client_called}
 use Rattle.lease_model.specs.client.Commanded.{next_write, cached_read, opened_anew, write_buffered, write_sent, flush_on_live, wrote_step}
 use Rattle.lease_model.specs.client.Commands.{Answer, Note, Settlement}
-use Rattle.lease_model.specs.client.Connection.{all_turned, noticed, connection_made, notice_turn, connect_turn, live_noticed, live_parted}
+use Rattle.lease_model.specs.client.Connection.{all_turned, noticed, connection_made, notice_turn, connect_turn, offline_turn, parted_from}
 use Rattle.lease_model.specs.client.State.{Client, Entry, LiveEntry, Asked, Pending, Phase, belief_of, knows_file, lease_key}
 use Rattle.lease_model.specs.client.Step.{Step, Turn, settled_as}
-use Rattle.lease_model.specs.client.Taken.{sent_without, break_turn, parked_closed, belief_lowered, gives_up, opened_turn, reconnected_turn, promoted_turn, promoted_belief, first_belief, read_turn, read_failed_turn, is_file_closed, closed_by_server, without_open, write_done_turn, phase_with, write_failed_in}
-use Rattle.lease_model.specs.messages.Replies.{Out, BreakNotice}
+use Rattle.lease_model.specs.client.Taken.{sent_without, parked_closed, belief_lowered, gives_up, opened_turn, reconnected_turn, promoted_turn, promoted_belief, first_belief, read_turn, closed_by_server, without_open, write_done_turn, phase_with}
+use Rattle.lease_model.specs.messages.Replies.{Out}
 use Rattle.lease_model.specs.records.Facts.{Fact}
 use Rattle.lease_model.specs.server.Calls.{joined}
 use Rattle.lease_model.specs.server.Progress.{begun}
@@ -30,9 +28,9 @@ use Rattle.lease_laws.proofs.server.Lists.{if_cases, either, clash, or_true, tru
 use Rattle.lease_laws.proofs.world.FileIds.{told}
 use Rattle.lease_laws.proofs.world.Links.{by_client}
 use Rattle.lease_laws.proofs.world.Runs.{stepped_clients}
-use Rattle.lease_coherence.proofs.clients.Commands.{HasCommands, any_command, sent_of}
-use Rattle.lease_coherence.proofs.clients.Files.{among_numbers}
-use Rattle.lease_coherence.proofs.clients.Takes.{HasTakes, any_reply}
+use Rattle.lease_laws.proofs.client.cases.Commands.{HasCommands, any_command, sent_of}
+use Rattle.lease_laws.proofs.client.cases.Files.{among_numbers}
+use Rattle.lease_laws.proofs.client.cases.Replies.{HasTakes, any_reply}
 use Rattle.lease_coherence.proofs.moves.Events.{Ground, IsMoved, come_back, reply_gone, Move}
 use Rattle.lease_coherence.proofs.moves.Frames.{stepped_past}
 use Rattle.lease_coherence.proofs.moves.Ground.{moved_clients, moved_past}
@@ -41,6 +39,8 @@ use Rattle.lease_coherence.proofs.records.Later.{past_noted}
 use Rattle.lease_coherence.proofs.wellformed.Notes.{EachNote, notes_append, IsSettling, settles}
 use Rattle.lease_coherence.proofs.writes.Settled.{same_bool, or_later, filter_alike, number_there, number_append, settles_in, settles_append, settles_these, left_of, left_one, left_one_front, left_buffered}
 use Rattle.lease_coherence.proofs.writes.Noted.{IsPlainNote, noted_left, LeavesWrites, TellsWrites, TurnLeaves, settling_none, believed_none, turn_notes, turn_settles, turned_leaves, turned_tells, quiet_leaves, front_leaves, same_leaves}
+use Rattle.lease_laws.proofs.client.cases.Links.{HasNotices, any_notice}
+use Rattle.lease_laws.proofs.client.Words.{sound_as}
 
 -- ---- commands
 
@@ -126,30 +126,11 @@ gone_unanswered : (asking : Option Asked) (sent : List Pending) → unanswered_i
 gone_unanswered None sent = append_none sent
 gone_unanswered (Some asked) sent = append_none sent
 
-break_leaves : (client : Client) (file : ℕ) (live : LiveEntry) (notice : BreakNotice) (new : State)
-    → (client.entries file).phase ≡ Phase.Live live
-    → TurnLeaves (client.entries file) (break_turn live (sent_of client file) notice new)
-unfolding break_turn parked_closed belief_lowered
-break_leaves client file live notice new is = if_cases (TurnLeaves (client.entries file))
-    (live.handles == 0 && (live.belief.handle && not new.handle)) _ _
-    (λ parked. quiet_leaves (client.entries file) _ refl
-    (live_unanswered client file live is ∙ sym (append_none (sent_of client file ++ live.unsent))))
-    (λ stays. quiet_leaves (client.entries file) _ refl
-    (live_unanswered client file live is ∙ split (gives_up live.belief new)))
-  where
-    split : (b : Bool) → sent_of client file ++ live.unsent
-        ≡ (sent_of client file ++ (if b then live.unsent else [])) ++ (if b then [] else live.unsent)
-    split true = sym (append_none (sent_of client file ++ live.unsent))
-    split false = ap (λ l. l ++ live.unsent) (sym (append_none (sent_of client file)))
-
-read_failed_leaves : (client : Client) (file : ℕ) (live : LiveEntry) (status : Status) → IsSoundClient client
-    → (client.entries file).phase ≡ Phase.Live live
-    → TurnLeaves (client.entries file) (read_failed_turn live (sent_of client file) status)
-unfolding read_failed_turn closed_by_server
-read_failed_leaves client file live status s is = if_cases (TurnLeaves (client.entries file)) (is_file_closed status) _ _
-    (λ gone. front_leaves client.last_number (client.entries file) _ Settlement.Failed (sent_of client file) live.unsent
-    (rises_in client file s) (live_unanswered client file live is) refl (gone_unanswered live.asking (sent_of client file)))
-    (λ there. quiet_leaves (client.entries file) _ refl (live_unanswered client file live is))
+-- a lowered belief sends the unsent writes or leaves them
+lowered_same : (gives : Bool) (sent unsent : List Pending)
+    → sent ++ unsent ≡ (sent ++ (if gives then unsent else [])) ++ (if gives then [] else unsent)
+lowered_same true sent unsent = sym (append_none (sent ++ unsent))
+lowered_same false sent unsent = ap (λ l. l ++ unsent) (sym (append_none sent))
 
 -- one that was sent is settled
 one_leaves : (client : Client) (file number : ℕ) (turn : Turn) (outcome : Settlement) (phase : Phase)
@@ -195,38 +176,19 @@ front_one_leaves client file number turn outcome live s is has settled same =
           (sym (ap (λ l. settles_in l n) settled) ∙ e));
     }
 
-write_failed_leaves : (client : Client) (file file_id number : ℕ) (status : Status) → IsSoundClient client
-    → has_number number (sent_of client file) ≡ true → (phase : Phase) → (client.entries file).phase ≡ phase
-    → TurnLeaves (client.entries file)
-    (write_failed_in file_id number status (sent_without number (sent_of client file)) phase)
-unfolding closed_by_server
-write_failed_leaves client file file_id number status s has Phase.Closed is =
-    one_leaves client file number _ Settlement.Failed Phase.Closed s is has refl refl
-write_failed_leaves client file file_id number status s has (Phase.Opening access share) is =
-    one_leaves client file number _ Settlement.Failed (Phase.Opening access share) s is has refl refl
-write_failed_leaves client file file_id number status s has (Phase.Live live) is =
-    if_cases (TurnLeaves (client.entries file)) (is_file_closed status && live.file_id == file_id) _ _
-    (λ gone. front_one_leaves client file number _ Settlement.Failed live s is has refl
-    (gone_unanswered live.asking (sent_without number (sent_of client file))))
-    (λ there. one_leaves client file number _ Settlement.Failed (Phase.Live live) s is has refl refl)
-write_failed_leaves client file file_id number status s has (Phase.Offline parted) is =
-    one_leaves client file number _ Settlement.Failed (Phase.Offline parted) s is has refl refl
-write_failed_leaves client file file_id number status s has (Phase.Reconnecting parted) is =
-    one_leaves client file number _ Settlement.Failed (Phase.Reconnecting parted) s is has refl refl
-
 with_unsent : (write : Option Pending) (phase : Phase) → unsent_in (phase_with write phase) ≡ unsent_in phase
 with_unsent write Phase.Closed = refl
-with_unsent write (Phase.Opening access share) = refl
-with_unsent write (Phase.Live live) = refl
-with_unsent write (Phase.Offline parted) = refl
-with_unsent write (Phase.Reconnecting parted) = refl
+with_unsent write phase = refl
 
 takes_tell : (client : Client) → IsSoundClient client → HasTakes client (λ reply step. LeavesWrites client step)
-unfolding opened_turn reconnected_turn promoted_turn read_turn write_done_turn
+unfolding opened_turn reconnected_turn promoted_turn read_turn write_done_turn parked_closed belief_lowered closed_by_server
 takes_tell client s = record {
   passed = λ reply why. same_leaves client Answer.Quiet;
-  broken = λ file notice live at is. turned_leaves client file _ s
-      (break_leaves client file live notice (meet live.belief notice.lowered) is);
+  parked_closes = λ file notice live at is parked. turned_leaves client file _ s (quiet_leaves (client.entries file) _ refl
+      (live_unanswered client file live is ∙ sym (append_none (sent_of client file ++ live.unsent))));
+  lowered = λ file notice live at is stays. turned_leaves client file _ s (quiet_leaves (client.entries file) _ refl
+      (live_unanswered client file live is
+      ∙ lowered_same (gives_up live.belief (meet live.belief notice.lowered)) (sent_of client file) live.unsent));
   opened = λ file file_id answer access share is. turned_leaves client file _ s (quiet_leaves (client.entries file) _ refl
       (phase_unanswered client file (Phase.Opening access share) is));
   reconnected = λ file file_id answer parted is. turned_leaves client file _ s
@@ -245,13 +207,20 @@ takes_tell client s = record {
       (quiet_leaves (client.entries file) _ refl (live_unanswered client file live is));
   read = λ file file_id bytes live is id some. turned_leaves client file _ s
       (quiet_leaves (client.entries file) _ refl (live_unanswered client file live is));
+  read_closed = λ file file_id status live is id gone. turned_leaves client file _ s
+      (front_leaves client.last_number (client.entries file) _ Settlement.Failed (sent_of client file) live.unsent
+      (rises_in client file s) (live_unanswered client file live is) refl
+      (gone_unanswered live.asking (sent_of client file)));
   not_read = λ file file_id status live is id some. turned_leaves client file _ s
-      (read_failed_leaves client file live status s is);
+      (quiet_leaves (client.entries file) _ refl (live_unanswered client file live is));
   written = λ file file_id number at known. turned_leaves client file _ s
       (one_leaves client file number _ Settlement.Done (client.entries file).phase s refl at refl
       (ap (λ l. sent_without number (sent_of client file) ++ l) (with_unsent _ (client.entries file).phase)));
+  write_closed = λ file file_id number status live at known is id gone. turned_leaves client file _ s
+      (front_one_leaves client file number _ Settlement.Failed live s is at refl
+      (gone_unanswered live.asking (sent_without number (sent_of client file))));
   not_written = λ file file_id number status at known. turned_leaves client file _ s
-      (write_failed_leaves client file file_id number status s at (client.entries file).phase refl);
+      (one_leaves client file number _ Settlement.Failed (client.entries file).phase s refl at refl refl);
 }
 
 -- ---- notices and connects
@@ -272,23 +241,21 @@ all_leaves client file phase turn s is settled none = front_leaves client.last_n
     Settlement.Unknown [] (sent_of client file ++ unsent_in phase) (rises_in client file s)
     (phase_unanswered client file phase is) settled none
 
-live_leaves : (client : Client) (file : ℕ) (live : LiveEntry) → IsSoundClient client
+-- a durable entry keeps its buffered writes under W
+kept_leaves : (client : Client) (file : ℕ) (live : LiveEntry) → IsSoundClient client
     → (client.entries file).phase ≡ Phase.Live live
-    → TurnLeaves (client.entries file) (live_noticed live (sent_of client file))
-unfolding live_noticed live_parted
-live_leaves client file live s is = if_cases (TurnLeaves (client.entries file)) live.durable _ _
-    (λ lasts. if_cases (TurnLeaves (client.entries file)) live.belief.write _ _
-    (λ caches. record {
-      each = settles Settlement.Unknown (without (λ w. w.buffered) (sent_of client file ++ live.unsent));
-      left = ap (λ ws. left_of (settled_as Settlement.Unknown
-          (without (λ w. w.buffered) (sent_of client file ++ live.unsent))) ws) (live_unanswered client file live is)
-          ∙ left_buffered Settlement.Unknown client.last_number (sent_of client file ++ live.unsent)
-          (ap (are_rising 0 client.last_number) (sym (live_unanswered client file live is)) ∙ rises_in client file s);
-      own = λ n e. ap (has_number n) (live_unanswered client file live is) ∙ within n (sent_of client file ++ live.unsent)
-          (sym (settles_these Settlement.Unknown (without (λ w. w.buffered) (sent_of client file ++ live.unsent)) n) ∙ e);
-    })
-    (λ plain. all_leaves client file (Phase.Live live) _ s is refl refl))
-    (λ ends. all_leaves client file (Phase.Live live) _ s is refl refl)
+    → TurnLeaves (client.entries file)
+    (offline_turn (parted_from live (filter (λ w. w.buffered) (sent_of client file ++ live.unsent)))
+    (without (λ w. w.buffered) (sent_of client file ++ live.unsent)))
+kept_leaves client file live s is = record {
+  each = settles Settlement.Unknown (without (λ w. w.buffered) (sent_of client file ++ live.unsent));
+  left = ap (λ ws. left_of (settled_as Settlement.Unknown
+      (without (λ w. w.buffered) (sent_of client file ++ live.unsent))) ws) (live_unanswered client file live is)
+      ∙ left_buffered Settlement.Unknown client.last_number (sent_of client file ++ live.unsent)
+      (ap (are_rising 0 client.last_number) (sym (live_unanswered client file live is)) ∙ rises_in client file s);
+  own = λ n e. ap (has_number n) (live_unanswered client file live is) ∙ within n (sent_of client file ++ live.unsent)
+      (sym (settles_these Settlement.Unknown (without (λ w. w.buffered) (sent_of client file ++ live.unsent)) n) ∙ e);
+}
   where
     within : (n : ℕ) (ws : List Pending) → has_number n (without (λ w. w.buffered) ws) ≡ true → has_number n ws ≡ true
     within n [] e = e
@@ -299,30 +266,30 @@ live_leaves client file live s is = if_cases (TurnLeaves (client.entries file)) 
         (or_true (w.number == n) (has_number n (without (λ y. y.buffered) ws)) h))
         (λ gone h. or_later (w.number == n) (has_number n ws) (within n ws h)) e
 
-notice_leaves : (client : Client) (file : ℕ) → IsSoundClient client → (phase : Phase)
-    → (client.entries file).phase ≡ phase → TurnLeaves (client.entries file) (notice_turn (sent_of client file) phase)
-notice_leaves client file s Phase.Closed is = all_leaves client file Phase.Closed _ s is
-    (ap (settled_as Settlement.Unknown) (sym (append_none (sent_of client file)))) refl
-notice_leaves client file s (Phase.Opening access share) is = all_leaves client file (Phase.Opening access share) _ s is
-    (ap (settled_as Settlement.Unknown) (sym (append_none (sent_of client file)))) refl
-notice_leaves client file s (Phase.Live live) is = live_leaves client file live s is
-notice_leaves client file s (Phase.Offline parted) is = parted_leaves client file (Phase.Offline parted) parted.writes s is
-    refl (subst (IsSoundPhase client.is_online (sent_of client file)) is (s.entries file)).1 _ refl refl
-notice_leaves client file s (Phase.Reconnecting parted) is = parted_leaves client file (Phase.Reconnecting parted)
-    parted.writes s is refl (subst (IsSoundPhase client.is_online (sent_of client file)) is (s.entries file)).1 _ refl refl
+notices_leave : (client : Client) (file : ℕ) → IsSoundClient client → HasNotices (sent_of client file)
+    (λ phase turn. (client.entries file).phase ≡ phase → TurnLeaves (client.entries file) turn)
+notices_leave client file s = record {
+  closed = λ is. all_leaves client file Phase.Closed _ s is none_unsent refl;
+  opening = λ access share is. all_leaves client file (Phase.Opening access share) _ s is none_unsent refl;
+  ended = λ live is. all_leaves client file (Phase.Live live) _ s is refl refl;
+  kept = λ live writes is. kept_leaves client file live s is;
+  bare = λ live none is. all_leaves client file (Phase.Live live) _ s is refl refl;
+  offline = λ parted is. parted_leaves client file (Phase.Offline parted) parted.writes s is refl
+      (sound_as client s.entries file (Phase.Offline parted) is).1 _ refl refl;
+  reconnecting = λ parted is. parted_leaves client file (Phase.Reconnecting parted) parted.writes s is refl
+      (sound_as client s.entries file (Phase.Reconnecting parted) is).1 _ refl refl;
+}
+  where
+    none_unsent : settled_as Settlement.Unknown (sent_of client file)
+        ≡ settled_as Settlement.Unknown (sent_of client file ++ [])
+    none_unsent = ap (settled_as Settlement.Unknown) (sym (append_none (sent_of client file)))
 
 connect_leaves : (client : Client) (file : ℕ) (phase : Phase) → (client.entries file).phase ≡ phase
     → TurnLeaves (client.entries file) (connect_turn client file (sent_of client file) phase)
 connect_leaves client file Phase.Closed is =
     quiet_leaves (client.entries file) _ refl (phase_unanswered client file Phase.Closed is)
-connect_leaves client file (Phase.Opening access share) is =
-    quiet_leaves (client.entries file) _ refl (phase_unanswered client file (Phase.Opening access share) is)
-connect_leaves client file (Phase.Live live) is =
-    quiet_leaves (client.entries file) _ refl (phase_unanswered client file (Phase.Live live) is)
-connect_leaves client file (Phase.Offline parted) is =
-    quiet_leaves (client.entries file) _ refl (phase_unanswered client file (Phase.Offline parted) is)
-connect_leaves client file (Phase.Reconnecting parted) is =
-    quiet_leaves (client.entries file) _ refl (phase_unanswered client file (Phase.Reconnecting parted) is)
+connect_leaves client file phase is =
+    quiet_leaves (client.entries file) _ refl (phase_unanswered client file phase is)
 
 -- every entry has a turn
 flat_none : (notes : ℕ → List Note) (files : List ℕ) → ((file : ℕ) → EachNote IsPlainNote (notes file))
@@ -396,16 +363,14 @@ call_tells_writes client (ClientCall.Commanded command) s =
 call_tells_writes client (ClientCall.Taken reply) s =
     any_reply client (λ r step. LeavesWrites client step) (takes_tell client s) reply
 call_tells_writes client ClientCall.Noticed s = all_tell client false (λ file entry. notice_turn entry.sent entry.phase) s
-    (λ file. notice_leaves client file s (client.entries file).phase refl)
+    (λ file. any_notice (sent_of client file) _ (notices_leave client file s) (client.entries file).phase refl)
 call_tells_writes client ClientCall.Connected s = all_tell client true
     (λ file entry. connect_turn client file entry.sent entry.phase) s
     (λ file. connect_leaves client file (client.entries file).phase refl)
 
 tells_so : (client : Client) (call : ClientCall) (step : Step) → CallTells client call step → TellsWrites client step
 tells_so client (ClientCall.Commanded command) step t = t
-tells_so client (ClientCall.Taken reply) step t = TellsWrites.Leaves t
-tells_so client ClientCall.Noticed step t = TellsWrites.Leaves t
-tells_so client ClientCall.Connected step t = TellsWrites.Leaves t
+tells_so client call step t = TellsWrites.Leaves t
 
 -- ---- all moves
 
@@ -425,15 +390,12 @@ others_writes : (client c file : ℕ) (past : List Fact) (notes : List Note) →
     → open_writes c file (past_noted client past notes) ≡ open_writes c file past
 unfolding open_writes
 others_writes client c file past [] apart = refl
-others_writes client c file past (Note.Settled number outcome ∷ notes) apart =
-    others_writes client c file (fact_of client (Note.Settled number outcome) ∷ past) notes apart ∙ rw (apart) refl
-others_writes client c file past (Note.Wrote f number patch buffered ∷ notes) apart =
-    others_writes client c file (fact_of client (Note.Wrote f number patch buffered) ∷ past) notes apart
-    ∙ rw (apart) refl
 others_writes client c file past (Note.Believes f state ∷ notes) apart =
     others_writes client c file (fact_of client (Note.Believes f state) ∷ past) notes apart
 others_writes client c file past (Note.CachedRead f bytes ∷ notes) apart =
     others_writes client c file (fact_of client (Note.CachedRead f bytes) ∷ past) notes apart
+others_writes client c file past (note ∷ notes) apart =
+    others_writes client c file (fact_of client note ∷ past) notes apart ∙ rw (apart) refl
 
 own_writes : (c : ℕ) (client : Client) (step : Step) (past : List Fact) → TellsWrites client step → (file : ℕ)
     → knows_file client file ≡ true → open_writes c file past ≡ unanswered_in (client.entries file)
@@ -482,7 +444,6 @@ writes_moves world (Move.Step step) next g h = λ c file known. ap (open_writes 
     ∙ told_writes c file world.past (step_taken step (begun world.server)).outs
     ∙ h c file (ap (λ (t : ℕ → Client). knows_file (t c) file) (sym (moved_clients world step)) ∙ known)
     ∙ ap (λ (t : ℕ → Client). unanswered_in ((t c).entries file)) (sym (moved_clients world step))
-writes_moves world (Move.Cut client) up g h = h
 writes_moves world (Move.Expire client file) (on, breaks) g h = h
 writes_moves world (Move.Scavenge file_id) may g h = h
 writes_moves world (Move.Connect client) down g h =
@@ -495,4 +456,4 @@ writes_moves world (Move.Take client reply queue) first g h = stepped_writes (re
 writes_moves world (Move.Notice client) cut g h =
     stepped_writes (record world { links = put world.links client Link.Down }) client
     ClientCall.Noticed (g.clients client) refl h
-writes_moves world (Move.Stray client request) up g h = h
+writes_moves world move up g h = h

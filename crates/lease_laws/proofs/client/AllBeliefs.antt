@@ -6,14 +6,14 @@ use Rattle.std.proofs.lemmas.Bool.Decides.{Decides-eqb}
 use Rattle.lease_state.specs.State.{State}
 use Rattle.lease_model.specs.client.Calls.{ClientCall, client_called}
 use Rattle.lease_model.specs.client.Commands.{Note, Settlement}
-use Rattle.lease_model.specs.client.Connection.{all_turned, live_parted, live_noticed, notice_turn, noticed, connect_turn, connection_made}
-use Rattle.lease_model.specs.client.State.{Client, Entry, LiveEntry, Pending, Phase, knows_file, belief, belief_in, belief_of}
+use Rattle.lease_model.specs.client.Connection.{all_turned, notice_turn, noticed, connect_turn, connection_made}
+use Rattle.lease_model.specs.client.State.{Client, Entry, Pending, Phase, knows_file, belief, belief_in, belief_of}
 use Rattle.lease_model.specs.client.Step.{Turn, believes_noted}
 use Rattle.lease_model.specs.values.Lists.{numbers_to, without}
 use Rattle.lease_laws.specs.client.Laws.{believed_after}
+use Rattle.lease_laws.proofs.client.cases.Links.{HasNotices, any_notice}
 use Rattle.lease_laws.proofs.client.Beliefs.{AreSettlements, settled_settle, settle_pass, noted_own, noted_other, commanded_behaves, taken_tells}
 use Rattle.lease_laws.proofs.client.InFiles.{InFiles}
-use Rattle.lease_laws.proofs.client.Words.{if_either}
 use Rattle.lease_laws.proofs.server.Lists.{either, clash}
 
 -- one list of notes behind another
@@ -125,17 +125,17 @@ all_tell client online turn settles unknown file =
 
 -- ---- a lost connection, and a new one
 
-live_settles : (live : LiveEntry) (sent : List Pending) → AreSettlements (live_noticed live sent).settled
-unfolding live_noticed live_parted
-live_settles live sent = if_either (λ (t : Turn). AreSettlements t.settled) live.durable _ _
-    (if_either (λ (t : Turn). AreSettlements t.settled) live.belief.write _ _
-    (settled_settle Settlement.Unknown (without (λ write. write.buffered) (sent ++ live.unsent)))
-    (settled_settle Settlement.Unknown (sent ++ live.unsent)))
-    (settled_settle Settlement.Unknown (sent ++ live.unsent))
-
-notice_settles : (sent : List Pending) (phase : Phase) → AreSettlements (notice_turn sent phase).settled
-notice_settles sent (Phase.Live live) = live_settles live sent
-notice_settles sent phase = settled_settle Settlement.Unknown sent
+notices_settle : (sent : List Pending) → HasNotices sent (λ phase turn. AreSettlements turn.settled)
+notices_settle sent = record {
+  closed = settled_settle Settlement.Unknown sent;
+  opening = λ access share. settled_settle Settlement.Unknown sent;
+  ended = λ live. settled_settle Settlement.Unknown (sent ++ live.unsent);
+  kept = λ live writes.
+      settled_settle Settlement.Unknown (without (λ write. write.buffered) (sent ++ live.unsent));
+  bare = λ live none. settled_settle Settlement.Unknown (sent ++ live.unsent);
+  offline = λ parted. settled_settle Settlement.Unknown sent;
+  reconnecting = λ parted. settled_settle Settlement.Unknown sent;
+}
 
 connect_settles : (client : Client) (file : ℕ) (sent : List Pending) (phase : Phase)
     → AreSettlements (connect_turn client file sent phase).settled
@@ -162,7 +162,7 @@ called-beliefs client (ClientCall.Commanded command) closed = (commanded_behaves
 called-beliefs client (ClientCall.Taken reply) closed = (taken_tells client reply).tells
 called-beliefs client ClientCall.Noticed closed = all_tell client false
     (λ file entry. notice_turn entry.sent entry.phase)
-    (λ file. notice_settles (client.entries file).sent (client.entries file).phase)
+    (λ file. any_notice (client.entries file).sent _ (notices_settle (client.entries file).sent) (client.entries file).phase)
     (λ file unknown. notice_closed (client.entries file).sent (client.entries file).phase (closed file unknown))
 called-beliefs client ClientCall.Connected closed = all_tell client true
     (λ file entry. connect_turn client file entry.sent entry.phase)

@@ -1,5 +1,5 @@
 -- Words on tests, tables and writes, and what becomes of one entry of a client.
-use Rattle.std.proofs.Common.{◌≡◌, ◌≤◌, ℕ, zero, suc, Bool, true, false, List, [], ◌∷◌, ◌++◌, Option, Some, None, refl, arith}
+use Rattle.std.proofs.Common.{◌≡◌, ◌≤◌, ℕ, zero, suc, Bool, true, false, List, [], ◌∷◌, ◌++◌, Option, Some, None, refl, arith, subst}
 use Rattle.std.specs.Prelude.{◌&&◌, ◌||◌, not, ◌==◌, if◌then◌else◌, filter, nat_lt}
 use Rattle.lease_laws.proofs.server.Lists.{if_cases, clash, and_parts, and_both}
 use Rattle.lease_state.specs.State.{State}
@@ -62,6 +62,10 @@ or_neither false b e = refl
 -- the part of the laws that speaks of one entry
 abbrev pub HasSoundEntries : Client → Type 0
 HasSoundEntries client = (file : ℕ) → IsSoundEntry client.is_online (client.entries file)
+
+pub sound_as : (client : Client) → HasSoundEntries client → (file : ℕ) (phase : Phase)
+    → (client.entries file).phase ≡ phase → IsSoundPhase client.is_online (client.entries file).sent phase
+sound_as client sound file phase is = subst (IsSoundPhase client.is_online (client.entries file).sent) is (sound file)
 
 -- no base is patched where there is none
 pub base_with-none : (write : Option Pending) (base : Option (List ℕ)) → base ≡ None → base_with write base ≡ None

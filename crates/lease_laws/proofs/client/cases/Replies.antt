@@ -1,7 +1,7 @@
 -- What a reply makes of a client: each of the forms, with what is known of it. Whatever holds of each form holds of
 -- every reply.
-use Rattle.std.proofs.Common.{◌≡◌, ◌⊎◌, inl, inr, ℕ, Bool, true, false, List, [], length, Option, Some, None, refl, sym, ap, ◌∙◌, subst, ◌==◌}
-use Rattle.std.specs.Prelude.{⊤, is_some, not, nat_le}
+use Rattle.std.proofs.Common.{◌≡◌, ◌⊎◌, inl, inr, ℕ, Bool, true, false, List, [], length, Option, Some, None, refl, sym, ap, subst, ◌==◌, ◌∷◌}
+use Rattle.std.specs.Prelude.{⊤, is_some, not, nat_le, ◌&&◌}
 use Rattle.std.proofs.lemmas.Bool.{eqb-true}
 use Rattle.lease_state.specs.declared.access.Access.{Access}
 use Rattle.lease_state.specs.declared.access.Share.{Share}
@@ -9,24 +9,30 @@ use Rattle.lease_state.specs.declared.content.TheConstants.{FILE_LIMIT}
 use Rattle.lease_state.specs.declared.status.Status.{Status}
 use Rattle.lease_model.specs.client.State.{Client, LiveEntry, Asked, Parted, Phase, live_entry, lease_key, knows_file}
 use Rattle.lease_model.specs.client.Step.{Step, turned, quiet_step}
-use Rattle.lease_model.specs.client.Taken.{taken, on_file, file_where, is_key_of, break_turn, broken, break_on, create_answered, created_on, created_on_live, created_for, opened_turn, reconnected_turn, promoted_turn, promoted_belief, first_belief, still_open, failed_turn, create_failed, failed_on, create_failed_on_live, create_failed_for, read_answered, read_on, read_turn, reads_under, read_failed, read_failed_on, read_failed_turn, has_sent, write_done, write_done_turn, write_failed, write_failed_in, sent_without}
+use Rattle.lease_model.specs.client.Commands.{Note, Settlement}
+use Rattle.lease_model.specs.client.Taken.{taken, parked_closed, belief_lowered, closed_by_server, is_file_closed, one_read_less, on_file, file_where, is_key_of, break_turn, broken, break_on, create_answered, created_on, created_on_live, created_for, opened_turn, reconnected_turn, promoted_turn, promoted_belief, first_belief, still_open, failed_turn, create_failed, failed_on, create_failed_on_live, create_failed_for, read_answered, read_on, read_turn, reads_under, read_failed, read_failed_on, read_failed_turn, has_sent, write_done, write_done_turn, write_failed, write_failed_in, sent_without}
 use Rattle.lease_model.specs.messages.Replies.{Reply, BreakNotice, CreateAnswer}
 use Rattle.lease_model.specs.values.LeaseStates.{meet}
-use Rattle.lease_model.specs.values.Lists.{numbers_to}
-use Rattle.lease_laws.proofs.client.InFiles.{found_known}
-use Rattle.lease_laws.proofs.server.Lists.{if_cases, and_parts, not_parts, find_has}
-use Rattle.lease_coherence.specs.Creates.{has_asked}
-use Rattle.lease_coherence.proofs.clients.Commands.{sent_of}
+use Rattle.lease_laws.proofs.client.cases.Commands.{sent_of}
+use Rattle.lease_laws.proofs.client.cases.Files.{found_known, found_so}
+use Rattle.lease_laws.proofs.server.Lists.{if_cases, and_parts, not_parts}
 
 abbrev pub is_live : Phase → Bool
 is_live (Phase.Live live) = true
 is_live phase = false
 
+-- an entry waits for no answer to a create
+abbrev pub AwaitsNone : Phase → Type 0
+AwaitsNone (Phase.Opening access share) = ⊥
+AwaitsNone (Phase.Live live) = is_some live.asking ≡ false
+AwaitsNone (Phase.Reconnecting parted) = ⊥
+AwaitsNone phase = ⊤
+
 -- why a reply is passed over
 abbrev pub PassesOver : Client → Reply → Type 0
 PassesOver client (Reply.Created file file_id None) = ⊤
-PassesOver client (Reply.Created file file_id (Some answer)) = has_asked (client.entries file).phase ≡ false
-PassesOver client (Reply.CreateFailed file status) = has_asked (client.entries file).phase ≡ false
+PassesOver client (Reply.Created file file_id (Some answer)) = AwaitsNone (client.entries file).phase
+PassesOver client (Reply.CreateFailed file status) = AwaitsNone (client.entries file).phase
 PassesOver client (Reply.ReadDone file_id bytes) = (nat_le (length bytes) FILE_LIMIT ≡ false)
     ⊎ (file_where client (λ file. reads_under file_id (client.entries file).phase) ≡ None)
 PassesOver client (Reply.ReadFailed file_id status) =
@@ -43,11 +49,17 @@ PassesOver client reply = ⊤
 
 pub record HasTakes (client : Client) (P : Reply → Step → Type 0) : Type 0 where
   pub passed : (reply : Reply) → PassesOver client reply → P reply (quiet_step client)
-  pub broken : (file : ℕ) (notice : BreakNotice) (live : LiveEntry)
+  pub parked_closes : (file : ℕ) (notice : BreakNotice) (live : LiveEntry)
       → file_where client (is_key_of client notice.key) ≡ Some file
       → (client.entries file).phase ≡ Phase.Live live
-      → P (Reply.Break (Some notice))
-      (turned client file (break_turn live (sent_of client file) notice (meet live.belief notice.lowered)))
+      → (live.handles == 0 && (live.belief.handle && not (meet live.belief notice.lowered).handle)) ≡ true
+      → P (Reply.Break (Some notice)) (turned client file (parked_closed live (sent_of client file)))
+  pub lowered : (file : ℕ) (notice : BreakNotice) (live : LiveEntry)
+      → file_where client (is_key_of client notice.key) ≡ Some file
+      → (client.entries file).phase ≡ Phase.Live live
+      → (live.handles == 0 && (live.belief.handle && not (meet live.belief notice.lowered).handle)) ≡ false
+      → P (Reply.Break (Some notice)) (turned client file
+      (belief_lowered live (sent_of client file) notice (meet live.belief notice.lowered)))
   pub opened : (file file_id : ℕ) (answer : CreateAnswer) (access : Access) (share : Share)
       → (client.entries file).phase ≡ Phase.Opening access share
       → P (Reply.Created file file_id (Some answer)) (turned client file
@@ -75,35 +87,52 @@ pub record HasTakes (client : Client) (P : Reply → Step → Type 0) : Type 0 w
   pub read : (file file_id : ℕ) (bytes : List ℕ) (live : LiveEntry) → (client.entries file).phase ≡ Phase.Live live
       → live.file_id ≡ file_id → (live.reads == 0) ≡ false
       → P (Reply.ReadDone file_id bytes) (turned client file (read_turn live (sent_of client file) bytes))
+  pub read_closed : (file file_id : ℕ) (status : Status) (live : LiveEntry)
+      → (client.entries file).phase ≡ Phase.Live live → live.file_id ≡ file_id → is_file_closed status ≡ true
+      → P (Reply.ReadFailed file_id status)
+      (turned client file (closed_by_server live (sent_of client file) [] status))
   pub not_read : (file file_id : ℕ) (status : Status) (live : LiveEntry)
       → (client.entries file).phase ≡ Phase.Live live → live.file_id ≡ file_id → (live.reads == 0) ≡ false
-      → P (Reply.ReadFailed file_id status)
-      (turned client file (read_failed_turn live (sent_of client file) status))
+      → P (Reply.ReadFailed file_id status) (turned client file
+      (still_open (live_entry (record live { reads = one_read_less live.reads }) (sent_of client file)) [] status))
   pub written : (file file_id number : ℕ) → has_sent client number file ≡ true → knows_file client file ≡ true
       → P (Reply.WriteDone file_id number)
       (turned client file (write_done_turn number (client.entries file)))
+  pub write_closed : (file file_id number : ℕ) (status : Status) (live : LiveEntry)
+      → has_sent client number file ≡ true → knows_file client file ≡ true
+      → (client.entries file).phase ≡ Phase.Live live → live.file_id ≡ file_id → is_file_closed status ≡ true
+      → P (Reply.WriteFailed file_id number status) (turned client file
+      (closed_by_server live (sent_without number (sent_of client file))
+      (Note.Settled number Settlement.Failed ∷ []) status))
   pub not_written : (file file_id number : ℕ) (status : Status) → has_sent client number file ≡ true
       → knows_file client file ≡ true
-      → P (Reply.WriteFailed file_id number status) (turned client file
-      (write_failed_in file_id number status (sent_without number (sent_of client file)) (client.entries file).phase))
+      → P (Reply.WriteFailed file_id number status) (turned client file (still_open (record {
+        phase = (client.entries file).phase;
+        sent = sent_without number (sent_of client file);
+      }) (Note.Settled number Settlement.Failed ∷ []) status))
 
 -- ---- every reply has one of them
 
-pub found_so : (client : Client) (test : ℕ → Bool) (file : ℕ) → file_where client test ≡ Some file → test file ≡ true
-found_so client test file e = (find_has test file (numbers_to client.files) e).1
+live_break : (client : Client) (P : Reply → Step → Type 0) → HasTakes client P → (file : ℕ) (notice : BreakNotice)
+    (live : LiveEntry) → file_where client (is_key_of client notice.key) ≡ Some file
+    → (client.entries file).phase ≡ Phase.Live live
+    → P (Reply.Break (Some notice)) (turned client file
+    (break_turn live (sent_of client file) notice (meet live.belief notice.lowered)))
+unfolding break_turn
+live_break client P h file notice live at e =
+    let new = meet live.belief notice.lowered in
+    if_cases (λ turn. P (Reply.Break (Some notice)) (turned client file turn))
+    (live.handles == 0 && (live.belief.handle && not new.handle)) (parked_closed live (sent_of client file))
+    (belief_lowered live (sent_of client file) notice new)
+    (λ parked. h.parked_closes file notice live at e parked)
+    (λ stays. h.lowered file notice live at e stays)
 
 break_take : (client : Client) (P : Reply → Step → Type 0) → HasTakes client P → (file : ℕ) (notice : BreakNotice)
     → file_where client (is_key_of client notice.key) ≡ Some file → (phase : Phase)
     → (client.entries file).phase ≡ phase
     → P (Reply.Break (Some notice)) (break_on client file notice (sent_of client file) phase)
-break_take client P h file notice at Phase.Closed e =
-    h.passed (Reply.Break (Some notice)) (inr (file, at, ap is_live e))
-break_take client P h file notice at (Phase.Opening access share) e =
-    h.passed (Reply.Break (Some notice)) (inr (file, at, ap is_live e))
-break_take client P h file notice at (Phase.Live live) e = h.broken file notice live at e
-break_take client P h file notice at (Phase.Offline parted) e =
-    h.passed (Reply.Break (Some notice)) (inr (file, at, ap is_live e))
-break_take client P h file notice at (Phase.Reconnecting parted) e =
+break_take client P h file notice at (Phase.Live live) e = live_break client P h file notice live at e
+break_take client P h file notice at phase e =
     h.passed (Reply.Break (Some notice)) (inr (file, at, ap is_live e))
 
 broken_take : (client : Client) (P : Reply → Step → Type 0) → HasTakes client P → (notice : Option BreakNotice)
@@ -124,7 +153,7 @@ live_create : (client : Client) (P : Reply → Step → Type 0) → HasTakes cli
     → P (Reply.Created file file_id (Some answer))
     (created_for client file live (sent_of client file) file_id answer asking)
 live_create client P h file file_id answer live e None a =
-    h.passed (Reply.Created file file_id (Some answer)) (ap has_asked e ∙ idle live.asking a)
+    h.passed (Reply.Created file file_id (Some answer)) (subst AwaitsNone (sym e) (idle live.asking a))
   where
     idle : (asking : Option Asked) → asking ≡ None → is_some asking ≡ false
     idle None e = refl
@@ -135,14 +164,12 @@ create_take : (client : Client) (P : Reply → Step → Type 0) → HasTakes cli
     (answer : CreateAnswer) (phase : Phase) → (client.entries file).phase ≡ phase
     → P (Reply.Created file file_id (Some answer)) (created_on client file file_id answer (sent_of client file) phase)
 unfolding created_on_live
-create_take client P h file file_id answer Phase.Closed e =
-    h.passed (Reply.Created file file_id (Some answer)) (ap has_asked e)
 create_take client P h file file_id answer (Phase.Opening access share) e = h.opened file file_id answer access share e
 create_take client P h file file_id answer (Phase.Live live) e =
     live_create client P h file file_id answer live e live.asking refl
-create_take client P h file file_id answer (Phase.Offline parted) e =
-    h.passed (Reply.Created file file_id (Some answer)) (ap has_asked e)
 create_take client P h file file_id answer (Phase.Reconnecting parted) e = h.reconnected file file_id answer parted e
+create_take client P h file file_id answer phase e =
+    h.passed (Reply.Created file file_id (Some answer)) (subst AwaitsNone (sym e) tt)
 
 created_take : (client : Client) (P : Reply → Step → Type 0) → HasTakes client P → (file file_id : ℕ)
     (contexts : Option CreateAnswer)
@@ -156,7 +183,7 @@ live_fails : (client : Client) (P : Reply → Step → Type 0) → HasTakes clie
     (live : LiveEntry) → (client.entries file).phase ≡ Phase.Live live → (asking : Option Asked) → live.asking ≡ asking
     → P (Reply.CreateFailed file status) (create_failed_for client file live (sent_of client file) status asking)
 live_fails client P h file status live e None a =
-    h.passed (Reply.CreateFailed file status) (ap has_asked e ∙ idle live.asking a)
+    h.passed (Reply.CreateFailed file status) (subst AwaitsNone (sym e) (idle live.asking a))
   where
     idle : (asking : Option Asked) → asking ≡ None → is_some asking ≡ false
     idle None e = refl
@@ -167,23 +194,19 @@ failed_take : (client : Client) (P : Reply → Step → Type 0) → HasTakes cli
     (phase : Phase) → (client.entries file).phase ≡ phase
     → P (Reply.CreateFailed file status) (failed_on client file status (sent_of client file) phase)
 unfolding create_failed_on_live
-failed_take client P h file status Phase.Closed e = h.passed (Reply.CreateFailed file status) (ap has_asked e)
 failed_take client P h file status (Phase.Opening access share) e = h.not_opened file status access share e
 failed_take client P h file status (Phase.Live live) e = live_fails client P h file status live e live.asking refl
-failed_take client P h file status (Phase.Offline parted) e = h.passed (Reply.CreateFailed file status) (ap has_asked e)
 failed_take client P h file status (Phase.Reconnecting parted) e = h.not_reconnected file status parted e
+failed_take client P h file status phase e = h.passed (Reply.CreateFailed file status) (subst AwaitsNone (sym e) tt)
 
 -- an entry that reads under the FileId is live
 reads_so : (phase : Phase) (file_id : ℕ) (P : Type 0) → reads_under file_id phase ≡ true
     → ((live : LiveEntry) → phase ≡ Phase.Live live → live.file_id ≡ file_id → (live.reads == 0) ≡ false → P) → P
-reads_so Phase.Closed file_id P e k = let c : ⊥ = cc in absurd c
-reads_so (Phase.Opening access share) file_id P e k = let c : ⊥ = cc in absurd c
 reads_so (Phase.Live live) file_id P e k =
     let parts = and_parts (live.file_id == file_id) (not (live.reads == 0)) e in
     k live refl (eqb-true live.file_id file_id parts.0)
     (not_parts (live.reads == 0) parts.1)
-reads_so (Phase.Offline parted) file_id P e k = let c : ⊥ = cc in absurd c
-reads_so (Phase.Reconnecting parted) file_id P e k = let c : ⊥ = cc in absurd c
+reads_so phase file_id P e k = let c : ⊥ = cc in absurd c
 
 read_take : (client : Client) (P : Reply → Step → Type 0) → HasTakes client P → (file_id : ℕ) (bytes : List ℕ)
     → P (Reply.ReadDone file_id bytes) (read_answered client file_id bytes)
@@ -204,6 +227,17 @@ read_take client P h file_id bytes = if_cases (P (Reply.ReadDone file_id bytes))
         (λ phase. P (Reply.ReadDone file_id bytes) (read_on client file bytes (client.entries file).sent phase))
         (sym is) (h.read file file_id bytes live is id some))
 
+failed_read : (client : Client) (P : Reply → Step → Type 0) → HasTakes client P → (file file_id : ℕ)
+    (status : Status) (live : LiveEntry) → (client.entries file).phase ≡ Phase.Live live → live.file_id ≡ file_id
+    → (live.reads == 0) ≡ false
+    → P (Reply.ReadFailed file_id status)
+    (turned client file (read_failed_turn live (sent_of client file) status))
+unfolding read_failed_turn
+failed_read client P h file file_id status live is id some =
+    if_cases (λ turn. P (Reply.ReadFailed file_id status) (turned client file turn)) (is_file_closed status) _ _
+    (λ gone. h.read_closed file file_id status live is id gone)
+    (λ there. h.not_read file file_id status live is id some)
+
 fail_take : (client : Client) (P : Reply → Step → Type 0) → HasTakes client P → (file_id : ℕ) (status : Status)
     → P (Reply.ReadFailed file_id status) (read_failed client file_id status)
 unfolding read_failed
@@ -220,7 +254,7 @@ fail_take client P h file_id status =
         (λ live is id some. subst
         (λ phase. P (Reply.ReadFailed file_id status)
         (read_failed_on client file status (client.entries file).sent phase))
-        (sym is) (h.not_read file file_id status live is id some))
+        (sym is) (failed_read client P h file file_id status live is id some))
 
 done_take : (client : Client) (P : Reply → Step → Type 0) → HasTakes client P → (file_id number : ℕ)
     → P (Reply.WriteDone file_id number) (write_done client number)
@@ -234,6 +268,32 @@ done_take client P h file_id number = on_found (file_where client (has_sent clie
     on_found (Some file) e = h.written file file_id number (found_so client (has_sent client number) file e)
         (found_known client (has_sent client number) file e)
 
+still_written : (client : Client) (P : Reply → Step → Type 0) → HasTakes client P → (file file_id number : ℕ)
+    (status : Status) → has_sent client number file ≡ true → knows_file client file ≡ true → (phase : Phase)
+    → (client.entries file).phase ≡ phase
+    → P (Reply.WriteFailed file_id number status) (turned client file (still_open
+    (record { phase = phase; sent = sent_without number (sent_of client file) })
+    (Note.Settled number Settlement.Failed ∷ []) status))
+still_written client P h file file_id number status at known phase is = subst
+    (λ p. P (Reply.WriteFailed file_id number status) (turned client file (still_open
+    (record { phase = p; sent = sent_without number (sent_of client file) })
+    (Note.Settled number Settlement.Failed ∷ []) status)))
+    is (h.not_written file file_id number status at known)
+
+failed_write : (client : Client) (P : Reply → Step → Type 0) → HasTakes client P → (file file_id number : ℕ)
+    (status : Status) → has_sent client number file ≡ true → knows_file client file ≡ true → (phase : Phase)
+    → (client.entries file).phase ≡ phase
+    → P (Reply.WriteFailed file_id number status) (turned client file
+    (write_failed_in file_id number status (sent_without number (sent_of client file)) phase))
+failed_write client P h file file_id number status at known (Phase.Live live) is =
+    if_cases (λ turn. P (Reply.WriteFailed file_id number status) (turned client file turn))
+    (is_file_closed status && live.file_id == file_id) _ _
+    (λ gone. let parts = and_parts (is_file_closed status) (live.file_id == file_id) gone in
+    h.write_closed file file_id number status live at known is (eqb-true live.file_id file_id parts.1) parts.0)
+    (λ there. still_written client P h file file_id number status at known (Phase.Live live) is)
+failed_write client P h file file_id number status at known phase is =
+    still_written client P h file file_id number status at known phase is
+
 write_take : (client : Client) (P : Reply → Step → Type 0) → HasTakes client P → (file_id number : ℕ)
     (status : Status) → P (Reply.WriteFailed file_id number status) (write_failed client file_id number status)
 unfolding write_failed
@@ -245,8 +305,8 @@ write_take client P h file_id number status = on_found (file_where client (has_s
         (sent_without number (client.entries file).sent) (client.entries file).phase)))
     on_found None e = h.passed (Reply.WriteFailed file_id number status) e
     on_found (Some file) e =
-        h.not_written file file_id number status (found_so client (has_sent client number) file e)
-        (found_known client (has_sent client number) file e)
+        failed_write client P h file file_id number status (found_so client (has_sent client number) file e)
+        (found_known client (has_sent client number) file e) (client.entries file).phase refl
 
 pub any_reply : (client : Client) (P : Reply → Step → Type 0) → HasTakes client P → (reply : Reply)
     → P reply (taken client reply)
@@ -258,8 +318,5 @@ any_reply client P h (Reply.ReadDone file_id bytes) = read_take client P h file_
 any_reply client P h (Reply.ReadFailed file_id status) = fail_take client P h file_id status
 any_reply client P h (Reply.WriteDone file_id number) = done_take client P h file_id number
 any_reply client P h (Reply.WriteFailed file_id number status) = write_take client P h file_id number status
-any_reply client P h (Reply.Closed file_id) = h.passed (Reply.Closed file_id) tt
-any_reply client P h (Reply.CloseFailed file_id status) = h.passed (Reply.CloseFailed file_id status) tt
 any_reply client P h (Reply.Break notice) = broken_take client P h notice
-any_reply client P h (Reply.AckDone response) = h.passed (Reply.AckDone response) tt
-any_reply client P h (Reply.AckFailed status) = h.passed (Reply.AckFailed status) tt
+any_reply client P h reply = h.passed reply tt

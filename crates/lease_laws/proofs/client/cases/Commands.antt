@@ -87,10 +87,7 @@ closed_command : (client : Client) (P : Step → Type 0) → HasCommands client 
     → P (on_closed client file (sent_of client file) command)
 closed_command client P h file (Command.Open _ terms) same is = if_cases P client.is_online _
     (refused_step client Refusal.Offline) (λ on. h.opening file terms is on) (λ off. h.refused Refusal.Offline)
-closed_command client P h file (Command.Close _) same is = h.refused Refusal.NotOpen
-closed_command client P h file (Command.Read _) same is = h.refused Refusal.NotOpen
-closed_command client P h file (Command.Write _ patch) same is = h.refused Refusal.NotOpen
-closed_command client P h file (Command.Flush _) same is = h.refused Refusal.NotOpen
+closed_command client P h file command same is = h.refused Refusal.NotOpen
 
 other_command : (client : Client) (P : Step → Type 0) → HasCommands client P → (file : ℕ) (live : LiveEntry)
     (terms : OpenTerms) → IsEntry client file (Phase.Live live) → is_asking live ≡ false
@@ -194,10 +191,9 @@ entry_command : (client : Client) (P : Step → Type 0) → HasCommands client P
     → file_of command ≡ file → (phase : Phase) → IsEntry client file phase
     → P (on_entry client file command (sent_of client file) phase)
 entry_command client P h file command same Phase.Closed is = closed_command client P h file command same is
-entry_command client P h file command same (Phase.Opening access share) is = h.refused Refusal.Busy
 entry_command client P h file command same (Phase.Live live) is = live_command client P h file live command is
 entry_command client P h file command same (Phase.Offline parted) is = h.refused Refusal.Offline
-entry_command client P h file command same (Phase.Reconnecting parted) is = h.refused Refusal.Busy
+entry_command client P h file command same phase is = h.refused Refusal.Busy
 
 pub any_command : (client : Client) (P : Step → Type 0) → HasCommands client P → (command : Command)
     → P (commanded client command)

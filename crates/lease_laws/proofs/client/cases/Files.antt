@@ -1,4 +1,4 @@
--- Where no file of a client passes a test.
+-- The files of a client: which of them passes a test, and where none does.
 use Rattle.std.proofs.Common.{◌≡◌, inl, ⊎_elim, ℕ, zero, suc, Bool, true, false, List, [], ◌∷◌, Option, Some, None, ap, ◌∙◌, arith, ◌==◌}
 use Rattle.std.specs.Prelude.{◌&&◌, nat_le, find}
 use Rattle.std.proofs.lemmas.Bool.{eqb-true}
@@ -6,8 +6,32 @@ use Rattle.lease_model.specs.client.State.{Client, knows_file}
 use Rattle.lease_model.specs.client.Taken.{file_where}
 use Rattle.lease_model.specs.values.Lists.{numbers_to}
 use Rattle.lease_laws.specs.server.Laws.{Among}
-use Rattle.lease_laws.proofs.server.Lists.{if_cases, either, among_before, among_behind}
+use Rattle.lease_laws.proofs.server.Lists.{if_cases, either, among_append, among_before, among_behind, find_has}
 
+-- the numbers to n are at least 1 and at most n
+pub numbers_known : (n file : ℕ) → Among file (numbers_to n) → (nat_le 1 file && nat_le file n) ≡ true
+numbers_known zero file a = absurd a
+numbers_known (suc n) file a = ⊎_elim
+    (λ earlier. higher file n (numbers_known n file earlier))
+    (λ last. ⊎_elim (λ same. ap (λ f. nat_le 1 f && nat_le f (suc n)) same ∙ highest n) (λ never. absurd never) last)
+    (among_append file (numbers_to n) (suc n ∷ []) a)
+  where
+    higher : (f m : ℕ) → (nat_le 1 f && nat_le f m) ≡ true → (nat_le 1 f && nat_le f (suc m)) ≡ true
+    higher f m e = grind arith
+
+    highest : (m : ℕ) → (nat_le 1 (suc m) && nat_le (suc m) (suc m)) ≡ true
+    highest m = grind arith
+
+-- the file that is found is known
+pub found_known : (client : Client) (test : ℕ → Bool) (file : ℕ) → file_where client test ≡ Some file
+    → knows_file client file ≡ true
+found_known client test file e = numbers_known client.files file
+    (find_has test file (numbers_to client.files) e).0
+
+pub found_so : (client : Client) (test : ℕ → Bool) (file : ℕ) → file_where client test ≡ Some file → test file ≡ true
+found_so client test file e = (find_has test file (numbers_to client.files) e).1
+
+-- and a known file is among the numbers
 pub among_numbers : (n file : ℕ) → (nat_le 1 file && nat_le file n) ≡ true → Among file (numbers_to n)
 among_numbers zero file e = absurd (none file e)
   where

@@ -1,3 +1,4 @@
 pub mod Commands
 pub mod Files
-pub mod Takes
+pub mod Links
+pub mod Replies

@@ -1,0 +1,40 @@
+-- What becomes of an entry where its client notices that the connection is lost: each of the forms, with what is
+-- known of it. Whatever holds of each form holds of every entry.
+use Rattle.std.proofs.Common.{◌≡◌, true, false, List, [], ◌++◌}
+use Rattle.std.specs.Prelude.{filter}
+use Rattle.lease_model.specs.client.Connection.{ended_turn, offline_turn, parted_from, live_parted, live_noticed, notice_turn}
+use Rattle.lease_model.specs.client.State.{LiveEntry, Parted, Pending, Phase}
+use Rattle.lease_model.specs.client.Step.{Turn}
+use Rattle.lease_model.specs.values.Lists.{without}
+use Rattle.lease_state.specs.declared.access.Access.{Access}
+use Rattle.lease_state.specs.declared.access.Share.{Share}
+use Rattle.lease_laws.proofs.server.Lists.{if_cases}
+
+--   closed, opening: nothing is kept, and of the sent writes nobody knows
+--   ended: a live entry that isn't durable goes, with all its writes
+--   kept: a durable one goes offline with its buffered writes
+--   bare: one without W goes offline, and keeps none
+--   offline, reconnecting: it is offline as before
+pub record HasNotices (sent : List Pending) (P : Phase → Turn → Type 0) : Type 0 where
+  pub closed : P Phase.Closed (ended_turn sent)
+  pub opening : (access : Access) (share : Share) → P (Phase.Opening access share) (ended_turn sent)
+  pub ended : (live : LiveEntry) → P (Phase.Live live) (ended_turn (sent ++ live.unsent))
+  pub kept : (live : LiveEntry) → live.belief.write ≡ true → P (Phase.Live live)
+      (offline_turn (parted_from live (filter (λ write. write.buffered) (sent ++ live.unsent)))
+      (without (λ write. write.buffered) (sent ++ live.unsent)))
+  pub bare : (live : LiveEntry) → live.belief.write ≡ false
+      → P (Phase.Live live) (offline_turn (parted_from live []) (sent ++ live.unsent))
+  pub offline : (parted : Parted) → P (Phase.Offline parted) (offline_turn parted sent)
+  pub reconnecting : (parted : Parted) → P (Phase.Reconnecting parted) (offline_turn parted sent)
+
+pub any_notice : (sent : List Pending) (P : Phase → Turn → Type 0) → HasNotices sent P → (phase : Phase)
+    → P phase (notice_turn sent phase)
+unfolding live_noticed live_parted
+any_notice sent P h Phase.Closed = h.closed
+any_notice sent P h (Phase.Opening access share) = h.opening access share
+any_notice sent P h (Phase.Live live) = if_cases (P (Phase.Live live)) live.durable (live_parted live sent) _
+    (λ durable. if_cases (P (Phase.Live live)) live.belief.write _ _
+    (λ writes. h.kept live writes) (λ none. h.bare live none))
+    (λ plain. h.ended live)
+any_notice sent P h (Phase.Offline parted) = h.offline parted
+any_notice sent P h (Phase.Reconnecting parted) = h.reconnecting parted
