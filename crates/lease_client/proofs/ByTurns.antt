@@ -52,10 +52,9 @@ open_on : (client : Client) (file : ℕ) (terms : OpenTerms) (sent : List Pendin
 open_on client file terms sent Phase.Closed e =
     either (turned client file) client.is_online _ _ _ _ refl
     (still_step client file _ (Answer.Refused Refusal.Offline) e)
-open_on client file terms sent (Phase.Opening access share) e = still_step client file _ (Answer.Refused Refusal.Busy) e
 open_on client file terms sent (Phase.Live live) e = open_live client file live sent terms e
 open_on client file terms sent (Phase.Offline parted) e = still_step client file _ (Answer.Refused Refusal.Offline) e
-open_on client file terms sent (Phase.Reconnecting parted) e = still_step client file _ (Answer.Refused Refusal.Busy) e
+open_on client file terms sent phase e = still_step client file _ (Answer.Refused Refusal.Busy) e
 
 -- ---- Close, Read and Flush
 
@@ -179,31 +178,22 @@ close_on : (client : Client) (file : ℕ) (sent : List Pending) (phase : Phase)
     → client.entries file ≡ record { phase = phase; sent = sent }
     → on_entry client file (Command.Close file) sent phase
     ≡ turned client file (rules.heard_in rules.close_turn sent phase)
-close_on client file sent Phase.Closed e = unheard client file sent Phase.Closed e
-close_on client file sent (Phase.Opening access share) e = unheard client file sent (Phase.Opening access share) e
 close_on client file sent (Phase.Live live) e = unless client file live sent _ _ e (close_live client file live sent e)
-close_on client file sent (Phase.Offline parted) e = unheard client file sent (Phase.Offline parted) e
-close_on client file sent (Phase.Reconnecting parted) e = unheard client file sent (Phase.Reconnecting parted) e
+close_on client file sent phase e = unheard client file sent phase e
 
 read_on : (client : Client) (file : ℕ) (sent : List Pending) (phase : Phase)
     → client.entries file ≡ record { phase = phase; sent = sent }
     → on_entry client file (Command.Read file) sent phase
     ≡ turned client file (rules.heard_in (rules.read_turn file) sent phase)
-read_on client file sent Phase.Closed e = unheard client file sent Phase.Closed e
-read_on client file sent (Phase.Opening access share) e = unheard client file sent (Phase.Opening access share) e
 read_on client file sent (Phase.Live live) e = unless client file live sent _ _ e (read_live client file live sent e)
-read_on client file sent (Phase.Offline parted) e = unheard client file sent (Phase.Offline parted) e
-read_on client file sent (Phase.Reconnecting parted) e = unheard client file sent (Phase.Reconnecting parted) e
+read_on client file sent phase e = unheard client file sent phase e
 
 flush_on : (client : Client) (file : ℕ) (sent : List Pending) (phase : Phase)
     → client.entries file ≡ record { phase = phase; sent = sent }
     → on_entry client file (Command.Flush file) sent phase
     ≡ turned client file (rules.heard_in rules.flush_turn sent phase)
-flush_on client file sent Phase.Closed e = unheard client file sent Phase.Closed e
-flush_on client file sent (Phase.Opening access share) e = unheard client file sent (Phase.Opening access share) e
 flush_on client file sent (Phase.Live live) e = unless client file live sent _ _ e (flush_live client file live sent)
-flush_on client file sent (Phase.Offline parted) e = unheard client file sent (Phase.Offline parted) e
-flush_on client file sent (Phase.Reconnecting parted) e = unheard client file sent (Phase.Reconnecting parted) e
+flush_on client file sent phase e = unheard client file sent phase e
 
 unheard_write : (client : Client) (file : ℕ) (sent : List Pending) (phase : Phase)
     → client.entries file ≡ record { phase = phase; sent = sent }
@@ -223,15 +213,9 @@ write_on : (client : Client) (file : ℕ) (patch : Patch) (sent : List Pending) 
     → on_entry client file (Command.Write file patch) sent phase
     ≡ wrote client file
     (rules.heard_in (λ live sent. rules.write_turn file live sent client.last_number patch) sent phase)
-write_on client file patch sent Phase.Closed e = unheard_write client file sent Phase.Closed e
-write_on client file patch sent (Phase.Opening access share) e =
-    unheard_write client file sent (Phase.Opening access share) e
 write_on client file patch sent (Phase.Live live) e =
     unless_write client file live sent _ _ e (write_live client file live sent patch e)
-write_on client file patch sent (Phase.Offline parted) e =
-    unheard_write client file sent (Phase.Offline parted) e
-write_on client file patch sent (Phase.Reconnecting parted) e =
-    unheard_write client file sent (Phase.Reconnecting parted) e
+write_on client file patch sent phase e = unheard_write client file sent phase e
 
 abbrev IsBy : Client → Command → Type 0
 IsBy client command =

@@ -129,10 +129,7 @@ notes_more turn entries k =
 same_connect : (client : Client) (file : ℕ) (sent : List Pending) (phase : Phase)
     → model.connect_turn client file sent phase ≡ connected_in (lease_key client.guid file) file sent phase
 same_connect client file sent Phase.Closed = refl
-same_connect client file sent (Phase.Opening access share) = refl
-same_connect client file sent (Phase.Live live) = refl
-same_connect client file sent (Phase.Offline parted) = refl
-same_connect client file sent (Phase.Reconnecting parted) = refl
+same_connect client file sent phase = refl
 
 pub linked_is : (client : Client) (link : Link)
     → linked client link ≡ all_turned client (is_made link) (link_turn link client.guid)

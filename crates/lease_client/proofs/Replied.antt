@@ -37,12 +37,11 @@ created_on : (client : Client) (file file_id : ℕ) (answer : CreateAnswer) (sen
     → model.created_on client file file_id answer sent phase
     ≡ turned client file (created_in (lease_key client.guid file) file_id answer sent phase)
 unfolding model.created_on_live
-created_on client file file_id answer sent Phase.Closed e = quiet client file sent Phase.Closed e
 created_on client file file_id answer sent (Phase.Opening access share) e = refl
 created_on client file file_id answer sent (Phase.Live live) e =
     created_live client file live sent file_id answer live.asking e
-created_on client file file_id answer sent (Phase.Offline parted) e = quiet client file sent (Phase.Offline parted) e
 created_on client file file_id answer sent (Phase.Reconnecting parted) e = refl
+created_on client file file_id answer sent phase e = quiet client file sent phase e
 
 pub created_by : (client : Client) (file file_id : ℕ) (answer : CreateAnswer)
     → model.create_answered client file file_id (Some answer)
@@ -67,11 +66,10 @@ not_created_on : (client : Client) (file : ℕ) (status : Status) (sent : List P
     → model.failed_on client file status sent phase
     ≡ turned client file (not_created_in status sent phase)
 unfolding model.create_failed_on_live
-not_created_on client file status sent Phase.Closed e = quiet client file sent Phase.Closed e
 not_created_on client file status sent (Phase.Opening access share) e = refl
 not_created_on client file status sent (Phase.Live live) e = not_created_live client file live sent status live.asking e
-not_created_on client file status sent (Phase.Offline parted) e = quiet client file sent (Phase.Offline parted) e
 not_created_on client file status sent (Phase.Reconnecting parted) e = refl
+not_created_on client file status sent phase e = quiet client file sent phase e
 
 pub not_created_by : (client : Client) (file : ℕ) (status : Status)
     → model.create_failed client file status
@@ -82,11 +80,8 @@ not_created_by client file status = not_created_on client file status _ _ refl
 read_on : (client : Client) (file : ℕ) (bytes : List ℕ) (sent : List Pending) (phase : Phase)
     → client.entries file ≡ record { phase = phase; sent = sent }
     → model.read_on client file bytes sent phase ≡ turned client file (read_in bytes sent phase)
-read_on client file bytes sent Phase.Closed e = quiet client file sent Phase.Closed e
-read_on client file bytes sent (Phase.Opening access share) e = quiet client file sent (Phase.Opening access share) e
 read_on client file bytes sent (Phase.Live live) e = refl
-read_on client file bytes sent (Phase.Offline parted) e = quiet client file sent (Phase.Offline parted) e
-read_on client file bytes sent (Phase.Reconnecting parted) e = quiet client file sent (Phase.Reconnecting parted) e
+read_on client file bytes sent phase e = quiet client file sent phase e
 
 pub read_by : (client : Client) (file : ℕ) (bytes : List ℕ)
     → model.read_on client file bytes (client.entries file).sent (client.entries file).phase
@@ -96,11 +91,8 @@ read_by client file bytes = read_on client file bytes _ _ refl
 not_read_on : (client : Client) (file : ℕ) (status : Status) (sent : List Pending) (phase : Phase)
     → client.entries file ≡ record { phase = phase; sent = sent }
     → model.read_failed_on client file status sent phase ≡ turned client file (not_read_in status sent phase)
-not_read_on client file status sent Phase.Closed e = quiet client file sent Phase.Closed e
-not_read_on client file status sent (Phase.Opening access share) e = quiet client file sent (Phase.Opening access share) e
 not_read_on client file status sent (Phase.Live live) e = refl
-not_read_on client file status sent (Phase.Offline parted) e = quiet client file sent (Phase.Offline parted) e
-not_read_on client file status sent (Phase.Reconnecting parted) e = quiet client file sent (Phase.Reconnecting parted) e
+not_read_on client file status sent phase e = quiet client file sent phase e
 
 pub not_read_by : (client : Client) (file : ℕ) (status : Status)
     → model.read_failed_on client file status (client.entries file).sent (client.entries file).phase
@@ -110,11 +102,8 @@ not_read_by client file status = not_read_on client file status _ _ refl
 broken_on : (client : Client) (file : ℕ) (notice : BreakNotice) (sent : List Pending) (phase : Phase)
     → client.entries file ≡ record { phase = phase; sent = sent }
     → model.break_on client file notice sent phase ≡ turned client file (broken_in notice sent phase)
-broken_on client file notice sent Phase.Closed e = quiet client file sent Phase.Closed e
-broken_on client file notice sent (Phase.Opening access share) e = quiet client file sent (Phase.Opening access share) e
 broken_on client file notice sent (Phase.Live live) e = refl
-broken_on client file notice sent (Phase.Offline parted) e = quiet client file sent (Phase.Offline parted) e
-broken_on client file notice sent (Phase.Reconnecting parted) e = quiet client file sent (Phase.Reconnecting parted) e
+broken_on client file notice sent phase e = quiet client file sent phase e
 
 pub broken_by : (client : Client) (file : ℕ) (notice : BreakNotice)
     → model.break_on client file notice (client.entries file).sent (client.entries file).phase

@@ -61,14 +61,13 @@ created_lowers : (key : List ℕ) (file_id : ℕ) (answer : CreateAnswer) (sent 
     → is_free answer.lease ≡ false
     → Lowers (record { phase = phase; sent = sent }) (created_in key file_id answer sent phase)
 unfolding model.opened_turn model.reconnected_turn
-created_lowers key file_id answer sent Phase.Closed free = refl
 created_lowers key file_id answer sent (Phase.Opening access share) free =
     rw (first_belief_none key answer.lease free) refl
 created_lowers key file_id answer sent (Phase.Live live) free =
     created_live key live sent file_id answer live.asking free
-created_lowers key file_id answer sent (Phase.Offline parted) free = refl
 created_lowers key file_id answer sent (Phase.Reconnecting parted) free =
     rw (first_belief_none key answer.lease free) refl
+created_lowers key file_id answer sent phase free = refl
 
 -- ---- the other replies
 
@@ -79,20 +78,14 @@ not_created_live live sent status (Some asked) = within_self live.belief
 
 not_created_lowers : (status : Status) (sent : List Pending) (phase : Phase)
     → Lowers (record { phase = phase; sent = sent }) (not_created_in status sent phase)
-not_created_lowers status sent Phase.Closed = refl
-not_created_lowers status sent (Phase.Opening access share) = refl
 not_created_lowers status sent (Phase.Live live) = not_created_live live sent status live.asking
-not_created_lowers status sent (Phase.Offline parted) = refl
-not_created_lowers status sent (Phase.Reconnecting parted) = refl
+not_created_lowers status sent phase = refl
 
 read_lowers : (bytes : List ℕ) (sent : List Pending) (phase : Phase)
     → Lowers (record { phase = phase; sent = sent }) (read_in bytes sent phase)
 unfolding model.read_turn
-read_lowers bytes sent Phase.Closed = refl
-read_lowers bytes sent (Phase.Opening access share) = refl
 read_lowers bytes sent (Phase.Live live) = within_self live.belief
-read_lowers bytes sent (Phase.Offline parted) = refl
-read_lowers bytes sent (Phase.Reconnecting parted) = refl
+read_lowers bytes sent phase = refl
 
 -- an entry without its open believes nothing
 closed_lowers : (live : LiveEntry) (sent : List Pending) (notes : List Note) (status : Status) (asking : Option Asked)
@@ -103,33 +96,24 @@ closed_lowers live sent notes status (Some asked) = refl
 not_read_lowers : (status : Status) (sent : List Pending) (phase : Phase)
     → Lowers (record { phase = phase; sent = sent }) (not_read_in status sent phase)
 unfolding model.read_failed_turn model.closed_by_server
-not_read_lowers status sent Phase.Closed = refl
-not_read_lowers status sent (Phase.Opening access share) = refl
 not_read_lowers status sent (Phase.Live live) =
     lower_if (live_entry live sent) (model.is_file_closed status) _ _ (closed_lowers live sent [] status live.asking)
     (within_self live.belief)
-not_read_lowers status sent (Phase.Offline parted) = refl
-not_read_lowers status sent (Phase.Reconnecting parted) = refl
+not_read_lowers status sent phase = refl
 
 broken_lowers : (notice : BreakNotice) (sent : List Pending) (phase : Phase)
     → Lowers (record { phase = phase; sent = sent }) (broken_in notice sent phase)
 unfolding model.break_turn model.parked_closed model.belief_lowered
-broken_lowers notice sent Phase.Closed = refl
-broken_lowers notice sent (Phase.Opening access share) = refl
 broken_lowers notice sent (Phase.Live live) =
     lower_if (live_entry live sent) (live.handles == 0 && (live.belief.handle && not (meet live.belief notice.lowered).handle)) _
     _
     refl (meet_within live.belief notice.lowered)
-broken_lowers notice sent (Phase.Offline parted) = refl
-broken_lowers notice sent (Phase.Reconnecting parted) = refl
+broken_lowers notice sent phase = refl
 
 phase_lowers : (write : Option Pending) (sent more : List Pending) (phase : Phase)
     → IsLower (record { phase = phase; sent = sent }) (record { phase = model.phase_with write phase; sent = more })
-phase_lowers write sent more Phase.Closed = refl
-phase_lowers write sent more (Phase.Opening access share) = refl
 phase_lowers write sent more (Phase.Live live) = within_self live.belief
-phase_lowers write sent more (Phase.Offline parted) = refl
-phase_lowers write sent more (Phase.Reconnecting parted) = refl
+phase_lowers write sent more phase = refl
 
 written_lowers : (number : ℕ) (entry : Entry) → Lowers entry (model.write_done_turn number entry)
 unfolding model.write_done_turn
@@ -139,13 +123,10 @@ written_lowers number entry = phase_lowers (find (model.is_numbered number) entr
 not_written_lowers : (file_id number : ℕ) (status : Status) (sent more : List Pending) (phase : Phase)
     → Lowers (record { phase = phase; sent = sent }) (model.write_failed_in file_id number status more phase)
 unfolding model.closed_by_server
-not_written_lowers file_id number status sent more Phase.Closed = refl
-not_written_lowers file_id number status sent more (Phase.Opening access share) = refl
 not_written_lowers file_id number status sent more (Phase.Live live) =
     lower_if (live_entry live sent) (model.is_file_closed status && live.file_id == file_id) _ _
     (closed_lowers live more [] status live.asking) (within_self live.belief)
-not_written_lowers file_id number status sent more (Phase.Offline parted) = refl
-not_written_lowers file_id number status sent more (Phase.Reconnecting parted) = refl
+not_written_lowers file_id number status sent more phase = refl
 
 -- ---- steps
 
@@ -253,11 +234,8 @@ replies_raise client (Reply.ReadFailed file_id status) n other = not_read_rises 
 replies_raise client (Reply.WriteDone file_id number) n other = written_rises client number n
 replies_raise client (Reply.WriteFailed file_id number status) n other =
     not_written_rises client file_id number status n
-replies_raise client (Reply.Closed file_id) n other = quiet_none client n
-replies_raise client (Reply.CloseFailed file_id status) n other = quiet_none client n
 replies_raise client (Reply.Break notice) n other = break_rises client notice n
-replies_raise client (Reply.AckDone response) n other = quiet_none client n
-replies_raise client (Reply.AckFailed status) n other = quiet_none client n
+replies_raise client reply n other = quiet_none client n
 
 -- ---- a connection that is lost or made
 
@@ -268,19 +246,13 @@ live_none live sent = lower_if (live_entry live sent) live.durable _ _ (lower_if
 
 notice_lowers : (sent : List Pending) (phase : Phase)
     → Lowers (record { phase = phase; sent = sent }) (connection.notice_turn sent phase)
-notice_lowers sent Phase.Closed = refl
-notice_lowers sent (Phase.Opening access share) = refl
 notice_lowers sent (Phase.Live live) = live_none live sent
-notice_lowers sent (Phase.Offline parted) = refl
-notice_lowers sent (Phase.Reconnecting parted) = refl
+notice_lowers sent phase = refl
 
 connect_lowers : (client : Client) (file : ℕ) (sent : List Pending) (phase : Phase)
     → Lowers (record { phase = phase; sent = sent }) (connection.connect_turn client file sent phase)
-connect_lowers client file sent Phase.Closed = refl
-connect_lowers client file sent (Phase.Opening access share) = refl
 connect_lowers client file sent (Phase.Live live) = within_self live.belief
-connect_lowers client file sent (Phase.Offline parted) = refl
-connect_lowers client file sent (Phase.Reconnecting parted) = refl
+connect_lowers client file sent phase = refl
 
 pub notices_raise_none : (client : Client) → NoneRose client (connection.noticed client).client
 unfolding connection.noticed connection.all_turned

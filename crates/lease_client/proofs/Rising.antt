@@ -67,7 +67,6 @@ open_lowers : (online : Bool) (key : List ℕ) (file : ℕ) (terms : OpenTerms) 
     → Lowers (record { phase = phase; sent = sent }) (rules.open_in online key file terms sent phase)
 unfolding rules.live_open_turn rules.handle_turn rules.other_turn rules.anew_turn rules.more_turn
 open_lowers online key file terms sent Phase.Closed = lower_if (record { phase = Phase.Closed; sent = sent }) online _ _ refl refl
-open_lowers online key file terms sent (Phase.Opening access share) = refl
 open_lowers online key file terms sent (Phase.Live live) =
     let same = within_self live.belief in
     lower_if (live_entry live sent) (is_asking live) _ _ same
@@ -75,18 +74,14 @@ open_lowers online key file terms sent (Phase.Live live) =
     (lower_if (live_entry live sent) (live.handles == count_limit) _ _ same same)
     (lower_if (live_entry live sent) (live.handles == 0) _ _ refl (lower_if (live_entry live sent) (live.handles == count_limit) _
     _ same same)))
-open_lowers online key file terms sent (Phase.Offline parted) = refl
-open_lowers online key file terms sent (Phase.Reconnecting parted) = refl
+open_lowers online key file terms sent phase = refl
 
 heard_lowers : (turn : LiveEntry → List Pending → Turn) (sent : List Pending) (phase : Phase)
     → ((live : LiveEntry) → Lowers (live_entry live sent) (turn live sent))
     → Lowers (record { phase = phase; sent = sent }) (rules.heard_in turn sent phase)
-heard_lowers turn sent Phase.Closed lowers = refl
-heard_lowers turn sent (Phase.Opening access share) lowers = refl
 heard_lowers turn sent (Phase.Live live) lowers =
     lower_if (live_entry live sent) (live.handles == 0) _ _ (within_self live.belief) (lowers live)
-heard_lowers turn sent (Phase.Offline parted) lowers = refl
-heard_lowers turn sent (Phase.Reconnecting parted) lowers = refl
+heard_lowers turn sent phase lowers = refl
 
 close_lowers : (sent : List Pending) (live : LiveEntry) → Lowers (live_entry live sent) (rules.close_turn live sent)
 unfolding rules.close_turn rules.last_close_turn

@@ -62,12 +62,8 @@ turn_refused known command n key is of k refused =
     rw (k, of) (rw (commanded_by (client_of known) command there) at refused)
 
 refused_is : (answer : Answer) → is_refused answer ≡ true → (refusal : Refusal) × (answer ≡ Answer.Refused refusal)
-refused_is Answer.Done is = absurd (cc is)
-refused_is Answer.Waiting is = absurd (cc is)
-refused_is (Answer.Bytes bytes cached) is = absurd (cc is)
 refused_is (Answer.Refused refusal) is = (refusal, refl)
-refused_is (Answer.Failed status) is = absurd (cc is)
-refused_is Answer.Quiet is = absurd (cc is)
+refused_is answer is = absurd (cc is)
 
 -- a refused command notes nothing
 unnoted_refusal : RefusedCommandsDoNothing → (client : Client) (command : Command)

@@ -147,14 +147,13 @@ module _ (direction : Direction) (before : List ContextView) (v : CreateView) (h
   -- the fault that stops the gathering is the rule that is broken
   pub faults : (place : ℕ) (meaning : Meaning)
       → fault_in (with_meaning v place meaning) ≡ meaning_fault direction before place meaning
-  faults place Unknown = refl
-  faults place WrongLength = refl
   faults place (Lease lease) = twice-list (values_of_kind direction lease_in before) v.lease place have.lease
       (λ held. with_lease v place lease held) refl (λ y. refl)
   faults place Durable = twice-bool (values_of_kind direction durable_in before) v.durable place have.durable
       (λ held. with_durable v place held) refl refl
   faults place (Reconnect file_id) = twice-list (values_of_kind direction reconnect_in before) v.reconnect place have.reconnect
       (λ held. with_reconnect v place file_id held) refl (λ y. refl)
+  faults place unknown = refl
 
   -- where a value is had with this context and others behind it, the context breaks no rule
   pub passes : (w : CreateView) (behind : List ContextView) → HaveValue direction (before ++ context ∷ behind) w

@@ -252,12 +252,8 @@ arrived_refused : (client : ℕ) (request : FileRequest) (progress : Progress) (
 unfolding arrived
 arrived_refused client (FileRequest.Close file_id) progress status is =
     ap all_passes (refused_first client (FileRequest.Close file_id) progress status is)
-arrived_refused client (FileRequest.Create file access share contexts) progress status is =
-    refused_first client (FileRequest.Create file access share contexts) progress status is
-arrived_refused client (FileRequest.Read file_id) progress status is =
-    refused_first client (FileRequest.Read file_id) progress status is
-arrived_refused client (FileRequest.Write file_id number patch) progress status is =
-    refused_first client (FileRequest.Write file_id number patch) progress status is
+arrived_refused client request progress status is =
+    refused_first client request progress status is
 
 pub calls_refused_as_they_come : CallsRefusedAsTheyCome
 unfolding receive
@@ -312,16 +308,11 @@ calls_alone client file (FileRequest.Create at access share contexts) server sta
     server p.server)
     (sym (tried_so client file (FileRequest.Create at access share contexts) (begun server) status asked first is))
     (refused_once_tried client (FileRequest.Create at access share contexts) (begun server) status is)
-calls_alone client file (FileRequest.Read file_id) server status asked first is =
-    subst (λ (p : Progress). IsLeftAlone (IsClosedByBreak client (FileRequest.Read file_id) (begun server))
+calls_alone client file request server status asked first is =
+    subst (λ (p : Progress). IsLeftAlone (IsClosedByBreak client request (begun server))
     server p.server)
-    (sym (tried_so client file (FileRequest.Read file_id) (begun server) status asked first is))
-    (refused_once_tried client (FileRequest.Read file_id) (begun server) status is)
-calls_alone client file (FileRequest.Write file_id number patch) server status asked first is =
-    subst (λ (p : Progress). IsLeftAlone (IsClosedByBreak client (FileRequest.Write file_id number patch) (begun server))
-    server p.server)
-    (sym (tried_so client file (FileRequest.Write file_id number patch) (begun server) status asked first is))
-    (refused_once_tried client (FileRequest.Write file_id number patch) (begun server) status is)
+    (sym (tried_so client file request (begun server) status asked first is))
+    (refused_once_tried client request (begun server) status is)
 
 pub calls_refused_once_tried : CallsRefusedOnceTried
 unfolding receive

@@ -278,10 +278,8 @@ after_pass_try : (requests : ℕ → List Held) (start : Server) (file : ℕ) (o
     → IsPassing requests start file waiting (after_try file one waiting pass progress outcome)
 after_pass_try requests start file one waiting pass progress Outcome.Waits same left p =
     passed_over requests start file one waiting pass progress same left p
-after_pass_try requests start file one waiting pass progress (Outcome.Refused status) same left p =
-    answered_pass requests start file one waiting pass progress (Outcome.Refused status) same left p
-after_pass_try requests start file one waiting pass progress Outcome.Ready same left p =
-    answered_pass requests start file one waiting pass progress Outcome.Ready same left p
+after_pass_try requests start file one waiting pass progress outcome same left p =
+    answered_pass requests start file one waiting pass progress outcome same left p
 
 tried_pass : (requests : ℕ → List Held) (start : Server) (file : ℕ) (one : Held) (waiting : List Held) (pass : Pass)
     → IsPassing requests start file (one ∷ waiting) pass
