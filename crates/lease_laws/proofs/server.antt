@@ -43,3 +43,4 @@ pub mod Tries
 pub mod WaitCalls
 pub mod Wanted
 pub mod Wants
+pub mod cases

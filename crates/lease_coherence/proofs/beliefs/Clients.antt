@@ -310,10 +310,6 @@ same_takes : (machine : Client) (reply : Reply) (at : ℕ) (turn : Turn) → Eac
 same_takes machine reply at turn about less =
     plain_takes machine reply (turned machine at turn) (turned_believes machine at turn about less)
 
-on_takes : (machine : Client) (reply : Reply) (at : ℕ) (turn : Turn) → BelievesOn machine (turned machine at turn)
-    → TakesBelief machine reply (turned machine at turn)
-on_takes machine reply at turn on = plain_takes machine reply (turned machine at turn) on
-
 pub takes_believe : (machine : Client) → HasTakes machine (TakesBelief machine)
 unfolding opened_turn reconnected_turn promoted_turn read_turn write_done_turn parked_closed closed_by_server
 takes_believe machine = record {

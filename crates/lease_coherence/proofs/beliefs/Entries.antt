@@ -40,13 +40,6 @@ no_acks_keep key (Request.Acknowledge (Some lease) ∷ queue) e = (
     right : (a b : ℕ) → a + b ≡ 0 → b ≡ 0
     right a b e = omega (arith, e)
 
-writes_no_acks : (key : List ℕ) (file_id : ℕ) (writes : List Pending) → acks key (write_requests file_id writes) ≡ 0
-writes_no_acks key file_id [] = refl
-writes_no_acks key file_id (write ∷ writes) = ap (λ n. 0 + n) (writes_no_acks key file_id writes) ∙ zeros
-  where
-    zeros : 0 + 0 ≡ 0
-    zeros = omega arith
-
 same_count : (a b : ℕ) → b ≡ 0 → a + b ≡ a
 same_count a b e = omega (arith, e)
 

@@ -192,9 +192,6 @@ grants_more off new c reply file like ids n replies last u known =
 
 -- ---- a write that was sent, and isn't answered yet
 
-some_zero : (n : ℕ) → 1 ≤ n → n ≡ 0 → ⊥
-some_zero n h e = omega (arith, h, e)
-
 record IsWriteOf (P : Request → Type 0) (number : ℕ) : Type 0 where
   file_id : ℕ
   patch : Patch

@@ -116,18 +116,6 @@ filter_twice test keep (x ∷ held) stays = if_cases
     ∙ sym (not_chosen (test x) (x ∷ filter test held) (filter test held)
     (not_true (test x) (λ passes. clash (keep x) (stays x passes) gone))))
 
--- leases of a client's keys stay where its opens do
-pub leases_stay : (world : World) (opens : List Open) (client : ℕ) → Ground world
-    → ((one : Open) → one.client ≡ client → Among one world.server.opens → Among one opens)
-    → (key : Key) → key.client ≡ client → (with_opens world.server opens).leases key ≡ world.server.leases key
-unfolding with_opens
-leases_stay world opens client g kept key own = if_cases (λ l. l ≡ world.server.leases key)
-    (list_any (has_key key) opens) (world.server.leases key) no_lease (λ there. refl)
-    (λ gone. sym (g.fine.sound.no_open key (not_true (list_any (has_key key) world.server.opens)
-    (λ was. let x = any_has (has_key key) world.server.opens was in
-    clash (list_any (has_key key) opens)
-    (has_any (has_key key) x.0 opens (kept x.0 (sym (key_client key x.0 x.2) ∙ own) x.1) x.2) gone))))
-
 -- ---- what may be granted or changed for another
 
 -- the key of a request is its client's

@@ -164,10 +164,6 @@ no_key key c ne one own = not_true (has_key key one) (λ has. ne (key_client key
 left_off : (key : Key) (one : Open) → is_left_open key one ≡ true → one.connected ≡ false
 left_off key one e = not_parts one.connected (and_parts (has_key key one) (not one.connected) e).1
 
-left_other : (key : Key) (one : Open) → has_key key one ≡ false → is_left_open key one ≡ false
-left_other key one e = not_true (is_left_open key one)
-    (λ both. clash (has_key key one) (and_parts (has_key key one) (not one.connected) both).0 e)
-
 deeds_all : (V : World → Type 0) (A : World → ℕ → Type 0) → ((world : World) → V world → Ground world)
     → IsOwnMoved V A → (world : World) → V world → OfGood A world → HasDeeds world (ForAll A world)
 deeds_all V A ground k world v a = record {

@@ -95,12 +95,6 @@ spared_then c opens next leases after past middle new kept same h k = record {
 
 -- ---- one fact
 
-other_first : (a b : ℕ) (rest more : Bool) → a ≢ b → ((a == b && rest) || more) ≡ more
-other_first a b rest more ne = rw (off) refl
-  where
-    off : (a == b) ≡ false
-    off = not_true (a == b) (λ e. ne (eqb-true a b e))
-
 -- where nothing was buffered, or it isn't of the file, nothing is touched
 untouched : (here apart was : Bool) (touched : Bool) → (here ≡ true → was ≡ true → ⊥) → touched ≡ false
     → ((here && apart && was) || touched) ≡ false

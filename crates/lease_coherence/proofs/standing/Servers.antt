@@ -68,16 +68,6 @@ frame_same world new c machine expired kept asked = record {
   asks = λ a. asked (AskFits (world.clients c)) a;
 }
 
--- two, one after the other
-frame_then : (a b c : World) (client : ℕ) → IsFrame a b client → IsFrame b c client → IsFrame a c client
-frame_then a b c client h k = record {
-  machine = k.machine ∙ h.machine;
-  stands = λ file file_id n s. k.stands file file_id (h.closes file_id n) (h.stands file file_id n s);
-  closes = λ file_id n. k.closes file_id (h.closes file_id n);
-  asks = λ x. subst (λ (m : Client). AllAsked (AskFits m) c client) h.machine
-      (k.asks (subst (λ (m : Client). AllAsked (AskFits m) b client) (sym h.machine) (h.asks x)));
-}
-
 pub frame_off : (world off : World) (c : ℕ) (request : FileRequest) → IsSource world off c request
     → IsFrame world off c
 frame_off world off c request source = ⊎_elim
@@ -181,9 +171,6 @@ new_fits off c file counted n plain = by_phase ((off.clients c).entries file).ph
         (opened_within live.file_id file c off.past (named_live off c file live n is))))
     by_phase (Phase.Reconnecting parted) is e = absurd (no_some parted.file_id e)
     by_phase phase is e = tt
-
-off_phase : (world off : World) (c : ℕ) (request : FileRequest) → IsSource world off c request → off.clients c ≡ world.clients c
-off_phase world off c request source = ap (λ (t : ℕ → Client). t c) (off_rest world off c request source).0
 
 pub granted_standing : (off : World) (c file : ℕ) (access : Access) (share : Share) (ask : CreateAsk) → IsCountedOff off
     → IsNamedAt off c → AskFits (off.clients c) (Request.OnFile (FileRequest.Create file access share (Some ask)))

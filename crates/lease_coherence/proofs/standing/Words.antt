@@ -20,13 +20,6 @@ use Rattle.lease_coherence.proofs.moves.Ground.{among_put}
 use Rattle.lease_coherence.proofs.moves.Moves.{IsOldest, rest_of, popped}
 use Rattle.lease_coherence.proofs.names.Words.{each_rest, each_weaker}
 
-pub asked_same : (P : Request → Type 0) (world new : World) (c : ℕ) → new.requests c ≡ world.requests c
-    → new.server.held ≡ world.server.held → AllAsked P world c → AllAsked P new c
-asked_same P world new c requests held a = record {
-  queued = subst (Each P) (sym requests) a.queued;
-  held = λ file one x own. a.held file one (subst (λ (h : ℕ → List Held). Among one (h file)) held x) own;
-}
-
 pub asked_weaker : (P Q : Request → Type 0) (world : World) (c : ℕ) → ((r : Request) → P r → Q r) → AllAsked P world c
     → AllAsked Q world c
 asked_weaker P Q world c weaker a = record {

@@ -33,12 +33,6 @@ pub settled_settle : (outcome : Settlement) (writes : List Pending) → AreSettl
 settled_settle outcome [] = tt
 settled_settle outcome (write ∷ writes) = settled_settle outcome writes
 
--- two lists of them
-settle_joined : (notes more : List Note) → AreSettlements notes → AreSettlements more → AreSettlements (notes ++ more)
-settle_joined [] more s t = t
-settle_joined (Note.Settled number outcome ∷ notes) more s t = settle_joined notes more s t
-settle_joined (note ∷ notes) more s t = absurd s
-
 -- writes that are given up without W
 settle_either : (writes : Bool) (outcome : Settlement) (kept : List Pending)
     → AreSettlements (if writes then [] else settled_as outcome kept)

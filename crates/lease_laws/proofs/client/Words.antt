@@ -52,11 +52,6 @@ one_less_still zero e = clash false e refl
 one_less_still (suc zero) e = clash false e refl
 one_less_still (suc (suc handles)) e = omega arith
 
--- what is neither is not the one
-pub or_neither : (a b : Bool) → (a || b) ≡ false → a ≡ false
-or_neither true b e = e
-or_neither false b e = refl
-
 -- ---- one entry
 
 -- the part of the laws that speaks of one entry

@@ -314,11 +314,6 @@ nothing_or_not s = either s.read (λ r. inr (λ e. clash s.read r (ap (λ (x : S
     (λ w. either s.handle (λ h. inr (λ e. clash s.handle h (ap (λ (x : State). x.handle) e)))
     (λ h. inl (no_letters s.read s.write s.handle r w h))))
 
-never_given : (state : State) → (state ≡ nothing_cached → ⊥) → (broken_to : Option State)
-    → ((lowered : State) → broken_to ≡ Some lowered → lowered ≡ nothing_cached → ⊥)
-    → IsCaching (record { state = state; broken_to = broken_to })
-never_given state some broken_to to given = ⊎_elim some (λ e. to nothing_cached e refl) given
-
 -- an acknowledgment leaves the lease of a key, or gives it the state that it tells
 pub record IsAckOf (client : ℕ) (given : Option LeaseOf) (key : Key) (after : Lease) : Type 0 where
   pub told : LeaseOf

@@ -25,6 +25,8 @@ use Rattle.lease_laws.specs.server.SmallSteps.{SmallStep, step_taken, steps_take
 use Rattle.lease_laws.specs.server.Waiting.{WaitsWell}
 use Rattle.lease_laws.proofs.server.Lists.{if_cases}
 use Rattle.lease_laws.proofs.server.StepCalls.{called-steps}
+use Rattle.lease_laws.proofs.server.cases.Ends.{HasEnds, any_end}
+use Rattle.lease_laws.proofs.server.cases.Judgements.{any_judgement}
 
 -- the same keys are expired
 abbrev SameExpired : Progress → Progress → Type 0
@@ -35,66 +37,29 @@ put_expired : (server : Server) (client : ℕ) (asked : Option LeaseOf) (lease :
 put_expired server client None lease = refl
 put_expired server client (Some ask) lease = refl
 
-created_expired : (client file : ℕ) (access : Access) (share : Share) (asked : Option LeaseOf) (durable : Bool)
-    (again : Option ℕ) (progress : Progress)
-    → SameExpired progress (created client file access share asked durable again progress)
-unfolding granted granted_with reconnected
-created_expired client file access share asked durable None progress =
-    if_cases (SameExpired progress) (progress.server.last_id == last_file_id)
-    (replied client (Reply.CreateFailed file Status.InsufficientResources) progress)
-    (granted_with client file access share asked durable (lease_after progress.server client file asked) progress)
-    (λ e. refl)
-    (λ e. put_expired progress.server client asked (lease_after progress.server client file asked))
-created_expired client file access share asked durable (Some file_id) progress = refl
-
-on_open_expired : (one : Option Open) (done : ℕ → Progress → Progress) (progress : Progress)
-    → ((file : ℕ) → SameExpired progress (done file progress)) → SameExpired progress (on_open one done progress)
-on_open_expired None done progress each = refl
-on_open_expired (Some one) done progress each = each one.file
-
-on_contexts_expired : (contexts : Option CreateAsk) (done : CreateAsk → Progress → Progress) (progress : Progress)
-    → ((ask : CreateAsk) → SameExpired progress (done ask progress))
-    → SameExpired progress (on_contexts contexts done progress)
-on_contexts_expired None done progress each = refl
-on_contexts_expired (Some ask) done progress each = each ask
+ends_expired : (client : ℕ) (progress : Progress) → HasEnds client progress (λ request outcome. SameExpired progress)
+unfolding granted_with reconnected changed opens_dropped with_opens
+ends_expired client progress = record {
+  refused = λ request status. refl;
+  left = λ request outcome. refl;
+  full = λ file access share ask none. refl;
+  granted = λ file access share ask none.
+      put_expired progress.server client ask.lease (lease_after progress.server client file ask.lease);
+  again = λ file access share ask file_id some. refl;
+  read = λ file_id one own. refl;
+  changed = λ file_id number patch one own. refl;
+  closed = λ file_id one own. refl;
+}
 
 concluded_expired : (client : ℕ) (request : FileRequest) (progress : Progress) (outcome : Outcome)
     → SameExpired progress (concluded client request progress outcome)
-unfolding refused answered changed closed opens_dropped with_opens
-concluded_expired client (FileRequest.Create file access share contexts) progress Outcome.Ready =
-    on_contexts_expired contexts _ progress
-    (λ ask. created_expired client file access share ask.lease ask.durable ask.reconnect progress)
-concluded_expired client (FileRequest.Read file_id) progress Outcome.Ready =
-    on_open_expired (connected_open progress.server client file_id) (λ file. read_done client file file_id) progress
-    (λ file. refl)
-concluded_expired client (FileRequest.Write file_id number patch) progress Outcome.Ready =
-    on_open_expired (connected_open progress.server client file_id)
-    (λ file. changed client file file_id number patch) progress (λ file. refl)
-concluded_expired client (FileRequest.Close file_id) progress Outcome.Ready =
-    on_open_expired (connected_open progress.server client file_id) (λ file. closed client file_id) progress
-    (λ file. refl)
-concluded_expired client request progress outcome = refl
-
-judged_expired : (key : Key) (state : State) (broken : Option State) (progress : Progress)
-    → SameExpired progress (judged key state broken progress)
-unfolding break_ended
-judged_expired key state None progress = refl
-judged_expired key state (Some lowered) progress = if_cases (SameExpired progress) (is_state_within state lowered)
-    (break_ended key state progress)
-    (replied key.client (Reply.AckFailed Status.RequestNotAccepted) progress) (λ e. refl) (λ e. refl)
+concluded_expired client request progress = any_end client progress _ (ends_expired client progress) request
 
 acknowledged_expired : (client : ℕ) (given : Option LeaseOf) (progress : Progress)
     → SameExpired progress (acknowledged client given progress)
-unfolding acknowledged
-acknowledged_expired client None progress = refl
-acknowledged_expired client (Some given) progress = if_cases (SameExpired progress)
-    (has_lease progress.server (key_of client given.key))
-    (judged (key_of client given.key) given.state (progress.server.leases (key_of client given.key)).broken_to
-    progress)
-    (replied client (Reply.AckFailed Status.ObjectNameNotFound) progress)
-    (λ e. judged_expired (key_of client given.key) given.state
-    (progress.server.leases (key_of client given.key)).broken_to progress)
-    (λ e. refl)
+unfolding break_ended
+acknowledged_expired client given progress = any_judgement client progress (SameExpired progress)
+    (record { failed = λ status. refl; ended = λ g lowered there breaks within. refl }) given
 
 step_expired : (step : SmallStep) (progress : Progress) → SameExpired progress (step_taken step progress)
 unfolding held_left request_held opens_dropped with_opens lease_lowered break_begun

@@ -24,6 +24,9 @@ use Rattle.lease_model.specs.server.Findings.{Finding, finding, connected_open}
 use Rattle.lease_model.specs.server.Naming.{key_of}
 use Rattle.lease_laws.proofs.server.FileReady.{IsAwaited, AgainReady, ContextsReady, FileReady}
 use Rattle.lease_laws.proofs.server.Lists.{if_cases, among_append, among_filter, among_map}
+use Rattle.lease_laws.proofs.server.cases.Tries.{HasTries, any_meeting, any_try}
+use Rattle.lease_laws.proofs.server.cases.Ends.{HasEnds, any_end}
+use Rattle.lease_laws.proofs.server.cases.Judgements.{any_judgement}
 
 -- two opens of one FileId are one
 pub one_id : (opens : List Open) (one other : Open) → AreInOrder opens → Among one opens → Among other opens
@@ -129,6 +132,16 @@ goes-twice a b c g h = record {
 abbrev pub Goes : Progress → Progress → Type 0
 Goes before after = GoesOn before.server after.server
 
+-- the opens, the files and the connections stay
+stay-goes : (before after : Server) → after.files ≡ before.files → after.present ≡ before.present
+    → after.last_id ≡ before.last_id → after.opens ≡ before.opens → GoesOn before after
+stay-goes before after files ups ids opens = record {
+  files = files;
+  ups = λ c. ap (λ (p : ℕ → Bool). p c) ups;
+  ids = omega (arith, ids);
+  from = λ one a. inl (still_there before one (subst (λ os. Among one os) opens a));
+}
+
 -- to drop opens lets opens go on
 pub dropped-goes : (test : Open → Bool) (progress : Progress) → Goes progress (opens_dropped test progress)
 unfolding opens_dropped with_opens
@@ -140,83 +153,24 @@ dropped-goes test progress = record {
       (among_filter (λ x. not (test x)) one progress.server.opens a).0);
 }
 
--- to lower a lease at once lets opens go on
-lowered-goes : (key : Key) (lowered : State) (progress : Progress)
-    → Goes progress (lease_lowered key lowered progress)
-unfolding lease_lowered
-lowered-goes key lowered progress = record {
-  files = refl;
-  ups = λ c. refl;
-  ids = omega arith;
-  from = λ one a.
-      inl (still_there progress.server one a);
+tries_go : HasTries Goes
+unfolding lease_lowered break_begun
+tries_go = record {
+  same = λ progress. goes-same progress.server;
+  behind = λ before next after. goes-twice before.server next.server after.server;
+  drop = λ key progress. dropped-goes (is_left_open key) progress;
+  lower = λ key lowered progress settled. stay-goes progress.server _ refl refl refl refl;
+  begin = λ key lowered progress settled. stay-goes progress.server _ refl refl refl refl;
 }
-
--- to begin a break lets opens go on
-begun-goes : (key : Key) (lowered : State) (progress : Progress)
-    → Goes progress (break_begun key lowered progress)
-unfolding break_begun
-begun-goes key lowered progress = record {
-  files = refl;
-  ups = λ c. refl;
-  ids = omega arith;
-  from = λ one a.
-      inl (still_there progress.server one a);
-}
-
--- to break a lease lets opens go on
-lease_broken-goes : (key : Key) (lowered : State) (progress : Progress)
-    → Goes progress (lease_broken key lowered progress)
-unfolding lease_broken
-lease_broken-goes key lowered progress =
-    if_cases (Goes progress) (has_lease progress.server key && not (is_breaking (progress.server.leases key)))
-    (if needs_acknowledgment (progress.server.leases key).state then break_begun key lowered progress else
-    lease_lowered key lowered progress) progress
-    (λ t. if_cases (Goes progress) (needs_acknowledgment (progress.server.leases key).state)
-    (break_begun key lowered progress) (lease_lowered key lowered progress)
-    (λ n. begun-goes key lowered progress) (λ n. lowered-goes key lowered progress))
-    (λ t. goes-same progress.server)
-
--- to meet a want lets opens go on
-want_met-goes : (want : Want) (progress : Progress) → Goes progress (want_met want progress)
-unfolding want_met
-want_met-goes want progress =
-    let dropped = opens_dropped (is_left_open want.key) progress in
-    goes-twice progress.server dropped.server (lease_broken want.key want.lowered dropped).server
-    (dropped-goes (is_left_open want.key) progress) (lease_broken-goes want.key want.lowered dropped)
 
 -- to meet wants lets opens go on
 wants_met-goes : (wants : List Want) (progress : Progress) → Goes progress (wants_met wants progress)
-unfolding wants_met
-wants_met-goes [] progress = goes-same progress.server
-wants_met-goes (want ∷ wants) progress = goes-twice progress.server (want_met want progress).server
-    (wants_met wants (want_met want progress)).server
-    (want_met-goes want progress) (wants_met-goes wants (want_met want progress))
-
--- a round lets opens go on
-after_finding-goes : (again : Progress → Tried) (request : FileRequest) (progress : Progress) (found : Finding)
-    → ((next : Progress) → Goes next (again next).progress)
-    → Goes progress (after_finding again request progress found).progress
-after_finding-goes again request progress (Finding.Fails status) more = goes-same progress.server
-after_finding-goes again request progress (Finding.Needs wants) more =
-    let met = wants_met wants progress in
-    if_cases (λ t. Goes progress t.progress) (is_ready request progress.server.leases wants)
-    (ended progress Outcome.Ready) (after_breaks again request wants met)
-    (λ r. goes-same progress.server)
-    (λ n. if_cases (λ t. Goes progress t.progress) (must_wait request met wants) (ended met Outcome.Waits)
-    (again met)
-    (λ w. wants_met-goes wants progress)
-    (λ w. goes-twice progress.server met.server (again met).progress.server (wants_met-goes wants progress)
-    (more met)))
+wants_met-goes = any_meeting Goes tries_go
 
 -- a try
 pub tried_for-goes : (rounds client : ℕ) (request : FileRequest) (progress : Progress)
     → Goes progress (tried_for rounds client request progress).progress
-unfolding tried_for
-tried_for-goes zero client request progress = goes-same progress.server
-tried_for-goes (suc rounds) client request progress = after_finding-goes (tried_for rounds client request)
-    request progress
-    (finding progress.server client request) (λ next. tried_for-goes rounds client request next)
+tried_for-goes = any_try Goes tries_go
 
 -- an open of a list with one more is old or new
 added : (new : Open) (progress : Progress) (one : Open) → new.file_id ≡ progress.server.last_id + 1
@@ -253,21 +207,6 @@ granted_with-goes client file access share (Some asked) durable lease progress u
       progress one refl up on a;
 }
 
--- a grant, if FileIds are left, lets opens go on
-granted-goes : (client file : ℕ) (access : Access) (share : Share) (asked : Option LeaseOf) (durable : Bool)
-    (progress : Progress)
-    → progress.server.present client ≡ true → has_file progress.server file ≡ true
-    → Goes progress (granted client file access share asked durable progress)
-unfolding granted
-granted-goes client file access share asked durable progress up on =
-    if_cases (Goes progress) (progress.server.last_id == last_file_id)
-    (replied client (Reply.CreateFailed file Status.InsufficientResources) progress)
-    (granted_with client file access share asked durable (lease_after progress.server client file asked)
-    progress)
-    (λ e. goes-same progress.server)
-    (λ e. granted_with-goes client file access share asked durable
-    (lease_after progress.server client file asked) progress up on)
-
 -- an open that is connected again is one of its client
 again_old : (server : Server) (client file_id : ℕ) (was : Open) (b : Bool) → (was.file_id == file_id) ≡ b
     → IsSound server → IsAwaited server client file_id → server.present client ≡ true
@@ -301,119 +240,42 @@ reconnected-goes client file asked file_id progress s w up = record {
       (again_old progress.server client file_id x.0 ((x.0).file_id == file_id) refl s w up x.1));
 }
 
--- a write that is done lets opens go on
-changed-goes : (client file file_id number : ℕ) (patch : Patch) (progress : Progress)
-    → Goes progress (changed client file file_id number patch progress)
-unfolding changed
-changed-goes client file file_id number patch progress =
-    record {
-      files = refl;
-      ups = λ c. refl;
-      ids = omega arith;
-      from = λ one a. inl
-          (still_there progress.server one a);
-    }
-
--- a close lets opens go on
-closed-goes : (client file_id : ℕ) (progress : Progress) → Goes progress (closed client file_id progress)
-unfolding closed
-closed-goes client file_id progress = dropped-goes (λ one. one.file_id == file_id) progress
-
 -- a refusal lets opens go on
 pub refused-goes : (client : ℕ) (request : FileRequest) (status : Status) (progress : Progress)
     → Goes progress (refused client request status progress)
 unfolding refused
 refused-goes client request status progress = goes-same progress.server
 
--- a create that is ready lets opens go on
-created-goes : (client file : ℕ) (access : Access) (share : Share) (asked : Option LeaseOf) (durable : Bool)
-    (again : Option ℕ) (progress : Progress)
-    → IsSound progress.server → progress.server.present client ≡ true → has_file progress.server file ≡ true
-    → AgainReady progress.server client again
-    → Goes progress (created client file access share asked durable again progress)
-created-goes client file access share asked durable None progress s up on again = granted-goes client file
-    access share asked durable progress up on
-created-goes client file access share asked durable (Some file_id) progress s up on again = reconnected-goes
-    client file asked file_id progress s again up
-
--- a create that is ready, by its contexts, lets opens go on
-on_contexts-goes : (client file : ℕ) (access : Access) (share : Share) (contexts : Option CreateAsk)
-    (progress : Progress)
-    → IsSound progress.server → progress.server.present client ≡ true
-    → ContextsReady progress.server client file contexts
-    → Goes progress (on_contexts contexts (λ ask. created client file access share ask.lease ask.durable
-    ask.reconnect) progress)
-on_contexts-goes client file access share None progress s up ready = goes-same progress.server
-on_contexts-goes client file access share (Some ask) progress s up ready =
-    created-goes client file access share ask.lease ask.durable ask.reconnect progress s up ready.0 ready.1
-
--- an answer by the open that is named lets opens go on
-on_open-goes : (one : Option Open) (done : ℕ → Progress → Progress) (progress : Progress)
-    → ((file : ℕ) → Goes progress (done file progress)) → Goes progress (on_open one done progress)
-on_open-goes None done progress each = goes-same progress.server
-on_open-goes (Some one) done progress each = each one.file
-
--- the answer to a request that is ready lets opens go on
-answered-goes : (client : ℕ) (request : FileRequest) (progress : Progress) → IsSound progress.server
-    → progress.server.present client ≡ true
-    → FileReady progress.server client request → Goes progress (answered client request progress)
-unfolding answered
-answered-goes client (FileRequest.Create file access share contexts) progress s up ready = on_contexts-goes client
-    file access share contexts progress s up ready
-answered-goes client (FileRequest.Read file_id) progress s up ready = on_open-goes
-    (connected_open progress.server client file_id)
-    (λ file. read_done client file file_id) progress (λ file. goes-same progress.server)
-answered-goes client (FileRequest.Write file_id number patch) progress s up ready = on_open-goes
-    (connected_open progress.server client file_id)
-    (λ file. changed client file file_id number patch) progress
-    (λ file. changed-goes client file file_id number patch progress)
-answered-goes client (FileRequest.Close file_id) progress s up ready = on_open-goes
-    (connected_open progress.server client file_id)
-    (λ file. closed client file_id) progress (λ file. closed-goes client file_id progress)
-
 -- the end of a try
-pub concluded-goes : (client : ℕ) (request : FileRequest) (progress : Progress) (outcome : Outcome)
-    → IsSound progress.server
-    → progress.server.present client ≡ true
-    → (outcome ≡ Outcome.Ready → FileReady progress.server client request)
-    → Goes progress (concluded client request progress outcome)
-concluded-goes client request progress (Outcome.Refused status) s up ready = refused-goes client request
-    status progress
-concluded-goes client request progress Outcome.Waits s up ready = goes-same progress.server
-concluded-goes client request progress Outcome.Ready s up ready = answered-goes client request progress s up
-    (ready refl)
-
--- to end a break lets opens go on
-ended-goes : (key : Key) (state : State) (progress : Progress)
-    → Goes progress (break_ended key state progress)
-unfolding break_ended
-ended-goes key state progress = record {
-  files = refl;
-  ups = λ c. refl;
-  ids = omega arith;
-  from = λ one a. inl
-      (still_there progress.server one a);
+ends_go : (client : ℕ) (progress : Progress) → IsSound progress.server → progress.server.present client ≡ true
+    → HasEnds client progress (λ request outcome after. (outcome ≡ Outcome.Ready
+    → FileReady progress.server client request) → Goes progress after)
+unfolding changed
+ends_go client progress s up = record {
+  refused = λ request status ready. goes-same progress.server;
+  left = λ request outcome ready. goes-same progress.server;
+  full = λ file access share ask none ready. goes-same progress.server;
+  granted = λ file access share ask none ready. granted_with-goes client file access share ask.lease ask.durable
+      (lease_after progress.server client file ask.lease) progress up (ready refl).0;
+  again = λ file access share ask file_id some ready. reconnected-goes client file ask.lease file_id progress s
+      (subst (AgainReady progress.server client) some (ready refl).1) up;
+  read = λ file_id one own ready. goes-same progress.server;
+  changed = λ file_id number patch one own ready. stay-goes progress.server _ refl refl refl refl;
+  closed = λ file_id one own ready. dropped-goes (λ other. other.file_id == file_id) progress;
 }
 
--- to judge an acknowledgment lets opens go on
-judged-goes : (key : Key) (state : State) (broken : Option State) (progress : Progress)
-    → Goes progress (judged key state broken progress)
-judged-goes key state None progress = goes-same progress.server
-judged-goes key state (Some lowered) progress = if_cases (Goes progress) (is_state_within state lowered)
-    (break_ended key state progress)
-    (replied key.client (Reply.AckFailed Status.RequestNotAccepted) progress)
-    (λ e. ended-goes key state progress) (λ e. goes-same progress.server)
+pub concluded-goes : (client : ℕ) (request : FileRequest) (progress : Progress) (outcome : Outcome)
+    → IsSound progress.server → progress.server.present client ≡ true
+    → (outcome ≡ Outcome.Ready → FileReady progress.server client request)
+    → Goes progress (concluded client request progress outcome)
+concluded-goes client request progress outcome s up =
+    any_end client progress _ (ends_go client progress s up) request outcome
 
 -- any acknowledgment
 pub acknowledged-goes : (client : ℕ) (given : Option LeaseOf) (progress : Progress)
     → Goes progress (acknowledged client given progress)
-unfolding acknowledged
-acknowledged-goes client None progress = goes-same progress.server
-acknowledged-goes client (Some given) progress = if_cases (Goes progress)
-    (has_lease progress.server (key_of client given.key))
-    (judged (key_of client given.key) given.state (progress.server.leases (key_of client given.key)).broken_to
-    progress)
-    (replied client (Reply.AckFailed Status.ObjectNameNotFound) progress)
-    (λ e. judged-goes (key_of client given.key) given.state
-    (progress.server.leases (key_of client given.key)).broken_to progress)
-    (λ e. goes-same progress.server)
+unfolding break_ended
+acknowledged-goes client given progress = any_judgement client progress (Goes progress) (record {
+  failed = λ status. goes-same progress.server;
+  ended = λ g lowered there breaks within. stay-goes progress.server _ refl refl refl refl;
+}) given

@@ -9,7 +9,7 @@ use Rattle.lease_state.specs.declared.status.Status.{Status}
 use Rattle.lease_model.specs.server.Answers.{changed, read_done, closed, created, on_open, on_contexts, answered, concluded}
 use Rattle.lease_model.specs.server.Attempt.{Outcome, Tried, tried, is_left_open, lease_broken, want_met, wants_met, ended, must_wait, after_breaks, after_finding, tried_for}
 use Rattle.lease_state.specs.declared.patch.Patch.{Patch}
-use Rattle.lease_model.specs.server.Grant.{granted, granted_with, reconnected, lease_after}
+use Rattle.lease_model.specs.server.Grant.{granted, granted_with, reconnected, lease_after, lease_put}
 use Rattle.lease_model.specs.values.Keys.{Key}
 use Rattle.lease_model.specs.values.Limits.{last_file_id}
 use Rattle.lease_model.specs.server.Passes.{Pass, is_behind, left_waiting, pass_answered, after_try, tried_again, pass_over, one_pass}
@@ -17,11 +17,13 @@ use Rattle.lease_model.specs.server.Progress.{Progress, opens_dropped, with_open
 use Rattle.lease_model.specs.server.Ready.{is_ready}
 use Rattle.lease_model.specs.messages.Replies.{Reply}
 use Rattle.lease_model.specs.messages.Requests.{FileRequest, CreateAsk, LeaseOf}
-use Rattle.lease_model.specs.server.State.{Open, Lease, Held, has_lease, is_breaking}
+use Rattle.lease_model.specs.server.State.{Open, Lease, Held, has_lease, is_breaking, Server}
 use Rattle.lease_model.specs.values.Tables.{put}
 use Rattle.lease_model.specs.server.Wants.{Want}
 use Rattle.lease_model.specs.server.Findings.{Finding, finding, connected_open}
 use Rattle.lease_laws.proofs.server.Lists.{if_cases}
+use Rattle.lease_laws.proofs.server.cases.Tries.{HasTries, any_meeting, any_try}
+use Rattle.lease_laws.proofs.server.cases.Ends.{HasEnds, any_end}
 
 -- the call has gone on, and what is held is the same
 abbrev pub SameHeld : Progress → Progress → Type 0
@@ -33,162 +35,48 @@ pub dropped_held : (test : Open → Bool) (progress : Progress)
 unfolding opens_dropped with_opens
 dropped_held test progress = refl
 
--- to lower a lease leaves them
-lowered_held : (key : Key) (lowered : State) (progress : Progress)
-    → SameHeld progress (lease_lowered key lowered progress)
-unfolding lease_lowered
-lowered_held key lowered progress = refl
-
--- to begin a break leaves them
-begun_held : (key : Key) (lowered : State) (progress : Progress)
-    → SameHeld progress (break_begun key lowered progress)
-unfolding break_begun
-begun_held key lowered progress = refl
-
--- to break a lease leaves the held requests as they are
-lease_broken-held : (key : Key) (lowered : State) (progress : Progress)
-    → SameHeld progress (lease_broken key lowered progress)
-unfolding lease_broken
-lease_broken-held key lowered progress =
-    if_cases (SameHeld progress) (has_lease progress.server key && not
-    (is_breaking (progress.server.leases key)))
-    (if needs_acknowledgment (progress.server.leases key).state then break_begun key lowered progress else
-    lease_lowered key lowered progress) progress
-    (λ t. if_cases (SameHeld progress) (needs_acknowledgment (progress.server.leases key).state)
-    (break_begun key lowered progress) (lease_lowered key lowered progress)
-    (λ n. begun_held key lowered progress) (λ n. lowered_held key lowered progress))
-    (λ t. refl)
-
--- to meet a want leaves the held requests as they are
-want_met-held : (want : Want) (progress : Progress) → SameHeld progress (want_met want progress)
-unfolding want_met
-want_met-held want progress = lease_broken-held want.key want.lowered
-    (opens_dropped (is_left_open want.key) progress)
-    ∙ dropped_held (is_left_open want.key) progress
+tries_hold : HasTries SameHeld
+unfolding lease_lowered break_begun
+tries_hold = record {
+  same = λ progress. refl;
+  behind = λ before next after e f. f ∙ e;
+  drop = λ key progress. dropped_held (is_left_open key) progress;
+  lower = λ key lowered progress settled. refl;
+  begin = λ key lowered progress settled. refl;
+}
 
 -- to meet wants leaves the held requests as they are
 wants_met-held : (wants : List Want) (progress : Progress) → SameHeld progress (wants_met wants progress)
-unfolding wants_met
-wants_met-held [] progress = refl
-wants_met-held (want ∷ wants) progress = wants_met-held wants (want_met want progress)
-    ∙ want_met-held want progress
-
--- a round leaves the held requests as they are
-after_finding-held : (again : Progress → Tried) (request : FileRequest) (progress : Progress) (found : Finding)
-    → ((next : Progress) → SameHeld next (again next).progress)
-    → SameHeld progress (after_finding again request progress found).progress
-after_finding-held again request progress (Finding.Fails status) more = refl
-after_finding-held again request progress (Finding.Needs wants) more =
-    let met = wants_met wants progress in
-    if_cases (λ t. SameHeld progress t.progress) (is_ready request progress.server.leases wants)
-    (ended progress Outcome.Ready) (after_breaks again request wants met)
-    (λ r. refl)
-    (λ n. if_cases (λ t. SameHeld progress t.progress) (must_wait request met wants) (ended met Outcome.Waits)
-    (again met)
-    (λ w. wants_met-held wants progress)
-    (λ w. more met ∙ wants_met-held wants progress))
+wants_met-held = any_meeting SameHeld tries_hold
 
 -- a try holds and lets go nothing
 pub tried_for-held : (rounds client : ℕ) (request : FileRequest) (progress : Progress)
     → SameHeld progress (tried_for rounds client request progress).progress
-unfolding tried_for
-tried_for-held zero client request progress = refl
-tried_for-held (suc rounds) client request progress = after_finding-held (tried_for rounds client request)
-    request progress
-    (finding progress.server client request) (λ next. tried_for-held rounds client request next)
+tried_for-held = any_try SameHeld tries_hold
 
--- a refusal leaves the held requests as they are
-refused-held : (client : ℕ) (request : FileRequest) (status : Status) (progress : Progress)
-    → SameHeld progress (refused client request status progress)
-unfolding refused
-refused-held client request status progress = refl
-
--- a write that is done leaves the held requests as they are
-changed-held : (client file file_id number : ℕ) (patch : Patch) (progress : Progress)
-    → SameHeld progress (changed client file file_id number patch progress)
-unfolding changed
-changed-held client file file_id number patch progress = refl
-
--- a close leaves the held requests as they are
-closed-held : (client file_id : ℕ) (progress : Progress) → SameHeld progress (closed client file_id progress)
-unfolding closed opens_dropped with_opens
-closed-held client file_id progress = refl
-
--- a grant leaves the held requests as they are
-granted_with-held : (client file : ℕ) (access : Access) (share : Share) (asked : Option LeaseOf)
-    (durable : Bool) (lease : Lease) (progress : Progress)
-    → SameHeld progress (granted_with client file access share asked durable lease progress)
-unfolding granted_with
-granted_with-held client file access share None durable lease progress = refl
-granted_with-held client file access share (Some asked) durable lease progress = refl
-
--- a grant, if FileIds are left, leaves the held requests as they are
-granted-held : (client file : ℕ) (access : Access) (share : Share) (asked : Option LeaseOf) (durable : Bool)
-    (progress : Progress)
-    → SameHeld progress (granted client file access share asked durable progress)
-unfolding granted
-granted-held client file access share asked durable progress =
-    if_cases (SameHeld progress) (progress.server.last_id == last_file_id)
-    (replied client (Reply.CreateFailed file Status.InsufficientResources) progress)
-    (granted_with client file access share asked durable (lease_after progress.server client file asked)
-    progress)
-    (λ e. refl)
-    (λ e. granted_with-held client file access share asked durable
-    (lease_after progress.server client file asked) progress)
-
--- a reconnect leaves the held requests as they are
-reconnected-held : (client file : ℕ) (asked : Option LeaseOf) (file_id : ℕ) (progress : Progress)
-    → SameHeld progress (reconnected client file asked file_id progress)
-unfolding reconnected
-reconnected-held client file asked file_id progress = refl
-
--- a create that is ready leaves the held requests as they are
-created-held : (client file : ℕ) (access : Access) (share : Share) (asked : Option LeaseOf) (durable : Bool)
-    (again : Option ℕ) (progress : Progress)
-    → SameHeld progress (created client file access share asked durable again progress)
-created-held client file access share asked durable None progress = granted-held client file access share
-    asked durable progress
-created-held client file access share asked durable (Some file_id) progress = reconnected-held client file
-    asked file_id progress
-
--- a create that is ready, by its contexts, leaves the held requests as they are
-on_contexts-held : (contexts : Option CreateAsk) (done : CreateAsk → Progress → Progress)
-    (progress : Progress)
-    → ((ask : CreateAsk) → SameHeld progress (done ask progress))
-    → SameHeld progress (on_contexts contexts done progress)
-on_contexts-held None done progress each = refl
-on_contexts-held (Some ask) done progress each = each ask
-
--- an answer by the open that is named leaves the held requests as they are
-on_open-held : (one : Option Open) (done : ℕ → Progress → Progress) (progress : Progress)
-    → ((file : ℕ) → SameHeld progress (done file progress)) → SameHeld progress (on_open one done progress)
-on_open-held None done progress each = refl
-on_open-held (Some one) done progress each = each one.file
-
--- the answer to a request that is ready leaves the held requests as they are
-answered-held : (client : ℕ) (request : FileRequest) (progress : Progress)
-    → SameHeld progress (answered client request progress)
-unfolding answered
-answered-held client (FileRequest.Create file access share contexts) progress = on_contexts-held contexts
-    (λ ask. created client file access share ask.lease ask.durable ask.reconnect) progress
-    (λ ask. created-held client file access share ask.lease ask.durable ask.reconnect progress)
-answered-held client (FileRequest.Read file_id) progress = on_open-held
-    (connected_open progress.server client file_id)
-    (λ file. read_done client file file_id) progress (λ file. refl)
-answered-held client (FileRequest.Write file_id number patch) progress = on_open-held
-    (connected_open progress.server client file_id)
-    (λ file. changed client file file_id number patch) progress
-    (λ file. changed-held client file file_id number patch progress)
-answered-held client (FileRequest.Close file_id) progress = on_open-held
-    (connected_open progress.server client file_id)
-    (λ file. closed client file_id) progress (λ file. closed-held client file_id progress)
+-- a lease that is put leaves them
+put_held : (server : Server) (client : ℕ) (asked : Option LeaseOf) (lease : Lease)
+    → (lease_put server client asked lease).held ≡ server.held
+put_held server client None lease = refl
+put_held server client (Some given) lease = refl
 
 -- the end of a try holds and lets go nothing
+ends_hold : (client : ℕ) (progress : Progress) → HasEnds client progress (λ request outcome. SameHeld progress)
+unfolding granted_with reconnected changed opens_dropped with_opens
+ends_hold client progress = record {
+  refused = λ request status. refl;
+  left = λ request outcome. refl;
+  full = λ file access share ask none. refl;
+  granted = λ file access share ask none. put_held progress.server client ask.lease _;
+  again = λ file access share ask file_id some. refl;
+  read = λ file_id one own. refl;
+  changed = λ file_id number patch one own. refl;
+  closed = λ file_id one own. refl;
+}
+
 pub concluded-held : (client : ℕ) (request : FileRequest) (progress : Progress) (outcome : Outcome)
     → SameHeld progress (concluded client request progress outcome)
-concluded-held client request progress (Outcome.Refused status) = refused-held client request status progress
-concluded-held client request progress Outcome.Waits = refl
-concluded-held client request progress Outcome.Ready = answered-held client request progress
+concluded-held client request progress = any_end client progress _ (ends_hold client progress) request
 
 -- the file has the requests that are left
 pub held_left-here : (file : ℕ) (left : List Held) (progress : Progress)

@@ -25,6 +25,8 @@ use Rattle.lease_laws.proofs.server.Lists.{if_cases, among_append}
 use Rattle.lease_laws.proofs.server.OutCalls.{held_left-outs, request_held-outs}
 use Rattle.lease_laws.proofs.server.OutLists.{go_on-same}
 use Rattle.lease_laws.proofs.server.OutSteps.{opens_dropped-outs}
+use Rattle.lease_laws.proofs.server.cases.Ends.{HasEnds, any_end}
+use Rattle.lease_laws.proofs.server.cases.Judgements.{any_judgement}
 
 abbrev pub IsNoOpened : Out → Type 0
 IsNoOpened (Out.Opened file client) = ⊥
@@ -89,83 +91,44 @@ granted_told client file access share asked durable lease progress = record {
     }
     made one (inr none) = absurd none
 
-created_told : (client file : ℕ) (access : Access) (share : Share) (asked : Option LeaseOf) (durable : Bool)
-    (again : Option ℕ) (progress : Progress)
-    → IsTold progress (created client file access share asked durable again progress)
-unfolding granted reconnected
-created_told client file access share asked durable None progress =
-    if_cases (IsTold progress) (progress.server.last_id == last_file_id)
-    (replied client (Reply.CreateFailed file Status.InsufficientResources) progress)
-    (granted_with client file access share asked durable (lease_after progress.server client file asked) progress)
-    (λ e. inl (reply_quiet client (Reply.CreateFailed file Status.InsufficientResources) progress))
-    (λ e. inr (granted_told client file access share asked durable
-    (lease_after progress.server client file asked) progress))
-created_told client file access share asked durable (Some file_id) progress = inl (record {
-  last = refl;
-  outs = record { more = _; are_more = refl; each = (tt, tt) };
-})
-
-on_open_quiet : (one : Option Open) (done : ℕ → Progress → Progress) (progress : Progress)
-    → ((file : ℕ) → IsQuiet progress (done file progress)) → IsQuiet progress (on_open one done progress)
-on_open_quiet None done progress each = same_quiet progress
-on_open_quiet (Some one) done progress each = each one.file
-
-on_contexts_told : (contexts : Option CreateAsk) (done : CreateAsk → Progress → Progress) (progress : Progress)
-    → ((ask : CreateAsk) → IsTold progress (done ask progress)) → IsTold progress (on_contexts contexts done progress)
-on_contexts_told None done progress each = inl (same_quiet progress)
-on_contexts_told (Some ask) done progress each = each ask
-
 -- the end of a request
+ends_told : (client : ℕ) (progress : Progress) → HasEnds client progress (λ request outcome. IsTold progress)
+unfolding reconnected changed opens_dropped with_opens
+ends_told client progress = record {
+  refused = λ request status. inl (reply_quiet client _ progress);
+  left = λ request outcome. inl (same_quiet progress);
+  full = λ file access share ask none. inl (reply_quiet client _ progress);
+  granted = λ file access share ask none. inr (granted_told client file access share ask.lease ask.durable
+      (lease_after progress.server client file ask.lease) progress);
+  again = λ file access share ask file_id some.
+      inl (record { last = refl; outs = record { more = _; are_more = refl; each = (tt, tt) } });
+  read = λ file_id one own. inl (reply_quiet client _ progress);
+  changed = λ file_id number patch one own.
+      inl (record { last = refl; outs = record { more = _; are_more = refl; each = (tt, (tt, tt)) } });
+  closed = λ file_id one own. inl (record {
+    last = refl;
+    outs = record {
+      more = _;
+      are_more = ap (λ outs. outs ++ Out.Sent client (Reply.Closed file_id) ∷ [])
+          (opens_dropped-outs (λ other. other.file_id == file_id) progress);
+      each = (tt, tt);
+    };
+  });
+}
+
 pub concluded-told : (client : ℕ) (request : FileRequest) (progress : Progress) (outcome : Outcome)
     → IsTold progress (concluded client request progress outcome)
-unfolding refused answered changed closed opens_dropped with_opens
-concluded-told client request progress (Outcome.Refused status) = inl (reply_quiet client _ progress)
-concluded-told client request progress Outcome.Waits = inl (same_quiet progress)
-concluded-told client (FileRequest.Create file access share contexts) progress Outcome.Ready =
-    on_contexts_told contexts _ progress
-    (λ ask. created_told client file access share ask.lease ask.durable ask.reconnect progress)
-concluded-told client (FileRequest.Read file_id) progress Outcome.Ready = inl
-    (on_open_quiet (connected_open progress.server client file_id) (λ file. read_done client file file_id) progress
-    (λ file. reply_quiet client _ progress))
-concluded-told client (FileRequest.Write file_id number patch) progress Outcome.Ready = inl
-    (on_open_quiet (connected_open progress.server client file_id)
-    (λ file. changed client file file_id number patch) progress
-    (λ file. record { last = refl; outs = record { more = _; are_more = refl; each = (tt, (tt, tt)) } }))
-concluded-told client (FileRequest.Close file_id) progress Outcome.Ready = inl
-    (on_open_quiet (connected_open progress.server client file_id) (λ file. closed client file_id) progress
-    (λ file. record {
-      last = refl;
-      outs = record {
-        more = _;
-        are_more = ap (λ outs. outs ++ Out.Sent client (Reply.Closed file_id) ∷ [])
-            (opens_dropped-outs (λ one. one.file_id == file_id) progress);
-        each = (tt, tt);
-      };
-    }))
+concluded-told client request progress = any_end client progress _ (ends_told client progress) request
 
 -- an acknowledgment
-judged_quiet : (key : Key) (state : State) (broken : Option State) (progress : Progress)
-    → IsQuiet progress (judged key state broken progress)
-unfolding break_ended
-judged_quiet key state None progress = reply_quiet key.client _ progress
-judged_quiet key state (Some lowered) progress = if_cases (IsQuiet progress) (is_state_within state lowered)
-    (break_ended key state progress)
-    (replied key.client (Reply.AckFailed Status.RequestNotAccepted) progress)
-    (λ e. record { last = refl; outs = record { more = _; are_more = refl; each = (tt, tt) } })
-    (λ e. reply_quiet key.client _ progress)
-
 acknowledged_quiet : (client : ℕ) (given : Option LeaseOf) (progress : Progress)
     → IsQuiet progress (acknowledged client given progress)
-unfolding acknowledged
-acknowledged_quiet client None progress = reply_quiet client _ progress
-acknowledged_quiet client (Some given) progress = if_cases (IsQuiet progress)
-    (has_lease progress.server (key_of client given.key))
-    (judged (key_of client given.key) given.state (progress.server.leases (key_of client given.key)).broken_to
-    progress)
-    (replied client (Reply.AckFailed Status.ObjectNameNotFound) progress)
-    (λ e. judged_quiet (key_of client given.key) given.state
-    (progress.server.leases (key_of client given.key)).broken_to progress)
-    (λ e. reply_quiet client _ progress)
+unfolding break_ended
+acknowledged_quiet client given progress = any_judgement client progress (IsQuiet progress) (record {
+  failed = λ status. reply_quiet client _ progress;
+  ended = λ g lowered there breaks within.
+      record { last = refl; outs = record { more = _; are_more = refl; each = (tt, tt) } };
+}) given
 
 -- nothing is given out
 silent_quiet : (before after : Progress) → after.server.last_id ≡ before.server.last_id → after.outs ≡ before.outs

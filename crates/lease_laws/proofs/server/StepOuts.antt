@@ -32,6 +32,8 @@ use Rattle.lease_laws.proofs.server.OutLists.{each_append, each_weaker, go_on-sa
 use Rattle.lease_laws.proofs.server.OutSteps.{opens_dropped-outs, acknowledged-answered}
 use Rattle.lease_laws.proofs.server.StepCalls.{called-steps, call_begun-silent, call_begun-up}
 use Rattle.lease_laws.proofs.server.StepKeeps.{OpensUp, goes-up, step-sound, step-goes}
+use Rattle.lease_laws.proofs.server.cases.Ends.{HasEnds, any_end}
+use Rattle.lease_laws.proofs.server.cases.Judgements.{any_judgement}
 
 -- ---- the end of a request gives its client out, and the change that it asks for
 
@@ -51,78 +53,29 @@ replied-out : (client : ℕ) (request : FileRequest) (reply : Reply) (progress :
 replied-out client request reply progress =
     record { more = Out.Sent client reply ∷ []; are_more = refl; each = (refl, tt) }
 
--- a close
-closed-out : (client file_id : ℕ) (request : FileRequest) (progress : Progress)
-    → GoesOut client request progress (closed client file_id progress)
-unfolding closed
-closed-out client file_id request progress = subst
-    (λ outs. GoOn (IsOfRequest client request) outs (closed client file_id progress).outs)
-    (opens_dropped-outs (λ one. one.file_id == file_id) progress)
-    (replied-out client request (Reply.Closed file_id) (opens_dropped (λ one. one.file_id == file_id) progress))
-
--- a change
-changed-out : (client file file_id number : ℕ) (patch : Patch) (progress : Progress)
-    → GoesOut client (FileRequest.Write file_id number patch) progress
-    (changed client file file_id number patch progress)
-unfolding changed
-changed-out client file file_id number patch progress = record {
-  more = Out.Changed file client number patch ∷ Out.Sent client (Reply.WriteDone file_id number) ∷ [];
-  are_more = refl;
-  each = ((file_id, refl), (refl, tt));
+-- any request
+ends_out : (client : ℕ) (progress : Progress)
+    → HasEnds client progress (λ request outcome. GoesOut client request progress)
+unfolding granted_with reconnected changed
+ends_out client progress = record {
+  refused = λ request status. replied-out client request (refusal_of request status) progress;
+  left = λ request outcome. go_on-same (IsOfRequest client request) progress.outs;
+  full = λ file access share ask none. replied-out client _ _ progress;
+  granted = λ file access share ask none. record { more = _; are_more = refl; each = (refl, (refl, tt)) };
+  again = λ file access share ask file_id some. record { more = _; are_more = refl; each = (refl, tt) };
+  read = λ file_id one own. replied-out client _ _ progress;
+  changed = λ file_id number patch one own.
+      record { more = _; are_more = refl; each = ((file_id, refl), (refl, tt)) };
+  closed = λ file_id one own. let test = λ (other : Open). other.file_id == file_id in subst
+      (λ outs. GoOn (IsOfRequest client (FileRequest.Close file_id)) outs
+      (replied client (Reply.Closed file_id) (opens_dropped test progress)).outs)
+      (opens_dropped-outs test progress)
+      (replied-out client (FileRequest.Close file_id) (Reply.Closed file_id) (opens_dropped test progress));
 }
 
--- a create
-created-out : (client file : ℕ) (access : Access) (share : Share) (asked : Option LeaseOf) (durable : Bool)
-    (again : Option ℕ) (request : FileRequest) (progress : Progress)
-    → GoesOut client request progress (created client file access share asked durable again progress)
-unfolding granted granted_with reconnected
-created-out client file access share asked durable None request progress =
-    if_cases (GoesOut client request progress) (progress.server.last_id == last_file_id)
-    (replied client (Reply.CreateFailed file Status.InsufficientResources) progress)
-    (granted_with client file access share asked durable (lease_after progress.server client file asked) progress)
-    (λ e. replied-out client request (Reply.CreateFailed file Status.InsufficientResources) progress)
-    (λ e. record { more = _; are_more = refl; each = (refl, (refl, tt)) })
-created-out client file access share asked durable (Some file_id) request progress =
-    record { more = _; are_more = refl; each = (refl, tt) }
-
--- by an open
-on_open-out : (client : ℕ) (request : FileRequest) (one : Option Open) (done : ℕ → Progress → Progress)
-    (progress : Progress) → ((file : ℕ) → GoesOut client request progress (done file progress))
-    → GoesOut client request progress (on_open one done progress)
-on_open-out client request None done progress each = go_on-same (IsOfRequest client request) progress.outs
-on_open-out client request (Some one) done progress each = each one.file
-
--- by contexts
-on_contexts-out : (client : ℕ) (request : FileRequest) (contexts : Option CreateAsk)
-    (done : CreateAsk → Progress → Progress) (progress : Progress)
-    → ((ask : CreateAsk) → GoesOut client request progress (done ask progress))
-    → GoesOut client request progress (on_contexts contexts done progress)
-on_contexts-out client request None done progress each = go_on-same (IsOfRequest client request) progress.outs
-on_contexts-out client request (Some ask) done progress each = each ask
-
--- any request
 pub concluded-out : (client : ℕ) (request : FileRequest) (progress : Progress) (outcome : Outcome)
     → GoesOut client request progress (concluded client request progress outcome)
-unfolding refused answered
-concluded-out client request progress (Outcome.Refused status) =
-    replied-out client request (refusal_of request status) progress
-concluded-out client request progress Outcome.Waits = go_on-same (IsOfRequest client request) progress.outs
-concluded-out client (FileRequest.Create file access share contexts) progress Outcome.Ready =
-    on_contexts-out client (FileRequest.Create file access share contexts) contexts _ progress
-    (λ ask. created-out client file access share ask.lease ask.durable ask.reconnect _ progress)
-concluded-out client (FileRequest.Read file_id) progress Outcome.Ready =
-    on_open-out client (FileRequest.Read file_id) (connected_open progress.server client file_id)
-    (λ file. read_done client file file_id) progress
-    (λ file. replied-out client (FileRequest.Read file_id)
-    (Reply.ReadDone file_id (progress.server.contents file)) progress)
-concluded-out client (FileRequest.Write file_id number patch) progress Outcome.Ready =
-    on_open-out client (FileRequest.Write file_id number patch) (connected_open progress.server client file_id)
-    (λ file. changed client file file_id number patch) progress
-    (λ file. changed-out client file file_id number patch progress)
-concluded-out client (FileRequest.Close file_id) progress Outcome.Ready =
-    on_open-out client (FileRequest.Close file_id) (connected_open progress.server client file_id)
-    (λ file. closed client file_id) progress
-    (λ file. closed-out client file_id (FileRequest.Close file_id) progress)
+concluded-out client request progress = any_end client progress _ (ends_out client progress) request
 
 -- an acknowledgment gives out one reply to its client
 abbrev pub IsSentTo : ℕ → Out → Type 0
@@ -135,30 +88,14 @@ sent-out client reply progress =
     record { more = Out.Sent client reply ∷ []; are_more = refl; each = (refl, tt) }
 
 -- however it is judged
-judged-out : (key : Key) (state : State) (broken : Option State) (progress : Progress)
-    → GoOn (IsSentTo key.client) progress.outs (judged key state broken progress).outs
-unfolding break_ended
-judged-out key state None progress = sent-out key.client (Reply.AckFailed Status.Unsuccessful) progress
-judged-out key state (Some lowered) progress =
-    if_cases (λ p. GoOn (IsSentTo key.client) progress.outs p.outs) (is_state_within state lowered)
-    (break_ended key state progress)
-    (replied key.client (Reply.AckFailed Status.RequestNotAccepted) progress)
-    (λ e. record { more = _; are_more = refl; each = (refl, tt) })
-    (λ e. sent-out key.client (Reply.AckFailed Status.RequestNotAccepted) progress)
-
 pub acknowledged-out : (client : ℕ) (given : Option LeaseOf) (progress : Progress)
     → GoOn (IsSentTo client) progress.outs (acknowledged client given progress).outs
-unfolding acknowledged
-acknowledged-out client None progress = sent-out client (Reply.AckFailed Status.InvalidParameter) progress
-acknowledged-out client (Some given) progress =
-    if_cases (λ p. GoOn (IsSentTo client) progress.outs p.outs)
-    (has_lease progress.server (key_of client given.key))
-    (judged (key_of client given.key) given.state (progress.server.leases (key_of client given.key)).broken_to
-    progress)
-    (replied client (Reply.AckFailed Status.ObjectNameNotFound) progress)
-    (λ e. judged-out (key_of client given.key) given.state
-    (progress.server.leases (key_of client given.key)).broken_to progress)
-    (λ e. sent-out client (Reply.AckFailed Status.ObjectNameNotFound) progress)
+unfolding break_ended
+acknowledged-out client given progress =
+    any_judgement client progress (λ after. GoOn (IsSentTo client) progress.outs after.outs) (record {
+      failed = λ status. sent-out client (Reply.AckFailed status) progress;
+      ended = λ g lowered there breaks within. record { more = _; are_more = refl; each = (refl, tt) };
+    }) given
 
 -- ---- each step's outs find their clients and are short
 
