@@ -3,24 +3,21 @@ use Rattle.std.proofs.Common.{◌≡◌, inl, inr, ⊎_elim, refl, sym, ap, ◌�
 use Rattle.std.specs.Prelude.{⊤, if◌then◌else◌, bytes_eq, Option, Some, None, IfSome}
 use Rattle.std.specs.List.{list_any}
 use Rattle.std.proofs.lemmas.Slice.Eq.{bytes_eq-Decides}
-use Rattle.lease_state.specs.State.{State, is_state_within}
 use Rattle.lease_state.specs.declared.access.Access.{Access}
 use Rattle.lease_state.specs.declared.access.Share.{Share}
 use Rattle.lease_state.specs.declared.status.Status.{Status}
 use Rattle.lease_model.specs.messages.Replies.{Reply, Out}
-use Rattle.lease_model.specs.messages.Requests.{FileRequest, CreateAsk, LeaseOf}
+use Rattle.lease_model.specs.messages.Requests.{FileRequest, LeaseOf}
 use Rattle.lease_model.specs.messages.ToBytes.{HasReplyBytes}
-use Rattle.lease_model.specs.server.Acknowledge.{acknowledged, judged, break_ended}
-use Rattle.lease_model.specs.server.Answers.{concluded, answered, created, closed, changed, read_done, on_open, on_contexts}
+use Rattle.lease_model.specs.server.Acknowledge.{acknowledged, break_ended}
+use Rattle.lease_model.specs.server.Answers.{concluded, changed}
 use Rattle.lease_model.specs.server.Attempt.{Outcome, is_left_open}
 use Rattle.lease_model.specs.server.Calls.{Call, called, join, joined, is_lost, disconnected, opens_disconnected, client_forgotten, key_expired, is_left_behind}
-use Rattle.lease_model.specs.server.Findings.{connected_open}
-use Rattle.lease_model.specs.server.Grant.{granted, granted_with, lease_after, lease_put, lease_given, asked_key, standing_lease, reconnected, connected_again}
+use Rattle.lease_model.specs.server.Grant.{granted_with, lease_after, lease_put, lease_given, asked_key, standing_lease, reconnected, connected_again}
 use Rattle.lease_model.specs.server.Naming.{key_of}
-use Rattle.lease_model.specs.server.Progress.{Progress, begun, opens_dropped, with_opens, lease_lowered, break_begun, request_held, held_left, replied, refused, refusal_of}
+use Rattle.lease_model.specs.server.Progress.{Progress, begun, opens_dropped, with_opens, lease_lowered, break_begun, request_held, held_left, replied, refusal_of}
 use Rattle.lease_model.specs.server.State.{Server, Open, Lease, Held, is_key, has_key, has_lease, is_breaking}
 use Rattle.lease_model.specs.values.Keys.{Key}
-use Rattle.lease_model.specs.values.Limits.{last_file_id}
 use Rattle.lease_model.specs.values.Tables.{put}
 use Rattle.lease_laws.specs.messages.Written.{HasFullKey, HaveFullKeys, CallHasFullKey, OutHasBytes}
 use Rattle.lease_laws.specs.server.Laws.{Among, IsSound}
@@ -32,6 +29,8 @@ use Rattle.lease_laws.proofs.server.OutLists.{each_append, go_on-same}
 use Rattle.lease_laws.proofs.server.OutSteps.{opens_dropped-outs}
 use Rattle.lease_laws.proofs.server.OutCalls.{request_held-outs, held_left-outs}
 use Rattle.lease_laws.proofs.server.StepCalls.{called-steps, call_begun-silent}
+use Rattle.lease_laws.proofs.server.cases.Ends.{HasEnds, any_end}
+use Rattle.lease_laws.proofs.server.cases.Judgements.{any_judgement}
 
 -- what a step comes to: outs with bytes, and full keys
 record IsFull (before : Progress) (after : Progress) : Type 0 where
@@ -120,117 +119,66 @@ again_key : (file_id : ℕ) (one : Open) → (connected_again file_id one).lease
 again_key file_id one = if_cases (λ o. o.lease_key ≡ one.lease_key) (one.file_id == file_id)
     (record one { connected = true }) one (λ e. refl) (λ e. refl)
 
-created_full : (client file : ℕ) (access : Access) (share : Share) (asked : Option LeaseOf) (durable : Bool)
-    (again : Option ℕ) (progress : Progress) → IfSome asked (λ l. length l.key ≡ 16) → HaveFullKeys progress.server
-    → IsFull progress (created client file access share asked durable again progress)
-unfolding granted reconnected
-created_full client file access share asked durable None progress h full =
-    if_cases (IsFull progress) (progress.server.last_id == last_file_id)
-    (replied client (Reply.CreateFailed file Status.InsufficientResources) progress)
-    (granted_with client file access share asked durable (lease_after progress.server client file asked) progress)
-    (λ e. replied_full client (Reply.CreateFailed file Status.InsufficientResources) progress tt full)
-    (λ e. granted_full client file access share asked durable progress h full)
-created_full client file access share asked durable (Some file_id) progress h full = record {
-  outs = record {
-    more = _;
-    are_more = refl;
-    each = (given_bytes asked (standing_lease progress.server client asked) h, tt);
-  };
-  keys = record {
-    opens = λ one bytes a e. let x = among_map (connected_again file_id) one progress.server.opens a in
-        full.opens x.0 bytes x.1 (sym (again_key file_id x.0) ∙ ap (λ o. o.lease_key) (sym x.2) ∙ e);
-    held = full.held;
-  };
-}
-
 -- ---- the end of a request
 
-on_open_full : (one : Option Open) (done : ℕ → Progress → Progress) (progress : Progress) → HaveFullKeys progress.server
-    → ((file : ℕ) → IsFull progress (done file progress)) → IsFull progress (on_open one done progress)
-on_open_full None done progress full each = record { outs = go_on-same OutHasBytes progress.outs; keys = full }
-on_open_full (Some one) done progress full each = each one.file
-
-on_contexts_full : (contexts : Option CreateAsk) (done : CreateAsk → Progress → Progress) (progress : Progress)
-    → HaveFullKeys progress.server
-    → ((ask : CreateAsk) → contexts ≡ Some ask → IsFull progress (done ask progress))
-    → IsFull progress (on_contexts contexts done progress)
-on_contexts_full None done progress full each = record { outs = go_on-same OutHasBytes progress.outs; keys = full }
-on_contexts_full (Some ask) done progress full each = each ask refl
-
-closed_full : (client file_id : ℕ) (progress : Progress) → HaveFullKeys progress.server
-    → IsFull progress (closed client file_id progress)
-unfolding closed
-closed_full client file_id progress full = record {
-  outs = subst (λ outs. GoOn OutHasBytes outs (closed client file_id progress).outs)
-      (opens_dropped-outs (λ one. one.file_id == file_id) progress)
-      (record { more = Out.Sent client (Reply.Closed file_id) ∷ []; are_more = refl; each = (tt, tt) });
-  keys = dropped_full (λ one. one.file_id == file_id) progress full;
-}
-
-changed_full : (client file file_id number : ℕ) (patch : _) (progress : Progress) → HaveFullKeys progress.server
-    → IsFull progress (changed client file file_id number patch progress)
-unfolding changed
-changed_full client file file_id number patch progress full = record {
-  outs = record { more = _; are_more = refl; each = (tt, (tt, tt)) };
-  keys = record { opens = full.opens; held = full.held };
+ends_full : (client : ℕ) (progress : Progress) → HaveFullKeys progress.server
+    → HasEnds client progress (λ request outcome after. HasFullKey request → IsFull progress after)
+unfolding reconnected changed
+ends_full client progress full = record {
+  refused = λ request status h.
+      replied_full client (refusal_of request status) progress (refusal_bytes request status) full;
+  left = λ request outcome h. record { outs = go_on-same OutHasBytes progress.outs; keys = full };
+  full = λ file access share ask none h. replied_full client _ progress tt full;
+  granted = λ file access share ask none h.
+      granted_full client file access share ask.lease ask.durable progress h full;
+  again = λ file access share ask file_id some h. record {
+    outs = record {
+      more = _;
+      are_more = refl;
+      each = (given_bytes ask.lease (standing_lease progress.server client ask.lease) h, tt);
+    };
+    keys = record {
+      opens = λ one bytes a e. let x = among_map (connected_again file_id) one progress.server.opens a in
+          full.opens x.0 bytes x.1 (sym (again_key file_id x.0) ∙ ap (λ o. o.lease_key) (sym x.2) ∙ e);
+      held = full.held;
+    };
+  };
+  read = λ file_id one own h. replied_full client _ progress tt full;
+  changed = λ file_id number patch one own h. record {
+    outs = record { more = _; are_more = refl; each = (tt, (tt, tt)) };
+    keys = record { opens = full.opens; held = full.held };
+  };
+  closed = λ file_id one own h. let test = λ (other : Open). other.file_id == file_id in record {
+    outs = subst
+        (λ outs. GoOn OutHasBytes outs (replied client (Reply.Closed file_id) (opens_dropped test progress)).outs)
+        (opens_dropped-outs test progress)
+        (record { more = Out.Sent client (Reply.Closed file_id) ∷ []; are_more = refl; each = (tt, tt) });
+    keys = dropped_full test progress full;
+  };
 }
 
 concluded_full : (client : ℕ) (request : FileRequest) (progress : Progress) (outcome : Outcome)
     → HasFullKey request → HaveFullKeys progress.server
     → IsFull progress (concluded client request progress outcome)
-unfolding refused answered
-concluded_full client request progress (Outcome.Refused status) h full =
-    replied_full client (refusal_of request status) progress (refusal_bytes request status) full
-concluded_full client request progress Outcome.Waits h full =
-    record { outs = go_on-same OutHasBytes progress.outs; keys = full }
-concluded_full client (FileRequest.Create file access share contexts) progress Outcome.Ready h full =
-    on_contexts_full contexts _ progress full (λ ask e. created_full client file access share ask.lease ask.durable
-    ask.reconnect progress (subst (λ c. HasFullKey (FileRequest.Create file access share c)) e h) full)
-concluded_full client (FileRequest.Read file_id) progress Outcome.Ready h full =
-    on_open_full (connected_open progress.server client file_id) (λ file. read_done client file file_id) progress full
-    (λ file. replied_full client (Reply.ReadDone file_id (progress.server.contents file)) progress tt full)
-concluded_full client (FileRequest.Write file_id number patch) progress Outcome.Ready h full =
-    on_open_full (connected_open progress.server client file_id)
-    (λ file. changed client file file_id number patch) progress full
-    (λ file. changed_full client file file_id number patch progress full)
-concluded_full client (FileRequest.Close file_id) progress Outcome.Ready h full =
-    on_open_full (connected_open progress.server client file_id) (λ file. closed client file_id) progress full
-    (λ file. closed_full client file_id progress full)
+concluded_full client request progress outcome h full =
+    any_end client progress _ (ends_full client progress full) request outcome h
 
 -- ---- acknowledgments
 
-ended_full : (key : Key) (state : State) (progress : Progress) → HaveFullKeys progress.server
-    → length key.bytes ≡ 16 → IsFull progress (break_ended key state progress)
-unfolding break_ended
-ended_full key state progress full long = record {
-  outs = record { more = _; are_more = refl; each = (long, tt) };
-  keys = record { opens = full.opens; held = full.held };
-}
-
-judged_full : (key : Key) (state : State) (broken : Option State) (progress : Progress)
-    → HaveFullKeys progress.server → length key.bytes ≡ 16 → IsFull progress (judged key state broken progress)
-judged_full key state None progress full long =
-    replied_full key.client (Reply.AckFailed Status.Unsuccessful) progress tt full
-judged_full key state (Some lowered) progress full long = if_cases (IsFull progress) (is_state_within state lowered)
-    (break_ended key state progress)
-    (replied key.client (Reply.AckFailed Status.RequestNotAccepted) progress)
-    (λ e. ended_full key state progress full long)
-    (λ e. replied_full key.client (Reply.AckFailed Status.RequestNotAccepted) progress tt full)
-
 acknowledged_full : (client : ℕ) (given : Option LeaseOf) (progress : Progress) → HaveFullKeys progress.server
     → IsFull progress (acknowledged client given progress)
-unfolding acknowledged
-acknowledged_full client None progress full =
-    replied_full client (Reply.AckFailed Status.InvalidParameter) progress tt full
-acknowledged_full client (Some given) progress full = if_cases (IsFull progress)
-    (has_lease progress.server (key_of client given.key))
-    (judged (key_of client given.key) given.state (progress.server.leases (key_of client given.key)).broken_to
-    progress)
-    (replied client (Reply.AckFailed Status.ObjectNameNotFound) progress)
-    (λ there. judged_full (key_of client given.key) given.state
-    (progress.server.leases (key_of client given.key)).broken_to progress full
-    (full_key progress.server (key_of client given.key) full there))
-    (λ e. replied_full client (Reply.AckFailed Status.ObjectNameNotFound) progress tt full)
+unfolding break_ended
+acknowledged_full client given progress full = any_judgement client progress (IsFull progress) (record {
+  failed = λ status. replied_full client (Reply.AckFailed status) progress tt full;
+  ended = λ g lowered there breaks within. record {
+    outs = record {
+      more = _;
+      are_more = refl;
+      each = (full_key progress.server (key_of client g.key) full there, tt);
+    };
+    keys = record { opens = full.opens; held = full.held };
+  };
+}) given
 
 -- ---- steps
 

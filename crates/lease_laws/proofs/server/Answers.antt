@@ -2,30 +2,27 @@
 use Rattle.std.proofs.Common.{◌≡◌, refl, sym, ap, ap₂, ◌∙◌, subst, ℕ, Bool, true, false, cond, List, [], ◌∷◌, map, true≢false, ◌==◌}
 use Rattle.std.specs.Prelude.{if◌then◌else◌, Option, Some, None, is_some}
 use Rattle.lease_state.specs.State.{State, granted_form_of, nothing_cached, is_state_within}
-use Rattle.lease_state.specs.declared.access.Access.{Access}
-use Rattle.lease_state.specs.declared.access.Share.{Share}
 use Rattle.lease_state.specs.declared.status.Status.{Status}
-use Rattle.lease_model.specs.server.Acknowledge.{break_ended, judged, acknowledged}
-use Rattle.lease_model.specs.server.Answers.{changed, read_done, closed, created, on_open, on_contexts, answered, concluded}
+use Rattle.lease_model.specs.server.Acknowledge.{break_ended, acknowledged}
+use Rattle.lease_model.specs.server.Answers.{changed, concluded}
 use Rattle.lease_model.specs.server.Attempt.{Outcome}
-use Rattle.lease_state.specs.declared.patch.Patch.{Patch}
 use Rattle.lease_model.specs.server.Grant.{reconnected, connected_again}
 use Rattle.lease_model.specs.values.Keys.{Key}
-use Rattle.lease_model.specs.server.Progress.{Progress, replied, refused}
-use Rattle.lease_model.specs.messages.Replies.{Reply}
-use Rattle.lease_model.specs.messages.Requests.{FileRequest, CreateAsk, LeaseOf}
+use Rattle.lease_model.specs.server.Progress.{Progress, refused}
+use Rattle.lease_model.specs.messages.Requests.{FileRequest, LeaseOf}
 use Rattle.lease_laws.specs.server.Laws.{Among, AreSound, IsSound}
 use Rattle.lease_model.specs.server.State.{Open, Lease, has_key, is_breaking, has_lease}
 use Rattle.lease_model.specs.server.Naming.{key_of}
-use Rattle.lease_model.specs.server.Findings.{connected_open}
-use Rattle.lease_laws.proofs.server.Grants.{granted-sound}
+use Rattle.lease_laws.proofs.server.Grants.{granted_with-sound}
 use Rattle.lease_laws.proofs.server.Keys.{is_key-one}
 use Rattle.lease_laws.proofs.server.Leases.{put_sound}
 use Rattle.lease_laws.proofs.server.Lists.{if_cases, clash, not_false}
 use Rattle.lease_laws.proofs.server.Progress.{opens_dropped-sound}
-use Rattle.lease_laws.proofs.server.Ready.{RequestFree, CreateFree, ContextsFree}
+use Rattle.lease_laws.proofs.server.Ready.{RequestFree, CreateFree}
 use Rattle.lease_laws.proofs.server.States.{settled-lawful, granted_form_of-again, write_of_part}
 use Rattle.lease_laws.proofs.server.Steps.{connection_sound, with_connection}
+use Rattle.lease_laws.proofs.server.cases.Ends.{HasEnds, any_end}
+use Rattle.lease_laws.proofs.server.cases.Judgements.{any_judgement}
 
 -- maps by functions that agree are one
 pub map_same : {X Y : Type 0} (f g : X → Y) (xs : List X) → ((x : X) → f x ≡ g x) → map f xs ≡ map g xs
@@ -60,80 +57,34 @@ reconnected-sound client file asked file_id progress s =
     (if_cases (λ b. b ≡ false → one.connected ≡ false) (one.file_id == file_id) true one.connected
     (λ e never. absurd (true≢false never)) (λ e same. same) d)))
 
--- a write that is done keeps the laws
-changed-sound : (client file file_id number : ℕ) (patch : Patch) (progress : Progress)
-    → IsSound progress.server
-    → IsSound (changed client file file_id number patch progress).server
-unfolding changed
-changed-sound client file file_id number patch progress s = s
-
--- a close keeps the laws
-closed-sound : (client file_id : ℕ) (progress : Progress) → IsSound progress.server
-    → IsSound (closed client file_id progress).server
-unfolding closed
-closed-sound client file_id progress s = opens_dropped-sound (λ one. one.file_id == file_id) progress s
-
--- a create that is ready keeps the laws
-created-sound : (client file : ℕ) (access : Access) (share : Share) (asked : Option LeaseOf) (durable : Bool)
-    (again : Option ℕ) (progress : Progress)
-    → IsSound progress.server → CreateFree progress.server client file access share asked again
-    → IsSound (created client file access share asked durable again progress).server
-created-sound client file access share asked durable None progress s free = granted-sound client file access
-    share asked durable progress s free
-created-sound client file access share asked durable (Some file_id) progress s free = reconnected-sound client
-    file asked file_id progress s
-
--- a create that is ready, by its contexts, keeps the laws
-on_contexts-sound : (client file : ℕ) (access : Access) (share : Share) (contexts : Option CreateAsk)
-    (progress : Progress)
-    → IsSound progress.server → ContextsFree progress.server client file access share contexts
-    → IsSound (on_contexts contexts (λ ask. created client file access share ask.lease ask.durable
-    ask.reconnect) progress).server
-on_contexts-sound client file access share None progress s free = s
-on_contexts-sound client file access share (Some ask) progress s free =
-    created-sound client file access share ask.lease ask.durable ask.reconnect progress s free
-
--- an answer by the open that is named keeps the laws
-on_open-sound : (one : Option Open) (done : ℕ → Progress → Progress) (progress : Progress)
-    → IsSound progress.server
-    → ((file : ℕ) → IsSound (done file progress).server) → IsSound (on_open one done progress).server
-on_open-sound None done progress s each = s
-on_open-sound (Some one) done progress s each = each one.file
-
--- a request that is ready is answered
-pub answered-sound : (client : ℕ) (request : FileRequest) (progress : Progress) → IsSound progress.server
-    → RequestFree progress.server client request → IsSound (answered client request progress).server
-unfolding answered
-answered-sound client (FileRequest.Create file access share contexts) progress s free = on_contexts-sound client
-    file access share contexts progress s free
-answered-sound client (FileRequest.Read file_id) progress s free = on_open-sound
-    (connected_open progress.server client file_id)
-    (λ file. read_done client file file_id) progress s (λ file. s)
-answered-sound client (FileRequest.Write file_id number patch) progress s free = on_open-sound
-    (connected_open progress.server client file_id)
-    (λ file. changed client file file_id number patch) progress s
-    (λ file. changed-sound client file file_id number patch progress s)
-answered-sound client (FileRequest.Close file_id) progress s free = on_open-sound
-    (connected_open progress.server client file_id)
-    (λ file. closed client file_id) progress s (λ file. closed-sound client file_id progress s)
-
 -- a refusal keeps the laws
 pub refused-sound : (client : ℕ) (request : FileRequest) (status : Status) (progress : Progress)
-    → IsSound progress.server
-    → IsSound (refused client request status progress).server
+    → IsSound progress.server → IsSound (refused client request status progress).server
 unfolding refused
 refused-sound client request status progress s = s
 
 -- the end of a try
+ends_sound : (client : ℕ) (progress : Progress) → IsSound progress.server
+    → HasEnds client progress (λ request outcome after. (outcome ≡ Outcome.Ready
+    → RequestFree progress.server client request) → IsSound after.server)
+unfolding changed
+ends_sound client progress s = record {
+  refused = λ request status free. s;
+  left = λ request outcome free. s;
+  full = λ file access share ask none free. s;
+  granted = λ file access share ask none free. granted_with-sound client file access share ask.lease ask.durable
+      progress s (subst (CreateFree progress.server client file access share ask.lease) none (free refl));
+  again = λ file access share ask file_id some free. reconnected-sound client file ask.lease file_id progress s;
+  read = λ file_id one own free. s;
+  changed = λ file_id number patch one own free. s;
+  closed = λ file_id one own free. opens_dropped-sound (λ other. other.file_id == file_id) progress s;
+}
+
 pub concluded-sound : (client : ℕ) (request : FileRequest) (progress : Progress) (outcome : Outcome)
-    → IsSound progress.server
-    → (outcome ≡ Outcome.Ready → RequestFree progress.server client request)
+    → IsSound progress.server → (outcome ≡ Outcome.Ready → RequestFree progress.server client request)
     → IsSound (concluded client request progress outcome).server
-concluded-sound client request progress (Outcome.Refused status) s free = refused-sound client request status
-    progress s
-concluded-sound client request progress Outcome.Waits s free = s
-concluded-sound client request progress Outcome.Ready s free = answered-sound client request progress s
-    (free refl)
+concluded-sound client request progress outcome s =
+    any_end client progress _ (ends_sound client progress s) request outcome
 
 -- no open of a breaking lease is without its connection
 pub breaking_present : (opens : List Open) (leases : Key → Lease) (expired : Key → Bool) (last_id : ℕ)
@@ -174,27 +125,11 @@ break_ended-sound key state lowered progress s there broken part =
           progress.server.last_id key one s breaking a k) d;
     })
 
--- to judge an acknowledgment keeps the laws
-judged-sound : (key : Key) (state : State) (broken : Option State) (progress : Progress)
-    → IsSound progress.server
-    → has_lease progress.server key ≡ true → (progress.server.leases key).broken_to ≡ broken
-    → IsSound (judged key state broken progress).server
-judged-sound key state None progress s there e = s
-judged-sound key state (Some lowered) progress s there e =
-    if_cases (λ p. IsSound p.server) (is_state_within state lowered) (break_ended key state progress)
-    (replied key.client (Reply.AckFailed Status.RequestNotAccepted) progress)
-    (λ part. break_ended-sound key state lowered progress s there e part) (λ part. s)
-
 -- any acknowledgment
 pub acknowledged-sound : (client : ℕ) (given : Option LeaseOf) (progress : Progress) → IsSound progress.server
     → IsSound (acknowledged client given progress).server
-unfolding acknowledged
-acknowledged-sound client None progress s = s
-acknowledged-sound client (Some given) progress s =
-    if_cases (λ p. IsSound p.server) (has_lease progress.server (key_of client given.key))
-    (judged (key_of client given.key) given.state (progress.server.leases (key_of client given.key)).broken_to
-    progress)
-    (replied client (Reply.AckFailed Status.ObjectNameNotFound) progress)
-    (λ there. judged-sound (key_of client given.key) given.state
-    (progress.server.leases (key_of client given.key)).broken_to progress s there refl)
-    (λ e. s)
+acknowledged-sound client given progress s = any_judgement client progress (λ after. IsSound after.server) (record {
+  failed = λ status. s;
+  ended = λ g lowered there breaks within.
+      break_ended-sound (key_of client g.key) g.state lowered progress s there breaks within;
+}) given

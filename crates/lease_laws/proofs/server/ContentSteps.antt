@@ -1,33 +1,28 @@
 -- What small steps do to contents, and tell of them: a read tells a file's content, a write changes it.
-use Rattle.std.proofs.Common.{List, ◌&&◌, ◌≡◌, ℕ, Bool, [], ◌∷◌, ◌++◌, Option, Some, None, refl, sym, ap, ◌∙◌, subst, ◌==◌}
+use Rattle.std.proofs.Common.{List, ◌≡◌, ℕ, Bool, [], ◌∷◌, ◌++◌, Option, Some, None, refl, sym, ap, ◌∙◌, subst, ◌==◌}
 use Rattle.std.specs.Prelude.{⊤}
-use Rattle.lease_state.specs.State.{State, is_state_within}
 use Rattle.lease_state.specs.declared.access.Access.{Access}
 use Rattle.lease_state.specs.declared.access.Share.{Share}
 use Rattle.lease_state.specs.declared.patch.Patch.{Patch}
 use Rattle.lease_state.specs.declared.status.Status.{Status}
 use Rattle.lease_model.specs.messages.Replies.{Reply, Out}
-use Rattle.lease_model.specs.messages.Requests.{FileRequest, CreateAsk, LeaseOf}
-use Rattle.lease_model.specs.server.Acknowledge.{acknowledged, judged, break_ended}
-use Rattle.lease_model.specs.server.Answers.{concluded, answered, created, closed, changed, read_done, on_open, on_contexts}
+use Rattle.lease_model.specs.messages.Requests.{FileRequest, LeaseOf}
+use Rattle.lease_model.specs.server.Acknowledge.{acknowledged, break_ended}
+use Rattle.lease_model.specs.server.Answers.{concluded, changed, read_done}
 use Rattle.lease_model.specs.server.Attempt.{Outcome, is_left_open}
-use Rattle.lease_model.specs.server.Findings.{connected_open}
-use Rattle.lease_model.specs.server.Grant.{granted, granted_with, lease_after, reconnected}
-use Rattle.lease_model.specs.server.Naming.{key_of}
-use Rattle.lease_model.specs.server.Progress.{Progress, opens_dropped, with_opens, lease_lowered, break_begun, request_held, held_left, replied, refused}
-use Rattle.lease_model.specs.server.State.{Open, Lease, has_lease}
-use Rattle.lease_model.specs.values.Keys.{Key}
-use Rattle.lease_model.specs.values.Limits.{last_file_id}
+use Rattle.lease_model.specs.server.Grant.{granted_with, lease_after, reconnected}
+use Rattle.lease_model.specs.server.Progress.{Progress, opens_dropped, with_opens, lease_lowered, break_begun, request_held, held_left, replied, refusal_of}
+use Rattle.lease_model.specs.server.State.{Open, Lease}
 use Rattle.lease_state.specs.Content.{patch as patched}
 use Rattle.lease_model.specs.values.Tables.{put}
-use Rattle.std.proofs.lemmas.Bool.{eqb-true}
 use Rattle.lease_laws.specs.server.Laws.{Among}
 use Rattle.lease_laws.specs.server.Outs.{GoOn}
 use Rattle.lease_laws.specs.server.SmallSteps.{SmallStep, step_taken}
-use Rattle.lease_laws.proofs.server.Lists.{if_cases, and_parts, find_has}
 use Rattle.lease_laws.proofs.server.OutCalls.{held_left-outs, request_held-outs}
 use Rattle.lease_laws.proofs.server.OutLists.{go_on-same}
 use Rattle.lease_laws.proofs.server.OutSteps.{opens_dropped-outs}
+use Rattle.lease_laws.proofs.server.cases.Ends.{HasEnds, any_end}
+use Rattle.lease_laws.proofs.server.cases.Judgements.{any_judgement}
 
 -- no change, and no content
 abbrev pub IsOther : Out → Type 0
@@ -74,13 +69,6 @@ reply_leaves client reply progress other = record {
 same_leaves : (progress : Progress) → LeavesContents progress progress
 same_leaves progress = record { contents = refl; outs = go_on-same IsOther progress.outs }
 
-refused_leaves : (client : ℕ) (request : FileRequest) (status : Status) (progress : Progress)
-    → LeavesContents progress (refused client request status progress)
-unfolding refused
-refused_leaves client (FileRequest.Create file access share contexts) status progress =
-    reply_leaves client _ progress tt
-refused_leaves client request status progress = reply_leaves client _ progress tt
-
 granted_leaves : (client file : ℕ) (access : Access) (share : Share) (asked : Option LeaseOf) (durable : Bool)
     (lease : Lease) (progress : Progress)
     → LeavesContents progress (granted_with client file access share asked durable lease progress)
@@ -89,41 +77,6 @@ granted_leaves client file access share None durable lease progress =
     record { contents = refl; outs = record { more = _; are_more = refl; each = (tt, (tt, tt)) } }
 granted_leaves client file access share (Some asked) durable lease progress =
     record { contents = refl; outs = record { more = _; are_more = refl; each = (tt, (tt, tt)) } }
-
-created_leaves : (client file : ℕ) (access : Access) (share : Share) (asked : Option LeaseOf) (durable : Bool)
-    (again : Option ℕ) (progress : Progress)
-    → LeavesContents progress (created client file access share asked durable again progress)
-unfolding granted reconnected
-created_leaves client file access share asked durable None progress =
-    if_cases (LeavesContents progress) (progress.server.last_id == last_file_id)
-    (replied client (Reply.CreateFailed file Status.InsufficientResources) progress)
-    (granted_with client file access share asked durable (lease_after progress.server client file asked) progress)
-    (λ e. reply_leaves client (Reply.CreateFailed file Status.InsufficientResources) progress tt)
-    (λ e. granted_leaves client file access share asked durable
-    (lease_after progress.server client file asked) progress)
-created_leaves client file access share asked durable (Some file_id) progress = record {
-  contents = refl;
-  outs = record { more = _; are_more = refl; each = (tt, tt) };
-}
-
-on_contexts_leaves : (contexts : Option CreateAsk) (done : CreateAsk → Progress → Progress) (progress : Progress)
-    → ((ask : CreateAsk) → LeavesContents progress (done ask progress))
-    → LeavesContents progress (on_contexts contexts done progress)
-on_contexts_leaves None done progress each = same_leaves progress
-on_contexts_leaves (Some ask) done progress each = each ask
-
--- by an open of the client
-on_open_step : (client file_id : ℕ) (progress : Progress) (found : Option Open) (done : ℕ → Progress → Progress)
-    → connected_open progress.server client file_id ≡ found
-    → ((one : Open) → Among one progress.server.opens → one.file_id ≡ file_id → one.client ≡ client
-    → ContentStep progress (done one.file progress))
-    → ContentStep progress (on_open found done progress)
-on_open_step client file_id progress None done e each = ContentStep.Leaves (same_leaves progress)
-on_open_step client file_id progress (Some one) done e each =
-    let found = find_has (λ o. o.file_id == file_id && o.client == client && o.connected) one progress.server.opens e in
-    let parts = and_parts (one.file_id == file_id && one.client == client) one.connected found.1 in
-    let ids = and_parts (one.file_id == file_id) (one.client == client) parts.0 in
-    each one found.0 (eqb-true one.file_id file_id ids.0) (eqb-true one.client client ids.1)
 
 -- a read by an open
 read_step : (client file_id : ℕ) (progress : Progress) (one : Open) → Among one progress.server.opens
@@ -142,65 +95,56 @@ read_step client file_id progress one a id by = ContentStep.Reads (record {
     told file c i d j e f = rw (e, f) refl
 
 -- the end of a request
+refusal_leaves : (client : ℕ) (request : FileRequest) (status : Status) (progress : Progress)
+    → LeavesContents progress (replied client (refusal_of request status) progress)
+refusal_leaves client (FileRequest.Create file access share contexts) status progress =
+    reply_leaves client _ progress tt
+refusal_leaves client request status progress = reply_leaves client _ progress tt
+
+ends_content : (client : ℕ) (progress : Progress) → HasEnds client progress (λ request outcome. ContentStep progress)
+unfolding reconnected changed opens_dropped with_opens
+ends_content client progress = record {
+  refused = λ request status. ContentStep.Leaves (refusal_leaves client request status progress);
+  left = λ request outcome. ContentStep.Leaves (same_leaves progress);
+  full = λ file access share ask none. ContentStep.Leaves (reply_leaves client _ progress tt);
+  granted = λ file access share ask none. ContentStep.Leaves (granted_leaves client file access share ask.lease
+      ask.durable (lease_after progress.server client file ask.lease) progress);
+  again = λ file access share ask file_id some. ContentStep.Leaves
+      (record { contents = refl; outs = record { more = _; are_more = refl; each = (tt, tt) } });
+  read = λ file_id one own. read_step client file_id progress one own.there own.id own.by;
+  changed = λ file_id number patch one own. ContentStep.Changes (record {
+    file = one.file;
+    client = client;
+    file_id = file_id;
+    number = number;
+    patch = patch;
+    contents = refl;
+    outs = refl;
+  });
+  closed = λ file_id one own. ContentStep.Leaves (record {
+    contents = refl;
+    outs = record {
+      more = _;
+      are_more = ap (λ outs. outs ++ Out.Sent client (Reply.Closed file_id) ∷ [])
+          (opens_dropped-outs (λ o. o.file_id == file_id) progress);
+      each = (tt, tt);
+    };
+  });
+}
+
 concluded_step : (client : ℕ) (request : FileRequest) (progress : Progress) (outcome : Outcome)
     → ContentStep progress (concluded client request progress outcome)
-unfolding answered changed closed opens_dropped with_opens
-concluded_step client request progress (Outcome.Refused status) =
-    ContentStep.Leaves (refused_leaves client request status progress)
-concluded_step client request progress Outcome.Waits = ContentStep.Leaves (same_leaves progress)
-concluded_step client (FileRequest.Create file access share contexts) progress Outcome.Ready = ContentStep.Leaves
-    (on_contexts_leaves contexts _ progress
-    (λ ask. created_leaves client file access share ask.lease ask.durable ask.reconnect progress))
-concluded_step client (FileRequest.Read file_id) progress Outcome.Ready = on_open_step client file_id progress
-    (connected_open progress.server client file_id) (λ file. read_done client file file_id) refl
-    (read_step client file_id progress)
-concluded_step client (FileRequest.Write file_id number patch) progress Outcome.Ready =
-    on_open_step client file_id progress (connected_open progress.server client file_id)
-    (λ file. changed client file file_id number patch) refl
-    (λ one a id by. ContentStep.Changes (record {
-      file = one.file;
-      client = client;
-      file_id = file_id;
-      number = number;
-      patch = patch;
-      contents = refl;
-      outs = refl;
-    }))
-concluded_step client (FileRequest.Close file_id) progress Outcome.Ready = on_open_step client file_id progress
-    (connected_open progress.server client file_id) (λ file. closed client file_id) refl
-    (λ one a id by. ContentStep.Leaves (record {
-      contents = refl;
-      outs = record {
-        more = _;
-        are_more = ap (λ outs. outs ++ Out.Sent client (Reply.Closed file_id) ∷ [])
-            (opens_dropped-outs (λ o. o.file_id == file_id) progress);
-        each = (tt, tt);
-      };
-    }))
+concluded_step client request progress = any_end client progress _ (ends_content client progress) request
 
 -- an acknowledgment
-judged_leaves : (key : Key) (state : State) (broken : Option State) (progress : Progress)
-    → LeavesContents progress (judged key state broken progress)
-unfolding break_ended
-judged_leaves key state None progress = reply_leaves key.client _ progress tt
-judged_leaves key state (Some lowered) progress = if_cases (LeavesContents progress) (is_state_within state lowered)
-    (break_ended key state progress)
-    (replied key.client (Reply.AckFailed Status.RequestNotAccepted) progress)
-    (λ e. record { contents = refl; outs = record { more = _; are_more = refl; each = (tt, tt) } })
-    (λ e. reply_leaves key.client _ progress tt)
-
 acknowledged_leaves : (client : ℕ) (given : Option LeaseOf) (progress : Progress)
     → LeavesContents progress (acknowledged client given progress)
-unfolding acknowledged
-acknowledged_leaves client None progress = reply_leaves client _ progress tt
-acknowledged_leaves client (Some given) progress = if_cases (LeavesContents progress)
-    (has_lease progress.server (key_of client given.key))
-    (judged (key_of client given.key) given.state (progress.server.leases (key_of client given.key)).broken_to
-    progress)
-    (replied client (Reply.AckFailed Status.ObjectNameNotFound) progress)
-    (λ e. judged_leaves (key_of client given.key) given.state
-    (progress.server.leases (key_of client given.key)).broken_to progress)
-    (λ e. reply_leaves client _ progress tt)
+unfolding break_ended
+acknowledged_leaves client given progress = any_judgement client progress (LeavesContents progress) (record {
+  failed = λ status. reply_leaves client _ progress tt;
+  ended = λ g lowered there breaks within.
+      record { contents = refl; outs = record { more = _; are_more = refl; each = (tt, tt) } };
+}) given
 
 -- nothing is given out
 silent_leaves : (before after : Progress) → after.server.contents ≡ before.server.contents → after.outs ≡ before.outs

@@ -2,23 +2,15 @@
 use Rattle.std.proofs.Common.{◌≡◌, ◌⊎◌, inl, inr, ℕ, Bool, true, false, List, [], ◌∷◌, ◌++◌, Option, Some, None, refl, sym, ◌∙◌, subst, ◌==◌}
 use Rattle.std.specs.Prelude.{if◌then◌else◌}
 use Rattle.std.specs.List.{list_any}
-use Rattle.lease_state.specs.State.{State, is_state_within}
-use Rattle.lease_state.specs.declared.access.Access.{Access}
-use Rattle.lease_state.specs.declared.access.Share.{Share}
-use Rattle.lease_state.specs.declared.status.Status.{Status}
-use Rattle.lease_model.specs.messages.Replies.{Reply}
-use Rattle.lease_model.specs.messages.Requests.{FileRequest, CreateAsk, LeaseOf}
-use Rattle.lease_model.specs.server.Acknowledge.{acknowledged, judged, break_ended}
-use Rattle.lease_model.specs.server.Answers.{concluded, answered, created, closed, changed, read_done, on_open, on_contexts}
+use Rattle.lease_model.specs.messages.Requests.{FileRequest, LeaseOf}
+use Rattle.lease_model.specs.server.Acknowledge.{acknowledged, break_ended}
+use Rattle.lease_model.specs.server.Answers.{concluded, changed}
 use Rattle.lease_model.specs.server.Attempt.{Outcome}
 use Rattle.lease_model.specs.server.Calls.{Call, called, join, joined, opens_disconnected, client_forgotten, key_expired, is_left_behind}
-use Rattle.lease_model.specs.server.Findings.{connected_open}
-use Rattle.lease_model.specs.server.Grant.{granted, granted_with, lease_after, lease_put, reconnected}
-use Rattle.lease_model.specs.server.Naming.{key_of}
-use Rattle.lease_model.specs.server.Progress.{Progress, begun, opens_dropped, with_opens, lease_lowered, break_begun, request_held, held_left, replied, refused}
-use Rattle.lease_model.specs.server.State.{Server, Open, Lease, has_lease, is_breaking}
+use Rattle.lease_model.specs.server.Grant.{granted_with, lease_after, lease_put, reconnected}
+use Rattle.lease_model.specs.server.Progress.{Progress, begun, opens_dropped, with_opens, lease_lowered, break_begun, request_held, held_left}
+use Rattle.lease_model.specs.server.State.{Server, Lease, is_breaking}
 use Rattle.lease_model.specs.values.Keys.{Key}
-use Rattle.lease_model.specs.values.Limits.{last_file_id}
 use Rattle.lease_model.specs.values.Tables.{put_key}
 use Rattle.lease_laws.specs.server.Laws.{IsSound}
 use Rattle.lease_laws.specs.server.SmallSteps.{SmallStep, step_taken, steps_taken, call_begun}

@@ -1,30 +1,20 @@
 -- How opens come and go: what the small steps but a cut and a join do to them.
-use Rattle.std.proofs.Common.{◌≡◌, ◌⊎◌, inl, inr, ⊎_elim, refl, sym, ap, ◌∙◌, subst, ℕ, ◌+◌, ◌≤◌, ◌<◌, zero, suc, Bool, true, false, not, cond, List, [], ◌∷◌, ◌++◌, arith, ◌==◌}
-use Rattle.std.specs.Prelude.{if◌then◌else◌, ◌&&◌, Option, Some, None}
+use Rattle.std.proofs.Common.{◌≡◌, ◌⊎◌, inl, inr, ⊎_elim, refl, sym, ap, ◌∙◌, subst, ℕ, ◌+◌, ◌≤◌, ◌<◌, Bool, true, false, not, cond, List, [], ◌∷◌, ◌++◌, arith, ◌==◌}
+use Rattle.std.specs.Prelude.{Option, Some, None}
 use Rattle.std.proofs.lemmas.Bool.Decides.{Decides-eqb}
-use Rattle.lease_state.specs.State.{State, needs_acknowledgment, is_state_within}
 use Rattle.lease_state.specs.declared.access.Access.{Access}
 use Rattle.lease_state.specs.declared.access.Share.{Share}
-use Rattle.lease_state.specs.declared.status.Status.{Status}
-use Rattle.lease_model.specs.server.Acknowledge.{break_ended, judged, acknowledged}
-use Rattle.lease_model.specs.server.Answers.{changed, read_done, closed, created, on_open, on_contexts, answered, concluded}
-use Rattle.lease_model.specs.server.Attempt.{Outcome, Tried, is_left_open, lease_broken, want_met, wants_met, ended, must_wait, after_breaks, after_finding, tried_for}
-use Rattle.lease_state.specs.declared.patch.Patch.{Patch}
-use Rattle.lease_model.specs.server.Grant.{granted, granted_with, reconnected, lease_after, connected_again, new_open}
-use Rattle.lease_model.specs.values.Keys.{Key}
-use Rattle.lease_model.specs.values.Limits.{last_file_id}
-use Rattle.lease_model.specs.server.Progress.{Progress, opens_dropped, with_opens, lease_lowered, break_begun, replied, refused}
-use Rattle.lease_model.specs.server.Ready.{is_ready}
-use Rattle.lease_model.specs.messages.Replies.{Reply}
-use Rattle.lease_model.specs.messages.Requests.{FileRequest, CreateAsk, LeaseOf}
+use Rattle.lease_model.specs.server.Acknowledge.{break_ended, acknowledged}
+use Rattle.lease_model.specs.server.Answers.{changed, concluded}
+use Rattle.lease_model.specs.server.Attempt.{Outcome, is_left_open, tried_for}
+use Rattle.lease_model.specs.server.Grant.{granted_with, reconnected, lease_after, connected_again, new_open}
+use Rattle.lease_model.specs.server.Progress.{Progress, opens_dropped, with_opens, lease_lowered, break_begun}
+use Rattle.lease_model.specs.messages.Requests.{FileRequest, LeaseOf}
 use Rattle.lease_laws.specs.server.Laws.{Among, AreInOrder, IsSound}
-use Rattle.lease_model.specs.server.State.{Server, Open, Lease, has_file, has_lease, is_breaking}
-use Rattle.lease_model.specs.server.Wants.{Want}
-use Rattle.lease_model.specs.server.Findings.{Finding, finding, connected_open}
-use Rattle.lease_model.specs.server.Naming.{key_of}
-use Rattle.lease_laws.proofs.server.FileReady.{IsAwaited, AgainReady, ContextsReady, FileReady}
-use Rattle.lease_laws.proofs.server.Lists.{if_cases, among_append, among_filter, among_map}
-use Rattle.lease_laws.proofs.server.cases.Tries.{HasTries, any_meeting, any_try}
+use Rattle.lease_model.specs.server.State.{Server, Open, Lease, has_file}
+use Rattle.lease_laws.proofs.server.FileReady.{IsAwaited, AgainReady, FileReady}
+use Rattle.lease_laws.proofs.server.Lists.{among_append, among_filter, among_map}
+use Rattle.lease_laws.proofs.server.cases.Tries.{HasTries, any_try}
 use Rattle.lease_laws.proofs.server.cases.Ends.{HasEnds, any_end}
 use Rattle.lease_laws.proofs.server.cases.Judgements.{any_judgement}
 
@@ -163,10 +153,6 @@ tries_go = record {
   begin = λ key lowered progress settled. stay-goes progress.server _ refl refl refl refl;
 }
 
--- to meet wants lets opens go on
-wants_met-goes : (wants : List Want) (progress : Progress) → Goes progress (wants_met wants progress)
-wants_met-goes = any_meeting Goes tries_go
-
 -- a try
 pub tried_for-goes : (rounds client : ℕ) (request : FileRequest) (progress : Progress)
     → Goes progress (tried_for rounds client request progress).progress
@@ -239,12 +225,6 @@ reconnected-goes client file asked file_id progress s w up = record {
       inl (subst (λ o. IsOld progress.server o) (sym x.2)
       (again_old progress.server client file_id x.0 ((x.0).file_id == file_id) refl s w up x.1));
 }
-
--- a refusal lets opens go on
-pub refused-goes : (client : ℕ) (request : FileRequest) (status : Status) (progress : Progress)
-    → Goes progress (refused client request status progress)
-unfolding refused
-refused-goes client request status progress = goes-same progress.server
 
 -- the end of a try
 ends_go : (client : ℕ) (progress : Progress) → IsSound progress.server → progress.server.present client ≡ true

@@ -7,14 +7,11 @@ use Rattle.lease_state.specs.Access.{conflict}
 use Rattle.lease_state.specs.State.{State, granted_form_of, nothing_cached, is_state_within}
 use Rattle.lease_state.specs.declared.access.Access.{Access}
 use Rattle.lease_state.specs.declared.access.Share.{Share}
-use Rattle.lease_state.specs.declared.status.Status.{Status}
 use Rattle.lease_model.specs.server.Allowed.{allowed, is_other_on}
-use Rattle.lease_model.specs.server.Grant.{offered, lease_granted, lease_after, new_open, granted_with, granted}
+use Rattle.lease_model.specs.server.Grant.{offered, lease_granted, lease_after, new_open, granted_with}
 use Rattle.lease_model.specs.values.Keys.{Key}
 use Rattle.lease_model.specs.values.LeaseStates.{without_write}
-use Rattle.lease_model.specs.values.Limits.{last_file_id}
-use Rattle.lease_model.specs.server.Progress.{Progress, replied}
-use Rattle.lease_model.specs.messages.Replies.{Reply}
+use Rattle.lease_model.specs.server.Progress.{Progress}
 use Rattle.lease_model.specs.messages.Requests.{LeaseOf}
 use Rattle.lease_laws.specs.server.Laws.{Among, AreSound, IsSound}
 use Rattle.lease_model.specs.server.State.{Server, Open, Lease, no_lease, has_key, has_own_key, is_key, is_breaking}
@@ -217,7 +214,7 @@ granted_late server key file want s out =
     (λ p. none))
 
 -- a grant keeps the laws
-granted_with-sound : (client file : ℕ) (access : Access) (share : Share) (asked : Option LeaseOf)
+pub granted_with-sound : (client file : ℕ) (access : Access) (share : Share) (asked : Option LeaseOf)
     (durable : Bool) (progress : Progress)
     → IsSound progress.server → IsFree progress.server.opens progress.server.leases (own_key client asked)
     file access share
@@ -243,18 +240,3 @@ granted_with-sound client file access share (Some asked) durable progress s free
     (among_behind new progress.server.opens (new ∷ []) (inl refl)) owned)
     (granted_late progress.server key file asked.state s)
     (granted_may progress.server client file asked new s more refl refl owned free.at_home)
-
--- a create that is free may be granted
-pub granted-sound : (client file : ℕ) (access : Access) (share : Share) (asked : Option LeaseOf)
-    (durable : Bool) (progress : Progress)
-    → IsSound progress.server → IsFree progress.server.opens progress.server.leases (own_key client asked)
-    file access share
-    → IsSound (granted client file access share asked durable progress).server
-unfolding granted
-granted-sound client file access share asked durable progress s free =
-    if_cases (λ p. IsSound p.server) (progress.server.last_id == last_file_id)
-    (replied client (Reply.CreateFailed file Status.InsufficientResources) progress)
-    (granted_with client file access share asked durable (lease_after progress.server client file asked)
-    progress)
-    (λ e. s)
-    (λ e. granted_with-sound client file access share asked durable progress s free)

@@ -1,28 +1,17 @@
 -- The passes end: each but the last answers a held request, so that one more than are held is enough.
-use Rattle.std.proofs.Common.{◌≡◌, refl, sym, ap, ◌∙◌, ℕ, ◌+◌, ◌≤◌, ◌<◌, zero, suc, Bool, true, false, not, List, [], ◌∷◌, ◌++◌, length, append-nil, append_assoc, length-append, arith, true≢false, ◌==◌}
-use Rattle.std.specs.Prelude.{◌&&◌, if◌then◌else◌, Option, Some, None}
+use Rattle.std.proofs.Common.{◌≡◌, refl, sym, ap, ◌∙◌, ℕ, ◌+◌, ◌≤◌, ◌<◌, Bool, true, false, List, [], ◌∷◌, ◌++◌, length, append-nil, append_assoc, length-append, arith, true≢false}
+use Rattle.std.specs.Prelude.{Option, Some, None}
 use Rattle.std.proofs.lemmas.Bool.Decides.{Decides-eqb}
-use Rattle.lease_state.specs.State.{State, needs_acknowledgment}
-use Rattle.lease_state.specs.declared.access.Access.{Access}
-use Rattle.lease_state.specs.declared.access.Share.{Share}
-use Rattle.lease_state.specs.declared.status.Status.{Status}
-use Rattle.lease_model.specs.server.Answers.{changed, read_done, closed, created, on_open, on_contexts, answered, concluded}
-use Rattle.lease_model.specs.server.Attempt.{Outcome, Tried, tried, is_left_open, lease_broken, want_met, wants_met, ended, must_wait, after_breaks, after_finding, tried_for}
-use Rattle.lease_state.specs.declared.patch.Patch.{Patch}
-use Rattle.lease_model.specs.server.Grant.{granted, granted_with, reconnected, lease_after, lease_put}
-use Rattle.lease_model.specs.values.Keys.{Key}
-use Rattle.lease_model.specs.values.Limits.{last_file_id}
+use Rattle.lease_model.specs.server.Answers.{changed, concluded}
+use Rattle.lease_model.specs.server.Attempt.{Outcome, Tried, tried, is_left_open, tried_for}
+use Rattle.lease_model.specs.server.Grant.{granted_with, reconnected, lease_put}
 use Rattle.lease_model.specs.server.Passes.{Pass, is_behind, left_waiting, pass_answered, after_try, tried_again, pass_over, one_pass}
-use Rattle.lease_model.specs.server.Progress.{Progress, opens_dropped, with_opens, lease_lowered, break_begun, held_left, replied, refused}
-use Rattle.lease_model.specs.server.Ready.{is_ready}
-use Rattle.lease_model.specs.messages.Replies.{Reply}
-use Rattle.lease_model.specs.messages.Requests.{FileRequest, CreateAsk, LeaseOf}
-use Rattle.lease_model.specs.server.State.{Open, Lease, Held, has_lease, is_breaking, Server}
+use Rattle.lease_model.specs.server.Progress.{Progress, opens_dropped, with_opens, lease_lowered, break_begun, held_left}
+use Rattle.lease_model.specs.messages.Requests.{FileRequest, LeaseOf}
+use Rattle.lease_model.specs.server.State.{Open, Lease, Held, Server}
 use Rattle.lease_model.specs.values.Tables.{put}
-use Rattle.lease_model.specs.server.Wants.{Want}
-use Rattle.lease_model.specs.server.Findings.{Finding, finding, connected_open}
 use Rattle.lease_laws.proofs.server.Lists.{if_cases}
-use Rattle.lease_laws.proofs.server.cases.Tries.{HasTries, any_meeting, any_try}
+use Rattle.lease_laws.proofs.server.cases.Tries.{HasTries, any_try}
 use Rattle.lease_laws.proofs.server.cases.Ends.{HasEnds, any_end}
 
 -- the call has gone on, and what is held is the same
@@ -44,10 +33,6 @@ tries_hold = record {
   lower = λ key lowered progress settled. refl;
   begin = λ key lowered progress settled. refl;
 }
-
--- to meet wants leaves the held requests as they are
-wants_met-held : (wants : List Want) (progress : Progress) → SameHeld progress (wants_met wants progress)
-wants_met-held = any_meeting SameHeld tries_hold
 
 -- a try holds and lets go nothing
 pub tried_for-held : (rounds client : ℕ) (request : FileRequest) (progress : Progress)

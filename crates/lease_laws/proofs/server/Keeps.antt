@@ -1,37 +1,35 @@
 -- What has to wait goes on having to: breaks and answers end no break of another file, and close no
 -- open there.
-use Rattle.std.proofs.Common.{◌≡◌, ◌≢◌, inl, inr, refl, sym, ap, ◌∙◌, subst, ℕ, zero, suc, Bool, true, false, not, cond, List, [], ◌∷◌, ◌++◌, map, arith, ◌==◌}
-use Rattle.std.specs.Prelude.{if◌then◌else◌, ◌&&◌, find, Option, Some, None}
+use Rattle.std.proofs.Common.{◌≡◌, ◌≢◌, inl, inr, refl, sym, ap, ◌∙◌, subst, ℕ, Bool, true, false, not, cond, List, [], ◌∷◌, ◌++◌, map, arith, ◌==◌}
+use Rattle.std.specs.Prelude.{◌&&◌, find, Option, Some, None}
 use Rattle.std.proofs.lemmas.Bool.Decides.{Decides-eqb}
-use Rattle.lease_state.specs.State.{State, needs_acknowledgment}
+use Rattle.lease_state.specs.State.{State}
 use Rattle.lease_state.specs.declared.access.Access.{Access}
 use Rattle.lease_state.specs.declared.access.Share.{Share}
-use Rattle.lease_state.specs.declared.status.Status.{Status}
-use Rattle.lease_model.specs.server.Answers.{changed, read_done, closed, created, on_open, on_contexts, answered, concluded}
-use Rattle.lease_model.specs.server.Attempt.{Outcome, Tried, is_left_open, lease_broken, want_met, wants_met, ended, must_wait, after_breaks, after_finding, tried_for}
-use Rattle.lease_state.specs.declared.patch.Patch.{Patch}
-use Rattle.lease_model.specs.server.Grant.{granted, granted_with, reconnected, lease_after, lease_granted, connected_again}
+use Rattle.lease_model.specs.server.Answers.{changed, concluded}
+use Rattle.lease_model.specs.server.Attempt.{Outcome, is_left_open, tried_for}
+use Rattle.lease_model.specs.server.Grant.{granted_with, reconnected, lease_after, lease_granted, connected_again}
 use Rattle.lease_model.specs.values.Keys.{Key}
-use Rattle.lease_model.specs.values.Limits.{last_file_id}
 use Rattle.lease_model.specs.values.Lists.{without}
-use Rattle.lease_model.specs.server.Progress.{Progress, opens_dropped, with_opens, lease_lowered, break_begun, replied, refused}
-use Rattle.lease_model.specs.server.Ready.{breaks_to_some, is_ready}
-use Rattle.lease_model.specs.messages.Replies.{Reply}
+use Rattle.lease_model.specs.server.Progress.{Progress, opens_dropped, with_opens, lease_lowered, break_begun}
+use Rattle.lease_model.specs.server.Ready.{breaks_to_some}
 use Rattle.lease_model.specs.messages.Requests.{FileRequest, CreateAsk, LeaseOf}
 use Rattle.lease_laws.specs.server.Laws.{Among, AreInOrder, IsSound, IsBlockedBy, HasToWait}
-use Rattle.lease_model.specs.server.State.{Server, Open, Lease, has_key, has_lease, is_breaking}
+use Rattle.lease_model.specs.server.State.{Server, Open, Lease, has_key, is_breaking}
 use Rattle.lease_laws.specs.server.Outs.{IsAlone}
 use Rattle.lease_laws.specs.server.Waiting.{IsAbout}
-use Rattle.lease_model.specs.server.Wants.{Want}
-use Rattle.lease_model.specs.server.Findings.{Finding, finding, connected_open}
+use Rattle.lease_model.specs.server.Findings.{connected_open}
 use Rattle.lease_model.specs.server.Naming.{own_key, key_of, key_of_open}
 use Rattle.lease_laws.proofs.server.Answers.{breaking_present}
 use Rattle.lease_laws.proofs.server.Breaking.{some_breaks}
 use Rattle.lease_laws.proofs.server.Goes.{one_id}
 use Rattle.lease_laws.proofs.server.Keys.{put_key-cases}
 use Rattle.lease_laws.proofs.server.Lists.{if_cases, clash, and_parts, not_parts, not_true, among_filtered, among_before, find_has}
-use Rattle.lease_laws.proofs.server.Met.{find_kept, lease_broken-opens}
+use Rattle.lease_laws.proofs.server.Met.{find_kept}
 use Rattle.lease_laws.proofs.server.Steps.{left_here}
+use Rattle.lease_laws.proofs.server.cases.Ends.{own_open, HasEnds, any_end}
+use Rattle.lease_model.specs.values.Tables.{put_key}
+use Rattle.lease_laws.proofs.server.cases.Tries.{HasTries, any_try}
 
 -- On the files of a kind, connected opens of breaking keys stay, and the leases of these keys stay as they
 -- are; and the open of a FileId that a client has stays it.
@@ -99,12 +97,7 @@ blocked_keeps test Guard before after own file only h s g b =
 pub connected_has : (server : Server) (client file_id : ℕ) (one : Open)
     → connected_open server client file_id ≡ Some one
     → (Among one server.opens) × (one.file_id ≡ file_id)
-connected_has server client file_id one e =
-    let x = find_has (λ o. o.file_id == file_id && o.client == client && o.connected) one server.opens e in (
-      x.0,
-      (Decides-eqb one.file_id file_id).0 (and_parts (one.file_id == file_id) (one.client == client)
-          (and_parts (one.file_id == file_id && one.client == client) one.connected x.1).0).0,
-    )
+connected_has server client file_id one e = let own = own_open server client file_id one e in (own.there, own.id)
 
 -- a create goes on having to wait
 contexts_keep : (Guard : ℕ → Type 0) (before after : Server) (client at file : ℕ) (access : Access)
@@ -161,85 +154,34 @@ left_dropped-kept key progress =
           (λ x t. safe x (and_parts (x.file_id == file_id && x.client == client) x.connected t).1) ∙ e;
     }
 
--- a lease that is breaking stays as it is when others are broken
-lease_broken-stays : (key other : Key) (lowered : State) (progress : Progress)
-    → is_breaking (progress.server.leases other) ≡ true
-    → (lease_broken key lowered progress).server.leases other ≡ progress.server.leases other
-unfolding lease_broken break_begun lease_lowered
-lease_broken-stays key other lowered progress b =
-    let Same : Lease → Type 0 = λ l. l ≡ progress.server.leases other in
-    let untouched : is_breaking (progress.server.leases key) ≡ false → key ≡ other → ⊥ = λ settled same.
-    clash (is_breaking (progress.server.leases key))
-    (ap (λ x. is_breaking (progress.server.leases x)) same ∙ b) settled in
-    if_cases (λ p. p.server.leases other ≡ progress.server.leases other)
-    (has_lease progress.server key && not (is_breaking (progress.server.leases key)))
-    (if needs_acknowledgment (progress.server.leases key).state then break_begun key lowered progress else
-    lease_lowered key lowered progress) progress
-    (λ t. let settled = not_parts (is_breaking (progress.server.leases key))
-    (and_parts (has_lease progress.server key) (not (is_breaking (progress.server.leases key))) t).1 in
-    if_cases (λ p. p.server.leases other ≡ progress.server.leases other)
-    (needs_acknowledgment (progress.server.leases key).state)
-    (break_begun key lowered progress) (lease_lowered key lowered progress)
-    (λ n. put_key-cases Same progress.server.leases key _ other (λ same. absurd (untouched settled (sym same)))
-    (λ e. refl))
-    (λ n. put_key-cases Same progress.server.leases key _ other (λ same. absurd (untouched settled (sym same)))
-    (λ e. refl)))
-    (λ t. refl)
-
--- to break a lease lets wait what has to wait
-lease_broken-kept : (key : Key) (lowered : State) (progress : Progress)
-    → Kept Anywhere progress (lease_broken key lowered progress)
-lease_broken-kept key lowered progress = record {
-  stands = λ k one a h up b g. (
-    subst (λ opens. Among one opens)
-        (sym (lease_broken-opens key lowered progress)) a,
-    lease_broken-stays key k lowered progress b,
+-- a lease that is put where none was breaking leaves one that is breaking as it is
+settled_put-kept : (key : Key) (lease : Lease) (before after : Server) → is_breaking (before.leases key) ≡ false
+    → after.opens ≡ before.opens → after.leases ≡ put_key before.leases key lease → Keeps Anywhere before after
+settled_put-kept key lease before after settled opens leases = record {
+  stands = λ other one a h up b g. (
+    subst (λ os. Among one os) (sym opens) a,
+    ap (λ (t : Key → Lease). t other) leases ∙ put_key-cases (λ l. l ≡ before.leases other) before.leases key lease other
+        (λ same. clash (is_breaking (before.leases key)) (ap (λ k. is_breaking (before.leases k)) (sym same) ∙ b) settled)
+        (λ e. refl),
   );
   finds = λ client file_id one e g.
-      ap (λ opens. find (λ x. x.file_id == file_id && x.client == client && x.connected) opens)
-      (lease_broken-opens key lowered progress) ∙ e;
+      ap (λ os. find (λ x. x.file_id == file_id && x.client == client && x.connected) os) opens ∙ e;
 }
 
--- to meet a want lets wait what has to wait
-want_met-kept : (want : Want) (progress : Progress) → Kept Anywhere progress (want_met want progress)
-unfolding want_met
-want_met-kept want progress =
-    let dropped = opens_dropped (is_left_open want.key) progress in
-    keeps-twice Anywhere progress.server dropped.server (lease_broken want.key want.lowered dropped).server
-    (left_dropped-kept want.key progress) (lease_broken-kept want.key want.lowered dropped)
-
--- to meet wants lets wait what has to wait
-wants_met-kept : (wants : List Want) (progress : Progress) → Kept Anywhere progress (wants_met wants progress)
-unfolding wants_met
-wants_met-kept [] progress = keeps-same Anywhere progress.server
-wants_met-kept (want ∷ wants) progress = keeps-twice Anywhere progress.server (want_met want progress).server
-    (wants_met wants (want_met want progress)).server
-    (want_met-kept want progress) (wants_met-kept wants (want_met want progress))
-
--- a round lets wait what has to wait
-after_finding-kept : (again : Progress → Tried) (request : FileRequest) (progress : Progress) (found : Finding)
-    → ((next : Progress) → Kept Anywhere next (again next).progress)
-    → Kept Anywhere progress (after_finding again request progress found).progress
-after_finding-kept again request progress (Finding.Fails status) more = keeps-same Anywhere progress.server
-after_finding-kept again request progress (Finding.Needs wants) more =
-    let met = wants_met wants progress in
-    if_cases (λ t. Kept Anywhere progress t.progress) (is_ready request progress.server.leases wants)
-    (ended progress Outcome.Ready) (after_breaks again request wants met)
-    (λ r. keeps-same Anywhere progress.server)
-    (λ n. if_cases (λ t. Kept Anywhere progress t.progress) (must_wait request met wants)
-    (ended met Outcome.Waits) (again met)
-    (λ w. wants_met-kept wants progress)
-    (λ w. keeps-twice Anywhere progress.server met.server (again met).progress.server
-    (wants_met-kept wants progress) (more met)))
+tries_keep : HasTries (Kept Anywhere)
+unfolding lease_lowered break_begun
+tries_keep = record {
+  same = λ progress. keeps-same Anywhere progress.server;
+  behind = λ before next after. keeps-twice Anywhere before.server next.server after.server;
+  drop = λ key progress. left_dropped-kept key progress;
+  lower = λ key lowered progress settled. settled_put-kept key _ progress.server _ settled refl refl;
+  begin = λ key lowered progress settled. settled_put-kept key _ progress.server _ settled refl refl;
+}
 
 -- a try
 pub tried_for-kept : (rounds client : ℕ) (request : FileRequest) (progress : Progress)
     → Kept Anywhere progress (tried_for rounds client request progress).progress
-unfolding tried_for
-tried_for-kept zero client request progress = keeps-same Anywhere progress.server
-tried_for-kept (suc rounds) client request progress = after_finding-kept (tried_for rounds client request)
-    request progress
-    (finding progress.server client request) (λ next. tried_for-kept rounds client request next)
+tried_for-kept = any_try (Kept Anywhere) tries_keep
 
 -- what is found is still found with more behind it
 find_append : {X : Type 0} (test : X → Bool) (xs ys : List X) (x : X) → find test xs ≡ Some x
@@ -282,19 +224,6 @@ granted_with-kept client file access share (Some asked) durable progress = recor
   finds = λ c file_id one e g. find_append (λ x. x.file_id == file_id && x.client == c && x.connected)
       progress.server.opens _ one e;
 }
-
--- a grant, if FileIds are left, lets wait what has to wait
-granted-kept : (client file : ℕ) (access : Access) (share : Share) (asked : Option LeaseOf) (durable : Bool)
-    (progress : Progress)
-    → Kept Anywhere progress (granted client file access share asked durable progress)
-unfolding granted
-granted-kept client file access share asked durable progress =
-    if_cases (Kept Anywhere progress) (progress.server.last_id == last_file_id)
-    (replied client (Reply.CreateFailed file Status.InsufficientResources) progress)
-    (granted_with client file access share asked durable (lease_after progress.server client file asked)
-    progress)
-    (λ e. keeps-same Anywhere progress.server)
-    (λ e. granted_with-kept client file access share asked durable progress)
 
 -- an open with this connection
 abbrev with_up : Open → Bool → Open
@@ -362,20 +291,6 @@ reconnected-kept client file asked file_id progress s = record {
   finds = λ c id one e g. find_again file_id c id one progress.server.opens s.in_order e;
 }
 
--- a write that is done lets wait what has to wait
-changed-kept : (client file file_id number : ℕ) (patch : Patch) (progress : Progress)
-    → Kept Anywhere progress (changed client file file_id number patch progress)
-unfolding changed
-changed-kept client file file_id number patch progress =
-    record { stands = λ key one a k up b g. (a, refl); finds = λ c id one e g. e }
-
--- a refusal lets wait what has to wait
-refused-kept : (client : ℕ) (request : FileRequest) (status : Status) (progress : Progress)
-    → Kept Anywhere progress (refused client request status progress)
-unfolding refused
-refused-kept client request status progress =
-    record { stands = λ key one a k up b g. (a, refl); finds = λ c id one e g. e }
-
 -- any file but this one
 abbrev pub Elsewhere : ℕ → ℕ → Type 0
 Elsewhere file other = other ≢ file
@@ -383,8 +298,8 @@ Elsewhere file other = other ≢ file
 -- a close of an open on a file
 closed-kept : (client file_id : ℕ) (gone : Open) (progress : Progress) → IsSound progress.server
     → connected_open progress.server client file_id ≡ Some gone
-    → Kept (Elsewhere gone.file) progress (closed client file_id progress)
-unfolding closed opens_dropped with_opens
+    → Kept (Elsewhere gone.file) progress (opens_dropped (λ one. one.file_id == file_id) progress)
+unfolding opens_dropped with_opens
 closed-kept client file_id gone progress s e =
     let x = connected_has progress.server client file_id gone e in
     let other : (one : Open) → Among one progress.server.opens → one.file ≢ gone.file → one.file_id ≢ file_id = λ one a away same.
@@ -408,90 +323,47 @@ closed-kept client file_id gone progress s e =
           safe z.file_id (λ q. other one y.0 away (y.1 ∙ sym same ∙ q))) ∙ found;
     }
 
--- a create that is ready lets wait what has to wait
-created-kept : (client file : ℕ) (access : Access) (share : Share) (asked : Option LeaseOf) (durable : Bool)
-    (again : Option ℕ) (progress : Progress)
-    → IsSound progress.server → Kept Anywhere progress
-    (created client file access share asked durable again progress)
-created-kept client file access share asked durable None progress s = granted-kept client file access share
-    asked durable progress
-created-kept client file access share asked durable (Some file_id) progress s = reconnected-kept client file
-    asked file_id progress s
+-- The end of a try of a request about a file: what has to wait on other files goes on, and where nothing is closed,
+-- what has to wait anywhere.
+record IsKeptBy (before : Server) (request : FileRequest) (after : Server) : Type 0 where
+  elsewhere : (file : ℕ) → IsAbout before file request → Keeps (Elsewhere file) before after
+  anywhere : IsAlone request → Keeps Anywhere before after
 
--- a create that is ready, by its contexts, lets wait what has to wait
-on_contexts-kept : (client file : ℕ) (access : Access) (share : Share) (contexts : Option CreateAsk)
-    (progress : Progress) → IsSound progress.server
-    → Kept Anywhere progress (on_contexts contexts
-    (λ ask. created client file access share ask.lease ask.durable ask.reconnect) progress)
-on_contexts-kept client file access share None progress s = keeps-same Anywhere progress.server
-on_contexts-kept client file access share (Some ask) progress s = created-kept client file access share
-    ask.lease ask.durable ask.reconnect progress s
+kept_everywhere : (request : FileRequest) (before after : Server) → Keeps Anywhere before after
+    → IsKeptBy before request after
+kept_everywhere request before after k =
+    record { elsewhere = λ file about. keeps-weaker (Elsewhere file) before after k; anywhere = λ alone. k }
 
--- an answer by the open that is named lets wait what has to wait
-on_open-kept : (Guard : ℕ → Type 0) (one : Option Open) (done : ℕ → Progress → Progress) (progress : Progress)
-    → ((x : Open) → one ≡ Some x → Kept Guard progress (done x.file progress))
-    → Kept Guard progress (on_open one done progress)
-on_open-kept Guard None done progress each = keeps-same Guard progress.server
-on_open-kept Guard (Some one) done progress each = each one refl
+ends_keep : (client : ℕ) (progress : Progress) → IsSound progress.server
+    → HasEnds client progress (λ request outcome after. IsKeptBy progress.server request after.server)
+unfolding changed
+ends_keep client progress s = record {
+  refused = λ request status. kept_everywhere request progress.server _ (keeps-same Anywhere progress.server);
+  left = λ request outcome. kept_everywhere request progress.server _ (keeps-same Anywhere progress.server);
+  full = λ file access share ask none. kept_everywhere _ progress.server _ (keeps-same Anywhere progress.server);
+  granted = λ file access share ask none. kept_everywhere _ progress.server _
+      (granted_with-kept client file access share ask.lease ask.durable progress);
+  again = λ file access share ask file_id some. kept_everywhere _ progress.server _
+      (reconnected-kept client file ask.lease file_id progress s);
+  read = λ file_id one own. kept_everywhere _ progress.server _ (keeps-same Anywhere progress.server);
+  changed = λ file_id number patch one own. kept_everywhere _ progress.server _
+      (record { stands = λ key x a k up b g. (a, refl); finds = λ c id x e g. e });
+  closed = λ file_id one own. record {
+    elsewhere = λ file about. let dropped = opens_dropped (λ other. other.file_id == file_id) progress in
+        subst (λ f. Keeps (Elsewhere f) progress.server dropped.server) (about.is_on_file one own.there own.id)
+        (closed-kept client file_id one progress s own.found);
+    anywhere = λ alone. absurd alone;
+  };
+}
 
--- to answer a request about a file keeps what has to wait on other files
-answered-kept : (client file : ℕ) (request : FileRequest) (progress : Progress) → IsSound progress.server
-    → IsAbout progress.server file request
-    → Kept (Elsewhere file) progress (answered client request progress)
-unfolding answered
-answered-kept client file (FileRequest.Create at access share contexts) progress s about = keeps-weaker
-    (Elsewhere file) progress.server _
-    (on_contexts-kept client at access share contexts progress s)
-answered-kept client file (FileRequest.Read file_id) progress s about = on_open-kept (Elsewhere file)
-    (connected_open progress.server client file_id)
-    (λ at. read_done client at file_id) progress (λ x e. keeps-same (Elsewhere file) progress.server)
-answered-kept client file (FileRequest.Write file_id number patch) progress s about = on_open-kept
-    (Elsewhere file) (connected_open progress.server client file_id)
-    (λ at. changed client at file_id number patch) progress
-    (λ x e. keeps-weaker (Elsewhere file) progress.server
-    (changed client x.file file_id number patch progress).server
-    (changed-kept client x.file file_id number patch progress))
-answered-kept client file (FileRequest.Close file_id) progress s about = on_open-kept (Elsewhere file)
-    (connected_open progress.server client file_id)
-    (λ at. closed client file_id) progress
-    (λ x e. let y = connected_has progress.server client file_id x e in
-    subst (λ f. Kept (Elsewhere f) progress (closed client file_id progress)) (about.is_on_file x y.0 y.1)
-    (closed-kept client file_id x progress s e))
-
--- the end of a try of a request about a file
 pub concluded-kept : (client file : ℕ) (request : FileRequest) (progress : Progress) (outcome : Outcome)
-    → IsSound progress.server
-    → IsAbout progress.server file request
+    → IsSound progress.server → IsAbout progress.server file request
     → Kept (Elsewhere file) progress (concluded client request progress outcome)
-concluded-kept client file request progress (Outcome.Refused status) s about = keeps-weaker (Elsewhere file)
-    progress.server
-    (refused client request status progress).server (refused-kept client request status progress)
-concluded-kept client file request progress Outcome.Waits s about = keeps-same (Elsewhere file)
-    progress.server
-concluded-kept client file request progress Outcome.Ready s about = answered-kept client file request progress
-    s about
-
--- an answer that closes nothing lets wait what has to wait
-answered-open : (client : ℕ) (request : FileRequest) (progress : Progress) → IsSound progress.server
-    → IsAlone request
-    → Kept Anywhere progress (answered client request progress)
-unfolding answered
-answered-open client (FileRequest.Create at access share contexts) progress s alone = on_contexts-kept client at
-    access share contexts progress s
-answered-open client (FileRequest.Read file_id) progress s alone = on_open-kept Anywhere
-    (connected_open progress.server client file_id)
-    (λ at. read_done client at file_id) progress (λ x e. keeps-same Anywhere progress.server)
-answered-open client (FileRequest.Write file_id number patch) progress s alone = on_open-kept Anywhere
-    (connected_open progress.server client file_id)
-    (λ at. changed client at file_id number patch) progress
-    (λ x e. changed-kept client x.file file_id number patch progress)
-answered-open client (FileRequest.Close file_id) progress s alone = absurd alone
+concluded-kept client file request progress outcome s about =
+    (any_end client progress _ (ends_keep client progress s) request outcome).elsewhere file about
 
 -- the end of a try that closes nothing
 pub concluded-open : (client : ℕ) (request : FileRequest) (progress : Progress) (outcome : Outcome)
-    → IsSound progress.server
-    → IsAlone request → Kept Anywhere progress (concluded client request progress outcome)
-concluded-open client request progress (Outcome.Refused status) s alone = refused-kept client request status
-    progress
-concluded-open client request progress Outcome.Waits s alone = keeps-same Anywhere progress.server
-concluded-open client request progress Outcome.Ready s alone = answered-open client request progress s alone
+    → IsSound progress.server → IsAlone request → Kept Anywhere progress (concluded client request progress outcome)
+concluded-open client request progress outcome s alone =
+    (any_end client progress _ (ends_keep client progress s) request outcome).anywhere alone

@@ -1,27 +1,21 @@
 -- Small steps tell of each open that they make: its FileId is the next one.
-use Rattle.std.proofs.Common.{◌≡◌, ◌⊎◌, inl, inr, ⊎_elim, ℕ, ◌+◌, Bool, [], ◌∷◌, ◌++◌, Option, Some, None, refl, sym, ap, ◌∙◌, subst, ◌==◌}
+use Rattle.std.proofs.Common.{◌≡◌, ◌⊎◌, inl, inr, ⊎_elim, ℕ, ◌+◌, Bool, [], ◌∷◌, ◌++◌, Option, refl, sym, ap, ◌∙◌, subst, ◌==◌}
 use Rattle.std.specs.Prelude.{⊤}
-use Rattle.lease_state.specs.State.{State, is_state_within}
 use Rattle.lease_state.specs.declared.access.Access.{Access}
 use Rattle.lease_state.specs.declared.access.Share.{Share}
-use Rattle.lease_state.specs.declared.status.Status.{Status}
 use Rattle.lease_model.specs.messages.Replies.{Reply, Out}
-use Rattle.lease_model.specs.messages.Requests.{FileRequest, CreateAsk, LeaseOf}
-use Rattle.lease_model.specs.server.Acknowledge.{acknowledged, judged, break_ended}
-use Rattle.lease_model.specs.server.Answers.{concluded, answered, created, closed, changed, read_done, on_open, on_contexts}
+use Rattle.lease_model.specs.messages.Requests.{FileRequest, LeaseOf}
+use Rattle.lease_model.specs.server.Acknowledge.{acknowledged, break_ended}
+use Rattle.lease_model.specs.server.Answers.{concluded, changed}
 use Rattle.lease_model.specs.server.Attempt.{Outcome, is_left_open}
-use Rattle.lease_model.specs.server.Findings.{connected_open}
-use Rattle.lease_model.specs.server.Grant.{granted, granted_with, lease_after, new_open, reconnected}
-use Rattle.lease_model.specs.server.Naming.{key_of}
-use Rattle.lease_model.specs.server.Progress.{Progress, opens_dropped, with_opens, lease_lowered, break_begun, request_held, held_left, replied, refused}
-use Rattle.lease_model.specs.server.State.{Server, Open, Lease, has_lease}
-use Rattle.lease_model.specs.values.Keys.{Key}
-use Rattle.lease_model.specs.values.Limits.{last_file_id}
+use Rattle.lease_model.specs.server.Grant.{granted_with, lease_after, new_open, reconnected}
+use Rattle.lease_model.specs.server.Progress.{Progress, opens_dropped, with_opens, lease_lowered, break_begun, request_held, held_left, replied}
+use Rattle.lease_model.specs.server.State.{Server, Open, Lease}
 use Rattle.lease_laws.specs.server.Laws.{Among}
 use Rattle.lease_laws.specs.server.Outs.{GoOn}
 use Rattle.lease_laws.specs.server.SmallSteps.{SmallStep, step_taken}
 use Rattle.lease_laws.proofs.server.Goes.{IsOld, still_there}
-use Rattle.lease_laws.proofs.server.Lists.{if_cases, among_append}
+use Rattle.lease_laws.proofs.server.Lists.{among_append}
 use Rattle.lease_laws.proofs.server.OutCalls.{held_left-outs, request_held-outs}
 use Rattle.lease_laws.proofs.server.OutLists.{go_on-same}
 use Rattle.lease_laws.proofs.server.OutSteps.{opens_dropped-outs}

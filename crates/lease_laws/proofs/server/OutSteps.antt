@@ -1,29 +1,18 @@
 -- A try gives out breaks alone, flagged rightly; and the end of a try gives out an answer without one.
-use Rattle.std.proofs.Common.{◌≡◌, refl, sym, subst, ℕ, zero, suc, Bool, not, List, [], ◌∷◌, ◌==◌, append-nil}
-use Rattle.std.specs.Prelude.{◌&&◌, Option, Some, None, if◌then◌else◌}
-use Rattle.lease_state.specs.State.{State, needs_acknowledgment, is_state_within}
-use Rattle.lease_state.specs.declared.access.Access.{Access}
-use Rattle.lease_state.specs.declared.access.Share.{Share}
+use Rattle.std.proofs.Common.{◌≡◌, refl, sym, subst, ℕ, Bool, [], ◌∷◌, ◌==◌, append-nil}
+use Rattle.std.specs.Prelude.{Option}
 use Rattle.lease_state.specs.declared.status.Status.{Status}
-use Rattle.lease_model.specs.server.Acknowledge.{break_ended, judged, acknowledged}
-use Rattle.lease_model.specs.server.Answers.{changed, read_done, closed, created, on_open, on_contexts, answered, concluded}
-use Rattle.lease_model.specs.server.Attempt.{Outcome, Tried, is_left_open, lease_broken, want_met, wants_met, ended, must_wait, after_breaks, after_finding, tried_for}
-use Rattle.lease_state.specs.declared.patch.Patch.{Patch}
-use Rattle.lease_model.specs.server.Grant.{granted, granted_with, reconnected, lease_after}
-use Rattle.lease_model.specs.values.Keys.{Key}
-use Rattle.lease_model.specs.values.Limits.{last_file_id}
-use Rattle.lease_model.specs.server.Progress.{Progress, opens_dropped, lease_lowered, break_begun, break_notice, replied, refused, refusal_of}
-use Rattle.lease_model.specs.server.Ready.{is_ready}
+use Rattle.lease_model.specs.server.Acknowledge.{break_ended, acknowledged}
+use Rattle.lease_model.specs.server.Answers.{changed, concluded}
+use Rattle.lease_model.specs.server.Attempt.{Outcome, is_left_open, tried_for}
+use Rattle.lease_model.specs.server.Grant.{granted_with, reconnected}
+use Rattle.lease_model.specs.server.Progress.{Progress, opens_dropped, lease_lowered, break_begun, replied, refused, refusal_of}
 use Rattle.lease_model.specs.messages.Replies.{Reply, Out}
-use Rattle.lease_model.specs.messages.Requests.{FileRequest, CreateAsk, LeaseOf}
+use Rattle.lease_model.specs.messages.Requests.{FileRequest, LeaseOf}
 use Rattle.lease_laws.specs.server.Outs.{EachOut, IsNoBreak, GoOn}
-use Rattle.lease_model.specs.server.State.{Open, Lease, has_lease, is_breaking}
-use Rattle.lease_model.specs.server.Wants.{Want}
-use Rattle.lease_model.specs.server.Findings.{Finding, finding, connected_open}
-use Rattle.lease_model.specs.server.Naming.{key_of}
-use Rattle.lease_laws.proofs.server.Lists.{if_cases}
+use Rattle.lease_model.specs.server.State.{Open}
 use Rattle.lease_laws.proofs.server.OutLists.{AreFair, IsGoodBreak, AreAnswered, answered_by, answered_nothing, go_on-same, go_on-twice}
-use Rattle.lease_laws.proofs.server.cases.Tries.{HasTries, any_meeting, any_try}
+use Rattle.lease_laws.proofs.server.cases.Tries.{HasTries, any_try}
 use Rattle.lease_laws.proofs.server.cases.Ends.{HasEnds, any_end}
 use Rattle.lease_laws.proofs.server.cases.Judgements.{any_judgement}
 
@@ -52,10 +41,6 @@ tries_break = record {
   lower = λ key lowered progress settled. record { more = _; are_more = refl; each = ((tt, refl), tt) };
   begin = λ key lowered progress settled. record { more = _; are_more = refl; each = ((tt, refl), tt) };
 }
-
--- to meet wants gives out breaks alone
-pub wants_met-broken : (wants : List Want) (progress : Progress) → Broken progress (wants_met wants progress)
-wants_met-broken = any_meeting Broken tries_break
 
 -- a try
 pub tried_for-broken : (rounds client : ℕ) (request : FileRequest) (progress : Progress)

@@ -6,21 +6,18 @@ use Rattle.std.proofs.lemmas.Bool.Decides.{Decides-eqb}
 use Rattle.lease_state.specs.State.{State, nothing_cached, granted_form_of, is_state_within}
 use Rattle.lease_state.specs.declared.access.Access.{Access}
 use Rattle.lease_state.specs.declared.access.Share.{Share}
-use Rattle.lease_state.specs.declared.status.Status.{Status}
-use Rattle.lease_model.specs.messages.Replies.{Reply, Out}
+use Rattle.lease_model.specs.messages.Replies.{Out}
 use Rattle.lease_model.specs.messages.Requests.{FileRequest, LeaseOf}
-use Rattle.lease_model.specs.server.Acknowledge.{acknowledged, judged, break_ended}
+use Rattle.lease_model.specs.server.Acknowledge.{acknowledged, break_ended}
 use Rattle.lease_model.specs.server.Allowed.{is_other_on, allowed}
-use Rattle.lease_model.specs.server.Answers.{concluded, answered, created, closed, changed, read_done, on_open}
+use Rattle.lease_model.specs.server.Answers.{concluded, changed}
 use Rattle.lease_model.specs.server.Attempt.{Outcome, is_left_open}
-use Rattle.lease_model.specs.server.Findings.{connected_open}
-use Rattle.lease_model.specs.server.Grant.{granted, granted_with, lease_after, lease_granted, offered, reconnected}
+use Rattle.lease_model.specs.server.Grant.{granted_with, lease_after, lease_granted, offered, reconnected}
 use Rattle.lease_model.specs.server.Naming.{key_of, own_key}
-use Rattle.lease_model.specs.server.Progress.{Progress, opens_dropped, with_opens, lease_lowered, break_begun, request_held, held_left, replied, refused, break_notice}
+use Rattle.lease_model.specs.server.Progress.{Progress, opens_dropped, with_opens, lease_lowered, break_begun, request_held, held_left, break_notice}
 use Rattle.lease_model.specs.server.State.{Server, Open, Lease, Held, no_lease, has_key, has_own_key, has_lease, is_breaking}
 use Rattle.lease_model.specs.values.Keys.{Key}
 use Rattle.lease_model.specs.values.LeaseStates.{without_write}
-use Rattle.lease_model.specs.values.Limits.{last_file_id}
 use Rattle.lease_model.specs.values.Lists.{without}
 use Rattle.lease_model.specs.values.Tables.{put}
 use Rattle.lease_laws.specs.server.Laws.{Among, IsSound}
@@ -31,6 +28,8 @@ use Rattle.lease_laws.proofs.server.Lists.{if_cases, either, clash, and_parts, n
 use Rattle.lease_laws.proofs.server.StepKeeps.{step-sound, end_serves}
 use Rattle.lease_laws.proofs.server.Progress.{held_left-sound}
 use Rattle.lease_laws.proofs.server.StepOuts.{step-tells}
+use Rattle.lease_laws.proofs.server.cases.Ends.{HasEnds, any_end}
+use Rattle.lease_laws.proofs.server.cases.Judgements.{any_judgement}
 
 -- ---- dropped opens
 
@@ -137,56 +136,31 @@ granted_with-lease client file access share (Some asked) durable progress key s 
     (granted_rises progress.server own file access share asked.state s free))
     (λ e. inl refl))
 
--- a create that is ready
-created-lease : (client file : ℕ) (access : Access) (share : Share) (asked : Option LeaseOf) (durable : Bool)
-    (again : Option ℕ) (progress : Progress) (key : Key) → IsSound progress.server
-    → MayCreate progress.server client file access share asked again
-    → StaysOrRises progress.server (created client file access share asked durable again progress).server key
-unfolding granted reconnected
-created-lease client file access share asked durable None progress key s may =
-    if_cases (λ p. StaysOrRises progress.server p.server key) (progress.server.last_id == last_file_id)
-    (replied client (Reply.CreateFailed file Status.InsufficientResources) progress)
-    (granted_with client file access share asked durable (lease_after progress.server client file asked) progress)
-    (λ e. inl refl)
-    (λ e. granted_with-lease client file access share asked durable progress key s may)
-created-lease client file access share asked durable (Some file_id) progress key s may = inl refl
-
 -- ---- the end of a request
 
--- by an open
-on_open-lease : (one : Option Open) (done : ℕ → Progress → Progress) (progress : Progress) (key : Key)
-    → ((file : ℕ) → StaysOrRises progress.server (done file progress).server key)
-    → StaysOrRises progress.server (on_open one done progress).server key
-on_open-lease None done progress key each = inl refl
-on_open-lease (Some one) done progress key each = each one.file
-
--- a close
-closed-lease : (client file_id : ℕ) (progress : Progress) (key : Key)
-    → StaysOrRises progress.server (closed client file_id progress).server key
-unfolding closed
-closed-lease client file_id progress key = ⊎_elim (λ same. inl same) (λ gone. inr (inl gone))
-    (dropped-lease (λ one. one.file_id == file_id) progress key)
-
 -- any request that may end so
+ends_lease : (client : ℕ) (progress : Progress) (key : Key) → IsSound progress.server
+    → HasEnds client progress (λ request outcome after. (outcome ≡ Outcome.Ready
+    → MayServe progress.server client request) → StaysOrRises progress.server after.server key)
+unfolding reconnected changed
+ends_lease client progress key s = record {
+  refused = λ request status may. inl refl;
+  left = λ request outcome may. inl refl;
+  full = λ file access share ask none may. inl refl;
+  granted = λ file access share ask none may. granted_with-lease client file access share ask.lease ask.durable progress
+      key s (subst (MayCreate progress.server client file access share ask.lease) none (may refl).1);
+  again = λ file access share ask file_id some may. inl refl;
+  read = λ file_id one own may. inl refl;
+  changed = λ file_id number patch one own may. inl refl;
+  closed = λ file_id one own may. ⊎_elim (λ same. inl same) (λ gone. inr (inl gone))
+      (dropped-lease (λ other. other.file_id == file_id) progress key);
+}
+
 concluded-lease : (client : ℕ) (request : FileRequest) (progress : Progress) (outcome : Outcome) (key : Key)
-    → IsSound progress.server
-    → (outcome ≡ Outcome.Ready → MayServe progress.server client request)
+    → IsSound progress.server → (outcome ≡ Outcome.Ready → MayServe progress.server client request)
     → StaysOrRises progress.server (concluded client request progress outcome).server key
-unfolding refused answered changed
-concluded-lease client (FileRequest.Create file access share None) progress Outcome.Ready key s may =
-    absurd (may refl)
-concluded-lease client (FileRequest.Create file access share (Some ask)) progress Outcome.Ready key s may =
-    created-lease client file access share ask.lease ask.durable ask.reconnect progress key s (may refl).1
-concluded-lease client (FileRequest.Read file_id) progress Outcome.Ready key s may =
-    on_open-lease (connected_open progress.server client file_id) (λ file. read_done client file file_id) progress key
-    (λ file. inl refl)
-concluded-lease client (FileRequest.Write file_id number patch) progress Outcome.Ready key s may =
-    on_open-lease (connected_open progress.server client file_id)
-    (λ file. changed client file file_id number patch) progress key (λ file. inl refl)
-concluded-lease client (FileRequest.Close file_id) progress Outcome.Ready key s may =
-    on_open-lease (connected_open progress.server client file_id) (λ file. closed client file_id) progress key
-    (λ file. closed-lease client file_id progress key)
-concluded-lease client request progress outcome key s may = inl refl
+concluded-lease client request progress outcome key s =
+    any_end client progress _ (ends_lease client progress key s) request outcome
 
 -- ---- acknowledgments
 
@@ -214,35 +188,18 @@ ended-lease key state lowered progress other broken part =
     }))
     (λ e. inl refl)
 
--- however it is judged
-judged-lease : (key : Key) (state : State) (broken : Option State) (progress : Progress) (other : Key)
-    → (progress.server.leases key).broken_to ≡ broken
-    → ((judged key state broken progress).server.leases other ≡ progress.server.leases other)
-    ⊎ IsEnded (progress.server.leases other) ((judged key state broken progress).server.leases other)
-judged-lease key state None progress other e = inl refl
-judged-lease key state (Some lowered) progress other e =
-    if_cases (λ p. (p.server.leases other ≡ progress.server.leases other)
-    ⊎ IsEnded (progress.server.leases other) (p.server.leases other))
-    (is_state_within state lowered) (break_ended key state progress)
-    (replied key.client (Reply.AckFailed Status.RequestNotAccepted) progress)
-    (λ part. ended-lease key state lowered progress other e part) (λ part. inl refl)
-
 -- any acknowledgment
 acknowledged-lease : (client : ℕ) (given : Option LeaseOf) (progress : Progress) (other : Key)
     → ((acknowledged client given progress).server.leases other ≡ progress.server.leases other)
     ⊎ IsEnded (progress.server.leases other) ((acknowledged client given progress).server.leases other)
-unfolding acknowledged
-acknowledged-lease client None progress other = inl refl
-acknowledged-lease client (Some given) progress other =
-    if_cases (λ p. (p.server.leases other ≡ progress.server.leases other)
-    ⊎ IsEnded (progress.server.leases other) (p.server.leases other))
-    (has_lease progress.server (key_of client given.key))
-    (judged (key_of client given.key) given.state (progress.server.leases (key_of client given.key)).broken_to
-    progress)
-    (replied client (Reply.AckFailed Status.ObjectNameNotFound) progress)
-    (λ e. judged-lease (key_of client given.key) given.state
-    (progress.server.leases (key_of client given.key)).broken_to progress other refl)
-    (λ e. inl refl)
+acknowledged-lease client given progress other = any_judgement client progress
+    (λ after. (after.server.leases other ≡ progress.server.leases other)
+    ⊎ IsEnded (progress.server.leases other) (after.server.leases other))
+    (record {
+      failed = λ status. inl refl;
+      ended = λ g lowered there breaks within.
+          ended-lease (key_of client g.key) g.state lowered progress other breaks within;
+    }) given
 
 -- ---- each step
 

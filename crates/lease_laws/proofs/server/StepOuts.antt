@@ -1,32 +1,26 @@
 -- What guarded small steps give out.
-use Rattle.std.proofs.Common.{◌≡◌, refl, sym, ap, ◌∙◌, subst, ℕ, Bool, true, List, [], ◌∷◌, ◌++◌, true≢false, ◌==◌}
+use Rattle.std.proofs.Common.{◌≡◌, refl, sym, ap, ◌∙◌, subst, ℕ, true, List, [], ◌∷◌, ◌++◌, true≢false, ◌==◌}
 use Rattle.std.specs.Prelude.{bytes_eq, Option, Some, None}
 use Rattle.std.proofs.lemmas.Bool.Decides.{Decides-eqb}
-use Rattle.lease_state.specs.State.{State, is_state_within}
-use Rattle.lease_state.specs.declared.access.Access.{Access}
-use Rattle.lease_state.specs.declared.access.Share.{Share}
-use Rattle.lease_state.specs.declared.patch.Patch.{Patch}
+use Rattle.lease_state.specs.State.{State}
 use Rattle.lease_state.specs.declared.status.Status.{Status}
 use Rattle.lease_model.specs.messages.Replies.{Reply, Out}
-use Rattle.lease_model.specs.messages.Requests.{FileRequest, CreateAsk, LeaseOf}
-use Rattle.lease_model.specs.server.Acknowledge.{acknowledged, judged, break_ended}
-use Rattle.lease_model.specs.server.Answers.{concluded, answered, created, closed, changed, read_done, on_open, on_contexts}
+use Rattle.lease_model.specs.messages.Requests.{FileRequest, LeaseOf}
+use Rattle.lease_model.specs.server.Acknowledge.{acknowledged, break_ended}
+use Rattle.lease_model.specs.server.Answers.{concluded, changed}
 use Rattle.lease_model.specs.server.Attempt.{Outcome, is_left_open}
 use Rattle.lease_model.specs.server.Calls.{Call, called}
-use Rattle.lease_model.specs.server.Findings.{connected_open}
-use Rattle.lease_model.specs.server.Grant.{granted, granted_with, lease_after, reconnected}
-use Rattle.lease_model.specs.server.Naming.{key_of}
+use Rattle.lease_model.specs.server.Grant.{granted_with, reconnected}
 use Rattle.lease_model.specs.server.Progress.{Progress, opens_dropped, lease_lowered, break_begun, held_left, replied, refused, refusal_of}
-use Rattle.lease_model.specs.server.State.{Server, Open, is_key, has_key, has_lease}
+use Rattle.lease_model.specs.server.State.{Server, Open, is_key, has_key}
 use Rattle.lease_model.specs.values.Keys.{Key}
-use Rattle.lease_model.specs.values.Limits.{last_file_id}
 use Rattle.lease_model.specs.values.Patches.{is_within_limit}
 use Rattle.lease_laws.specs.server.Laws.{IsSound}
 use Rattle.lease_laws.specs.server.Outs.{EachOut, IsNoBreak, GoOn}
 use Rattle.lease_laws.specs.server.SmallSteps.{SmallStep, step_taken, steps_taken, IsGuarded, AreGuarded, MayLower, MayServe, MayEnd, call_begun}
 use Rattle.lease_laws.specs.server.StepLaws.{TellsBreaks, IsToPresent, IsShort}
 use Rattle.lease_laws.specs.server.Waiting.{WaitsWell}
-use Rattle.lease_laws.proofs.server.Lists.{if_cases, and_parts, any_has}
+use Rattle.lease_laws.proofs.server.Lists.{and_parts, any_has}
 use Rattle.lease_laws.proofs.server.OutCalls.{concluded-answers, request_held-outs, held_left-outs}
 use Rattle.lease_laws.proofs.server.OutLists.{each_append, each_weaker, go_on-same, go_on-weaker, answers_go_on}
 use Rattle.lease_laws.proofs.server.OutSteps.{opens_dropped-outs, acknowledged-answered}

@@ -4,27 +4,20 @@ use Rattle.std.specs.Prelude.{if◌then◌else◌, nat_le, slice_get, unwrap_or}
 use Rattle.std.specs.List.{list_any, list_all}
 use Rattle.lease_state.proofs.ContentLemmas.{length-written}
 use Rattle.lease_state.specs.Content.{patch, patch_at}
-use Rattle.lease_state.specs.State.{State, is_state_within}
 use Rattle.lease_state.specs.declared.content.TheConstants.{FILE_LIMIT}
 use Rattle.lease_state.specs.declared.patch.Patch.{Patch}
-use Rattle.lease_state.specs.declared.status.Status.{Status}
-use Rattle.lease_state.specs.declared.access.Access.{Access}
-use Rattle.lease_state.specs.declared.access.Share.{Share}
 use Rattle.lease_model.specs.client.Calls.{client_called}
 use Rattle.lease_model.specs.client.Commands.{Note}
 use Rattle.lease_model.specs.client.Step.{Step}
-use Rattle.lease_model.specs.messages.Replies.{Reply}
-use Rattle.lease_model.specs.messages.Requests.{FileRequest, CreateAsk, LeaseOf}
-use Rattle.lease_model.specs.server.Acknowledge.{acknowledged, judged, break_ended}
-use Rattle.lease_model.specs.server.Answers.{concluded, answered, created, closed, changed, read_done, on_open, on_contexts}
+use Rattle.lease_model.specs.messages.Requests.{FileRequest, LeaseOf}
+use Rattle.lease_model.specs.server.Acknowledge.{acknowledged, break_ended}
+use Rattle.lease_model.specs.server.Answers.{concluded, changed}
 use Rattle.lease_model.specs.server.Attempt.{Outcome}
 use Rattle.lease_model.specs.server.Calls.{Call, called, join, joined, opens_disconnected, client_forgotten, key_expired, is_left_behind}
-use Rattle.lease_model.specs.server.Findings.{connected_open}
-use Rattle.lease_model.specs.server.Grant.{granted, granted_with, lease_after, lease_put, reconnected}
-use Rattle.lease_model.specs.server.Naming.{key_of}
-use Rattle.lease_model.specs.server.Progress.{Progress, begun, opens_dropped, with_opens, lease_lowered, break_begun, request_held, held_left, replied, refused}
-use Rattle.lease_model.specs.server.State.{Server, Open, new_server, with_number, has_lease, is_breaking}
-use Rattle.lease_model.specs.values.Limits.{last_file_id, last_file_number}
+use Rattle.lease_model.specs.server.Grant.{granted_with, lease_put, reconnected}
+use Rattle.lease_model.specs.server.Progress.{Progress, begun, opens_dropped, with_opens, lease_lowered, break_begun, request_held, held_left}
+use Rattle.lease_model.specs.server.State.{Server, new_server, with_number, is_breaking, Lease}
+use Rattle.lease_model.specs.values.Limits.{last_file_number}
 use Rattle.lease_model.specs.values.Patches.{is_within_limit}
 use Rattle.lease_model.specs.values.Tables.{put, numbered}
 use Rattle.lease_model.specs.world.Allowed.{is_allowed_setup, is_content}
@@ -39,6 +32,8 @@ use Rattle.lease_laws.proofs.server.StepCalls.{called-steps}
 use Rattle.lease_laws.proofs.server.StepKeeps.{end_serves}
 use Rattle.lease_laws.proofs.server.WaitCalls.{first-waits-well, called-waits-well}
 use Rattle.lease_laws.proofs.world.Kept.{IsKept, served-server, after-kept}
+use Rattle.lease_laws.proofs.server.cases.Ends.{HasEnds, any_end}
+use Rattle.lease_laws.proofs.server.cases.Judgements.{any_judgement}
 
 -- ---- what a client's step leaves alone
 
@@ -123,58 +118,38 @@ unfolding put
 put_fits contents file content fit new other = if_cases (λ c. length c ≤ FILE_LIMIT) (other == file) content
     (contents other) (λ e. new) (λ e. fit other)
 
--- a create changes no content
-created_contents : (client file : ℕ) (access : Access) (share : Share) (asked : Option LeaseOf) (durable : Bool)
-    (again : Option ℕ) (progress : Progress)
-    → (created client file access share asked durable again progress).server.contents ≡ progress.server.contents
-unfolding granted granted_with reconnected
-created_contents client file access share asked durable None progress =
-    if_cases (λ p. p.server.contents ≡ progress.server.contents) (progress.server.last_id == last_file_id)
-    (replied client (Reply.CreateFailed file Status.InsufficientResources) progress)
-    (granted_with client file access share asked durable (lease_after progress.server client file asked) progress)
-    (λ e. refl) (λ e. put_contents asked)
-  where
-    put_contents : (a : Option LeaseOf)
-        → (lease_put progress.server client a (lease_after progress.server client file asked)).contents
-        ≡ progress.server.contents
-    put_contents None = refl
-    put_contents (Some l) = refl
-created_contents client file access share asked durable (Some file_id) progress = refl
-
--- by an open, or by contexts
-on_open_fits : (one : Option Open) (done : ℕ → Progress → Progress) (progress : Progress) → DoFit progress.server.contents
-    → ((file : ℕ) → DoFit (done file progress).server.contents)
-    → DoFit (on_open one done progress).server.contents
-on_open_fits None done progress fit each = fit
-on_open_fits (Some one) done progress fit each = each one.file
-
-on_contexts_same : (contexts : Option CreateAsk) (done : CreateAsk → Progress → Progress) (progress : Progress)
-    → ((ask : CreateAsk) → (done ask progress).server.contents ≡ progress.server.contents)
-    → (on_contexts contexts done progress).server.contents ≡ progress.server.contents
-on_contexts_same None done progress each = refl
-on_contexts_same (Some ask) done progress each = each ask
+-- a lease that is put leaves them
+put_contents : (server : Server) (client : ℕ) (asked : Option LeaseOf) (lease : Lease)
+    → (lease_put server client asked lease).contents ≡ server.contents
+put_contents server client None lease = refl
+put_contents server client (Some given) lease = refl
 
 -- the end of a request
+ends_fit : (client : ℕ) (progress : Progress) → DoFit progress.server.contents
+    → HasEnds client progress (λ request outcome after. (outcome ≡ Outcome.Ready → (number : ℕ) (file_id : ℕ)
+    (patch : Patch) → request ≡ FileRequest.Write file_id number patch → is_within_limit patch ≡ true)
+    → DoFit after.server.contents)
+unfolding granted_with reconnected changed opens_dropped with_opens
+ends_fit client progress fit = record {
+  refused = λ request status may. fit;
+  left = λ request outcome may. fit;
+  full = λ file access share ask none may. fit;
+  granted = λ file access share ask none may.
+      subst DoFit (sym (put_contents progress.server client ask.lease _)) fit;
+  again = λ file access share ask file_id some may. fit;
+  read = λ file_id one own may. fit;
+  changed = λ file_id number patch one own may. put_fits progress.server.contents one.file _ fit
+      (patched_fits (progress.server.contents one.file) patch.offset patch.bytes (fit one.file)
+      (may refl number file_id patch refl));
+  closed = λ file_id one own may. fit;
+}
+
 concluded_fits : (client : ℕ) (request : FileRequest) (progress : Progress) (outcome : Outcome)
     → (outcome ≡ Outcome.Ready → (number : ℕ) (file_id : ℕ) (patch : Patch)
     → request ≡ FileRequest.Write file_id number patch → is_within_limit patch ≡ true)
     → DoFit progress.server.contents → DoFit (concluded client request progress outcome).server.contents
-unfolding refused answered changed closed opens_dropped with_opens
-concluded_fits client (FileRequest.Create file access share contexts) progress Outcome.Ready may fit =
-    subst DoFit (sym (on_contexts_same contexts _ progress
-    (λ ask. created_contents client file access share ask.lease ask.durable ask.reconnect progress))) fit
-concluded_fits client (FileRequest.Read file_id) progress Outcome.Ready may fit =
-    on_open_fits (connected_open progress.server client file_id) (λ file. read_done client file file_id) progress fit
-    (λ file. fit)
-concluded_fits client (FileRequest.Write file_id number patch) progress Outcome.Ready may fit =
-    on_open_fits (connected_open progress.server client file_id)
-    (λ file. changed client file file_id number patch) progress fit
-    (λ file. put_fits progress.server.contents file _ fit
-    (patched_fits (progress.server.contents file) patch.offset patch.bytes (fit file) (may refl number file_id patch refl)))
-concluded_fits client (FileRequest.Close file_id) progress Outcome.Ready may fit =
-    on_open_fits (connected_open progress.server client file_id) (λ file. closed client file_id) progress fit
-    (λ file. fit)
-concluded_fits client request progress outcome may fit = fit
+concluded_fits client request progress outcome may fit =
+    any_end client progress _ (ends_fit client progress fit) request outcome may
 
 -- a write that may be served fits
 serve_fits : (server : Server) (client : ℕ) (request : FileRequest) → MayServe server client request
@@ -184,27 +159,12 @@ serve_fits server client request may number file_id patch e =
     (subst (λ q. MayServe server client q) e may).allowed.fits
 
 -- an acknowledgment changes no content
-judged_contents : (key : _) (state : State) (broken : Option State) (progress : Progress)
-    → (judged key state broken progress).server.contents ≡ progress.server.contents
-unfolding break_ended
-judged_contents key state None progress = refl
-judged_contents key state (Some lowered) progress =
-    if_cases (λ p. p.server.contents ≡ progress.server.contents) (is_state_within state lowered)
-    (break_ended key state progress)
-    (replied key.client (Reply.AckFailed Status.RequestNotAccepted) progress) (λ e. refl) (λ e. refl)
-
 acknowledged_contents : (client : ℕ) (given : Option LeaseOf) (progress : Progress)
     → (acknowledged client given progress).server.contents ≡ progress.server.contents
-unfolding acknowledged
-acknowledged_contents client None progress = refl
-acknowledged_contents client (Some given) progress =
-    if_cases (λ p. p.server.contents ≡ progress.server.contents)
-    (has_lease progress.server (key_of client given.key))
-    (judged (key_of client given.key) given.state (progress.server.leases (key_of client given.key)).broken_to
-    progress)
-    (replied client (Reply.AckFailed Status.ObjectNameNotFound) progress)
-    (λ e. judged_contents (key_of client given.key) given.state
-    (progress.server.leases (key_of client given.key)).broken_to progress) (λ e. refl)
+unfolding break_ended
+acknowledged_contents client given progress = any_judgement client progress
+    (λ after. after.server.contents ≡ progress.server.contents)
+    (record { failed = λ status. refl; ended = λ g lowered there breaks within. refl }) given
 
 -- each step
 step_fits : (step : SmallStep) (progress : Progress) → IsGuarded step progress.server
