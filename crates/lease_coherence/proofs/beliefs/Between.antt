@@ -301,8 +301,7 @@ cut_always world client Link.Up a = served_always (happened (record world {
   requests = put world.requests client [];
   replies = put world.replies client [];
 }) (Fact.Dropped client)) (cut world.server client) (neutral_always (Fact.Dropped client) world.past tt a)
-cut_always world client Link.Down a = a
-cut_always world client Link.Cut a = a
+cut_always world client link a = a
 
 notice_always : (world : World) (client : ℕ) (link : Link) → IsReached world
     → IsReached (notice_over world client link) → Always world.past → Always (notice_over world client link).past

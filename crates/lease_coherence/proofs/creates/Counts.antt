@@ -14,11 +14,10 @@ use Rattle.lease_coherence.specs.Creates.{answer_of, answers, create_of, creates
 
 -- an entry that waits for no answer to a create has asked for none
 pub none_asked : (phase : Phase) → AwaitsNone phase → has_asked phase ≡ false
-none_asked Phase.Closed idle = refl
 none_asked (Phase.Opening access share) idle = absurd idle
 none_asked (Phase.Live live) idle = idle
-none_asked (Phase.Offline parted) idle = refl
 none_asked (Phase.Reconnecting parted) idle = absurd idle
+none_asked phase idle = refl
 
 -- ---- sums
 

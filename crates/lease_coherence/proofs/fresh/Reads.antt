@@ -172,8 +172,7 @@ cut_fresh world client Link.Up a = served_fresh (happened (record world {
   requests = put world.requests client [];
   replies = put world.replies client [];
 }) (Fact.Dropped client)) (cut world.server client) (tt, a)
-cut_fresh world client Link.Down a = a
-cut_fresh world client Link.Cut a = a
+cut_fresh world client link a = a
 
 notice_fresh : (world : World) (client : ℕ) (link : Link) → IsSoundClient (world.clients client) → AllFresh world.past
     → AllFresh (notice_over world client link).past

@@ -336,14 +336,12 @@ step_deed world P h (SmallStep.AnswerHeld file before one behind outcome) next =
     same_serve (FileRequest.Create f access share None) may = absurd may
     same_serve (FileRequest.Create f access share (Some ask)) may =
         (may.0, same_create f access share ask.lease ask.reconnect may.1)
-    same_serve (FileRequest.Read file_id) may =
-        record { one = may.one; found = may.found; allowed = may.allowed }
     same_serve (FileRequest.Write file_id number patch) may = record {
       one = may.one;
       found = may.found;
       allowed = record { may = may.allowed.may; fits = may.allowed.fits; alone = may.allowed.alone };
     }
-    same_serve (FileRequest.Close file_id) may =
+    same_serve request may =
         record { one = may.one; found = may.found; allowed = may.allowed }
 
     same_refuse : (r : FileRequest) (status : Status) → MayRefuse world.server one.client r status

@@ -237,25 +237,7 @@ spared_fact c opens leases (Fact.Settled client number outcome) past s = record 
   content = λ key one own there has reads. refl;
   alone = λ key one own there has writes e. e;
 }
-spared_fact c opens leases (Fact.Believes client file state) past s = record {
-  sent = refl;
-  took = refl;
-  written = λ f n p. refl;
-  buffered = λ f n. refl;
-  clean = λ key one own there has n writes e. e;
-  content = λ key one own there has reads. refl;
-  alone = λ key one own there has writes e. e;
-}
-spared_fact c opens leases (Fact.CachedRead client file bytes) past s = record {
-  sent = refl;
-  took = refl;
-  written = λ f n p. refl;
-  buffered = λ f n. refl;
-  clean = λ key one own there has n writes e. e;
-  content = λ key one own there has reads. refl;
-  alone = λ key one own there has writes e. e;
-}
-spared_fact c opens leases (Fact.Strayed client) past s = record {
+spared_fact c opens leases fact past s = record {
   sent = refl;
   took = refl;
   written = λ f n p. refl;

@@ -107,5 +107,4 @@ done_sound connected number write sent (Phase.Live live) s = (
     asking_with_handles = s.1.asking_with_handles;
   },
 )
-done_sound connected number write sent (Phase.Offline parted) s = (s.0, sent_without-none number sent s.1, s.2)
-done_sound connected number write sent (Phase.Reconnecting parted) s = (s.0, sent_without-none number sent s.1, s.2)
+done_sound connected number write sent phase s = (s.0, sent_without-none number sent s.1, s.2)

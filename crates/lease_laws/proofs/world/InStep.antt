@@ -207,8 +207,7 @@ strayed_true world client request Link.Up r = record {
   in_step = λ c. carried_step (happened world (Fact.Strayed client)) _ c refl refl refl refl
       (fact_in_step world (Fact.Strayed client) tt c ((r.telling).in_step c));
 }
-strayed_true world client request Link.Down r = r.telling
-strayed_true world client request Link.Cut r = r.telling
+strayed_true world client request link r = r.telling
 
 applied_true : (world : World) (event : Event) → IsReady world → IsTrue (applied world event)
 unfolding applied

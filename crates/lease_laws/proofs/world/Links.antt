@@ -487,8 +487,7 @@ strayed_linked world client request Link.Up l = record {
       (carried world (happened world (Fact.Strayed client)) c refl refl refl refl refl refl refl (l.tied c));
   online = l.online;
 }
-strayed_linked world client request Link.Down l = l
-strayed_linked world client request Link.Cut l = l
+strayed_linked world client request link l = l
 
 applied_linked : (world : World) (event : Event) → IsLinked world → IsLinked (applied world event)
 unfolding applied

@@ -122,8 +122,7 @@ cut_told world client Link.Up t = served_told (happened (record world {
     (λ key e. ap (λ b. not (client == key.client) && b) (t.told key (ap (λ x. x key)
     (sym (called-expired world.server (Call.Cut client) (t.linked).sound (t.linked).waits
     ∙ cut-expired world.server client)) ∙ e)) ∙ none_of (not (client == key.client)))
-cut_told world client Link.Down t = t.told
-cut_told world client Link.Cut t = t.told
+cut_told world client link t = t.told
 
 notice_told : (world : World) (client : ℕ) (link : Link) → IsTimely world → AreToldOf (notice_over world client link)
 unfolding link_noticed
