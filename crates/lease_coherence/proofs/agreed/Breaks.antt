@@ -41,8 +41,7 @@ acked key (Request.Acknowledge None ∷ queue) some =
 acked key (Request.Acknowledge (Some lease) ∷ queue) some = either (bytes_eq key lease.key)
     (λ own. (
       lease.state,
-      inl (ap (λ bytes. acknowledgment_of bytes lease.state)
-          ((bytes_eq-Decides key lease.key).0 own)),
+      inl (ap (λ bytes. acknowledgment_of bytes lease.state) ((bytes_eq-Decides key lease.key).0 own)),
     ))
     (λ other. let rest = acked key queue (λ none. some (plus (one_if (bytes_eq key lease.key)) (acks key queue)
     (ap one_if other) none)) in (rest.0, inr rest.1))
@@ -84,8 +83,7 @@ breaking_is_answered setup events client good up file fresh breaks =
       there = y.1;
       under = y.2;
       asked = close_asked file (y.0).file_id (asked_of world client file) (closed y.0 y.1 y.2);
-    }))) x)
-    (v.told client good up file fresh breaks)
+    }))) x) (v.told client good up file fresh breaks)
 
 -- one of them, where it stands
 pub each_one : {X : Type 0} (P : X → Type 0) (xs : List X) (x : X) → Each P xs → Among x xs → P x
@@ -103,8 +101,7 @@ acknowledgments_are_due setup events client good up file fresh state sent =
     due world client file state (fit ((bytes_eq-Decides key key).1 refl))
   where
     due : (world : World) (client file : ℕ) (state : State)
-        → IsAckFit (lease_of world client file) ((world.clients client).entries file).phase state
-        → IsDue world client file state
+        → IsAckFit (lease_of world client file) ((world.clients client).entries file).phase state → IsDue world client file state
     due world client file state f = record { lowered = f.lowered; breaking = f.breaks; within = f.within }
 
 -- ---- beliefs

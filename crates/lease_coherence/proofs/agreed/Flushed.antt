@@ -68,8 +68,7 @@ none_buffered world c file behind each inside well names order fresh id number p
     (named (each_one (IsNamedRequest c (world.clients c).guid world.past) (world.requests c) write names.requests
     (inside write there)))
     (standing (each_one (WriteStands world c) (world.requests c) write order.stands.queued (inside write there))) b in
-    clash (has_buffered c file number world.past) b
-    (written (each_one (NotBuffered world c file) behind write each there) o))
+    clash (has_buffered c file number world.past) b (written (each_one (NotBuffered world c file) behind write each there) o))
   where
     named : IsNamedRequest c (world.clients c).guid world.past (Request.OnFile (FileRequest.Write id number patch))
         → WasWrittenOn c id number patch world.past
@@ -113,8 +112,7 @@ never_zero key state (Request.Acknowledge (Some given) ∷ before) behind e = ne
 
 -- where one that gives writes up is on its way no write of the entry is unsent, and it keeps none
 none_unsent : (world : World) → HasRecord world → (c file : ℕ) (state : State) (before behind : List Request)
-    → has_strayed c world.past ≡ false → is_up (world.links c) ≡ true
-    → world.server.expired (machine_key world c file) ≡ false
+    → has_strayed c world.past ≡ false → is_up (world.links c) ≡ true → world.server.expired (machine_key world c file) ≡ false
     → world.requests c ≡ before ++ acknowledgment_of (file_key world c file) state ∷ behind → state.write ≡ false
     → (phase : Phase) → ((world.clients c).entries file).phase ≡ phase → unsent_in phase ≡ []
 none_unsent world v c file state before behind good up fresh is gives Phase.Closed at = refl
@@ -127,8 +125,7 @@ none_unsent world v c file state before behind good up fresh is gives (Phase.Liv
     (λ writes. ⊎_elim
     (λ zero. absurd (never_zero key state before behind (ap (acks key) (sym is) ∙ zero)))
     (λ answering. clash state.write
-    (some_ack key state before behind (subst (Each (AckKeeps key)) is (answering.bounds live at writes))) gives)
-    b.answers)
+    (some_ack key state before behind (subst (Each (AckKeeps key)) is (answering.bounds live at writes))) gives) b.answers)
     (λ none. sound.unsent_under_writes none)
 none_unsent world v c file state before behind good up fresh is gives (Phase.Offline parted) at =
     let g = ground_in world v in
@@ -153,8 +150,7 @@ flushed_before_acknowledgments setup events c allowed good up file fresh state b
       sent = none_buffered world c file behind (⊎_elim
           (λ keeps. clash state.write (keeps ((bytes_eq-Decides key key).1 refl)).0 gives) (λ none. none) (first.0 file))
           (λ request there. subst (Among request) (sym is) (among_behind request before
-          (acknowledgment_of key state ∷ behind) (inr there)))
-          v.well (names_of world v c good) (v.order c good up) fresh;
+          (acknowledgment_of key state ∷ behind) (inr there))) v.well (names_of world v c good) (v.order c good up) fresh;
       unsent = none_unsent world v c file state before behind good up fresh is gives ((world.clients c).entries file).phase refl;
     }
 
@@ -197,8 +193,7 @@ flushed_before_closes setup events c allowed good up file fresh id before behind
     (Request.OnFile (FileRequest.Close id) ∷ behind) (subst AreOrdered is ((v.order c good up).ordered file)) in record {
       sent = λ number patch there. written number patch
           (each_one (IsNoWrite id) behind (Request.OnFile (FileRequest.Write id number patch)) o.0 there);
-      unsent = λ live at same. never_asked world c file id
-          (subst (NotClosed world c) same (not_closed world c file live
+      unsent = λ live at same. never_asked world c file id (subst (NotClosed world c) same (not_closed world c file live
           (subst (PhaseStands world c file) at ((v.leases.structure.opens c good up).phases file))))
           (subst (Among (Request.OnFile (FileRequest.Close id))) (sym is)
           (among_behind (Request.OnFile (FileRequest.Close id)) before (Request.OnFile (FileRequest.Close id) ∷ behind)

@@ -52,8 +52,7 @@ unfolding with_opens
 fewer_gone id server test g = same_gone id server (with_opens server (without test server.opens)) (itself server.last_id)
     (λ one there. (one, (among_filter (λ o. not (test o)) one server.opens there).0, refl)) g
 
-off_gone : (id : ℕ) (world off : World) (c : ℕ) (request : _) → IsSource world off c request → IsGone id world
-    → IsGone id off
+off_gone : (id : ℕ) (world off : World) (c : ℕ) (request : _) → IsSource world off c request → IsGone id world → IsGone id off
 off_gone id world off c request source g = from_source world off c request (λ o. IsGone id o) source g
     (λ file left. record { given = g.given; none = g.none })
 
@@ -93,8 +92,7 @@ deeds_gone id world g = record {
       let was = off_gone id world off c _ source g in
       same_gone id off.server (record off.server { opens = map (connected_again file_id) off.server.opens })
       (itself off.server.last_id) (λ one there. changed_by (connected_again file_id) (again_same file_id) off.server.opens one
-      there)
-      was;
+      there) was;
   read = λ off c file_id one source found may. off_gone id world off c _ source g;
   changed = λ off c file_id number patch one source found may. let was = off_gone id world off c _ source g in
       record { given = was.given; none = was.none };
@@ -121,10 +119,8 @@ gone_moves : (id : ℕ) → IsMoved HasLeases (IsGone id)
 unfolding opens_dropped opens_disconnected client_forgotten key_expired joined requests_sent with_opens
 gone_moves id world (Move.Step step) next v g = step_deed world (IsGone id) (deeds_gone id world g) step next
 gone_moves id world (Move.Cut c) up v g = let left = fewer_gone id world.server (is_lost world.server c) g in
-    same_gone id (with_opens world.server (without (is_lost world.server c) world.server.opens)) _
-    (itself world.server.last_id)
-    (λ one there. changed_by (disconnected c) (lost_same c) (without (is_lost world.server c) world.server.opens) one there)
-    left
+    same_gone id (with_opens world.server (without (is_lost world.server c) world.server.opens)) _ (itself world.server.last_id)
+    (λ one there. changed_by (disconnected c) (lost_same c) (without (is_lost world.server c) world.server.opens) one there) left
 gone_moves id world (Move.Expire c file) (on, breaks) v g =
     let left = fewer_gone id world.server (has_key (machine_key world c file)) g in
     record { given = left.given; none = left.none }

@@ -106,8 +106,7 @@ granted_low client at file_id answer entry here file = by_client
 
 -- what a reply gives is nothing, or a grant
 given_or_none : (client : Client) (at file_id : ℕ) (answer : CreateAnswer) (lease : Option LeaseGiven)
-    → answer.lease ≡ lease → (old : State)
-    → Within (given_state (lease_key client.guid at) lease) old
+    → answer.lease ≡ lease → (old : State) → Within (given_state (lease_key client.guid at) lease) old
     ⊎ IsGranted client (ClientCall.Taken (Reply.Created at file_id (Some answer))) at
 given_or_none client at file_id answer None is old = inl refl
 given_or_none client at file_id answer (Some given) is old = either given.in_progress
@@ -118,8 +117,7 @@ given_or_none client at file_id answer (Some given) is old = either given.in_pro
     (λ done. inr (record { file_id = file_id; answer = answer; given = given; taken = refl; gives = is; settled = done }))
 
 promoted_or_none : (client : Client) (at file_id : ℕ) (answer : CreateAnswer) (lease : Option LeaseGiven)
-    → answer.lease ≡ lease → (old : State)
-    → Within (promoted_belief (lease_key client.guid at) old lease) old
+    → answer.lease ≡ lease → (old : State) → Within (promoted_belief (lease_key client.guid at) old lease) old
     ⊎ IsGranted client (ClientCall.Taken (Reply.Created at file_id (Some answer))) at
 promoted_or_none client at file_id answer None is old = inl refl
 promoted_or_none client at file_id answer (Some given) is old = either given.in_progress
@@ -142,8 +140,7 @@ takes_low client = record {
   passed = λ reply why file. inl (same_within (belief client file));
   parked_closes = λ file notice live at is parked f. inl (put_low client file _ refl f);
   lowered = λ file notice live at is stays f. inl (put_low client file _
-      (subst (λ p. Within (meet live.belief notice.lowered) (belief_in p)) (sym is)
-      (meet_within live.belief notice.lowered)) f);
+      (subst (λ p. Within (meet live.belief notice.lowered) (belief_in p)) (sym is) (meet_within live.belief notice.lowered)) f);
   opened = λ at id answer access share is. granted_low client at id answer _
       (given_or_none client at id answer answer.lease refl (belief client at));
   reconnected = λ at id answer parted is. granted_low client at id answer _
@@ -167,8 +164,7 @@ takes_low client = record {
 
 -- ---- connections
 
-notices_low : (old : State) (sent : List Pending)
-    → HasNotices sent (λ phase turn. Within (belief_in turn.entry.phase) old)
+notices_low : (old : State) (sent : List Pending) → HasNotices sent (λ phase turn. Within (belief_in turn.entry.phase) old)
 notices_low old sent = record {
   closed = refl;
   opening = λ access share. refl;
@@ -188,8 +184,7 @@ pub beliefs_rise_by_grants : BeliefsRiseByGrants
 unfolding noticed connection_made all_turned
 beliefs_rise_by_grants client (ClientCall.Commanded command) file =
     inl (any_command client (StaysLow client) (commands_low client) command file)
-beliefs_rise_by_grants client (ClientCall.Taken reply) file =
-    any_reply client (LowOrGranted client) (takes_low client) reply file
+beliefs_rise_by_grants client (ClientCall.Taken reply) file = any_reply client (LowOrGranted client) (takes_low client) reply file
 beliefs_rise_by_grants client ClientCall.Noticed file =
     inl (any_notice (client.entries file).sent _ (notices_low (belief client file) (client.entries file).sent)
     (client.entries file).phase)

@@ -32,8 +32,7 @@ writing_open : (server : _) (key : _) → IsSound server → (server.leases key)
     → (x : Open) × (Among x server.opens) × (has_key key x ≡ true)
 writing_open server key sound writes = either (list_any (has_key key) server.opens)
     (λ some. any_has (has_key key) server.opens some)
-    (λ none. clash (server.leases key).state.write writes
-    (ap (λ (l : Lease). l.state.write) (sound.no_open key none)))
+    (λ none. clash (server.leases key).state.write writes (ap (λ (l : Lease). l.state.write) (sound.no_open key none)))
 
 none_held : (world : World) (c file : ℕ) → IsSound world.server → WaitsWell world.server → IsNamedAt world c
     → (lease_of world c file).state.write ≡ true → held_by c (world.server.held file) ≡ []
@@ -48,10 +47,8 @@ none_held world c file sound waits names writes = either (is_behind c (world.ser
         let y = first.0 in
         let there = find_has (λ (one : Held). one.client == c) y (world.server.held file) first.1 in
         let by = eqb-true y.client c there.1 in
-        none_waits world c sound names file x.0 x.1 place.0 place.1 writes y.request
-        (names.held file y there.0 by)
-        (about_asks world file y.request (waits.is_orderly.held_about file y there.0))
-        (waits.all_wait file c y first.1)
+        none_waits world c sound names file x.0 x.1 place.0 place.1 writes y.request (names.held file y there.0 by)
+        (about_asks world file y.request (waits.is_orderly.held_about file y there.0)) (waits.all_wait file c y first.1)
 
 pub writers_are_not_held : OfRuns WritersAreNotHeld
 writers_are_not_held setup events c good file writes =
@@ -80,8 +77,7 @@ held_writes_are_through setup events c allowed good up file fresh id number patc
     ((v.order c good up).stands.held file one in_held.0 by) in
     let plain : HeldPlain world c (Request.OnFile (FileRequest.Write id number patch)) =
     subst (λ r. HeldPlain world c (Request.OnFile r)) held.2 (((v.late c good).up up).held file one in_held.0 by) in
-    not_true (has_buffered c file number world.past) (λ b.
-    through world c file id number patch plain
+    not_true (has_buffered c file number world.past) (λ b. through world c file id number patch plain
     (buffered_open world c file id number patch v.well fresh named stands b) b)
   where
     through : (world : World) (c file id number : ℕ) (patch : Patch)

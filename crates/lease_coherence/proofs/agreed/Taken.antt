@@ -81,8 +81,7 @@ then_taken world one new c reply queue first rest = record {
 -- the same timers
 pub still_fresh : (world new : World) (c : ℕ) (front : List Reply) → IsTaken world new c front → (file : ℕ)
     → world.server.expired (machine_key world c file) ≡ false → new.server.expired (machine_key new c file) ≡ false
-still_fresh world new c front t file fresh =
-    ap (λ (s : Server). s.expired (machine_key new c file)) t.server
+still_fresh world new c front t file fresh = ap (λ (s : Server). s.expired (machine_key new c file)) t.server
     ∙ ap (λ g. world.server.expired (key_of c (lease_key g file))) t.guid ∙ fresh
 
 -- what moves keep holds in a world where the whole queue was taken
@@ -135,9 +134,7 @@ resting_base world v c file good up fresh empty live at bytes has =
     ∙ sym (at_rest c (file_key world c file) file world.past (belief_in phase).read f.old (places_of c world.past)
     (content_of file world.past)
     (subst (λ q. IsRelayed c (file_key world c file) file world.past (belief_in phase).read f.old (places_of c world.past) q
-    (content_of file world.past)) empty f.relay)
-    (ap (λ p. (belief_in p).read) at ∙ reads))
-    ∙ sym (v.contents file)
+    (content_of file world.past)) empty f.relay) (ap (λ p. (belief_in p).read) at ∙ reads)) ∙ sym (v.contents file)
 
 pub bases_are_current : OfAllowedRuns (Timely BasesAreCurrent)
 bases_are_current setup events c allowed good up file fresh live at bytes has =
@@ -145,5 +142,4 @@ bases_are_current setup events c allowed good up file fresh live at bytes has =
     let t = all_taken HasRecord record_carried c (world.replies c) world (run_record setup events allowed) refl in
     resting_base t.new t.known c file (t.is.strayed ∙ good) (ap (λ (l : ℕ → Link). is_up (l c)) t.is.links ∙ up)
     (still_fresh world t.new c (world.replies c) t.is file fresh) t.empty live
-    (ap (λ (m : Client). (m.entries file).phase) t.is.machine ∙ at) bytes has
-    ∙ ap (λ (s : Server). s.contents file) t.is.server
+    (ap (λ (m : Client). (m.entries file).phase) t.is.machine ∙ at) bytes has ∙ ap (λ (s : Server). s.contents file) t.is.server

@@ -35,8 +35,7 @@ use Rattle.lease_coherence.proofs.beliefs.Words.{acks, LowersWell, OpenTillAck, 
 -- of another key
 other_gone : (key : List ℕ) (file : ℕ) (lease : Lease) (phase : Phase) (given : LeaseOf) (left : List Request)
     (queue : List Reply) → bytes_eq key given.key ≡ false
-    → IsBelieved key file lease phase (Request.Acknowledge (Some given) ∷ left) queue
-    → IsBelieved key file lease phase left queue
+    → IsBelieved key file lease phase (Request.Acknowledge (Some given) ∷ left) queue → IsBelieved key file lease phase left queue
 other_gone key file lease phase given left queue other b = asked_less key file lease phase
     (Request.Acknowledge (Some given) ∷ left) left queue
     (plus (acks key left) ∙ ap (λ x. one_if x + acks key left) (sym other)) (λ each. each.1) b
@@ -58,8 +57,7 @@ own_gone key file lease phase given left queue own b = ⊎_elim
         given = b.given;
         breaks = met_mapped key file (is_breaking lease) (is_breaking lease)
             (acks key (Request.Acknowledge (Some given) ∷ left)) (acks key left) (is_live phase) queue
-            (λ rest m. absurd (one_none (acks key (Request.Acknowledge (Some given) ∷ left)) a.one m.none_answered))
-            b.breaks;
+            (λ rest m. absurd (one_none (acks key (Request.Acknowledge (Some given) ∷ left)) a.one m.none_answered)) b.breaks;
         answers = inl zero;
       },
     )) b.answers
@@ -86,10 +84,8 @@ ack_gone key file lease phase (Some given) left queue b = either (bytes_eq key g
     (λ other. other_gone key file lease phase given left queue other b)
 
 tail_open : (key : List ℕ) (file file_id : ℕ) (lease : Lease) (phase : Phase) (given : Option LeaseOf)
-    (left : List Request) (queue : List Reply)
-    → IsBelieved key file lease phase (Request.Acknowledge given ∷ left) queue
-    → OpenTillAck key file_id (Request.Acknowledge given ∷ left)
-    → (acks key left ≡ 0) ⊎ OpenTillAck key file_id left
+    (left : List Request) (queue : List Reply) → IsBelieved key file lease phase (Request.Acknowledge given ∷ left) queue
+    → OpenTillAck key file_id (Request.Acknowledge given ∷ left) → (acks key left ≡ 0) ⊎ OpenTillAck key file_id left
 tail_open key file file_id lease phase None left queue b till = inr till
 tail_open key file file_id lease phase (Some given) left queue b till = either (bytes_eq key given.key)
     (λ own. inl (own_gone key file lease phase given left queue own b).0) (λ other. inr (till other))
@@ -152,8 +148,7 @@ served_state given w r = if_cases (λ (s : State). s.write ≡ true) given.read 
     (record { read = false; write = false; handle = false }) (λ reads. w) (λ none. clash given.read r none)
 
 pub done_trusted : (world : World) (c : ℕ) (given : LeaseOf) → IsOldest world c (Request.Acknowledge (Some given))
-    → HasTrust world c
-    → HasTrust (leased_in (popped world c) (key_of c given.key)
+    → HasTrust world c → HasTrust (leased_in (popped world c) (key_of c given.key)
     (record { state = granted_form_of given.state; broken_to = None }) (done_reply given)) c
 unfolding key_eq
 done_trusted world c given oldest t = record {
@@ -161,21 +156,17 @@ done_trusted world c given oldest t = record {
       (each_append LowersWell (world.replies c) (done_reply given ∷ []) t.lowered (tt, tt));
   files = λ file fresh. let was = t.files file fresh in
       trusted_by (popped world c) (leased_in (popped world c) (key_of c given.key) lease (done_reply given)) c file refl
-      refl refl (λ one own up a. a)
-      (subst (IsBelieved (file_key world c file) file
+      refl refl (λ one own up a. a) (subst (IsBelieved (file_key world c file) file
       (put_key world.server.leases (key_of c given.key) lease (machine_key world c file))
-      ((world.clients c).entries file).phase ((popped world c).requests c)) (sym sent)
-      (plain_sent (file_key world c file) file
+      ((world.clients c).entries file).phase ((popped world c).requests c)) (sym sent) (plain_sent (file_key world c file) file
       (put_key world.server.leases (key_of c given.key) lease (machine_key world c file))
       ((world.clients c).entries file).phase ((popped world c).requests c) (world.replies c) (done_reply given) tt
-      (λ breaks. tt) refl
-      (subst (λ q. IsBelieved (file_key world c file) file
+      (λ breaks. tt) refl (subst (λ q. IsBelieved (file_key world c file) file
       (put_key world.server.leases (key_of c given.key) lease (machine_key world c file))
       ((world.clients c).entries file).phase q (world.replies c)) (sym left)
       (believed file (subst (λ q. IsBelieved (file_key world c file) file
       (world.server.leases (machine_key world c file)) ((world.clients c).entries file).phase q (world.replies c))
-      oldest.is_first was.believed)))))
-      (acked_trusted world c file (Some given) oldest was);
+      oldest.is_first was.believed))))) (acked_trusted world c file (Some given) oldest was);
 }
   where
     lease : Lease
@@ -189,8 +180,7 @@ done_trusted world c given oldest t = record {
 
     believed : (file : ℕ) → IsBelieved (file_key world c file) file (world.server.leases (machine_key world c file))
         ((world.clients c).entries file).phase (Request.Acknowledge (Some given) ∷ oldest.queue) (world.replies c)
-        → IsBelieved (file_key world c file) file
-        (put_key world.server.leases (key_of c given.key)
+        → IsBelieved (file_key world c file) file (put_key world.server.leases (key_of c given.key)
         (record { state = granted_form_of given.state; broken_to = None }) (machine_key world c file))
         ((world.clients c).entries file).phase oldest.queue (world.replies c)
     believed file b = put_key-cases
@@ -199,8 +189,7 @@ done_trusted world c given oldest t = record {
         (record { state = granted_form_of given.state; broken_to = None }) (machine_key world c file)
         (λ same. ack_served (file_key world c file) file (world.server.leases (machine_key world c file))
         (record { state = granted_form_of given.state; broken_to = None }) ((world.clients c).entries file).phase given
-        oldest.queue (world.replies c)
-        ((bytes_eq-Decides (file_key world c file) given.key).1 (ap (λ (k : Key). k.bytes) same))
+        oldest.queue (world.replies c) ((bytes_eq-Decides (file_key world c file) given.key).1 (ap (λ (k : Key). k.bytes) same))
         (λ w r. served_state given.state w r) b)
         (λ other. either (bytes_eq (file_key world c file) given.key)
         (λ own. clash (key_eq (machine_key world c file) (key_of c given.key))
@@ -249,7 +238,6 @@ held_trusted world file one oldest t = record {
       held = λ f x b own. ⊎_elim (λ old. a.anchored.held f x old own)
           (λ new. ⊎_elim (λ old. a.anchored.held file x old own)
           (λ last. ⊎_elim (λ same. subst (λ (h : Held). IsNoClose a.anchored.file_id (Request.OnFile h.request)) (sym same)
-          a.stays) (λ none. absurd none) last)
-          (among_append x (world.server.held file) (one ∷ []) new.1))
+          a.stays) (λ none. absurd none) last) (among_append x (world.server.held file) (one ∷ []) new.1))
           (among_put world.server.held file (world.server.held file ++ one ∷ []) f x b);
     }

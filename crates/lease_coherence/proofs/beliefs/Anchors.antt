@@ -61,8 +61,7 @@ ack_till key file_id notice state own = if_cases (OpenTillAck key file_id) notic
     (λ asked other. clash (bytes_eq key notice.key) own other) (λ plain. tt)
 
 lowered_anchors : (machine : Client) (at : ℕ) (notice : BreakNotice) (live : LiveEntry)
-    → is_key_of machine notice.key at ≡ true → (machine.entries at).phase ≡ Phase.Live live
-    → AnchorsOn machine (turned machine at
+    → is_key_of machine notice.key at ≡ true → (machine.entries at).phase ≡ Phase.Live live → AnchorsOn machine (turned machine at
     (belief_lowered live (sent_of machine at) notice (meet live.belief notice.lowered)))
 unfolding turned belief_lowered
 lowered_anchors machine at notice live own is file =
@@ -79,8 +78,7 @@ lowered_anchors machine at notice live own is file =
     }))
     (λ other. inl (acks_append (lease_key machine.guid file) writes (acknowledgment notice new)
     ∙ ap₂ (λ a b. a + b) (file_no_acks (lease_key machine.guid file) writes
-    (writes_about live.file_id (flushed live.belief new live.unsent)))
-    (ack_elsewhere machine.guid file at notice new
+    (writes_about live.file_id (flushed live.belief new live.unsent))) (ack_elsewhere machine.guid file at notice new
     (λ e. clash (file == at) (eq-eqb file at e) other) own) ∙ zeros))
   where
     zeros : 0 + 0 ≡ 0
@@ -90,8 +88,7 @@ pub takes_anchor : (machine : Client) → HasTakes machine (λ reply step. Ancho
 unfolding opened_turn reconnected_turn promoted_turn read_turn write_done_turn parked_closed closed_by_server
 takes_anchor machine = record {
   passed = λ reply why file. inl refl;
-  parked_closes = λ at notice live found is parked. turn_none machine at _
-      (writes_close_about live.file_id live.unsent [] tt);
+  parked_closes = λ at notice live found is parked. turn_none machine at _ (writes_close_about live.file_id live.unsent [] tt);
   lowered = λ at notice live found is stays. lowered_anchors machine at notice live
       (found_so machine (is_key_of machine notice.key) at found) is;
   opened = λ at file_id answer access share is. turn_none machine at _ tt;

@@ -69,8 +69,7 @@ not_strayed (Fact.Strayed client) past c e = if_or (client == c) (has_strayed c 
     if_or false b e = e
 not_strayed (_) past c e = e
 
-neutral_good : (fact : Fact) (past : List Fact) (c : ℕ) → IsNeutral fact → is_good c (fact ∷ past) ≡ true
-    → is_good c past ≡ true
+neutral_good : (fact : Fact) (past : List Fact) (c : ℕ) → IsNeutral fact → is_good c (fact ∷ past) ≡ true → is_good c past ≡ true
 unfolding is_good
 neutral_good fact past c n e = let p = and_parts (not (has_strayed c (fact ∷ past))) (is_served c (fact ∷ past)) e in
     and_both (not (has_strayed c past)) (is_served c past) (not_strayed fact past c p.0) (neutral_served fact past c n p.1)
@@ -109,8 +108,7 @@ told_always past (out ∷ outs) a =
 
 served_always : (world : World) (progress : Progress) → Always world.past → Always (served world progress).past
 unfolding served
-served_always world progress a = subst Always
-    (sym (all_delivered_past (record world { server = progress.server }) progress.outs))
+served_always world progress a = subst Always (sym (all_delivered_past (record world { server = progress.server }) progress.outs))
     (told_always world.past progress.outs a)
 
 starts_always : (past : List Fact) → list_all is_start past ≡ true → Always past
@@ -141,8 +139,7 @@ record IsBetween (start end past : List Fact) : Type 0 where
 
 same_cache : (past other : List Fact) (file : ℕ) → SameOf file past other
     → ((c : ℕ) → is_good c past ≡ is_good c other) → OneWriteCache other → (c d : ℕ) → d ≢ c
-    → is_good c past ≡ true → (believed c file past).write ≡ true → is_good d past ≡ true
-    → believed d file past ≡ nothing_cached
+    → is_good c past ≡ true → (believed c file past).write ≡ true → is_good d past ≡ true → believed d file past ≡ nothing_cached
 same_cache past other file same good o c d ne fine w also = same d
     ∙ o file c d ne (sym (good c) ∙ fine) (ap (λ (s : State). s.write) (sym (same c)) ∙ w) (sym (good d) ∙ also)
 
@@ -152,8 +149,7 @@ between_cache start end past b o p file c d ne fine w also = ⊎_elim
     (λ same. same_cache past start file same (λ x. (b.good x).0) o c d ne fine w also)
     (λ same. same_cache past end file same (λ x. (b.good x).1) p c d ne fine w also) (b.files file)
 
-note_good : (client : ℕ) (note : Note) (past : List Fact) (c : ℕ)
-    → is_good c (fact_of client note ∷ past) ≡ is_good c past
+note_good : (client : ℕ) (note : Note) (past : List Fact) (c : ℕ) → is_good c (fact_of client note ∷ past) ≡ is_good c past
 unfolding is_good is_served has_strayed
 note_good client (Note.Settled number outcome) past c = refl
 note_good client note past c = refl
@@ -161,8 +157,7 @@ note_good client note past c = refl
 notes_good : (client : ℕ) (past : List Fact) (notes : List Note) (c : ℕ)
     → is_good c (past_noted client past notes) ≡ is_good c past
 notes_good client past [] c = refl
-notes_good client past (note ∷ notes) c =
-    notes_good client (fact_of client note ∷ past) notes c ∙ note_good client note past c
+notes_good client past (note ∷ notes) c = notes_good client (fact_of client note ∷ past) notes c ∙ note_good client note past c
 
 -- notes say nothing of what others believe
 note_others : (client : ℕ) (note : Note) (past : List Fact) (c file : ℕ) → (client == c) ≡ false
@@ -225,8 +220,7 @@ lasting : (c : ℕ) (client after : Client) (end : List Fact) (notes : List Note
 lasting c client after end [] agrees each = tt
 lasting c client after end (Note.Believes file state ∷ notes) agrees each =
     (each.0.1 ∙ sym (agrees file), lasting c client after end notes agrees each.1)
-lasting c client after end (note ∷ notes) agrees each =
-    (tt, lasting c client after end notes agrees each.1)
+lasting c client after end (note ∷ notes) agrees each = (tt, lasting c client after end notes agrees each.1)
 
 stepped_always : (world : World) (c : ℕ) (call : ClientCall) → IsSoundClient (world.clients c) → Always world.past
     → OneWriteCache (stepped_in world c (client_called (world.clients c) call)).past
@@ -238,12 +232,10 @@ stepped_always world c call sound a o agrees =
     let end = past_noted c world.past step.notes in
     let is = stepped_past world c step in
     subst Always (sym is) (notes_always c world.past end world.past step.notes (always_now world.past a)
-    (subst OneWriteCache is o) refl
-    (lasting c (world.clients c) step.client end step.notes
+    (subst OneWriteCache is o) refl (lasting c (world.clients c) step.client end step.notes
     (λ file. ap (λ x. believed c file x) (sym is) ∙ agrees file
     ∙ ap (λ (t : ℕ → Client). belief (t c) file) (stepped_clients world c step)
-    ∙ ap (λ x. belief x file) (put_same world.clients c step.client))
-    (call_fine (world.clients c) call sound))
+    ∙ ap (λ x. belief x file) (put_same world.clients c step.client)) (call_fine (world.clients c) call sound))
     (record { good = λ d. (refl, sym (notes_good c world.past step.notes d)); files = λ file. inl (λ d. refl) }) a)
 
 -- ---- a client that joins believes nothing
@@ -266,8 +258,7 @@ down_nothing : (client : Client) → IsSoundClient client → client.is_online �
     → belief client file ≡ nothing_cached
 down_nothing client s off file = by_phase (client.entries file).phase (s.entries file)
   where
-    by_phase : (phase : Phase) → IsSoundPhase client.is_online (client.entries file).sent phase
-        → belief_in phase ≡ nothing_cached
+    by_phase : (phase : Phase) → IsSoundPhase client.is_online (client.entries file).sent phase → belief_in phase ≡ nothing_cached
     by_phase (Phase.Live live) p = clash client.is_online p.0 off
     by_phase phase p = refl
 
@@ -291,8 +282,7 @@ client_takes_always : (world : World) (client : ℕ) (queue : List Reply) → Is
 client_takes_always world client [] r n a = a
 client_takes_always world client (reply ∷ queue) r n a =
     stepped_always (happened (record world { replies = put world.replies client queue }) (Fact.Took client)) client
-    (ClientCall.Taken reply) (r.sound client) (neutral_always (Fact.Took client) world.past tt a) n.cache
-    (n.agrees client)
+    (ClientCall.Taken reply) (r.sound client) (neutral_always (Fact.Took client) world.past tt a) n.cache (n.agrees client)
 
 cut_always : (world : World) (client : ℕ) (link : Link) → Always world.past → Always (cut_over world client link).past
 unfolding link_cut
@@ -321,14 +311,11 @@ connect_always world client Link.Down down r n a =
     (r.online client ∙ ap (λ l. not (is_down l)) down) file in
     let same : joins.clients ≡ world.clients = served-clients back (join world.server client) in
     subst (λ (m : Client). Always (stepped_in joins client (client_called m ClientCall.Connected)).past)
-    (ap (λ (t : ℕ → Client). t client) same)
-    (stepped_always joins client ClientCall.Connected
+    (ap (λ (t : ℕ → Client). t client) same) (stepped_always joins client ClientCall.Connected
     (subst (λ (t : ℕ → Client). IsSoundClient (t client)) (sym same) (r.sound client))
-    (served_always back (join world.server client)
-    (joined_cache world.past client nothing (always_now world.past a), a))
+    (served_always back (join world.server client) (joined_cache world.past client nothing (always_now world.past a), a))
     (subst (λ (m : Client). OneWriteCache (stepped_in joins client (client_called m ClientCall.Connected)).past)
-    (ap (λ (t : ℕ → Client). t client) (sym same)) n.cache)
-    (subst (λ (m : Client). (file : ℕ)
+    (ap (λ (t : ℕ → Client). t client) (sym same)) n.cache) (subst (λ (m : Client). (file : ℕ)
     → believed client file (stepped_in joins client (client_called m ClientCall.Connected)).past
     ≡ belief ((stepped_in joins client (client_called m ClientCall.Connected)).clients client) file)
     (ap (λ (t : ℕ → Client). t client) (sym same)) (n.agrees client)))
@@ -360,15 +347,13 @@ applied_always world (Event.ClientTakes client) r n a = client_takes_always worl
 applied_always world (Event.Cut client) r n a = cut_always world client (world.links client) a
 applied_always world (Event.Notice client) r n a = notice_always world client (world.links client) r n a
 applied_always world (Event.Connect client) r n a = connect_always world client (world.links client) refl r n a
-applied_always world (Event.Expire client file) r n a = if_cases (λ (w : World). Always w.past)
-    (has_file world.server file)
+applied_always world (Event.Expire client file) r n a = if_cases (λ (w : World). Always w.past) (has_file world.server file)
     (if breaking world.server (machine_key world client file) then timer_expired world client file else world) world
     (λ on. if_cases (λ (w : World). Always w.past) (breaking world.server (machine_key world client file))
     (timer_expired world client file) world (λ breaks. timer_always world client file a) (λ settled. a))
     (λ off. a)
 applied_always world (Event.Scavenge client file) r n a = scavenged_always world (kept world.server client file) a
-applied_always world (Event.Raw client request) r n a =
-    strayed_always world client request (world.links client) a
+applied_always world (Event.Raw client request) r n a = strayed_always world client request (world.links client) a
 
 happens_always : (world : World) (event : Event) → IsReached world → IsReached (happens world event)
     → Always world.past → Always (happens world event).past
@@ -402,8 +387,7 @@ append_last (y ∷ xs) x ys = ap (λ l. y ∷ l) (append_last xs x ys)
 
 run_always : (setup : Setup) (before events : List Event) → Always (after (first_world setup) before).past
     → Always (after (first_world setup) (before ++ events)).past
-run_always setup before [] a =
-    subst (λ l. Always (after (first_world setup) l).past) (sym (append_none before)) a
+run_always setup before [] a = subst (λ l. Always (after (first_world setup) l).past) (sym (append_none before)) a
 run_always setup before (event ∷ events) a =
     subst (λ l. Always (after (first_world setup) l).past) (append_last before event events)
     (run_always setup (before ++ event ∷ []) events
@@ -419,5 +403,4 @@ first_always setup = starts_always (reverse (starts_from 1 setup.files))
 pub runs_have_one_write_cache : RunsHaveOneWriteCache
 unfolding after
 runs_have_one_write_cache setup events = subst (EachBeginning OneWriteCache)
-    (sym (reverse-reverse (after (first_world setup) events).past))
-    (run_always setup [] events (first_always setup))
+    (sym (reverse-reverse (after (first_world setup) events).past)) (run_always setup [] events (first_always setup))

@@ -50,16 +50,14 @@ writes_close_about file_id writes more each =
 
 -- ---- keys of files
 
-same_file : (front : List ℕ) (file other : ℕ) (rest : List ℕ) → front ++ file ∷ rest ≡ front ++ other ∷ rest
-    → file ≡ other
+same_file : (front : List ℕ) (file other : ℕ) (rest : List ℕ) → front ++ file ∷ rest ≡ front ++ other ∷ rest → file ≡ other
 same_file [] file other rest e = cc
 same_file (x ∷ front) file other rest e = same_file front file other rest (tails e)
   where
     tails : {xs ys : List ℕ} → x ∷ xs ≡ x ∷ ys → xs ≡ ys
     tails e = cc
 
-pub keys_apart : (guid : List ℕ) (file other : ℕ) → file ≢ other
-    → bytes_eq (lease_key guid file) (lease_key guid other) ≡ false
+pub keys_apart : (guid : List ℕ) (file other : ℕ) → file ≢ other → bytes_eq (lease_key guid file) (lease_key guid other) ≡ false
 unfolding lease_key
 keys_apart guid file other ne = not_true (bytes_eq (lease_key guid file) (lease_key guid other))
     (λ e. ne (same_file (take 12 guid) file other (0 ∷ 0 ∷ 0 ∷ [])
@@ -90,8 +88,7 @@ was_same old live next is same now e =
     }
 
 -- one that isn't live
-never_live : (old : Phase) (new : Phase) → is_live new ≡ false → (now : LiveEntry) → new ≡ Phase.Live now
-    → WasLive old now.belief
+never_live : (old : Phase) (new : Phase) → is_live new ≡ false → (now : LiveEntry) → new ≡ Phase.Live now → WasLive old now.belief
 never_live old new idle now e = clash (is_live new) (ap is_live e) idle
 
 idle_believes : (machine : Client) (answer : Answer) → BelievesOn machine
@@ -150,8 +147,7 @@ commands_believe machine = record {
       (λ now e. was_same (machine.entries file).phase live _ is.is_so refl now e);
   parked = λ file live is idle done stays. turned_believes machine file _ tt
       (λ now e. was_same (machine.entries file).phase live _ is.is_so refl now e);
-  closed = λ file live is idle done goes. turned_believes machine file _
-      (writes_close_about live.file_id live.unsent [] tt)
+  closed = λ file live is idle done goes. turned_believes machine file _ (writes_close_about live.file_id live.unsent [] tt)
       (λ now e. never_live (machine.entries file).phase Phase.Closed refl now e);
   cached = λ file live base is reads has f lease asked queue b. step_kept (lease_key machine.guid f) f lease
       (machine.entries f).phase (machine.entries f).phase asked [] queue
@@ -203,8 +199,7 @@ turn_takes machine reply at turn others here formed file lease asked queue b = b
 
 -- the state that a promoted entry believes
 promoted_from : (key : List ℕ) (live : LiveEntry) (old : Phase) → old ≡ Phase.Live live → (given : Option LeaseGiven)
-    → (promoted_belief key live.belief given).write ≡ true
-    → (promoted_belief key live.belief given ≡ given_state key given)
+    → (promoted_belief key live.belief given).write ≡ true → (promoted_belief key live.belief given ≡ given_state key given)
     ⊎ WasLive old (promoted_belief key live.belief given)
 promoted_from key live old is None w = inl refl
 promoted_from key live old is (Some given) w = either given.in_progress
@@ -229,8 +224,7 @@ less_meet old live next notice is formed same now e =
       live = live;
       was = is;
       less = λ w. (both w).0;
-      reads = λ w r. ap (λ (s : State). s.read) belief
-          ∙ and_both live.belief.read notice.lowered.read r (formed (both w).1);
+      reads = λ w r. ap (λ (s : State). s.read) belief ∙ and_both live.belief.read notice.lowered.read r (formed (both w).1);
     }
 
 pub ack_elsewhere : (guid : List ℕ) (file at : ℕ) (notice : BreakNotice) (state : State) → file ≢ at
@@ -255,11 +249,9 @@ lowered_believes key file notice lease old live next asked writes queue is own f
     if_cases (λ q. IsBelieved key file lease (Phase.Live next) (asked ++ (writes ++ q)) queue) notice.ack_required
     (Request.Acknowledge (Some (record { key = notice.key; state = meet live.belief notice.lowered })) ∷ []) []
     (λ required. break_kept key file notice lease live next asked writes queue required own formed same
-    (file_no_acks key writes about)
-    (subst (λ p. IsBelieved key file lease p asked (Reply.Break (Some notice) ∷ queue)) is b))
+    (file_no_acks key writes about) (subst (λ p. IsBelieved key file lease p asked (Reply.Break (Some notice) ∷ queue)) is b))
     (λ plain. step_kept key file lease old (Phase.Live next) asked (writes ++ []) queue
-    (less_meet old live next notice is formed same)
-    (file_no_acks key (writes ++ []) (each_append IsAboutFile writes [] about tt))
+    (less_meet old live next notice is formed same) (file_no_acks key (writes ++ []) (each_append IsAboutFile writes [] about tt))
     (reply_kept key file lease old asked (Reply.Break (Some notice)) queue b))
 
 flushed_about : (file_id : ℕ) (old new : State) (unsent : List Pending)
@@ -277,8 +269,7 @@ lowered_takes machine at notice live own is formed =
     turn_takes machine (Reply.Break (Some notice)) at _
     (λ file ne. acks_append (lease_key machine.guid file) writes (acknowledgment notice new)
     ∙ ap₂ (λ a b. a + b) (file_no_acks (lease_key machine.guid file) writes
-    (flushed_about live.file_id live.belief new live.unsent))
-    (ack_elsewhere machine.guid file at notice new ne own) ∙ zeros)
+    (flushed_about live.file_id live.belief new live.unsent)) (ack_elsewhere machine.guid file at notice new ne own) ∙ zeros)
     (λ lease asked queue b. lowered_believes (lease_key machine.guid at) at notice lease (machine.entries at).phase live
     _ asked writes queue is own formed refl (flushed_about live.file_id live.belief new live.unsent) b) formed
   where

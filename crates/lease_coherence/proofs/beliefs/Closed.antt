@@ -43,11 +43,9 @@ pub record IsFewer (world : World) (server : Server) (replies : ℕ → List Rep
     pub sends : (file : ℕ) (lease : Lease)
         → IsBelieved (file_key world c file) file lease ((world.clients c).entries file).phase (world.requests c)
         (world.replies c)
-        → IsBelieved (file_key world c file) file lease ((world.clients c).entries file).phase (world.requests c)
-        (replies c)
+        → IsBelieved (file_key world c file) file lease ((world.clients c).entries file).phase (world.requests c) (replies c)
     pub anchors : (file : ℕ) → server.expired (machine_key world c file) ≡ false → IsTrustedFor world c file
-        → (acks (file_key world c file) (world.requests c) ≡ 0)
-        ⊎ IsAnchored (served_by world server replies past) c file
+        → (acks (file_key world c file) (world.requests c) ≡ 0) ⊎ IsAnchored (served_by world server replies past) c file
 
 pub fewer_trusted : (world : World) (server : Server) (replies : ℕ → List Reply) (past : List Fact) (c : ℕ)
     → IsFewer world server replies past c → IsStandingAt (served_by world server replies past) c
@@ -144,8 +142,7 @@ closed_trusted world off c file_id source s own t =
       anchors = λ file fresh was. ⊎_elim (λ zero. inl zero)
           (λ a. let one = a.anchored.opened.one in
           inr (anchor_stays off server replies past c file refl a.anchored
-          (among_filtered (λ o. not (test o)) one off.server.opens a.anchored.opened.there
-          (false_not (one.file_id == file_id)
+          (among_filtered (λ o. not (test o)) one off.server.opens a.anchored.opened.there (false_not (one.file_id == file_id)
           (apart one.file_id file_id (λ e. a.stays (sym e ∙ a.anchored.opened.id)))))))
           (off_anchors world off c file (FileRequest.Close file_id) source
           (t.files file (off_fresh world off c file (FileRequest.Close file_id) source fresh)));
@@ -173,15 +170,13 @@ timer_trusted world c file s own t =
           was.anchor;
     }) s (λ one there by. own one (among_filter (λ o. not (has_key key o)) one world.server.opens there).0 by) t
   where
-    was_fresh : (at : ℕ)
-        → put_key world.server.expired (machine_key world c file) true (machine_key world c at) ≡ false
+    was_fresh : (at : ℕ) → put_key world.server.expired (machine_key world c file) true (machine_key world c at) ≡ false
         → world.server.expired (machine_key world c at) ≡ false
     was_fresh at = put_key-cases (λ b. b ≡ false → world.server.expired (machine_key world c at) ≡ false)
         world.server.expired (machine_key world c file) true (machine_key world c at)
         (λ same e. absurd (true≢false e)) (λ other e. e)
 
-    apart_key : (at : ℕ)
-        → put_key world.server.expired (machine_key world c file) true (machine_key world c at) ≡ false
+    apart_key : (at : ℕ) → put_key world.server.expired (machine_key world c file) true (machine_key world c at) ≡ false
         → key_eq (machine_key world c at) (machine_key world c file) ≡ false
     apart_key at = put_key-cases (λ b. b ≡ false → key_eq (machine_key world c at) (machine_key world c file) ≡ false)
         world.server.expired (machine_key world c file) true (machine_key world c at)
@@ -191,8 +186,7 @@ timer_trusted world c file s own t =
         → put_key world.server.expired (machine_key world c file) true (machine_key world c at) ≡ false
         → has_key (machine_key world c file) a.opened.one ≡ true → ⊥
     none_other at a fresh has = let one = a.opened.one in
-        clash (key_eq (machine_key world c at) (machine_key world c file))
-        (ap (λ k. key_eq (machine_key world c at) k)
+        clash (key_eq (machine_key world c at) (machine_key world c file)) (ap (λ k. key_eq (machine_key world c at) k)
         (sym (is_key-one (machine_key world c at) (machine_key world c file) one.client one.lease_key
         (open_has_key world c at a.file_id a.opened (own one a.opened.there a.opened.by)) has))
         ∙ key_eq-refl (machine_key world c at)) (apart_key at fresh)

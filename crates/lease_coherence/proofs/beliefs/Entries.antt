@@ -63,8 +63,7 @@ was_live old new less e = live_phase new (is_live old ≡ true) e (λ live is. a
 -- a step that sends no acknowledgment of the key
 pub step_kept : (key : List ℕ) (file : ℕ) (lease : Lease) (old new : Phase) (asked more : List Request)
     (queue : List Reply) → ((live : LiveEntry) → new ≡ Phase.Live live → WasLive old live.belief)
-    → acks key more ≡ 0 → IsBelieved key file lease old asked queue
-    → IsBelieved key file lease new (asked ++ more) queue
+    → acks key more ≡ 0 → IsBelieved key file lease old asked queue → IsBelieved key file lease new (asked ++ more) queue
 step_kept key file lease old new asked more queue less none b =
     let same : acks key (asked ++ more) ≡ acks key asked =
     acks_append key asked more ∙ same_count (acks key asked) (acks key more) none in record {
@@ -77,8 +76,7 @@ step_kept key file lease old new asked more queue less none b =
             none_answered = same ∙ m.none_answered;
             no_grant = m.no_grant;
             no_break = m.no_break;
-          })
-          (met_fewer key file (is_breaking lease) (acks key asked) (is_live old) (is_live new) queue
+          }) (met_fewer key file (is_breaking lease) (acks key asked) (is_live old) (is_live new) queue
           (was_live old new less) b.breaks);
       answers = ⊎_elim (λ zero. inl (same ∙ zero)) (λ a. inr (record {
         one = same ∙ a.one;
@@ -91,8 +89,7 @@ step_kept key file lease old new asked more queue less none b =
 
 -- a reply leaves its queue, and the entry stays live only as it was
 pub reply_kept : (key : List ℕ) (file : ℕ) (lease : Lease) (phase : Phase) (asked : List Request) (reply : Reply)
-    (queue : List Reply) → IsBelieved key file lease phase asked (reply ∷ queue)
-    → IsBelieved key file lease phase asked queue
+    (queue : List Reply) → IsBelieved key file lease phase asked (reply ∷ queue) → IsBelieved key file lease phase asked queue
 reply_kept key file lease phase asked reply queue b = record {
   own = b.own;
   given = b.given.1;
@@ -125,8 +122,7 @@ created_kept key file file_id answer lease old new asked more queue from none b 
             none_answered = same ∙ m.none_answered;
             no_grant = m.no_grant;
             no_break = m.no_break;
-          })
-          (met_fewer key file (is_breaking lease) (acks key asked) (is_live old || (file == file)) true queue
+          }) (met_fewer key file (is_breaking lease) (acks key asked) (is_live old || (file == file)) true queue
           (λ e. either_true (is_live old) (file == file) (eq-eqb file file refl)) b.breaks.1);
       answers = ⊎_elim (λ zero. inl (same ∙ zero)) (λ a. inr (record {
         one = same ∙ a.one;

@@ -78,8 +78,7 @@ grant_bears off c file access share ask asked named sound free at fresh b =
     put_key-cases (λ (l : Lease). IsBelieved own at l phase (off.requests c) (off.replies c ++ reply ∷ []))
     off.server.leases key lease (machine_key off c at)
     (λ same. plain_sent own at lease phase (off.requests c) (off.replies c) reply
-    (λ here. given_holds own asked.key lease
-    (grant_reads off.server key file asked.state (sound.lawful key).is_granted_form))
+    (λ here. given_holds own asked.key lease (grant_reads off.server key file asked.state (sound.lawful key).is_granted_form))
     (λ breaks here. given_none own asked.key lease breaks) refl
     (lease_bears off c file access share asked sound free at fresh same b))
     (λ other. plain_sent own at (off.server.leases (machine_key off c at)) phase (off.requests c) (off.replies c) reply
@@ -124,12 +123,10 @@ reconnected_trusted off c file ask file_id asked e named sound t = subst
       replies = put_same off.replies c (off.replies c ++ reply ∷ []);
     }) tt (λ at fresh b. plain_sent (file_key off c at) at (off.server.leases (machine_key off c at))
     ((off.clients c).entries at).phase (off.requests c) (off.replies c) reply
-    (λ here. subst (λ k. HoldsWrites (off.server.leases k).state (told_state at))
-    (sym (own_named off c file at asked named here))
+    (λ here. subst (λ k. HoldsWrites (off.server.leases k).state (told_state at)) (sym (own_named off c file at asked named here))
     (given_holds (file_key off c at) asked.key lease (writes_read lease.state (sound.lawful key).is_granted_form)))
     (λ breaks here. given_none (file_key off c at) asked.key lease
-    (ap (λ k. is_breaking (off.server.leases k)) (sym (own_named off c file at asked named here)) ∙ breaks))
-    refl b) t)
+    (ap (λ k. is_breaking (off.server.leases k)) (sym (own_named off c file at asked named here)) ∙ breaks)) refl b) t)
   where
     key : Key
     key = key_of c asked.key
@@ -138,10 +135,8 @@ reconnected_trusted off c file ask file_id asked e named sound t = subst
     lease = off.server.leases (key_of c asked.key)
 
     told_state : ℕ → State
-    told_state at = given_state (file_key off c at)
-        (Some (record {
-          key = asked.key;
-          state = (off.server.leases (key_of c asked.key)).state;
-          in_progress =
-              is_breaking (off.server.leases (key_of c asked.key));
-        }))
+    told_state at = given_state (file_key off c at) (Some (record {
+      key = asked.key;
+      state = (off.server.leases (key_of c asked.key)).state;
+      in_progress = is_breaking (off.server.leases (key_of c asked.key));
+    }))

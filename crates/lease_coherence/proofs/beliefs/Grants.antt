@@ -28,15 +28,13 @@ form_reads want = if_cases (λ (s : State). s.write ≡ true → s.read ≡ true
 
 -- ---- what a reply tells of a lease
 
-pub given_holds : (key : List ℕ) (asked : List ℕ) (lease : Lease)
-    → (lease.state.write ≡ true → lease.state.read ≡ true)
+pub given_holds : (key : List ℕ) (asked : List ℕ) (lease : Lease) → (lease.state.write ≡ true → lease.state.read ≡ true)
     → HoldsWrites lease.state
     (given_state key (Some (record { key = asked; state = lease.state; in_progress = is_breaking lease })))
 given_holds key asked lease reads = if_cases (HoldsWrites lease.state) (bytes_eq asked key && not (is_breaking lease))
     lease.state nothing_cached (λ told w. (reads w, w)) (λ none w. absurd (true≢false (sym w)))
 
-pub given_none : (key : List ℕ) (asked : List ℕ) (lease : Lease) → is_breaking lease ≡ true
-    → GivesNothing
+pub given_none : (key : List ℕ) (asked : List ℕ) (lease : Lease) → is_breaking lease ≡ true → GivesNothing
     (given_state key (Some (record { key = asked; state = lease.state; in_progress = is_breaking lease })))
 given_none key asked lease breaks = if_cases GivesNothing (bytes_eq asked key && not (is_breaking lease))
     lease.state nothing_cached
@@ -82,12 +80,9 @@ alone_on server key file access share sound free w some = either (list_any (has_
     (λ there. let mine = any_has (has_key key) server.opens there in
     let other = any_has (is_other_on (Some key) file) server.opens some in
     let parts = and_parts ((other.0).file == file) (not (has_key key other.0)) other.2 in
-    clash (has_key key other.0)
-    (sound.one_writer key mine.0 other.0 w mine.1 mine.2 other.1
-    (eqb-true (other.0).file file parts.0 ∙ sym (free.at_home mine.0 mine.1 mine.2)))
-    (not_parts (has_key key other.0) parts.1))
-    (λ none. clash (server.leases key).state.write w
-    (ap (λ (l : Lease). l.state.write) (sound.no_open key none)))
+    clash (has_key key other.0) (sound.one_writer key mine.0 other.0 w mine.1 mine.2 other.1
+    (eqb-true (other.0).file file parts.0 ∙ sym (free.at_home mine.0 mine.1 mine.2))) (not_parts (has_key key other.0) parts.1))
+    (λ none. clash (server.leases key).state.write w (ap (λ (l : Lease). l.state.write) (sound.no_open key none)))
 
 pub grant_keeps : (server : Server) (key : Key) (file : ℕ) (want : State) (access : Access) (share : Share)
     → IsSound server → IsFree server.opens server.leases (Some key) file access share → server.expired key ≡ false

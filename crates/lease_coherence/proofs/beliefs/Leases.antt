@@ -31,8 +31,7 @@ pub plain_sent : (key : List ℕ) (file : ℕ) (lease : Lease) (phase : Phase) (
 plain_sent key file lease phase asked queue reply given none plain b = record {
   own = b.own;
   given = each_last (OnGiven (HoldsWrites lease.state) key file) queue reply b.given given;
-  breaks = met_last key file (is_breaking lease) (is_breaking lease) (acks key asked) (acks key asked) (is_live phase)
-      queue reply
+  breaks = met_last key file (is_breaking lease) (is_breaking lease) (acks key asked) (acks key asked) (is_live phase) queue reply
       (λ rest m. record {
         is_so = m.is_so;
         none_answered = m.none_answered;
@@ -99,14 +98,12 @@ lease_gone key file new phase asked queue idle none zero = record {
 }
   where
     not_given : (reply : Reply) → is_created file reply ≡ false → OnGiven (HoldsWrites new.state) key file reply
-    not_given (Reply.Created other id (Some answer)) e =
-        λ same. clash (other == file) (eq-eqb other file same) e
+    not_given (Reply.Created other id (Some answer)) e = λ same. clash (other == file) (eq-eqb other file same) e
     not_given reply e = tt
 
 -- requests that leave the queue and are no acknowledgments of the key
 pub asked_less : (key : List ℕ) (file : ℕ) (lease : Lease) (phase : Phase) (asked left : List Request)
-    (queue : List Reply) → acks key left ≡ acks key asked
-    → (Each (AckKeeps key) asked → Each (AckKeeps key) left)
+    (queue : List Reply) → acks key left ≡ acks key asked → (Each (AckKeeps key) asked → Each (AckKeeps key) left)
     → IsBelieved key file lease phase asked queue → IsBelieved key file lease phase left queue
 asked_less key file lease phase asked left queue same keeps b = record {
   own = b.own;
@@ -130,8 +127,7 @@ asked_less key file lease phase asked left queue same keeps b = record {
 pub ack_served : (key : List ℕ) (file : ℕ) (lease new : Lease) (phase : Phase) (given : LeaseOf) (left : List Request)
     (queue : List Reply) → bytes_eq key given.key ≡ true
     → (given.state.write ≡ true → given.state.read ≡ true → new.state.write ≡ true)
-    → IsBelieved key file lease phase (Request.Acknowledge (Some given) ∷ left) queue
-    → IsBelieved key file new phase left queue
+    → IsBelieved key file lease phase (Request.Acknowledge (Some given) ∷ left) queue → IsBelieved key file new phase left queue
 ack_served key file lease new phase given left queue own keeps b = ⊎_elim
     (λ zero. absurd (some_ack (acks key left) (ap (λ x. one_if x + acks key left) (sym own) ∙ zero)))
     (λ a. record {
@@ -143,8 +139,7 @@ ack_served key file lease new phase given left queue own keeps b = ⊎_elim
           a.no_grant;
       breaks = met_mapped key file (is_breaking lease) (is_breaking new)
           (acks key (Request.Acknowledge (Some given) ∷ left)) (acks key left) (is_live phase) queue
-          (λ rest m. absurd (one_none (acks key (Request.Acknowledge (Some given) ∷ left)) a.one m.none_answered))
-          b.breaks;
+          (λ rest m. absurd (one_none (acks key (Request.Acknowledge (Some given) ∷ left)) a.one m.none_answered)) b.breaks;
       answers = inl (none_left (acks key left) (ap (λ x. one_if x + acks key left) (sym own) ∙ a.one));
     }) b.answers
   where

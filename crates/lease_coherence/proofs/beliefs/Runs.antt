@@ -61,8 +61,7 @@ unmoved_trusted world new c u t = record {
     was_fresh file fresh = sym (u.expired (machine_key world c file) refl)
         ∙ ap (λ (m : Client). new.server.expired (key_of c (lease_key m.guid file))) (sym u.machine) ∙ fresh
 
-    believed_there : (file : ℕ)
-        → IsBelieved (file_key world c file) file (world.server.leases (machine_key world c file))
+    believed_there : (file : ℕ) → IsBelieved (file_key world c file) file (world.server.leases (machine_key world c file))
         ((world.clients c).entries file).phase (world.requests c) (world.replies c)
         → IsBelieved (file_key new c file) file (new.server.leases (machine_key new c file))
         ((new.clients c).entries file).phase (new.requests c) (new.replies c)
@@ -125,10 +124,8 @@ take_trusted world c reply queue first up s t =
     (λ file b. subst (IsBelieved (file_key world c file) file (world.server.leases (machine_key world c file))
     ((taken machine reply).client.entries file).phase (world.requests c ++ (taken machine reply).requests)) (sym left)
     (any_reply machine (TakesBelief machine) (takes_believe machine) reply lowered.0 file
-    (world.server.leases (machine_key world c file)) (world.requests c) queue b))
-    (subst (Each LowersWell) (sym left) lowered.1)
-    (λ file fresh. gone_known world c reply queue first file (t.files file fresh))
-    (gone_standing world c reply queue first s)
+    (world.server.leases (machine_key world c file)) (world.requests c) queue b)) (subst (Each LowersWell) (sym left) lowered.1)
+    (λ file fresh. gone_known world c reply queue first file (t.files file fresh)) (gone_standing world c reply queue first s)
 
 -- ---- all moves
 
@@ -157,17 +154,13 @@ trust_moves = record {
       told_trusted off c (Reply.ReadDone file_id (off.server.contents one.file)) tt
       (off_trust world off c _ source (a (link_of world off c _ source up)));
   changed = λ world off c file_id number patch one v good source found may a up.
-      changed_trusted off c one.file file_id number patch
-      (off_trust world off c _ source (a (link_of world off c _ source up)));
-  closed = λ world off c file_id one v good source found a up.
-      closed_trusted world off c file_id source
+      changed_trusted off c one.file file_id number patch (off_trust world off c _ source (a (link_of world off c _ source up)));
+  closed = λ world off c file_id one v good source found a up. closed_trusted world off c file_id source
       (standing_moves.closed world off c file_id one v good source found (v.opens c good) up)
       (λ x there by. (off_named world off c (FileRequest.Close file_id) c source (v.named c good)).0.opens x
-      (left_there off (λ other. other.file_id == file_id) x there) by)
-      (a (link_of world off c _ source up));
+      (left_there off (λ other. other.file_id == file_id) x there) by) (a (link_of world off c _ source up));
   ack_failed = λ world c given status v good oldest why a up. failed_trusted world c given status oldest (a up);
-  ack_done = λ world c given lowered v good oldest there breaks within a up.
-      done_trusted world c given oldest (a up);
+  ack_done = λ world c given lowered v good oldest there breaks within a up. done_trusted world c given oldest (a up);
   hold = λ world file one v good oldest may turn a up. held_trusted world file one oldest (a up);
   dropped = λ world c test v good away a up. dropped_trusted world c test away
       (standing_moves.dropped world c test v good away (v.opens c good) up)
@@ -190,11 +183,9 @@ trust_moves = record {
       t.lowered (λ file fresh. let x = t.files file fresh in record { believed = x.believed; anchor = x.anchor })
       (v.opens c good was);
   take = λ world c reply queue v good first a up.
-      let was : is_up (world.links c) ≡ true =
-      was_up (reply_gone world c queue) c (taken (world.clients c) reply) up in
+      let was : is_up (world.links c) ≡ true = was_up (reply_gone world c queue) c (taken (world.clients c) reply) up in
       take_trusted world c reply queue first was (v.opens c good was) (a was);
   notice = λ world c v good cut a on. absurd (true≢false (sym on
       ∙ ap (λ (l : ℕ → Link). is_up (l c)) (stepped_links (record world { links = put world.links c Link.Down }) c
-      (noticed (world.clients c)))
-      ∙ ap is_up (put_same world.links c Link.Down)));
+      (noticed (world.clients c))) ∙ ap is_up (put_same world.links c Link.Down)));
 }

@@ -34,15 +34,13 @@ pub record IsSentTo (world : World) (new : World) (c : ℕ) (reply : Reply) : Ty
   pub machine : new.clients c ≡ world.clients c
   pub requests : new.requests c ≡ world.requests c
   pub held : new.server.held ≡ world.server.held
-  pub kept : (one : Open) → one.client ≡ c → one.connected ≡ true → Among one world.server.opens
-      → Among one new.server.opens
+  pub kept : (one : Open) → one.client ≡ c → one.connected ≡ true → Among one world.server.opens → Among one new.server.opens
   pub expired : new.server.expired ≡ world.server.expired
   pub replies : new.replies c ≡ world.replies c ++ reply ∷ []
 
 -- what is believed of a file after it
 abbrev pub LeaseBears : World → World → ℕ → Reply → ℕ → Type 0
-LeaseBears world new c reply file =
-    IsBelieved (file_key world c file) file (world.server.leases (machine_key world c file))
+LeaseBears world new c reply file = IsBelieved (file_key world c file) file (world.server.leases (machine_key world c file))
     ((world.clients c).entries file).phase (world.requests c) (world.replies c)
     → IsBelieved (file_key world c file) file (new.server.leases (machine_key world c file))
     ((world.clients c).entries file).phase (world.requests c) (world.replies c ++ reply ∷ [])
@@ -94,22 +92,19 @@ bare_bears world new c reply file bare same b = subst
     (plain_sent (file_key world c file) file (world.server.leases (machine_key world c file))
     ((world.clients c).entries file).phase (world.requests c) (world.replies c) reply
     (bare_given (HoldsWrites (world.server.leases (machine_key world c file)).state) (file_key world c file) file reply bare)
-    (λ breaks. bare_given GivesNothing (file_key world c file) file reply bare)
-    (bare_break (file_key world c file) reply bare) b)
+    (λ breaks. bare_given GivesNothing (file_key world c file) file reply bare) (bare_break (file_key world c file) reply bare) b)
 
 pub bare_trusted : (world new : World) (c : ℕ) (reply : Reply) → is_bare reply → IsSentTo world new c reply
     → new.server.leases ≡ world.server.leases → HasTrust world c → HasTrust new c
 bare_trusted world new c reply bare s leases t = sent_trusted world new c reply s (bare_lowers reply bare)
-    (λ file fresh. bare_bears world new c reply file bare
-    (ap (λ (l : Key → Lease). l (machine_key world c file)) leases)) t
+    (λ file fresh. bare_bears world new c reply file bare (ap (λ (l : Key → Lease). l (machine_key world c file)) leases)) t
 
 pub refusal_bare : (request : FileRequest) (status : Status) → is_bare (refusal_of request status)
 refusal_bare (FileRequest.Create file access share contexts) status = tt
 refusal_bare request status = tt
 
 -- a reply, and nothing else
-pub told_trusted : (world : World) (c : ℕ) (reply : Reply) → is_bare reply → HasTrust world c
-    → HasTrust (told_to world c reply) c
+pub told_trusted : (world : World) (c : ℕ) (reply : Reply) → is_bare reply → HasTrust world c → HasTrust (told_to world c reply) c
 told_trusted world c reply bare t = bare_trusted world (told_to world c reply) c reply bare (record {
   machine = refl;
   requests = refl;
@@ -139,8 +134,7 @@ off_fresh world off c file request source = ⊎_elim
     (λ x. subst (λ (o : World). o.server.expired (machine_key o c file) ≡ false
     → world.server.expired (machine_key world c file) ≡ false) (sym x.is_off) (λ e. e))
     (λ h. subst (λ (o : World). o.server.expired (machine_key o c file) ≡ false
-    → world.server.expired (machine_key world c file) ≡ false) (sym h.is_off) (λ e. e))
-    source.from
+    → world.server.expired (machine_key world c file) ≡ false) (sym h.is_off) (λ e. e)) source.from
 
 pub off_trust : (world off : World) (c : ℕ) (request : FileRequest) → IsSource world off c request
     → HasTrust world c → HasTrust off c
@@ -203,8 +197,7 @@ lower_trusted world key lowered may light t =
         (and_parts (needs_acknowledgment (world.server.leases key).state) (bytes_eq bytes key.bytes) both).0 light)
 
 -- an acknowledgment is awaited
-pub begin_trusted : (world : World) (key : Key) (lowered : State) → MayLower world.server key lowered
-    → HasTrust world key.client
+pub begin_trusted : (world : World) (key : Key) (lowered : State) → MayLower world.server key lowered → HasTrust world key.client
     → HasTrust (leased_in world key (record { state = (world.server.leases key).state; broken_to = Some lowered })
     (break_notice key (world.server.leases key).state lowered)) key.client
 unfolding key_eq
@@ -222,13 +215,11 @@ begin_trusted world key lowered may t =
     (ap (λ k. is_breaking (world.server.leases k)) same ∙ may.is_settled) refl
     (ap (λ k. (world.server.leases k).state) (sym same)) tt b)
     (λ other. plain_sent (file_key world c file) file (world.server.leases (machine_key world c file))
-    ((world.clients c).entries file).phase (world.requests c) (world.replies c) reply tt (λ breaks. tt)
-    (no_ack file other) b)) t
+    ((world.clients c).entries file).phase (world.requests c) (world.replies c) reply tt (λ breaks. tt) (no_ack file other) b)) t
   where
     same_keys : (file : ℕ) → bytes_eq (file_key world key.client file) key.bytes ≡ true
         → key_eq (machine_key world key.client file) key ≡ true
-    same_keys file e = and_both (key.client == key.client)
-        (bytes_eq (file_key world key.client file) key.bytes)
+    same_keys file e = and_both (key.client == key.client) (bytes_eq (file_key world key.client file) key.bytes)
         (eq-eqb key.client key.client refl) e
 
     no_ack : (file : ℕ) → key_eq (machine_key world key.client file) key ≡ false

@@ -65,8 +65,7 @@ anchored_in world new c file machine requests is file_id o till held = record {
 
 -- the live entry's open
 live_anchored : (world new : World) (c file : ℕ) (machine : Client) (requests : List Request)
-    → IsStepped world new c machine requests → (live : LiveEntry)
-    → ((world.clients c).entries file).phase ≡ Phase.Live live
+    → IsStepped world new c machine requests → (live : LiveEntry) → ((world.clients c).entries file).phase ≡ Phase.Live live
     → world.server.expired (machine_key world c file) ≡ false → IsStandingAt world c
     → OpenTillAck (file_key world c file) live.file_id requests → IsAnchored new c file
 live_anchored world new c file machine requests is live was fresh s till =
@@ -94,8 +93,7 @@ step_anchor world new c file machine step is on s fresh before known =
     fresh s l.till)) (on file))
     (λ a. ⊎_elim (λ zero. absurd (none_one (acks key (world.requests c)) zero a.one))
     (λ (x : IsAnchored world c file). inr (anchored_in world new c file machine step.requests is x.file_id x.opened
-    (open_behind key x.file_id (world.requests c) step.requests a.one x.till) x.held)) known.anchor)
-    known.believed.answers
+    (open_behind key x.file_id (world.requests c) step.requests a.one x.till) x.held)) known.anchor) known.believed.answers
   where
     zeros : (m n : ℕ) → m ≡ 0 → n ≡ 0 → m + n ≡ 0
     zeros m n e f = omega (arith, e, f)
@@ -108,8 +106,7 @@ pub step_trusted : (world : World) (c : ℕ) (step : Step) (before : List Reply)
     → ((file : ℕ) → IsBelieved (file_key world c file) file (world.server.leases (machine_key world c file))
     ((world.clients c).entries file).phase (world.requests c) before
     → IsBelieved (file_key world c file) file (world.server.leases (machine_key world c file))
-    (step.client.entries file).phase (world.requests c ++ step.requests) (world.replies c))
-    → Each LowersWell (world.replies c)
+    (step.client.entries file).phase (world.requests c ++ step.requests) (world.replies c)) → Each LowersWell (world.replies c)
     → ((file : ℕ) → world.server.expired (machine_key world c file) ≡ false → IsKnown world c file before)
     → IsStandingAt world c → HasTrust (stepped_in world c step) c
 step_trusted world c step before up guid on believes lowered files s = record {
@@ -126,8 +123,7 @@ step_trusted world c step before up guid on believes lowered files s = record {
 
     was_fresh : (file : ℕ) → (stepped_in world c step).server.expired (machine_key (stepped_in world c step) c file) ≡ false
         → world.server.expired (machine_key world c file) ≡ false
-    was_fresh file fresh = ap (λ g. world.server.expired (key_of c (lease_key g file)))
-        (sym (step_of world c step up guid).guid)
+    was_fresh file fresh = ap (λ g. world.server.expired (key_of c (lease_key g file))) (sym (step_of world c step up guid).guid)
         ∙ ap₂ (λ (x : Server) (m : Client). x.expired (key_of c (lease_key m.guid file)))
         (sym (step_of world c step up guid).server) (sym (step_of world c step up guid).clients) ∙ fresh
 
@@ -174,16 +170,14 @@ connect_idle world c g down =
     let new = connected world c in
     let is_off : is_up (world.links c) ≡ false = ap is_up down in
     let online : machine.is_online ≡ false = g.online c ∙ ap (λ l. not (is_down l)) down in
-    let turn : ℕ → List Request =
-    λ f. (connect_turn machine f (machine.entries f).sent (machine.entries f).phase).requests in
+    let turn : ℕ → List Request = λ f. (connect_turn machine f (machine.entries f).sent (machine.entries f).phase).requests in
     let queued : new.requests c ≡ flat_map turn (numbers_to machine.files) =
     ap (λ (q : ℕ → List Request). q c) (stepped_requests back c step) ∙ put_same back.requests c _
     ∙ ap (λ link. sent_over link (world.requests c) step.requests) (put_same world.links c Link.Up)
     ∙ ap (λ (q : List Request). q ++ flat_map turn (numbers_to machine.files)) ((g.tied c).requests is_off) in
     let mine = stepped_machine back c step in record {
       replies = ap (λ (r : ℕ → List Reply). r c) (stepped_replies back c step) ∙ (g.tied c).replies is_off;
-      acks = λ key. ap (acks key) queued
-          ∙ file_no_acks key (flat_map turn (numbers_to machine.files))
+      acks = λ key. ap (acks key) queued ∙ file_no_acks key (flat_map turn (numbers_to machine.files))
           (each_flat IsAboutFile turn (numbers_to machine.files)
           (λ file. about file (machine.entries file).sent (machine.entries file).phase));
       phases = λ file. ap (λ (m : Client). is_live (m.entries file).phase) mine
@@ -210,8 +204,7 @@ connect_idle world c g down =
     idle file off (Phase.Reconnecting parted) sound = clash (world.clients c).is_online sound.0 off
     idle file off phase sound = refl
 
-pub connect_trusted : (world : World) (c : ℕ) → Ground world → world.links c ≡ Link.Down
-    → HasTrust (connected world c) c
+pub connect_trusted : (world : World) (c : ℕ) → Ground world → world.links c ≡ Link.Down → HasTrust (connected world c) c
 connect_trusted world c g down =
     let new = connected world c in
     let idle = connect_idle world c g down in record {
@@ -220,8 +213,7 @@ connect_trusted world c g down =
         believed = subst (λ r. IsBelieved (file_key new c file) file (new.server.leases (machine_key new c file))
             ((new.clients c).entries file).phase (new.requests c) r) (sym idle.replies)
             (lease_gone (file_key new c file) file (new.server.leases (machine_key new c file))
-            ((new.clients c).entries file).phase (new.requests c) [] (idle.phases file) tt
-            (idle.acks (file_key new c file)));
+            ((new.clients c).entries file).phase (new.requests c) [] (idle.phases file) tt (idle.acks (file_key new c file)));
         anchor = inl (idle.acks (file_key new c file));
       };
     }

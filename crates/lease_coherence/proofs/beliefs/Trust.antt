@@ -65,8 +65,7 @@ pub nothing_stands : (world : World) (c file : ℕ) → IsStandingAt world c
     → ((one : Open) → Among one world.server.opens → one.client ≡ c → IsOwnOpen (world.clients c).guid one)
     → world.server.expired (machine_key world c file) ≡ false
     → list_any (has_key (machine_key world c file)) world.server.opens ≡ false
-    → (is_live ((world.clients c).entries file).phase ≡ false)
-    × Each (λ reply. is_created file reply ≡ false) (world.replies c)
+    → (is_live ((world.clients c).entries file).phase ≡ false) × Each (λ reply. is_created file reply ≡ false) (world.replies c)
 nothing_stands world c file s own fresh none = (
   no_live ((world.clients c).entries file).phase refl,
   each_weaker (GivenWell world c) (λ reply. is_created file reply ≡ false) (world.replies c) not_created s.given,
@@ -179,8 +178,7 @@ left_anchor world c file at before behind request held a = record {
     till = a.till;
     held = λ f x b own. ⊎_elim (λ old. a.held f x old own)
         (λ left. a.held at x (subst (λ (l : List Held). Among x l) (sym held)
-        (among_more x (held_of c request) before behind left.1)) own)
-        (among_put world.server.held at (before ++ behind) f x b);
+        (among_more x (held_of c request) before behind left.1)) own) (among_put world.server.held at (before ++ behind) f x b);
   };
   stays = a.held at (held_of c request) (subst (λ (l : List Held). Among (held_of c request) l) (sym held)
       (among_behind (held_of c request) before (held_of c request ∷ behind) (inl refl))) refl;
@@ -196,8 +194,7 @@ left_trusted world c file at before behind request held t = record {
 }
 
 pub off_anchors : (world off : World) (c file : ℕ) (request : FileRequest) → IsSource world off c request
-    → IsTrustedFor world c file
-    → (acks (file_key off c file) (off.requests c) ≡ 0) ⊎ IsAnchoredBut off c file request
+    → IsTrustedFor world c file → (acks (file_key off c file) (off.requests c) ≡ 0) ⊎ IsAnchoredBut off c file request
 off_anchors world off c file request source t = ⊎_elim
     (λ x. subst (λ o. (acks (file_key o c file) (o.requests c) ≡ 0) ⊎ IsAnchoredBut o c file request) (sym x.is_off)
     (⊎_elim (λ zero. inl (ap (acks (file_key world c file)) (put_same world.requests c (rest_of (world.requests c)))
@@ -211,8 +208,7 @@ pub off_trusted : (world off : World) (c file : ℕ) (request : FileRequest) →
     → IsTrustedFor world c file → IsTrustedFor off c file
 off_trusted world off c file request source t = ⊎_elim
     (λ a. subst (λ o. IsTrustedFor o c file) (sym a.is_off) (popped_trusted world c file request a.oldest t))
-    (λ h. subst (λ o. IsTrustedFor o c file) (sym h.is_off)
-    (left_trusted world c file h.file h.before h.behind request h.held t))
+    (λ h. subst (λ o. IsTrustedFor o c file) (sym h.is_off) (left_trusted world c file h.file h.before h.behind request h.held t))
     source.from
 
 -- ---- what is sent
@@ -247,8 +243,7 @@ pub trusted_by : (world new : World) (c file : ℕ) → new.clients c ≡ world.
 trusted_by world new c file clients requests held kept believed t = record {
   believed = subst (λ (m : Client). IsBelieved (lease_key m.guid file) file
       (new.server.leases (key_of c (lease_key m.guid file))) (m.entries file).phase (new.requests c) (new.replies c))
-      (sym clients)
-      (subst (λ q. IsBelieved (file_key world c file) file (new.server.leases (machine_key world c file))
+      (sym clients) (subst (λ q. IsBelieved (file_key world c file) file (new.server.leases (machine_key world c file))
       ((world.clients c).entries file).phase q (new.replies c)) (sym requests) believed);
   anchor = ⊎_elim
       (λ zero. inl (ap₂ (λ (m : Client) q. acks (lease_key m.guid file) q) clients requests ∙ zero))

@@ -137,8 +137,7 @@ pub open_before : (key : List ℕ) (file_id : ℕ) (queue more : List Request) �
 open_before key file_id [] more none open_so = open_so
 open_before key file_id (Request.OnFile request ∷ queue) more none open_so =
     (none.0, open_before key file_id queue more none.1 open_so)
-open_before key file_id (Request.Acknowledge None ∷ queue) more none open_so =
-    open_before key file_id queue more none.1 open_so
+open_before key file_id (Request.Acknowledge None ∷ queue) more none open_so = open_before key file_id queue more none.1 open_so
 open_before key file_id (Request.Acknowledge (Some lease) ∷ queue) more none open_so =
     λ other. open_before key file_id queue more none.1 open_so
 
@@ -175,8 +174,7 @@ met_mapped key file breaking after count left live (reply ∷ queue) f b = (
 
 -- one more reply
 pub met_last : (key : List ℕ) (file : ℕ) (breaking after : Bool) (count left : ℕ) (live : Bool) (queue : List Reply)
-    (last : Reply)
-    → ((rest : List Reply) → IsMet key file breaking count rest → IsMet key file after left (rest ++ last ∷ []))
+    (last : Reply) → ((rest : List Reply) → IsMet key file breaking count rest → IsMet key file after left (rest ++ last ∷ []))
     → (is_ack_break key last ≡ true → IsMet key file after left [])
     → BreaksAreMet key file breaking count live queue → BreaksAreMet key file after left live (queue ++ last ∷ [])
 met_last key file breaking after count left live [] last f new b = (λ seen is. new is, tt)
@@ -196,8 +194,7 @@ met_none key file breaking count live (reply ∷ queue) none = (
 
 -- no entry is live
 pub met_nowhere : (key : List ℕ) (file : ℕ) (breaking : Bool) (count : ℕ) (live : Bool) (queue : List Reply)
-    → live ≡ false → Each (λ reply. is_created file reply ≡ false) queue
-    → BreaksAreMet key file breaking count live queue
+    → live ≡ false → Each (λ reply. is_created file reply ≡ false) queue → BreaksAreMet key file breaking count live queue
 met_nowhere key file breaking count live [] e none = tt
 met_nowhere key file breaking count live (reply ∷ queue) e none = (
   λ seen is. clash live seen e,

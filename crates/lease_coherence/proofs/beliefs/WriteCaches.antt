@@ -20,8 +20,7 @@ use Rattle.lease_coherence.proofs.told.Leases.{HasLeases}
 
 -- the open of a live entry
 live_open : (world : World) (c file : ℕ) (live : LiveEntry) → ((world.clients c).entries file).phase ≡ Phase.Live live
-    → world.server.expired (machine_key world c file) ≡ false → IsStandingAt world c
-    → IsOpenFor world c file live.file_id
+    → world.server.expired (machine_key world c file) ≡ false → IsStandingAt world c → IsOpenFor world c file live.file_id
 live_open world c file live is fresh s = by_parts (subst (PhaseStands world c file) is (s.phases file))
   where
     by_parts : PhaseStands world c file (Phase.Live live) → IsOpenFor world c file live.file_id
@@ -39,16 +38,14 @@ pub one_writer : (world : World) → HasLeases world → (file c other : ℕ) �
     → has_strayed c world.past ≡ false → is_up (world.links c) ≡ true
     → world.server.expired (machine_key world c file) ≡ false → (belief (world.clients c) file).write ≡ true
     → has_strayed other world.past ≡ false → is_up (world.links other) ≡ true
-    → world.server.expired (machine_key world other file) ≡ false
-    → belief (world.clients other) file ≡ nothing_cached
+    → world.server.expired (machine_key world other file) ≡ false → belief (world.clients other) file ≡ nothing_cached
 one_writer world v file c other ne good up fresh w fine on unexpired =
     let writer = writer_live ((world.clients c).entries file).phase w in
     let mine = live_open world c file writer.0 writer.1 fresh (v.structure.opens c good up) in
     let n = v.structure.named c good in
     let has = open_has_key world c file (writer.0).file_id mine (n.opens mine.one mine.there mine.by) in
     let trusted = (v.beliefs c good up).files file fresh in
-    let held = trusted.believed.own writer.0 writer.1
-    (subst (λ p. (belief_in p).write ≡ true) writer.1 w) in
+    let held = trusted.believed.own writer.0 writer.1 (subst (λ p. (belief_in p).write ≡ true) writer.1 w) in
     never_live ((world.clients other).entries file).phase (λ live is.
     let theirs = live_open world other file live is unexpired (v.structure.opens other fine on) in
     ne (sym theirs.by ∙ sym (key_client (machine_key world c file) theirs.one
@@ -71,8 +68,7 @@ after_one_write_cache setup events file client other ne good w fine =
     (not_parts (has_strayed other world.past) others.0) ((v.structure.ground.tied other).served others.1)
     (timely setup events other file others.1)
   where
-    timely : (setup : Setup) (events : List Event) (c file : ℕ)
-        → is_served c (after (first_world setup) events).past ≡ true
+    timely : (setup : Setup) (events : List Event) (c file : ℕ) → is_served c (after (first_world setup) events).past ≡ true
         → (after (first_world setup) events).server.expired (machine_key (after (first_world setup) events) c file) ≡ false
     timely setup events c file served = not_true
         ((after (first_world setup) events).server.expired (machine_key (after (first_world setup) events) c file))

@@ -42,8 +42,7 @@ left_closed world c at before behind one own held file file_id none closed = eit
     (sym (ap (put world.server.held at (before ++ behind)) same ∙ put_same world.server.held at (before ++ behind)))
     (subst (ClosedBefore file file_id) (sym (asked_left c before behind (world.requests c)))
     (closed_less file file_id (as_requests (held_by c before)) (as_requests (held_by c behind) ++ world.requests c)
-    (Request.OnFile one.request) none
-    (subst (ClosedBefore file file_id) (asked_among c before behind one (world.requests c) own)
+    (Request.OnFile one.request) none (subst (ClosedBefore file file_id) (asked_among c before behind one (world.requests c) own)
     (subst (λ l. ClosedBefore file file_id (as_requests (held_by c l) ++ world.requests c))
     (ap world.server.held same ∙ held) closed)))))
     (λ there. subst (λ l. ClosedBefore file file_id (as_requests (held_by c l) ++ world.requests c))
@@ -87,8 +86,7 @@ held_closed world at one oldest file file_id none closed =
 
 -- nothing of the client's is held before it
 pub first_asked : (world off : World) (c file : ℕ) (request : FileRequest) → IsSource world off c request
-    → file_asked world.server c request ≡ Ok file
-    → ((h : WasHeld world off c request) → h.file ≡ file)
+    → file_asked world.server c request ≡ Ok file → ((h : WasHeld world off c request) → h.file ≡ file)
     → (rest : List Request) × (asked_of world c file ≡ Request.OnFile request ∷ rest)
 first_asked world off c file request source asked on_file = ⊎_elim
     (λ a. (
@@ -102,18 +100,15 @@ first_asked world off c file request source asked on_file = ⊎_elim
           ∙ ap (λ l. as_requests (held_by c l) ++ world.requests c) h.held
           ∙ asked_among c h.before h.behind (held_of c request) (world.requests c) (eq-eqb c c refl)
           ∙ ap (λ (l : List Held). as_requests l ++ Request.OnFile request ∷
-          (as_requests (held_by c h.behind) ++ world.requests c))
-          (none_behind c h.before h.in_turn),
-    ))
-    source.from
+          (as_requests (held_by c h.behind) ++ world.requests c)) (none_behind c h.before h.in_turn),
+    )) source.from
 
 -- ---- opens that are found
 
 -- a connected open of the client is found
 pub never_lost : (server : Server) (c file_id : ℕ) (one : Open) → Among one server.opens → one.client ≡ c
     → one.file_id ≡ file_id → one.connected ≡ true → connected_open server c file_id ≡ None → ⊥
-never_lost server c file_id one there by id up none = clash
-    (one.file_id == file_id && one.client == c && one.connected)
+never_lost server c file_id one there by id up none = clash (one.file_id == file_id && one.client == c && one.connected)
     (and_both (one.file_id == file_id && one.client == c) one.connected
     (and_both (one.file_id == file_id) (one.client == c) (eq-eqb one.file_id file_id id) (eq-eqb one.client c by)) up)
     (find_absent (λ (x : Open). x.file_id == file_id && x.client == c && x.connected) one server.opens none there)

@@ -32,8 +32,7 @@ IsQuiet phase file asked = has_asked phase ≡ false → creates file asked ≡ 
 
 abbrev pub StepCovers : Client → Step → Type 0
 StepCovers machine step = (file file_id : ℕ) (asked : List Request) (queue : List Reply)
-    → IsQuiet (machine.entries file).phase file asked
-    → IsCovered (machine.entries file).phase file file_id asked queue
+    → IsQuiet (machine.entries file).phase file asked → IsCovered (machine.entries file).phase file file_id asked queue
     → IsCovered (step.client.entries file).phase file file_id (asked ++ step.requests) queue
 
 -- an entry, with the requests of a turn, covers what the entry before did
@@ -58,8 +57,7 @@ closing_turn : (file : ℕ) (old new : Phase) (live : LiveEntry) (writes : List 
     → TurnCovers file old new (write_requests live.file_id writes ++ Request.OnFile (FileRequest.Close live.file_id) ∷ more)
 closing_turn file old new live writes more is idle file_id asked queue quiet u =
     let same : live.file_id ≡ file_id = ap (λ (l : LiveEntry). l.file_id) (one_live live u.live (sym is ∙ u.is)) ∙ u.id in
-    inr (inl (closed_behind file file_id asked _ (quiet (ap has_asked is ∙ idle))
-    (subst (λ i. ClosedBefore file i
+    inr (inl (closed_behind file file_id asked _ (quiet (ap has_asked is ∙ idle)) (subst (λ i. ClosedBefore file i
     (write_requests live.file_id writes ++ Request.OnFile (FileRequest.Close live.file_id) ∷ more)) same
     (closed_behind_writes file live.file_id writes more))))
   where
@@ -77,10 +75,8 @@ still_covers phase file file_id asked more queue c = cover_by phase phase file f
     (λ u. inl u) (λ x. closed_more file file_id asked more x) (λ g. inr (inr g)) c
 
 put_covers : (machine : Client) (at : ℕ) (entry : Entry) (more : List Request)
-    → TurnCovers at (machine.entries at).phase entry.phase more
-    → (file file_id : ℕ) (asked : List Request) (queue : List Reply)
-    → IsQuiet (machine.entries file).phase file asked
-    → IsCovered (machine.entries file).phase file file_id asked queue
+    → TurnCovers at (machine.entries at).phase entry.phase more → (file file_id : ℕ) (asked : List Request) (queue : List Reply)
+    → IsQuiet (machine.entries file).phase file asked → IsCovered (machine.entries file).phase file file_id asked queue
     → IsCovered (put machine.entries at entry file).phase file file_id (asked ++ more) queue
 put_covers machine at entry more covers file file_id asked queue quiet c = by_client
     (λ f. IsQuiet (machine.entries f).phase f asked → IsCovered (machine.entries f).phase f file_id asked queue
@@ -122,10 +118,8 @@ commands_cover machine = record {
       (closing_turn file _ _ live live.unsent (create_request machine file terms ∷ []) is.is_so idle);
   fewer = λ file live is more. turned_covers machine file _ (same_turn file _ live _ _ is.is_so refl);
   parked = λ file live is idle done stays. turned_covers machine file _ (same_turn file _ live _ _ is.is_so refl);
-  closed = λ file live is idle done goes. turned_covers machine file _
-      (closing_turn file _ _ live live.unsent [] is.is_so idle);
-  cached = λ file live base is reads has f id asked queue quiet c.
-      still_covers (machine.entries f).phase f id asked [] queue c;
+  closed = λ file live is idle done goes. turned_covers machine file _ (closing_turn file _ _ live live.unsent [] is.is_so idle);
+  cached = λ file live base is reads has f id asked queue quiet c. still_covers (machine.entries f).phase f id asked [] queue c;
   read = λ file live is idle. turned_covers machine file _ (same_turn file _ live _ _ is.is_so refl);
   buffered = λ file live patch is fits caches. wrote_covers machine file _ Answer.Done [] (next_write machine patch true)
       (same_turn file _ live _ [] is.is_so refl);
@@ -149,8 +143,7 @@ pub record IsMetWith (machine : Client) (reply : Reply) (queue : List Reply) (fi
 
 abbrev pub TakeCovers : Client → Reply → Step → Type 0
 TakeCovers machine reply step = (queue : List Reply) (file file_id : ℕ) (asked : List Request)
-    → IsMetWith machine reply queue file file_id asked
-    → IsCovered (machine.entries file).phase file file_id asked (reply ∷ queue)
+    → IsMetWith machine reply queue file file_id asked → IsCovered (machine.entries file).phase file file_id asked (reply ∷ queue)
     → IsCovered (step.client.entries file).phase file file_id (asked ++ step.requests) queue
 
 -- a reply that grants nothing leaves its queue
@@ -182,8 +175,7 @@ plain_covers machine reply step none covers queue file file_id asked m c =
 turn_takes : (machine : Client) (reply : Reply) (at : ℕ) (turn : Turn)
     → ((file file_id : ℕ) → file ≢ at → IsGrantOf file file_id reply → ⊥)
     → ((queue : List Reply) (file_id : ℕ) (asked : List Request) → IsMetWith machine reply queue at file_id asked
-    → IsLiveUnder (machine.entries at).phase file_id
-    → IsCovered turn.entry.phase at file_id (asked ++ turn.requests) queue)
+    → IsLiveUnder (machine.entries at).phase file_id → IsCovered turn.entry.phase at file_id (asked ++ turn.requests) queue)
     → ((queue : List Reply) (file_id : ℕ) (asked : List Request) → IsMetWith machine reply queue at file_id asked
     → IsGrantOf at file_id reply → IsCovered turn.entry.phase at file_id (asked ++ turn.requests) queue)
     → TakeCovers machine reply (turned machine at turn)
@@ -203,8 +195,7 @@ turn_takes machine reply at turn others live granted queue file file_id asked m 
 
 -- a turn of a reply that grants nothing
 plain_turn : (machine : Client) (reply : Reply) (at : ℕ) (turn : Turn) → IsNoGrant reply
-    → TurnCovers at (machine.entries at).phase turn.entry.phase turn.requests
-    → TakeCovers machine reply (turned machine at turn)
+    → TurnCovers at (machine.entries at).phase turn.entry.phase turn.requests → TakeCovers machine reply (turned machine at turn)
 plain_turn machine reply at turn none covers =
     plain_covers machine reply (turned machine at turn) none (turned_covers machine at turn covers)
 
@@ -214,8 +205,7 @@ created_elsewhere at given answer file file_id ne g = ne (sym g.0)
 
 -- an entry that becomes live by a grant
 granted_takes : (machine : Client) (at file_id : ℕ) (answer : CreateAnswer) (turn : Turn) (next : LiveEntry)
-    → turn.entry.phase ≡ Phase.Live next
-    → ((queue : List Reply) (id : ℕ) (asked : List Request)
+    → turn.entry.phase ≡ Phase.Live next → ((queue : List Reply) (id : ℕ) (asked : List Request)
     → IsMetWith machine (Reply.Created at file_id (Some answer)) queue at id asked
     → IsLiveUnder (machine.entries at).phase id → IsCovered turn.entry.phase at id (asked ++ turn.requests) queue)
     → (FitsPhase (machine.entries at).phase file_id → next.file_id ≡ file_id)
@@ -229,8 +219,7 @@ granted_takes machine at file_id answer turn next is live under =
 promoted_live : (machine : Client) (at file_id : ℕ) (answer : CreateAnswer) (live : LiveEntry) (asked_more : Asked)
     (new : Phase) → (machine.entries at).phase ≡ Phase.Live live → live.asking ≡ Some asked_more
     → (queue : List Reply) (id : ℕ) (asked : List Request)
-    → IsMetWith machine (Reply.Created at file_id (Some answer)) queue at id asked
-    → IsLiveUnder (machine.entries at).phase id
+    → IsMetWith machine (Reply.Created at file_id (Some answer)) queue at id asked → IsLiveUnder (machine.entries at).phase id
     → IsCovered new at id (asked ++ Request.OnFile (FileRequest.Close live.file_id) ∷ []) queue
 promoted_live machine at file_id answer live asked_more new is asks queue id asked m u =
     inr (inl (closed_behind at id asked _ none (inl same)))
@@ -302,8 +291,7 @@ passed_covers machine (Reply.Created other id (Some answer)) why = unasked
         (machine.entries other).phase why))) c)
 passed_covers machine (Reply.Created other id None) why = plain_covers machine _ (quiet_step machine) (λ f i g. g)
     (idle_covers machine Answer.Quiet)
-passed_covers machine reply why = plain_covers machine _ (quiet_step machine) (λ f i g. g)
-    (idle_covers machine Answer.Quiet)
+passed_covers machine reply why = plain_covers machine _ (quiet_step machine) (λ f i g. g) (idle_covers machine Answer.Quiet)
 
 -- an open that is gone: the reply would have failed it
 gone_covers : (machine : Client) (reply : Reply) (at gone : ℕ) (live : LiveEntry) (turn : Turn)

@@ -136,8 +136,7 @@ pub covered_in : (world new : World) (c : ℕ) (x : Open) → new.clients c ≡ 
     → (HasGrant x.file x.file_id (world.replies c) → HasGrant x.file x.file_id (new.replies c))
     → OpenCovered world c x → OpenCovered new c x
 covered_in world new c x machine closed granted o = subst
-    (λ (m : Client). IsCovered (m.entries x.file).phase x.file x.file_id (asked_of new c x.file) (new.replies c))
-    (sym machine)
+    (λ (m : Client). IsCovered (m.entries x.file).phase x.file x.file_id (asked_of new c x.file) (new.replies c)) (sym machine)
     (cover_by ((world.clients c).entries x.file).phase ((world.clients c).entries x.file).phase x.file x.file_id
     (asked_of world c x.file) (asked_of new c x.file) (world.replies c) (new.replies c)
     (λ u. inl u) closed (λ g. inr (inr (granted g))) o)
@@ -145,12 +144,11 @@ covered_in world new c x machine closed granted o = subst
 -- ---- a request is taken off
 
 off_keeps : (world off : World) (c : ℕ) (request : FileRequest) → IsSource world off c request → KeepsOpens world off c
-off_keeps world off c request source = from_source world off c request (λ o. KeepsOpens world o c) source
-    (record {
-      later = later_same world.past;
-      from = λ x there by named. itself world x there;
-      timely = λ file fresh. fresh;
-    })
+off_keeps world off c request source = from_source world off c request (λ o. KeepsOpens world o c) source (record {
+  later = later_same world.past;
+  from = λ x there by named. itself world x there;
+  timely = λ file fresh. fresh;
+})
     (λ file left. record {
       later = later_same world.past;
       from = λ x there by named. itself world x there;
@@ -164,8 +162,7 @@ off_opens world off c request source = from_source world off c request (λ o. o.
 
 -- what is left of a client's cover
 pub record IsLeftCovered (off : World) (c : ℕ) (request : Request) : Type 0 where
-  pub covers : (x : Open) → Among x off.server.opens → x.client ≡ c → x.connected ≡ true
-      → IsNoClose x.file_id request
+  pub covers : (x : Open) → Among x off.server.opens → x.client ≡ c → x.connected ≡ true → IsNoClose x.file_id request
       → off.server.expired (machine_key off c x.file) ≡ false → OpenCovered off c x
   pub uses : AllAsked (UsesUp off c) off c
   pub used : UsesUp off c request
@@ -209,8 +206,7 @@ told_covered off c request reply fails none h =
           (h.covers x there by up (none x there by up) fresh);
       uses = asked_weaker (UsesUp off c) (UsesUp new c) new c (uses_in off new c k)
           (record { queued = h.uses.queued; held = h.uses.held });
-      fails = subst (Each (FailsGone new c)) (sym sent)
-          (each_append (FailsGone new c) (off.replies c) (reply ∷ [])
+      fails = subst (Each (FailsGone new c)) (sym sent) (each_append (FailsGone new c) (off.replies c) (reply ∷ [])
           (each_weaker (FailsGone off c) (FailsGone new c) (off.replies c) (fails_in off new c k) h.fails)
           (fails_in off new c k reply fails, tt));
     }
@@ -223,8 +219,7 @@ refused_lost off c id u none = record {
 }
 
 pub refusal_gone : (off : World) (c : ℕ) (request : FileRequest) (status : Status)
-    → MayRefuse off.server c request status → UsesUp off c (Request.OnFile request)
-    → FailsGone off c (refusal_of request status)
+    → MayRefuse off.server c request status → UsesUp off c (Request.OnFile request) → FailsGone off c (refusal_of request status)
 refusal_gone off c (FileRequest.Read id) status may u = λ closed. refused_lost off c id u (may closed)
 refusal_gone off c (FileRequest.Write id number patch) status may u = λ closed. refused_lost off c id u (may closed)
 refusal_gone off c request status may u = tt
@@ -254,8 +249,7 @@ changed_covered off c file id number patch h =
           (h.covers x there by up tt fresh);
       uses = asked_weaker (UsesUp off c) (UsesUp new c) new c (uses_in off new c k)
           (record { queued = h.uses.queued; held = h.uses.held });
-      fails = subst (Each (FailsGone new c)) (sym sent)
-          (each_append (FailsGone new c) (off.replies c) (reply ∷ [])
+      fails = subst (Each (FailsGone new c)) (sym sent) (each_append (FailsGone new c) (off.replies c) (reply ∷ [])
           (each_weaker (FailsGone off c) (FailsGone new c) (off.replies c) (fails_in off new c k) h.fails) (tt, tt));
     }
 
@@ -320,8 +314,7 @@ granted_covered off c file access share ask lease ids h = lease_put_rest off.ser
               (among_append x off.server.opens (one ∷ []) there);
           uses = asked_weaker (UsesUp off c) (UsesUp new c) new c (uses_in off new c k)
               (record { queued = h.uses.queued; held = h.uses.held });
-          fails = subst (Each (FailsGone new c)) (sym sent)
-              (each_append (FailsGone new c) (off.replies c) (reply ∷ [])
+          fails = subst (Each (FailsGone new c)) (sym sent) (each_append (FailsGone new c) (off.replies c) (reply ∷ [])
               (each_weaker (FailsGone off c) (FailsGone new c) (off.replies c) (fails_in off new c k) h.fails) (tt, tt));
         }
 
@@ -340,8 +333,7 @@ reconnected_covered off c file access share ask id ids opened h = record {
       covered x m.0 m.1 m.2 by up fresh;
   uses = asked_weaker (UsesUp off c) (UsesUp new c) new c (uses_in off new c keeps)
       (record { queued = h.uses.queued; held = h.uses.held });
-  fails = subst (Each (FailsGone new c)) (sym sent)
-      (each_append (FailsGone new c) (off.replies c) (reply ∷ [])
+  fails = subst (Each (FailsGone new c)) (sym sent) (each_append (FailsGone new c) (off.replies c) (reply ∷ [])
       (each_weaker (FailsGone off c) (FailsGone new c) (off.replies c) (fails_in off new c keeps) h.fails) (tt, tt));
 }
   where
@@ -368,8 +360,7 @@ reconnected_covered off c file access share ask id ids opened h = record {
         (λ here. let same : y.file_id ≡ id = eqb-true y.file_id id here in
         let now : x ≡ record y { connected = true } = is ∙ rw (here) refl in
         let on : y.file ≡ file = (ids.on id file opened y there same).0 in
-        inr (inr (subst (HasGrant x.file x.file_id) (sym sent)
-        (grant_last x.file x.file_id (off.replies c) reply
+        inr (inr (subst (HasGrant x.file x.file_id) (sym sent) (grant_last x.file x.file_id (off.replies c) reply
         (sym (ap (λ (o : Open). o.file) now ∙ on), sym (ap (λ (o : Open). o.file_id) now ∙ same))))))
         (λ other. let now : x ≡ y = is ∙ rw (other) refl in
         covered_in off (reconnected_in off c file ask id) c x refl (λ e. e)

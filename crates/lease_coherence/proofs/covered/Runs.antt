@@ -104,8 +104,7 @@ ack_left : (world : World) (c : ℕ) (given : Option LeaseOf) → IsOldest world
     → HasCovered world c → IsLeftCovered (popped world c) c (Request.Acknowledge given)
 ack_left world c given oldest h = record {
   covers = λ x there by up none fresh. covered_in world (popped world c) c x refl
-      (popped_closed world c (Request.Acknowledge given) oldest x.file x.file_id tt) (λ g. g)
-      (h.covers x there by up fresh);
+      (popped_closed world c (Request.Acknowledge given) oldest x.file x.file_id tt) (λ g. g) (h.covers x there by up fresh);
   uses = asked_weaker (UsesUp world c) (UsesUp (popped world c) c) (popped world c) c
       (uses_in world (popped world c) c keeps) (asked_popped (UsesUp world c) world c h.uses);
   used = tt;
@@ -121,8 +120,7 @@ ack_left world c given oldest h = record {
     }
 
 leased_covered : (off : World) (key : Key) (lease : Lease) (request : Request) (reply : Reply)
-    → ((x : Open) → IsNoClose x.file_id request)
-    → FailsGone off key.client reply → IsLeftCovered off key.client request
+    → ((x : Open) → IsNoClose x.file_id request) → FailsGone off key.client reply → IsLeftCovered off key.client request
     → HasCovered (leased_in off key lease reply) key.client
 leased_covered off key lease request reply none fails h =
     let c = key.client in
@@ -138,8 +136,7 @@ leased_covered off key lease request reply none fails h =
           (h.covers x there by up (none x) fresh);
       uses = asked_weaker (UsesUp off c) (UsesUp new c) new c (uses_in off new c k)
           (record { queued = h.uses.queued; held = h.uses.held });
-      fails = subst (Each (FailsGone new c)) (sym sent)
-          (each_append (FailsGone new c) (off.replies c) (reply ∷ [])
+      fails = subst (Each (FailsGone new c)) (sym sent) (each_append (FailsGone new c) (off.replies c) (reply ∷ [])
           (each_weaker (FailsGone off c) (FailsGone new c) (off.replies c) (fails_in off new c k) h.fails)
           (fails_in off new c k reply fails, tt));
     }
@@ -149,20 +146,17 @@ leased_covered off key lease request reply none fails h =
 -- a Close that is held stands on the file of its open
 pub own_place : (server : Server) (c at : ℕ) (request : FileRequest) (x : Open) → (g : (one other : Open)
     → Among one server.opens → Among other server.opens → one.file_id ≡ other.file_id → one ≡ other)
-    → Among x server.opens → file_asked server c request ≡ Ok at → x.file ≢ at
-    → IsNoClose x.file_id (Request.OnFile request)
+    → Among x server.opens → file_asked server c request ≡ Ok at → x.file ≢ at → IsNoClose x.file_id (Request.OnFile request)
 unfolding file_asked
 own_place server c at (FileRequest.Create file access share contexts) x g there asked ne = tt
 own_place server c at (FileRequest.Read id) x g there asked ne = tt
 own_place server c at (FileRequest.Write id number patch) x g there asked ne = tt
-own_place server c at (FileRequest.Close id) x g there asked ne =
-    λ same. by_found (connected_open server c id) refl asked same
+own_place server c at (FileRequest.Close id) x g there asked ne = λ same. by_found (connected_open server c id) refl asked same
   where
     file_same : (y : Open) → file_of_open (Some y) ≡ Ok at → y.file ≡ at
     file_same y e = cc
 
-    by_found : (found : Option Open) → connected_open server c id ≡ found → file_of_open found ≡ Ok at
-        → id ≡ x.file_id → ⊥
+    by_found : (found : Option Open) → connected_open server c id ≡ found → file_of_open found ≡ Ok at → id ≡ x.file_id → ⊥
     by_found None e never same = cc
     by_found (Some y) e is same = let has = find_has _ y server.opens e in
         ne (ap (λ (o : Open). o.file) (g x y there has.0 (sym same ∙ sym (open_parts c id y has.1).0)) ∙ file_same y is)
@@ -178,8 +172,7 @@ held_covered world at one oldest turn g h =
       from = λ x there by named. itself world x there;
       timely = λ file fresh. fresh;
     } in record {
-      covers = λ x there by up fresh. covered_in world new c x refl
-          (held_closed world at one oldest x.file x.file_id
+      covers = λ x there by up fresh. covered_in world new c x refl (held_closed world at one oldest x.file x.file_id
           (λ ne. own_place world.server c at one.request x
           (λ a b p q e. one_id world.server.opens a b g.fine.sound.in_order p q e) there turn ne))
           (λ x. x) (h.covers x there by up fresh);
@@ -226,8 +219,7 @@ closed_covered off c id h =
           (λ same. clash (x.file_id == id) (eq-eqb x.file_id id (sym same)) (not_parts (x.file_id == id) kept.1)) fresh);
       uses = asked_weaker (UsesUp off c) (UsesUp new c) new c (uses_in off new c k)
           (record { queued = h.uses.queued; held = h.uses.held });
-      fails = subst (Each (FailsGone new c)) (sym sent)
-          (each_append (FailsGone new c) (off.replies c) (reply ∷ [])
+      fails = subst (Each (FailsGone new c)) (sym sent) (each_append (FailsGone new c) (off.replies c) (reply ∷ [])
           (each_weaker (FailsGone off c) (FailsGone new c) (off.replies c) (fails_in off new c k) h.fails) (tt, tt));
     }
 
@@ -262,10 +254,8 @@ connect_covered world c g down =
     let idle = connect_idle world c g down in
     let same : (connected world c).server.opens ≡ world.server.opens =
     ap (λ (s : Server). s.opens) (stepped_server (come_back world c) c (connection_made (world.clients c))) in record {
-      covers = λ x there by up fresh. clash (world.server.present c)
-          (subst (λ d. world.server.present d ≡ true) by
-          (g.fine.orderly.opens_up x (subst (λ (l : List Open). Among x l) same there) up))
-          ((g.tied c).present ∙ ap is_up down);
+      covers = λ x there by up fresh. clash (world.server.present c) (subst (λ d. world.server.present d ≡ true) by
+          (g.fine.orderly.opens_up x (subst (λ (l : List Open). Among x l) same there) up)) ((g.tied c).present ∙ ap is_up down);
       uses = record {
         queued = each_weaker AsksCreate (UsesUp (connected world c) c) ((connected world c).requests c) plain idle.asks;
         held = λ at one there own. absurd (subst (λ (l : List Held). Among one l) (idle.held at)
@@ -330,11 +320,9 @@ step_covered world before c step up guid server clients requests later uses know
       (sym so.clients)
       (subst (λ q. IsCovered (step.client.entries x.file).phase x.file x.file_id q (new.replies c)) (asked x.file)
       (subst (IsCovered (step.client.entries x.file).phase x.file x.file_id (asked_of world c x.file ++ step.requests))
-      (sym (ap (λ (r : ℕ → List Reply). r c) (stepped_replies before c step)))
-      (covers x was by on (keeps.timely x.file fresh))));
+      (sym (ap (λ (r : ℕ → List Reply). r c) (stepped_replies before c step))) (covers x was by on (keeps.timely x.file fresh))));
   uses = record {
-    queued = subst (Each (UsesUp new c)) (sym queued)
-        (each_append (UsesUp new c) (world.requests c) step.requests
+    queued = subst (Each (UsesUp new c)) (sym queued) (each_append (UsesUp new c) (world.requests c) step.requests
         (each_weaker (UsesUp world c) (UsesUp new c) (world.requests c) (uses_in world new c keeps) used.queued)
         (each_weaker (UsesLive (world.clients c)) (UsesUp new c) step.requests
         (λ r u. uses_in world new c keeps r (live_uses world c known r u)) uses));
@@ -352,8 +340,7 @@ step_covered world before c step up guid server clients requests later uses know
     so = step_of before c step up guid
 
     from : (x : Open) → Among x (stepped_in before c step).server.opens → Among x world.server.opens
-    from x there = subst (λ (s : Server). Among x s.opens)
-        ((step_of before c step up guid).server ∙ server) there
+    from x there = subst (λ (s : Server). Among x s.opens) ((step_of before c step up guid).server ∙ server) there
 
     queued : (stepped_in before c step).requests c ≡ world.requests c ++ step.requests
     queued = (step_of before c step up guid).queued ∙ ap (λ (q : ℕ → List Request). q c ++ step.requests) requests
@@ -431,8 +418,7 @@ take_covered world c reply queue first up counted k h =
     let left : gone.replies c ≡ queue = put_same world.replies c queue in
     let fails : Each (FailsGone world c) (reply ∷ queue) = subst (Each (FailsGone world c)) first h.fails in
     step_covered world gone c (taken machine reply) up (taken-stays machine reply).guid refl refl refl
-    (later_fact world.past (Fact.Took c))
-    (any_reply machine (λ r step. StepUses machine step) (takes_use machine) reply) k h.uses
+    (later_fact world.past (Fact.Took c)) (any_reply machine (λ r step. StepUses machine step) (takes_use machine) reply) k h.uses
     (subst (Each (FailsGone world c)) (sym left) fails.1)
     (λ x there by on fresh. subst (IsCovered ((taken machine reply).client.entries x.file).phase x.file x.file_id
     (asked_of world c x.file ++ (taken machine reply).requests)) (sym left)
@@ -454,8 +440,7 @@ known_for world v c good up = record {
 
 off_left : (world off : World) → HasLeases world → (c : ℕ) (request : FileRequest) → IsSource world off c request
     → IsUpCovered world c → is_up (off.links c) ≡ true → IsLeftCovered off c (Request.OnFile request)
-off_left world off v c request source a up =
-    off_covered world off c request source (a (link_of world off c request source up))
+off_left world off v c request source a up = off_covered world off c request source (a (link_of world off c request source up))
 
 off_known : (world off : World) → HasLeases world → (c : ℕ) (request : FileRequest) → IsSource world off c request
     → KnowsIds off c
@@ -516,11 +501,9 @@ covered_moves = record {
       (asked_of world c x.file) (world.replies c) (quiet_of world c x.file (v.structure.creates c good was x.file))
       (h.covers x there by on fresh));
   take = λ world c reply queue v good first a up.
-      let was : is_up (world.links c) ≡ true =
-      was_up (reply_gone world c queue) c (taken (world.clients c) reply) up in
+      let was : is_up (world.links c) ≡ true = was_up (reply_gone world c queue) c (taken (world.clients c) reply) up in
       take_covered world c reply queue first was (v.structure.creates c good was) (known_for world v c good was) (a was);
   notice = λ world c v good cut a on. absurd (true≢false (sym on
       ∙ ap (λ (l : ℕ → Link). is_up (l c)) (stepped_links (record world { links = put world.links c Link.Down }) c
-      (noticed (world.clients c)))
-      ∙ ap is_up (put_same world.links c Link.Down)));
+      (noticed (world.clients c))) ∙ ap is_up (put_same world.links c Link.Down)));
 }

@@ -18,8 +18,7 @@ use Rattle.lease_coherence.specs.Agreement.{as_requests}
 -- a Close of the FileId is asked, and no create of the file before it
 abbrev pub ClosedBefore : ℕ → ℕ → List Request → Type 0
 ClosedBefore file file_id [] = ⊥
-ClosedBefore file file_id (Request.OnFile (FileRequest.Close other) ∷ queue) =
-    (other ≡ file_id) ⊎ ClosedBefore file file_id queue
+ClosedBefore file file_id (Request.OnFile (FileRequest.Close other) ∷ queue) = (other ≡ file_id) ⊎ ClosedBefore file file_id queue
 ClosedBefore file file_id (Request.OnFile (FileRequest.Create other access share contexts) ∷ queue) =
     (other ≢ file) × ClosedBefore file file_id queue
 ClosedBefore file file_id (Request.OnFile (FileRequest.Read other) ∷ queue) = ClosedBefore file file_id queue
@@ -41,8 +40,7 @@ closed_more file file_id (Request.Acknowledge given ∷ queue) more c = closed_m
 -- one that is no Close of it leaves
 pub closed_less : (file file_id : ℕ) (before behind : List Request) (request : Request) → IsNoClose file_id request
     → ClosedBefore file file_id (before ++ request ∷ behind) → ClosedBefore file file_id (before ++ behind)
-closed_less file file_id [] behind (Request.OnFile (FileRequest.Close other)) kept c =
-    ⊎_elim (λ e. absurd (kept e)) (λ l. l) c
+closed_less file file_id [] behind (Request.OnFile (FileRequest.Close other)) kept c = ⊎_elim (λ e. absurd (kept e)) (λ l. l) c
 closed_less file file_id [] behind (Request.OnFile (FileRequest.Create other access share contexts)) kept c = c.1
 closed_less file file_id (Request.OnFile (FileRequest.Close other) ∷ before) behind request kept c =
     ⊎_elim (λ e. inl e) (λ l. inr (closed_less file file_id before behind request kept l)) c

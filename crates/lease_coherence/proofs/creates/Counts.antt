@@ -27,13 +27,11 @@ three a b c = omega arith
 pub creates_append : (file : ℕ) (queue more : List Request)
     → creates file (queue ++ more) ≡ creates file queue + creates file more
 creates_append file [] more = omega arith
-creates_append file (Request.OnFile request ∷ queue) more =
-    ap (λ n. create_of file request + n) (creates_append file queue more)
+creates_append file (Request.OnFile request ∷ queue) more = ap (λ n. create_of file request + n) (creates_append file queue more)
     ∙ three (create_of file request) (creates file queue) (creates file more)
 creates_append file (Request.Acknowledge given ∷ queue) more = creates_append file queue more
 
-pub answers_append : (file : ℕ) (queue more : List Reply)
-    → answers file (queue ++ more) ≡ answers file queue + answers file more
+pub answers_append : (file : ℕ) (queue more : List Reply) → answers file (queue ++ more) ≡ answers file queue + answers file more
 answers_append file [] more = omega arith
 answers_append file (reply ∷ queue) more = ap (λ n. answer_of file reply + n) (answers_append file queue more)
     ∙ three (answer_of file reply) (answers file queue) (answers file more)
@@ -57,8 +55,7 @@ held_among file client (x ∷ before) behind one own = if_cases
     (λ l. held_creates file l ≡ create_of file one.request + held_creates file (held_by client (x ∷ before ++ behind)))
     (x.client == client) (x ∷ held_by client (before ++ one ∷ behind)) (held_by client (before ++ one ∷ behind))
     (λ mine. ap (λ n. create_of file x.request + n) (held_among file client before behind one own)
-    ∙ swap (create_of file x.request) (create_of file one.request)
-    (held_creates file (held_by client (before ++ behind)))
+    ∙ swap (create_of file x.request) (create_of file one.request) (held_creates file (held_by client (before ++ behind)))
     ∙ ap (λ (l : List Held). create_of file one.request + held_creates file l)
     (sym (chosen (x.client == client) (x ∷ held_by client (before ++ behind)) (held_by client (before ++ behind)) mine)))
     (λ other. held_among file client before behind one own

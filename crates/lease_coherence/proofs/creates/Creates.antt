@@ -89,8 +89,7 @@ source_counts world off c request g source file = ⊎_elim
     (λ a. subst (λ (o : World). left_over world c file ≡ create_of file request + left_over o c file) (sym a.is_off)
     (arrived_left a))
     (λ h. subst (λ (o : World). left_over world c file ≡ create_of file request + left_over o c file) (sym h.is_off)
-    (held_left_over h))
-    source.from
+    (held_left_over h)) source.from
   where
     plus_held : (a b n h : ℕ) → a ≡ n + b → a + h ≡ n + (b + h)
     plus_held a b n h e = omega (arith, e)
@@ -115,22 +114,19 @@ source_counts world off c request g source file = ⊎_elim
         ∙ ap (λ (l : List Held). held_creates file (held_by c l)) h.held
         ∙ held_among file c h.before h.behind (held_of c request) (eq-eqb c c refl)
         ∙ ap (λ (l : List Held). create_of file request + held_creates file (held_by c l))
-        (sym (put_same world.server.held h.file (h.before ++ h.behind)))
-        ∙ ap (λ n. create_of file request
+        (sym (put_same world.server.held h.file (h.before ++ h.behind))) ∙ ap (λ n. create_of file request
         + held_creates file (held_by c (put world.server.held h.file (h.before ++ h.behind) n))) (sym same)))
         (λ there. let ne : file ≢ h.file = λ e. clash (file == h.file) (eq-eqb file h.file e) there in
         none_here _ _ _ (create_here world.server h.file file request
         (g.fine.orderly.held_about h.file (held_of c request) (subst (λ (l : List Held). Among (held_of c request) l)
         (sym h.held) (among_behind (held_of c request) h.before (held_of c request ∷ h.behind) (inl refl))))
-        (λ e. ne (sym e)))
-        (ap (λ (l : List Held). creates file (world.requests c) + held_creates file (held_by c l))
+        (λ e. ne (sym e))) (ap (λ (l : List Held). creates file (world.requests c) + held_creates file (held_by c l))
         (sym (put_other world.server.held h.file (h.before ++ h.behind) file ne))))
 
 -- a request is answered
 answered_at : (world off new : World) (c : ℕ) (request : FileRequest) (reply : Reply) → Ground world
     → IsSource world off c request → new.links ≡ world.links → new.clients ≡ world.clients
-    → new.requests c ≡ off.requests c → new.server.held ≡ off.server.held
-    → new.replies c ≡ world.replies c ++ reply ∷ []
+    → new.requests c ≡ off.requests c → new.server.held ≡ off.server.held → new.replies c ≡ world.replies c ++ reply ∷ []
     → ((file : ℕ) → answer_of file reply ≡ create_of file request) → IsCountedAt world c → IsCountedAt new c
 answered_at world off new c request reply g source links clients requests held replies answers_it a =
     same_counts world new c (ap (λ (l : ℕ → Link). l c) links) (ap (λ (t : ℕ → Client). t c) clients)
@@ -150,8 +146,7 @@ off_rest world off client request source = ⊎_elim
     (λ a. subst (λ (o : World). (o.clients ≡ world.clients) × ((o.links ≡ world.links) × (o.replies ≡ world.replies)))
     (sym a.is_off) (refl, (refl, refl)))
     (λ h. subst (λ (o : World). (o.clients ≡ world.clients) × ((o.links ≡ world.links) × (o.replies ≡ world.replies)))
-    (sym h.is_off) (refl, (refl, refl)))
-    source.from
+    (sym h.is_off) (refl, (refl, refl))) source.from
 
 -- a reply to it
 replied_at : (world off new : World) (c : ℕ) (request : FileRequest) (reply : Reply) → Ground world
@@ -192,14 +187,12 @@ hold_at : (world : World) (file : ℕ) (one : Held) → IsOldest world one.clien
     → IsInTurn (SmallStep.Hold file one) world.server → IsCountedAt world one.client
     → IsCountedAt (held_in (popped world one.client) file one) one.client
 unfolding file_asked
-hold_at world at one oldest turn a =
-    same_counts world (held_in (popped world one.client) at one) one.client refl refl
+hold_at world at one oldest turn a = same_counts world (held_in (popped world one.client) at one) one.client refl refl
     (λ file. either (file == at)
     (λ here. moved _ _ _ _ _ _ _ (first_off file (world.requests one.client) oldest.queue one.request oldest.is_first)
     (ap (λ (q : List Request). creates file q) (put_same world.requests one.client (rest_of (world.requests one.client))))
     (ap (λ n. held_creates file (held_by one.client (put world.server.held at (world.server.held at ++ one ∷ []) n)))
-    (eqb-true file at here)
-    ∙ ap (λ (l : List Held). held_creates file (held_by one.client l))
+    (eqb-true file at here) ∙ ap (λ (l : List Held). held_creates file (held_by one.client l))
     (put_same world.server.held at (world.server.held at ++ one ∷ []))
     ∙ held_among file one.client (world.server.held at) [] one (eq-eqb one.client one.client refl)
     ∙ ap (λ (l : List Held). create_of file one.request + held_creates file (held_by one.client l))
@@ -280,8 +273,7 @@ take_at world client reply queue g first named a up file =
     ap (λ (l : ℕ → Link). is_up (l client)) (sym (stepped_links gone client step)) ∙ up in
     let counts = any_reply machine (IsCountedTake client machine (Fact.Took client ∷ world.past))
     (takes_count client machine (Fact.Took client ∷ world.past)
-    (λ f live is none. parked_idle machine.is_online (machine.entries f) live ((g.clients client).entries f) is none))
-    reply named
+    (λ f live is none. parked_idle machine.is_online (machine.entries f) live ((g.clients client).entries f) is none)) reply named
     (λ f. low _ _ _ _ _ _ (a was f) (ap (λ (q : List Reply). answers f q) first)) in
     whole _ _ _ _ _ _ _ _ _ _ (stepped_under_way gone client step was file)
     (ap (λ (q : List Reply). answers file q) (put_same world.replies client queue)) (a was file)
@@ -291,8 +283,7 @@ take_at world client reply queue g first named a up file =
     low : (q h x n b m : ℕ) → q + h + x ≡ b → x ≡ n + m → n ≤ b
     low q h x n b m e f = omega (arith, e, f)
 
-    whole : (q h x y n m b b1 u z : ℕ) → u ≡ q + h + y + n → y ≡ z → q + h + x ≡ b → x ≡ m + z
-        → m + b1 ≡ n + b → u ≡ b1
+    whole : (q h x y n m b b1 u z : ℕ) → u ≡ q + h + y + n → y ≡ z → q + h + x ≡ b → x ≡ m + z → m + b1 ≡ n + b → u ≡ b1
     whole q h x y n m b b1 u z e i j k l = omega (arith, e, i, j, k, l)
 
 -- ---- connections
@@ -334,16 +325,13 @@ all_send client file idle (suc count) =
     let turn : ℕ → List Request = λ f. (connect_turn client f (client.entries f).sent (client.entries f).phase).requests in
     ap (creates file) (flat_map-append turn (numbers_to count) (suc count ∷ []))
     ∙ creates_append file (flat_map turn (numbers_to count)) (flat_map turn (suc count ∷ []))
-    ∙ ap₂ (λ a b. a + b) (all_send client file idle count)
-    (ap (creates file) (append_none (turn (suc count)))
+    ∙ ap₂ (λ a b. a + b) (all_send client file idle count) (ap (creates file) (append_none (turn (suc count)))
     ∙ connect_sends client (suc count) file (client.entries (suc count)).sent (client.entries (suc count)).phase
-    (idle (suc count)))
-    ∙ either (suc count == file)
+    (idle (suc count))) ∙ either (suc count == file)
     (λ here. let e = eqb-true (suc count) file here in
     ap₂ (λ (a b : Bool). (if a then sends_again client file else 0)
     + (if b then sends_again client (suc count) else 0)) (below count file e) here
-    ∙ ap (λ n. 0 + sends_again client n) e ∙ zero_plus (sends_again client file)
-    ∙ sym (rw (within count file e) refl))
+    ∙ ap (λ n. 0 + sends_again client n) e ∙ zero_plus (sends_again client file) ∙ sym (rw (within count file e) refl))
     (λ there. ap (λ (b : Bool). (if nat_le 1 file && nat_le file count then sends_again client file else 0)
     + (if b then sends_again client (suc count) else 0)) there
     ∙ plus_zero _ ∙ ap (λ (b : Bool). if b then sends_again client file else 0)
@@ -378,17 +366,13 @@ none_held world client g down file = none_pass (λ one. one.client == client) (w
     ((g.tied client).present ∙ down)))
 
 -- an entry of a client that isn't connected hasn't asked
-pub away_idle : (online : Bool) (entry : Entry) → online ≡ false → IsSoundEntry online entry
-    → has_asked entry.phase ≡ false
+pub away_idle : (online : Bool) (entry : Entry) → online ≡ false → IsSoundEntry online entry → has_asked entry.phase ≡ false
 away_idle online entry off sound = by_phase entry.phase refl
   where
     by_phase : (phase : Phase) → entry.phase ≡ phase → has_asked entry.phase ≡ false
-    by_phase (Phase.Opening access share) is =
-        clash online (subst (λ p. IsSoundPhase online entry.sent p) is sound) off
-    by_phase (Phase.Live live) is =
-        clash online (subst (λ p. IsSoundPhase online entry.sent p) is sound).0 off
-    by_phase (Phase.Reconnecting parted) is =
-        clash online (subst (λ p. IsSoundPhase online entry.sent p) is sound).0 off
+    by_phase (Phase.Opening access share) is = clash online (subst (λ p. IsSoundPhase online entry.sent p) is sound) off
+    by_phase (Phase.Live live) is = clash online (subst (λ p. IsSoundPhase online entry.sent p) is sound).0 off
+    by_phase (Phase.Reconnecting parted) is = clash online (subst (λ p. IsSoundPhase online entry.sent p) is sound).0 off
     by_phase phase is = ap has_asked is
 
 unknown_idle : (client : Client) (file : ℕ) → (client.entries file).phase ≡ Phase.Closed → 0 ≡ sends_again client file
@@ -406,12 +390,10 @@ connect_at world client g down up file =
     let online : machine.is_online ≡ false = g.online client ∙ ap (λ l. not (is_down l)) down in
     let idle : (f : ℕ) → has_asked (machine.entries f).phase ≡ false =
     λ f. away_idle machine.is_online (machine.entries f) online ((g.clients client).entries f) in
-    whole _ _ _ _ _ _
-    (stepped_under_way back client step (ap is_up (put_same world.links client Link.Up)) file)
+    whole _ _ _ _ _ _ (stepped_under_way back client step (ap is_up (put_same world.links client Link.Up)) file)
     (ap (λ (q : List Request). creates file q) ((g.tied client).requests is_off))
     (ap (λ (l : List Held). held_creates file l) (none_held world client g is_off file))
-    (ap (λ (q : List Reply). answers file q) ((g.tied client).replies is_off))
-    (all_send machine file idle machine.files)
+    (ap (λ (q : List Reply). answers file q) ((g.tied client).replies is_off)) (all_send machine file idle machine.files)
     ∙ either (knows_file machine file)
     (λ known. rw (known) refl)
     (λ unknown. rw (unknown) (unknown_idle machine file ((g.clients client).in_files file unknown)))
@@ -443,8 +425,7 @@ creates_move = record {
   granted = λ world off c file access share ask v good source none on free a.
       let lease = lease_after off.server c file ask.lease in
       replied_at world off (granted_in off c file access share ask lease) c
-      (FileRequest.Create file access share (Some ask)) (granted_reply off.server file ask lease) v.ground source
-      refl refl refl
+      (FileRequest.Create file access share (Some ask)) (granted_reply off.server file ask lease) v.ground source refl refl refl
       (lease_put_rest off.server c ask.lease (lease_after off.server c file ask.lease)
       (λ s. s.held ≡ off.server.held) (λ l. refl)) refl (λ f. refl) a;
   reconnected = λ world off c file access share ask file_id v good source again on waits a.
@@ -463,12 +444,10 @@ creates_move = record {
       (FileRequest.Close file_id) (Reply.Closed file_id) v.ground source refl refl refl refl refl
       (λ f. refl) a;
   ack_failed = λ world c given status v good oldest why a. told_at world (told_to (popped world c) c (Reply.AckFailed status)) c
-      (Reply.AckFailed status) refl refl
-      (ack_off world c given oldest) refl refl (λ f. refl) a;
+      (Reply.AckFailed status) refl refl (ack_off world c given oldest) refl refl (λ f. refl) a;
   ack_done = λ world c given lowered v good oldest there breaks within a. told_at world
       (leased_in (popped world c) (key_of c given.key) (record { state = granted_form_of given.state; broken_to = None })
-      (done_reply given)) c (done_reply given) refl refl
-      (ack_off world c (Some given) oldest) refl refl (λ f. refl) a;
+      (done_reply given)) c (done_reply given) refl refl (ack_off world c (Some given) oldest) refl refl (λ f. refl) a;
   hold = λ world file one v good oldest may turn a. hold_at world file one oldest turn a;
   dropped = λ world c test v good away a. same_counts world (without_opens world test) c refl refl (λ file. refl) a;
   lower = λ world key lowered v good may light a. told_at world
@@ -492,6 +471,5 @@ creates_move = record {
       (subst (Each (IsNamedReply c world.past)) first ((v.named c good).replies)).0) a;
   notice = λ world c v good cut a on file. absurd (true≢false (sym on
       ∙ ap (λ (l : ℕ → Link). is_up (l c)) (stepped_links (record world { links = put world.links c Link.Down }) c
-      (noticed (world.clients c)))
-      ∙ ap is_up (put_same world.links c Link.Down)));
+      (noticed (world.clients c))) ∙ ap is_up (put_same world.links c Link.Down)));
 }

@@ -49,8 +49,7 @@ quiet_turn : (client : Client) (file : ℕ) (turn : Turn) → ((other : ℕ) →
     → has_asked turn.entry.phase ≡ has_asked (client.entries file).phase
     → IsCountedStep client none_answered (turned client file turn)
 quiet_turn client file turn none same = turned_counts client none_answered file turn
-    (λ other ne. sym (none other))
-    (ap (λ b. 0 + one_if b) same ∙ ap (λ n. n + asked_by client file) (sym (none file)))
+    (λ other ne. sym (none other)) (ap (λ b. 0 + one_if b) same ∙ ap (λ n. n + asked_by client file) (sym (none file)))
 
 is_one : (file : ℕ) → one_if (file == file) ≡ 1
 is_one file = ap one_if (eq-eqb file file refl)
@@ -69,8 +68,7 @@ asking_turn : (client : Client) (file : ℕ) (turn : Turn) → has_asked (client
     → has_asked turn.entry.phase ≡ true → ((other : ℕ) → creates other turn.requests ≡ one_if (file == other))
     → IsCountedStep client none_answered (turned client file turn)
 asking_turn client file turn idle asks sends = turned_counts client none_answered file turn
-    (λ other ne. sym (sends other ∙ is_none file other ne))
-    (ap (λ b. 0 + one_if b) asks ∙ one_more
+    (λ other ne. sym (sends other ∙ is_none file other ne)) (ap (λ b. 0 + one_if b) asks ∙ one_more
     ∙ sym (ap₂ (λ n b. n + one_if b) (sends file ∙ is_one file) idle))
   where
     one_more : 0 + 1 ≡ 1 + 0
@@ -89,14 +87,12 @@ close_none file file_id writes = creates_append file (write_requests file_id wri
     none = omega arith
 
 wrote_counts : (client : Client) (file : ℕ) (entry : Entry) (answer : Answer) (requests : List Request) (write : Pending)
-    → ((other : ℕ) → creates other requests ≡ 0)
-    → has_asked entry.phase ≡ has_asked (client.entries file).phase
+    → ((other : ℕ) → creates other requests ≡ 0) → has_asked entry.phase ≡ has_asked (client.entries file).phase
     → IsCountedStep client none_answered (wrote_step client file entry answer requests write)
 wrote_counts client file entry answer requests write none same other = by_client
     (λ f. 0 + one_if (has_asked (put client.entries file entry f).phase) ≡ creates f requests + asked_by client f) file other
     (subst (λ (e : Entry). 0 + one_if (has_asked e.phase) ≡ creates file requests + asked_by client file)
-    (sym (put_same client.entries file entry))
-    (ap₂ (λ n b. n + one_if b) (sym (none file)) same))
+    (sym (put_same client.entries file entry)) (ap₂ (λ n b. n + one_if b) (sym (none file)) same))
     (λ ne apart. ap₂ (λ (n : ℕ) (e : Entry). n + one_if (has_asked e.phase)) (sym (none other))
     (put_other client.entries file entry other ne))
 
@@ -114,19 +110,16 @@ commands_count client = record {
       ∙ ap (λ n. n + (0 + (one_if (file == other) + 0))) (writes_create other live.file_id live.unsent)
       ∙ plus_more (one_if (file == other)));
   fewer = λ file live is more. quiet_turn client file _ (λ other. refl) (sym (ap has_asked is.is_so));
-  parked = λ file live is idle done stays. quiet_turn client file _ (λ other. refl)
-      (sym (ap has_asked is.is_so));
+  parked = λ file live is idle done stays. quiet_turn client file _ (λ other. refl) (sym (ap has_asked is.is_so));
   closed = λ file live is idle done goes. quiet_turn client file _
       (λ other. close_none other live.file_id live.unsent) (sym (phase_idle client file live is.is_so idle));
   cached = λ file live base is reads has other. refl;
   read = λ file live is idle. quiet_turn client file _ (λ other. plus_zero) (sym (ap has_asked is.is_so));
   buffered = λ file live patch is fits caches. wrote_counts client file _ Answer.Done [] (next_write client patch true)
-      (λ other. refl)
-      (sym (ap has_asked is.is_so));
+      (λ other. refl) (sym (ap has_asked is.is_so));
   written = λ file live patch is fits sends. wrote_counts client file _ Answer.Waiting
       (Request.OnFile (FileRequest.Write live.file_id (client.last_number + 1) patch) ∷ [])
-      (next_write client patch false) (λ other. plus_zero)
-      (sym (ap has_asked is.is_so));
+      (next_write client patch false) (λ other. plus_zero) (sym (ap has_asked is.is_so));
   flushed = λ file live is. quiet_turn client file _ (λ other. writes_create other live.file_id live.unsent)
       (sym (ap has_asked is.is_so));
 }
@@ -143,8 +136,7 @@ commands_count client = record {
 -- ---- replies
 
 abbrev pub IsCountedTake : ℕ → Client → List Fact → Reply → Step → Type 0
-IsCountedTake c client past reply step = IsNamedReply c past reply
-    → ((file : ℕ) → answer_of file reply ≤ asked_by client file)
+IsCountedTake c client past reply step = IsNamedReply c past reply → ((file : ℕ) → answer_of file reply ≤ asked_by client file)
     → IsCountedStep client (λ file. answer_of file reply) step
 
 -- a turn that answers a create
@@ -179,8 +171,7 @@ passed_none client file idle low = above (subst (λ n. n ≤ asked_by client fil
     above : {n : ℕ} → 1 ≤ n → n ≡ 0 → ⊥
     above {n} h e = omega (arith, h, e)
 
-passed_counts : (c : ℕ) (client : Client) (past : List Fact) (reply : Reply)
-    → PassesOver client reply → IsNamedReply c past reply
+passed_counts : (c : ℕ) (client : Client) (past : List Fact) (reply : Reply) → PassesOver client reply → IsNamedReply c past reply
     → ((file : ℕ) → answer_of file reply ≤ asked_by client file) → (file : ℕ)
     → answer_of file reply + asked_by client file ≡ creates file [] + asked_by client file
 passed_counts c client past (Reply.Created at file_id None) why named low file = absurd named
@@ -192,8 +183,7 @@ passed_counts c client past (_) why named low file = refl
 
 pub takes_count : (c : ℕ) (client : Client) (past : List Fact)
     → ((file : ℕ) (live : LiveEntry) → (client.entries file).phase ≡ Phase.Live live → (live.handles == 0) ≡ true
-    → is_asking live ≡ false)
-    → HasTakes client (IsCountedTake c client past)
+    → is_asking live ≡ false) → HasTakes client (IsCountedTake c client past)
 unfolding opened_turn reconnected_turn promoted_turn read_turn write_done_turn parked_closed belief_lowered closed_by_server
 takes_count c client past parked = record {
   passed = λ reply why named low file. passed_counts c client past reply why named low file;
@@ -204,8 +194,7 @@ takes_count c client past parked = record {
       let gone = flushed live.belief (meet live.belief notice.lowered) live.unsent in
       quiet_turn client file _
       (λ other. creates_append other (write_requests live.file_id gone) _
-      ∙ ap₂ (λ a b. a + b) (writes_create other live.file_id gone) (ack_none other notice _) ∙ zeros)
-      (sym (ap has_asked is));
+      ∙ ap₂ (λ a b. a + b) (writes_create other live.file_id gone) (ack_none other notice _) ∙ zeros) (sym (ap has_asked is));
   opened = λ file file_id answer access share is named low. answered_turn client file _ (ap has_asked is) refl
       (λ other. refl);
   reconnected = λ file file_id answer parted is named low. answered_turn client file _ (ap has_asked is) refl
@@ -216,12 +205,10 @@ takes_count c client past parked = record {
   not_reconnected = λ file status parted is named low. answered_turn client file _ (ap has_asked is) refl (λ other. refl);
   not_promoted = λ file status live asked is asks named low. answered_turn client file _
       (ap has_asked is ∙ ap is_some asks) refl (λ other. refl);
-  read = λ file file_id bytes live is id some named low. quiet_turn client file _ (λ other. refl)
-      (sym (ap has_asked is));
+  read = λ file file_id bytes live is id some named low. quiet_turn client file _ (λ other. refl) (sym (ap has_asked is));
   read_closed = λ file file_id status live is id gone named low. quiet_turn client file _ (λ other. refl)
       (open_gone live.asking (sent_of client file) ∙ sym (ap has_asked is));
-  not_read = λ file file_id status live is id some named low. quiet_turn client file _ (λ other. refl)
-      (sym (ap has_asked is));
+  not_read = λ file file_id status live is id some named low. quiet_turn client file _ (λ other. refl) (sym (ap has_asked is));
   written = λ file file_id number at known named low. quiet_turn client file _ (λ other. refl)
       (phase_with_asks _ (client.entries file).phase);
   write_closed = λ file file_id number status live at known is id gone named low. quiet_turn client file _ (λ other. refl)

@@ -85,8 +85,7 @@ turned_keeps machine at turn about here =
     record { live = λ file now e. put_live machine at turn.entry here file now e; about = about }
 
 wrote_keeps : (machine : Client) (at : ℕ) (entry : Entry) (answer : Answer) (requests : List Request) (write : Pending)
-    → Each IsAboutFile requests
-    → ((now : LiveEntry) → entry.phase ≡ Phase.Live now → WasSoLive (machine.entries at).phase now)
+    → Each IsAboutFile requests → ((now : LiveEntry) → entry.phase ≡ Phase.Live now → WasSoLive (machine.entries at).phase now)
     → KeepsLive machine (wrote_step machine at entry answer requests write)
 wrote_keeps machine at entry answer requests write about here =
     record { live = λ file now e. put_live machine at entry here file now e; about = about }
@@ -108,8 +107,7 @@ commands_keep machine = record {
   anew = λ file live terms is idle none. turned_keeps machine file _
       (writes_close_about live.file_id live.unsent (create_request machine file terms ∷ []) (tt, tt))
       (not_live (machine.entries file).phase (Phase.Opening terms.access terms.share) refl);
-  fewer = λ file live is more. turned_keeps machine file _ tt
-      (stays_so (machine.entries file).phase live _ is.is_so refl refl);
+  fewer = λ file live is more. turned_keeps machine file _ tt (stays_so (machine.entries file).phase live _ is.is_so refl refl);
   parked = λ file live is idle done stays. turned_keeps machine file _ tt
       (stays_so (machine.entries file).phase live _ is.is_so refl refl);
   closed = λ file live is idle done goes. turned_keeps machine file _
@@ -133,8 +131,7 @@ pub record IsMetBy (c : ℕ) (machine : Client) (past : List Fact) (reply : Repl
     (queue : List Reply) (file : ℕ) (old : List ℕ) : Type 0 where
   pub base : (live : LiveEntry) → (machine.entries file).phase ≡ Phase.Live live → (bytes : List ℕ)
       → live.base ≡ Some bytes → bytes ≡ old
-  pub follows : (belief_in (machine.entries file).phase).read ≡ true
-      → Follows c file past old (content_of file place) reply
+  pub follows : (belief_in (machine.entries file).phase).read ≡ true → Follows c file past old (content_of file place) reply
   pub tells : TellsBytes c past place reply
   pub no_grant : is_live (machine.entries file).phase ≡ true → is_ack_break (lease_key machine.guid file) reply ≡ true
       → Each (OnGiven GivesNothing (lease_key machine.guid file) file) queue
@@ -164,8 +161,7 @@ TakesFresh c machine past reply step = IsDueTo c machine past reply → (place :
 
 pub sound_live : (machine : Client) (file : ℕ) (live : LiveEntry) → IsSoundClient machine
     → (machine.entries file).phase ≡ Phase.Live live → IsSoundLive live
-sound_live machine file live s is =
-    (subst (IsSoundPhase machine.is_online (machine.entries file).sent) is (s.entries file)).1
+sound_live machine file live s is = (subst (IsSoundPhase machine.is_online (machine.entries file).sent) is (s.entries file)).1
 
 never_base : (base : Option (List ℕ)) (bytes : List ℕ) → base ≡ Some bytes → base ≡ None → ⊥
 never_base base bytes e f = cc
@@ -198,16 +194,14 @@ all_about key reads requests each = each_weaker IsAboutFile (AckReads key reads)
 
 -- a reply that leaves what the file reads, and its content
 pub record IsPlainFor (c : ℕ) (machine : Client) (past : List Fact) (reply : Reply) (file : ℕ) : Type 0 where
-  pub reads : (belief_in (machine.entries file).phase).read ≡ true
-      → reads_by (lease_key machine.guid file) file true reply ≡ true
+  pub reads : (belief_in (machine.entries file).phase).read ≡ true → reads_by (lease_key machine.guid file) file true reply ≡ true
   pub same : (belief_in (machine.entries file).phase).read ≡ true → (old new : List ℕ)
       → Follows c file past old new reply → new ≡ old
 
 -- an entry that stays as it was
 same_entry : (c : ℕ) (machine : Client) (past : List Fact) (reply : Reply) (step : Step) → IsSoundClient machine
     → (place : List Fact) (queue : List Reply) (file : ℕ) (old : List ℕ) → IsPlainFor c machine past reply file
-    → ((now : LiveEntry) → (step.client.entries file).phase ≡ Phase.Live now
-    → WasSoLive (machine.entries file).phase now)
+    → ((now : LiveEntry) → (step.client.entries file).phase ≡ Phase.Live now → WasSoLive (machine.entries file).phase now)
     → Each (AckReads (lease_key machine.guid file) (reads_after (lease_key machine.guid file) file
     (belief_in (step.client.entries file).phase).read queue)) step.requests
     → IsMetBy c machine past reply place queue file old → IsFreshAfter machine step reply place queue file
@@ -243,23 +237,19 @@ pub turn_fresh : (c : ℕ) (machine : Client) (past : List Fact) (reply : Reply)
 unfolding turned
 turn_fresh c machine past reply at turn s others acks here due place queue file old m = either (at == file)
     (λ same. subst (λ f. IsMetBy c machine past reply place queue f old
-    → IsFreshAfter machine (turned machine at turn) reply place queue f) (eqb-true at file same)
-    (here place queue old) m)
+    → IsFreshAfter machine (turned machine at turn) reply place queue f) (eqb-true at file same) (here place queue old) m)
     (λ apart. let ne : file ≢ at = λ e. clash (at == file) (eq-eqb at file (sym e)) apart in
     same_entry c machine past reply (turned machine at turn) s place queue file old (others file ne)
     (λ now e. was_it (machine.entries file).phase now
-    (ap (λ (x : Entry). x.phase) (sym (put_other machine.entries at turn.entry file ne)) ∙ e))
-    (acks file _ ne) m)
+    (ap (λ (x : Entry). x.phase) (sym (put_other machine.entries at turn.entry file ne)) ∙ e)) (acks file _ ne) m)
 
 -- what the turn leaves at its file
 pub here_fresh : (machine : Client) (reply : Reply) (at : ℕ) (turn : Turn) (place : List Fact) (queue : List Reply)
     → ((belief_in turn.entry.phase).read ≡ true
     → reads_by (lease_key machine.guid at) at (belief_in (machine.entries at).phase).read reply ≡ true)
     → ((live : LiveEntry) → turn.entry.phase ≡ Phase.Live live → (bytes : List ℕ) → live.base ≡ Some bytes
-    → bytes ≡ content_of at place)
-    → Each (AckReads (lease_key machine.guid at) (reads_after (lease_key machine.guid at) at
-    (belief_in turn.entry.phase).read queue)) turn.requests
-    → IsFreshAfter machine (turned machine at turn) reply place queue at
+    → bytes ≡ content_of at place) → Each (AckReads (lease_key machine.guid at) (reads_after (lease_key machine.guid at) at
+    (belief_in turn.entry.phase).read queue)) turn.requests → IsFreshAfter machine (turned machine at turn) reply place queue at
 unfolding turned
 here_fresh machine reply at turn place queue reads base acks =
     let same = put_same machine.entries at turn.entry in record {
@@ -291,21 +281,17 @@ broken_elsewhere c machine past at notice file own ne = record {
 pub number_elsewhere : (c : ℕ) (machine : Client) (past : List Fact) → IsKnownBy c machine past → (at number : ℕ)
     → has_sent machine number at ≡ true → (file : ℕ) → file ≢ at → (patch : Patch)
     → has_written c file number patch past ≡ true → ⊥
-number_elsewhere c machine past k at number has file ne patch written =
-    some (machine.entries at).sent (k.names at).sent has
+number_elsewhere c machine past k at number has file ne patch written = some (machine.entries at).sent (k.names at).sent has
   where
-    some : (pending : List Pending) → Each (WasWritten c at past) pending → list_any (is_numbered number) pending ≡ true
-        → ⊥
+    some : (pending : List Pending) → Each (WasWritten c at past) pending → list_any (is_numbered number) pending ≡ true → ⊥
     some [] each e = true≢false (sym e)
     some (write ∷ pending) each e = ⊎_elim
         (λ here. ne (k.once file at number patch write.patch written
         (subst (λ n. has_written c at n write.patch past ≡ true) (eqb-true write.number number here) each.0)).file_is)
-        (λ later. some pending each.1 later)
-        (or_true (write.number == number) (list_any (is_numbered number) pending) e)
+        (λ later. some pending each.1 later) (or_true (write.number == number) (list_any (is_numbered number) pending) e)
 
 pub written_elsewhere : (c : ℕ) (machine : Client) (past : List Fact) → IsKnownBy c machine past → (at file_id number : ℕ)
-    → has_sent machine number at ≡ true → (file : ℕ) → file ≢ at
-    → IsPlainFor c machine past (Reply.WriteDone file_id number) file
+    → has_sent machine number at ≡ true → (file : ℕ) → file ≢ at → IsPlainFor c machine past (Reply.WriteDone file_id number) file
 written_elsewhere c machine past k at file_id number has file ne = record {
   reads = λ e. refl;
   same = λ e old new f. ⊎_elim
@@ -325,8 +311,7 @@ never_passed machine notice s why file live is own = ⊎_elim
     (λ apart. clash (bytes_eq (lease_key machine.guid file) (lease_key machine.guid other.0))
     (ap (bytes_eq (lease_key machine.guid file))
     ((bytes_eq-Decides (lease_key machine.guid other.0) notice.key).0 (found_so machine (is_key_of machine notice.key) other.0
-    other.1))
-    ∙ own)
+    other.1)) ∙ own)
     (keys_apart machine.guid file other.0 (λ same. clash (file == other.0) (eq-eqb file other.0 same) apart)))) why
 
 -- a reply that is passed over
@@ -334,8 +319,7 @@ pub passed_plain : (c : ℕ) (machine : Client) (past : List Fact) (reply : Repl
     → PassesOver machine reply → IsDueTo c machine past reply → (file : ℕ) → IsPlainFor c machine past reply file
 passed_plain c machine past (Reply.Created at file_id None) s why due file =
     record { reads = λ e. refl; same = λ e old new f. f }
-passed_plain c machine past (Reply.Created at file_id (Some answer)) s why due file =
-    absurd (none (due.asked at))
+passed_plain c machine past (Reply.Created at file_id (Some answer)) s why due file = absurd (none (due.asked at))
   where
     none : one_if (at == at) ≤ asked_by machine at → ⊥
     none low = above (ap one_if (eq-eqb at at refl)) (ap one_if (none_asked (machine.entries at).phase why)) low
@@ -357,18 +341,15 @@ passed_plain c machine past (Reply.WriteDone file_id number) s why due file = re
         → IsPatched c file number past old new → ⊥
     never l p =
         let known = live_known machine file l.0 s l.1 in
-        above (ap one_if (eq-eqb number number refl))
-        (none_numbered number (machine.entries file).sent
-        (never_found machine (has_sent machine number) file known why))
-        (due.sent file number known (inl (p.patch, p.written)))
+        above (ap one_if (eq-eqb number number refl)) (none_numbered number (machine.entries file).sent
+        (never_found machine (has_sent machine number) file known why)) (due.sent file number known (inl (p.patch, p.written)))
       where
         above : {a b : ℕ} → a ≡ 1 → b ≡ 0 → a ≤ b → ⊥
         above e f h = omega (arith, e, f, h)
 passed_plain c machine past (Reply.Break (Some notice)) s why due file = record {
   reads = λ e. let l = live_read (machine.entries file).phase e in
       rw (not_true (bytes_eq (lease_key machine.guid file) notice.key) (λ own. never_passed machine notice s why file l.0 l.1
-      own))
-      refl;
+      own)) refl;
   same = λ e old new f. f;
 }
 passed_plain c machine past reply s why due file = record { reads = λ e. refl; same = λ e old new f. f }

@@ -32,19 +32,15 @@ HasContents world = AreContents world.past world.server.contents
 
 off_contents : (world off : World) (client : ℕ) (request : FileRequest) → IsSource world off client request
     → HasContents world → HasContents off
-off_contents world off client request source h =
-    from_source world off client request HasContents source h (λ file left. h)
+off_contents world off client request source h = from_source world off client request HasContents source h (λ file left. h)
 
-changed_contents : (contents : ℕ → List ℕ) (past : List Fact) (at client number : ℕ) (patch : Patch)
-    → AreContents past contents
-    → AreContents (Fact.Sent client ∷ Fact.Changed at client number patch ∷ past)
-    (put contents at (patched (contents at) patch))
+changed_contents : (contents : ℕ → List ℕ) (past : List Fact) (at client number : ℕ) (patch : Patch) → AreContents past contents
+    → AreContents (Fact.Sent client ∷ Fact.Changed at client number patch ∷ past) (put contents at (patched (contents at) patch))
 unfolding content_of
 changed_contents contents past at client number patch has file = either (at == file)
     (λ same. subst (λ f. put contents at (patched (contents at) patch) f
     ≡ (if at == f then patched (content_of f past) patch else content_of f past)) (eqb-true at file same)
-    (rw (eq-eqb at at refl, put_same contents at (patched (contents at) patch))
-    (ap (λ c. patched c patch) (has at))))
+    (rw (eq-eqb at at refl, put_same contents at (patched (contents at) patch)) (ap (λ c. patched c patch) (has at))))
     (λ apart. rw (apart) (put_other contents at (patched (contents at) patch) file
     (λ e. clash (at == file) (eq-eqb at file (sym e)) apart) ∙ has file))
 
@@ -56,12 +52,10 @@ deeds_contents world h = record {
   granted = λ off client file access share ask source none on free file_of.
       lease_put_rest off.server client ask.lease (lease_after off.server client file ask.lease)
       (λ s. s.contents file_of ≡ content_of file_of off.past) (λ l. off_contents world off client _ source h file_of);
-  reconnected = λ off client file access share ask file_id source again on waits.
-      off_contents world off client _ source h;
+  reconnected = λ off client file access share ask file_id source again on waits. off_contents world off client _ source h;
   read = λ off client file_id one source found may. off_contents world off client _ source h;
   changed = λ off client file_id number patch one source found may.
-      changed_contents off.server.contents off.past one.file client number patch
-      (off_contents world off client _ source h);
+      changed_contents off.server.contents off.past one.file client number patch (off_contents world off client _ source h);
   closed = λ off client file_id one source found. off_contents world off client _ source h;
   ack_failed = λ client given status oldest up why. h;
   ack_done = λ client given lowered oldest up there breaks within. h;
@@ -85,11 +79,9 @@ noted_content client past [] file = refl
 noted_content client past (note ∷ notes) file =
     noted_content client (fact_of client note ∷ past) notes file ∙ note_content client note past file
 
-stepped_contents : (world : World) (client : ℕ) (step : Step) → HasContents world
-    → HasContents (stepped_in world client step)
+stepped_contents : (world : World) (client : ℕ) (step : Step) → HasContents world → HasContents (stepped_in world client step)
 stepped_contents world client step h file = ap (λ (s : Server). s.contents file) (stepped_server world client step)
-    ∙ h file ∙ sym (ap (content_of file) (stepped_past world client step)
-    ∙ noted_content client world.past step.notes file)
+    ∙ h file ∙ sym (ap (content_of file) (stepped_past world client step) ∙ noted_content client world.past step.notes file)
 
 pub contents_moves : IsMoved Ground HasContents
 unfolding joined key_expired opens_dropped with_opens opens_disconnected client_forgotten requests_sent content_of

@@ -101,8 +101,7 @@ pub plain_told : (c : ℕ) (past : List Fact) → IsToldIn c past past (Fact.Sen
 plain_told c past = record { is = refl; later = later_same past; sent = refl; took = refl }
 
 pub told_fresh : (world : World) (c : ℕ) (reply : Reply) (file : ℕ) → is_bare reply → is_still reply
-    → takings c world.past ≤ length (sendings c world.past) → IsFreshIn world c file
-    → IsFreshIn (told_to world c reply) c file
+    → takings c world.past ≤ length (sendings c world.past) → IsFreshIn world c file → IsFreshIn (told_to world c reply) c file
 told_fresh world c reply file bare still low f = sent_fresh world (told_to world c reply) c world.past reply
     (plain_sent world c reply) (plain_told c world.past) low file
     (still_sends world (told_to world c reply) c world.past reply file still refl
@@ -139,8 +138,7 @@ read_fresh world off c file_id one source g h found file low f =
     }) f
 
 pub change_told : (c file number : ℕ) (patch : Patch) (past : List Fact)
-    → IsToldIn c past (Fact.Changed file c number patch ∷ past)
-    (Fact.Sent c ∷ Fact.Changed file c number patch ∷ past)
+    → IsToldIn c past (Fact.Changed file c number patch ∷ past) (Fact.Sent c ∷ Fact.Changed file c number patch ∷ past)
 unfolding sendings takings
 change_told c file number patch past = record {
   is = refl;
@@ -206,16 +204,13 @@ pub told_lease : (key : List ℕ) (asked : List ℕ) (left : Bool) (lease : Leas
 told_lease key asked left lease breaks e = by_end lease.broken_to refl e
   where
     by_end : (to : Option State) → lease.broken_to ≡ to
-        → (if is_breaking lease then left else (bytes_eq asked key && lease.state.read)) ≡ true
-        → (ends_as lease).read ≡ true
-    by_end None is h = settled (subst (λ o. (if is_some o then left
-        else (bytes_eq asked key && lease.state.read)) ≡ true) is h)
+        → (if is_breaking lease then left else (bytes_eq asked key && lease.state.read)) ≡ true → (ends_as lease).read ≡ true
+    by_end None is h = settled (subst (λ o. (if is_some o then left else (bytes_eq asked key && lease.state.read)) ≡ true) is h)
       where
         settled : (bytes_eq asked key && lease.state.read) ≡ true → (ends_as lease).read ≡ true
         settled x = subst (λ o. (ends_by o lease.state).read ≡ true) (sym is)
             (and_parts (bytes_eq asked key) lease.state.read x).1
-    by_end (Some lowered) is h = breaks (ap is_some is)
-        (subst (λ o. (if is_some o then left
+    by_end (Some lowered) is h = breaks (ap is_some is) (subst (λ o. (if is_some o then left
         else (bytes_eq asked key && lease.state.read)) ≡ true) is h)
 
 pub busy_left : (key : List ℕ) (asked : List ℕ) (left busy : Bool) (state : State) → busy ≡ true
@@ -235,11 +230,9 @@ opened_content at file client past = refl
 
 -- what the queue tells where a grant stands at its end, of the file itself and of others
 pub created_bound : (key : List ℕ) (at file file_id : ℕ) (asked : List ℕ) (left : Bool) (lease : Lease) (durable : Bool)
-    (P : Type 0)
-    → ((file == at) ≡ true → given_reads key left
+    (P : Type 0) → ((file == at) ≡ true → given_reads key left
     (Some (record { key = asked; state = lease.state; in_progress = is_breaking lease })) ≡ true → P)
-    → ((file == at) ≡ false → left ≡ true → P)
-    → reads_by key at left (Reply.Created file file_id (Some (record {
+    → ((file == at) ≡ false → left ≡ true → P) → reads_by key at left (Reply.Created file file_id (Some (record {
       lease = Some (record { key = asked; state = lease.state; in_progress = is_breaking lease });
       durable = durable;
     }))) ≡ true → P
@@ -261,14 +254,12 @@ key_files world c file at asked named same = either (file == at) (λ e. e)
 
 pub key_same : (world : World) (c file at : ℕ) (asked : LeaseOf) → asked.key ≡ lease_key (world.clients c).guid file
     → (file == at) ≡ true → machine_key world c at ≡ key_of c asked.key
-key_same world c file at asked named same =
-    ap (λ f. key_of c (lease_key (world.clients c).guid f)) (sym (eqb-true file at same))
+key_same world c file at asked named same = ap (λ f. key_of c (lease_key (world.clients c).guid f)) (sym (eqb-true file at same))
     ∙ ap (λ bytes. key_of c bytes) (sym named)
 
 pub granted_asked : (off : World) (c file : ℕ) (access : Access) (share : Share) (ask : CreateAsk) (asked : LeaseOf)
     → asked.key ≡ lease_key (off.clients c).guid file → HasTrust off c → (at : ℕ)
-    → off.server.expired (machine_key off c at) ≡ false → takings c off.past ≤ length (sendings c off.past)
-    → IsFreshIn off c at
+    → off.server.expired (machine_key off c at) ≡ false → takings c off.past ≤ length (sendings c off.past) → IsFreshIn off c at
     → IsFreshIn (granted_in off c file access share (record ask { lease = Some asked })
     (lease_granted off.server (key_of c asked.key) file asked.state)) c at
 granted_asked off c file access share ask asked named t at fresh low f =
@@ -292,11 +283,9 @@ granted_asked off c file access share ask asked named t at fresh low f =
     (λ other. clash (key_eq (machine_key off c at) key)
     (ap (λ k. key_eq (machine_key off c at) k) (sym (key_same off c file at asked named same))
     ∙ key_eq-refl (machine_key off c at)) other))
-    (λ apart reads. put_key-cases (λ (l : Lease). (ends_as l).read ≡ true) off.server.leases key lease
-    (machine_key off c at)
+    (λ apart reads. put_key-cases (λ (l : Lease). (ends_as l).read ≡ true) off.server.leases key lease (machine_key off c at)
     (λ mine. clash (file == at) (key_files off c file at asked named mine) apart)
-    (λ other. f.bound reads)))
-    (either (file == at)
+    (λ other. f.bound reads))) (either (file == at)
     (λ same. either (is_breaking (off.server.leases key))
     (λ breaks. inl (created_bound own at file (off.server.last_id + 1) asked.key left lease (ask.durable && lease.state.handle)
     (left ≡ true)
@@ -314,8 +303,7 @@ granted_asked off c file access share ask asked named t at fresh low f =
         → is_breaking (lease_granted off.server (key_of c asked.key) file asked.state) ≡ true → left_reads off c at ≡ true
         → (ends_as (lease_granted off.server (key_of c asked.key) file asked.state)).read ≡ true
     still_bound mine breaks reads = either (is_breaking (off.server.leases (key_of c asked.key)))
-        (λ busy. ap (λ (l : Lease). (ends_as l).read)
-        (grant_breaking off.server (key_of c asked.key) file asked.state busy)
+        (λ busy. ap (λ (l : Lease). (ends_as l).read) (grant_breaking off.server (key_of c asked.key) file asked.state busy)
         ∙ ap (λ k. (ends_as (off.server.leases k)).read) (sym mine) ∙ f.bound reads)
         (λ settled. clash (is_breaking (lease_granted off.server (key_of c asked.key) file asked.state)) breaks
         (grant_settled off.server (key_of c asked.key) file asked.state settled))
@@ -324,14 +312,12 @@ granted_asked off c file access share ask asked named t at fresh low f =
 pub granted_was : (off : World) (c file : ℕ) (access : Access) (share : Share) (ask : CreateAsk) (at : ℕ)
     → (granted_in off c file access share ask (lease_after off.server c file ask.lease)).server.expired
     (machine_key off c at) ≡ false → off.server.expired (machine_key off c at) ≡ false
-granted_was off c file access share ask at e = lease_put_rest off.server c ask.lease
-    (lease_after off.server c file ask.lease)
+granted_was off c file access share ask at e = lease_put_rest off.server c ask.lease (lease_after off.server c file ask.lease)
     (λ s. s.expired (machine_key off c at) ≡ false → off.server.expired (machine_key off c at) ≡ false) (λ l x. x) e
 
 pub granted_fresh : (off : World) (c file : ℕ) (access : Access) (share : Share) (ask : CreateAsk) (asked : LeaseOf)
     → ask.lease ≡ Some asked → asked.key ≡ lease_key (off.clients c).guid file → HasTrust off c → (at : ℕ)
-    → off.server.expired (machine_key off c at) ≡ false → takings c off.past ≤ length (sendings c off.past)
-    → IsFreshIn off c at
+    → off.server.expired (machine_key off c at) ≡ false → takings c off.past ≤ length (sendings c off.past) → IsFreshIn off c at
     → IsFreshIn (granted_in off c file access share ask (lease_after off.server c file ask.lease)) c at
 granted_fresh off c file access share ask asked e named t at fresh low f = subst
     (λ o. IsFreshIn (granted_in off c file access share (record ask { lease = o }) (lease_after off.server c file o)) c at)
@@ -352,16 +338,13 @@ reconnected_asked off c file ask file_id asked named t at fresh low f =
       machine = refl;
       requests = refl;
       replies = put_same off.replies c (off.replies c ++ reply ∷ []);
-    }) (plain_told c off.past) low at
-    (still_sends off new c off.past reply at tt refl
+    }) (plain_told c off.past) low at (still_sends off new c off.past reply at tt refl
     (created_bound own at file file_id asked.key left lease false
     ((ends_as (off.server.leases (machine_key off c at))).read ≡ true)
     (λ same e. let mine = key_same off c file at asked named same in
-    subst (λ k. (ends_as (off.server.leases k)).read ≡ true) (sym mine)
-    (told_lease own asked.key left lease
+    subst (λ k. (ends_as (off.server.leases k)).read ≡ true) (sym mine) (told_lease own asked.key left lease
     (λ breaks reads. ap (λ k. (ends_as (off.server.leases k)).read) (sym mine) ∙ f.bound reads) e))
-    (λ apart reads. f.bound reads))
-    (either (file == at)
+    (λ apart reads. f.bound reads)) (either (file == at)
     (λ same. either (is_breaking lease)
     (λ breaks. inl (created_bound own at file file_id asked.key left lease false (left ≡ true)
     (λ s e. busy_left own asked.key left (is_breaking lease) lease.state breaks e) (λ a e. e)))
@@ -398,14 +381,12 @@ acked_fresh world c given oldest file low f =
       machine = refl;
       requests = refl;
       replies = put_same world.replies c (world.replies c ++ done_reply given ∷ []);
-    }) (plain_told c world.past) low file
-    (still_sends off new c world.past (done_reply given) file tt refl
+    }) (plain_told c world.past) low file (still_sends off new c world.past (done_reply given) file tt refl
     (λ reads. put_key-cases (λ (l : Lease). (ends_as l).read ≡ true) world.server.leases (key_of c given.key) lease
     (machine_key world c file)
     (λ mine. form_reads given.state ((head.0)
     ((bytes_eq-Decides (file_key world c file) given.key).1 (ap (λ (k : Key). k.bytes) mine)) reads))
-    (λ other. f.bound reads))
-    (inl (λ e. e))) (popped_fresh world c file f)
+    (λ other. f.bound reads)) (inl (λ e. e))) (popped_fresh world c file f)
   where
     form_reads : (state : State) → state.read ≡ true → (granted_form_of state).read ≡ true
     form_reads state reads = if_cases (λ (s : State). s.read ≡ true) state.read state nothing_cached (λ r. reads)
@@ -426,13 +407,11 @@ broken_fresh world key lease lowered file ends low f =
       machine = refl;
       requests = refl;
       replies = put_same world.replies c (world.replies c ++ reply ∷ []);
-    }) (plain_told c world.past) low file
-    (still_sends world new c world.past reply file tt refl
+    }) (plain_told c world.past) low file (still_sends world new c world.past reply file tt refl
     (λ e. put_key-cases (λ (l : Lease). (ends_as l).read ≡ true) world.server.leases key lease (machine_key world c file)
     (λ mine. ap (λ (s : State). s.read) ends ∙ told_read own ((bytes_eq-Decides own key.bytes).1 (ap (λ (k : Key). k.bytes) mine))
     left e)
-    (λ other. f.bound (left_read own left e)))
-    (inl (λ e. left_read own left e))) f
+    (λ other. f.bound (left_read own left e))) (inl (λ e. left_read own left e))) f
   where
     told_read : (own : List ℕ) → bytes_eq own key.bytes ≡ true → (left : Bool)
         → (if bytes_eq own key.bytes then left && lowered.read else left) ≡ true → lowered.read ≡ true

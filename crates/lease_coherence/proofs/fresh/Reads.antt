@@ -58,8 +58,7 @@ get_among (y ∷ xs) zero x e = inl (some_same y x e)
     some_same a b e = cc
 get_among (y ∷ xs) (suc n) x e = inr (get_among xs n x e)
 
-last_among : (count : ℕ) (places : List (List Fact)) (place : List Fact) → last_of count places ≡ Some place
-    → Among place places
+last_among : (count : ℕ) (places : List (List Fact)) (place : List Fact) → last_of count places ≡ Some place → Among place places
 last_among zero places place e = let c : ⊥ = cc in absurd c
 last_among (suc count) places place e = get_among places count place e
 
@@ -67,8 +66,7 @@ sending_among : (c : ℕ) (past place : List Fact) → last_sending c past ≡ S
 unfolding last_sending
 sending_among c past place e = last_among (takings c past) (sendings c past) place e
 
-pub timely : (setup : Setup) (events : List Event) (c file : ℕ)
-    → is_served c (after (first_world setup) events).past ≡ true
+pub timely : (setup : Setup) (events : List Event) (c file : ℕ) → is_served c (after (first_world setup) events).past ≡ true
     → (after (first_world setup) events).server.expired (machine_key (after (first_world setup) events) c file) ≡ false
 timely setup events c file served = not_true
     ((after (first_world setup) events).server.expired (machine_key (after (first_world setup) events) c file))
@@ -77,8 +75,7 @@ timely setup events c file served = not_true
 
 -- in a world that the events of a run lead to
 read_is_fresh : (setup : Setup) (events : List Event) → is_allowed_setup setup ≡ true → (c at : ℕ) (live : LiveEntry)
-    (base : List ℕ) → IsEntry ((after (first_world setup) events).clients c) at (Phase.Live live)
-    → live.base ≡ Some base
+    (base : List ℕ) → IsEntry ((after (first_world setup) events).clients c) at (Phase.Live live) → live.base ≡ Some base
     → FreshRead (Fact.CachedRead c at (view base (sent_of ((after (first_world setup) events).clients c) at) live.unsent))
     (after (first_world setup) events).past
 unfolding is_good
@@ -93,11 +90,9 @@ read_is_fresh setup events allowed c at live base is has good =
     let place = (b.seen).place in (
       place,
       (b.seen).is_last,
-      ap₂ (λ x ws. patches x ws)
-          (b.same ∙ sym (b.seen).content
+      ap₂ (λ x ws. patches x ws) (b.same ∙ sym (b.seen).content
           ∙ sym (content_when_sent c at world.past place (runs_start_first setup events)
-          (sending_among c world.past place (b.seen).is_last)))
-          (sym (writes_now c at world.past (runs_give_first setup events c)
+          (sending_among c world.past place (b.seen).is_last))) (sym (writes_now c at world.past (runs_give_first setup events c)
           ∙ ap patches_of (v.writes c at is.known ∙ ap (λ p. sent_of client at ++ unsent_in p) is.is_so))),
     )
 
@@ -116,16 +111,14 @@ told_fresh past (Out.Changed file client number patch ∷ outs) a =
 served_fresh : (world : World) (progress : Progress) → AllFresh world.past → AllFresh (served world progress).past
 unfolding served
 served_fresh world progress a = subst AllFresh
-    (sym (all_delivered_past (record world { server = progress.server }) progress.outs))
-    (told_fresh world.past progress.outs a)
+    (sym (all_delivered_past (record world { server = progress.server }) progress.outs)) (told_fresh world.past progress.outs a)
 
 plain_fresh : (c : ℕ) (past : List Fact) (notes : List Note) → EachNote IsPlainNote notes → AllFresh past
     → AllFresh (past_noted c past notes)
 plain_fresh c past [] each a = a
 plain_fresh c past (Note.Wrote file number patch buffered ∷ notes) each a = absurd each.0
 plain_fresh c past (Note.CachedRead file bytes ∷ notes) each a = absurd each.0
-plain_fresh c past (note ∷ notes) each a =
-    plain_fresh c (fact_of c note ∷ past) notes each.1 (tt, a)
+plain_fresh c past (note ∷ notes) each a = plain_fresh c (fact_of c note ∷ past) notes each.1 (tt, a)
 
 starts_fresh : (past : List Fact) → list_all is_start past ≡ true → AllFresh past
 starts_fresh [] all = tt
@@ -135,13 +128,11 @@ starts_fresh (_ ∷ past) all = let x : ⊥ = cc in absurd x
 -- a step that is no command
 stepped_fresh : (world : World) (c : ℕ) (step : Step) → LeavesWrites (world.clients c) step → AllFresh world.past
     → AllFresh (stepped_in world c step).past
-stepped_fresh world c step l a =
-    subst AllFresh (sym (stepped_past world c step)) (plain_fresh c world.past step.notes l.none a)
+stepped_fresh world c step l a = subst AllFresh (sym (stepped_past world c step)) (plain_fresh c world.past step.notes l.none a)
 
 -- a command
 commanded_fresh : (world : World) (c : ℕ) (step : Step) → TellsWrites (world.clients c) step
-    → ((at : ℕ) (live : LiveEntry) (base : List ℕ) → IsEntry (world.clients c) at (Phase.Live live)
-    → live.base ≡ Some base
+    → ((at : ℕ) (live : LiveEntry) (base : List ℕ) → IsEntry (world.clients c) at (Phase.Live live) → live.base ≡ Some base
     → FreshRead (Fact.CachedRead c at (view base (sent_of (world.clients c) at) live.unsent)) world.past)
     → AllFresh world.past → AllFresh (stepped_in world c step).past
 commanded_fresh world c step (TellsWrites.Leaves l) reads a = stepped_fresh world c step l a
@@ -190,8 +181,7 @@ connect_fresh world client Link.Down s a =
     let same : joins.clients ≡ world.clients = served-clients back (join world.server client) in
     stepped_fresh joins client _
     (subst (λ (t : ℕ → Client). LeavesWrites (t client) (client_called (world.clients client) ClientCall.Connected)) (sym same)
-    (call_tells_writes (world.clients client) ClientCall.Connected s))
-    (served_fresh back (join world.server client) (tt, a))
+    (call_tells_writes (world.clients client) ClientCall.Connected s)) (served_fresh back (join world.server client) (tt, a))
 connect_fresh world client link s a = a
 
 timer_fresh : (world : World) (client file : ℕ) → AllFresh world.past → AllFresh (timer_expired world client file).past
@@ -212,8 +202,7 @@ strayed_fresh world client request link a = a
 -- what a read from the cache has to be
 abbrev ReadsFresh : World → Type 0
 ReadsFresh world = (c at : ℕ) (live : LiveEntry) (base : List ℕ) → IsEntry (world.clients c) at (Phase.Live live)
-    → live.base ≡ Some base
-    → FreshRead (Fact.CachedRead c at (view base (sent_of (world.clients c) at) live.unsent)) world.past
+    → live.base ≡ Some base → FreshRead (Fact.CachedRead c at (view base (sent_of (world.clients c) at) live.unsent)) world.past
 
 applied_fresh : (world : World) (event : Event) → ((c : ℕ) → IsSoundClient (world.clients c)) → ReadsFresh world
     → AllFresh world.past → AllFresh (applied world event).past
@@ -221,20 +210,17 @@ unfolding applied
 applied_fresh world (Event.App client command) s reads a = commanded_fresh world client _
     (call_tells_writes (world.clients client) (ClientCall.Commanded command) (s client)) (reads client) a
 applied_fresh world (Event.ServerTakes client) s reads a = server_takes_fresh world client (world.requests client) a
-applied_fresh world (Event.ClientTakes client) s reads a =
-    client_takes_fresh world client (world.replies client) (s client) a
+applied_fresh world (Event.ClientTakes client) s reads a = client_takes_fresh world client (world.replies client) (s client) a
 applied_fresh world (Event.Cut client) s reads a = cut_fresh world client (world.links client) a
 applied_fresh world (Event.Notice client) s reads a = notice_fresh world client (world.links client) (s client) a
 applied_fresh world (Event.Connect client) s reads a = connect_fresh world client (world.links client) (s client) a
-applied_fresh world (Event.Expire client file) s reads a = if_cases (λ (w : World). AllFresh w.past)
-    (has_file world.server file)
+applied_fresh world (Event.Expire client file) s reads a = if_cases (λ (w : World). AllFresh w.past) (has_file world.server file)
     (if breaking world.server (machine_key world client file) then timer_expired world client file else world) world
     (λ on. if_cases (λ (w : World). AllFresh w.past) (breaking world.server (machine_key world client file))
     (timer_expired world client file) world (λ breaks. timer_fresh world client file a) (λ settled. a))
     (λ off. a)
 applied_fresh world (Event.Scavenge client file) s reads a = scavenged_fresh world (kept world.server client file) a
-applied_fresh world (Event.Raw client request) s reads a =
-    strayed_fresh world client request (world.links client) a
+applied_fresh world (Event.Raw client request) s reads a = strayed_fresh world client request (world.links client) a
 
 happens_fresh : (world : World) (event : Event) → ((c : ℕ) → IsSoundClient (world.clients c)) → ReadsFresh world
     → AllFresh world.past → AllFresh (happens world event).past
@@ -246,8 +232,7 @@ happens_fresh world event s reads a = if_cases (λ (w : World). AllFresh w.past)
 
 run_fresh : (setup : Setup) → is_allowed_setup setup ≡ true → (before events : List Event)
     → AllFresh (after (first_world setup) before).past → AllFresh (after (first_world setup) (before ++ events)).past
-run_fresh setup allowed before [] a =
-    subst (λ l. AllFresh (after (first_world setup) l).past) (sym (append_none before)) a
+run_fresh setup allowed before [] a = subst (λ l. AllFresh (after (first_world setup) l).past) (sym (append_none before)) a
 run_fresh setup allowed before (event ∷ events) a =
     subst (λ l. AllFresh (after (first_world setup) l).past) (append_last before event events)
     (run_fresh setup allowed (before ++ event ∷ []) events
@@ -258,7 +243,6 @@ run_fresh setup allowed before (event ∷ events) a =
 
 pub reads_are_fresh : InRuns FreshRead
 unfolding after first_world
-reads_are_fresh setup events allowed = subst (EachFact FreshRead)
-    (sym (reverse-reverse (after (first_world setup) events).past))
+reads_are_fresh setup events allowed = subst (EachFact FreshRead) (sym (reverse-reverse (after (first_world setup) events).past))
     (run_fresh setup allowed [] events (starts_fresh (reverse (starts_from 1 setup.files))
     (all_reversed (starts_from 1 setup.files) [] (all_starts 1 setup.files) refl)))

@@ -66,12 +66,10 @@ use Rattle.lease_coherence.proofs.records.Known.{HasRecord}
 -- ---- opens that close
 
 -- leases that may be gone, where a reply may be sent
-fewer_bound : (world new : World) (c file : ℕ) (opens : List Open)
-    → new.server.opens ≡ opens → new.clients c ≡ world.clients c
+fewer_bound : (world new : World) (c file : ℕ) (opens : List Open) → new.server.opens ≡ opens → new.clients c ≡ world.clients c
     → (list_any (has_key (machine_key world c file)) opens ≡ true
     → new.server.leases (machine_key world c file) ≡ world.server.leases (machine_key world c file))
-    → left_reads new c file ≡ left_reads world c file
-    → IsStandingAt new c
+    → left_reads new c file ≡ left_reads world c file → IsStandingAt new c
     → ((one : Open) → Among one new.server.opens → one.client ≡ c → IsOwnOpen (new.clients c).guid one)
     → new.server.expired (machine_key new c file) ≡ false → IsFreshIn world c file
     → left_reads world c file ≡ true → (ends_as (new.server.leases (machine_key world c file))).read ≡ true
@@ -83,8 +81,7 @@ fewer_bound world new c file opens are machine stays left s own fresh f reads =
     ∙ ap (λ (m : Client). list_any (has_key (key_of c (lease_key m.guid file))) opens) machine ∙ none)))
 
 dropped_fresh : (world : World) (c : ℕ) (test : Open → Bool) (file : ℕ) → IsStandingAt (without_opens world test) c
-    → ((one : Open) → Among one (without_opens world test).server.opens → one.client ≡ c
-    → IsOwnOpen (world.clients c).guid one)
+    → ((one : Open) → Among one (without_opens world test).server.opens → one.client ≡ c → IsOwnOpen (world.clients c).guid one)
     → world.server.expired (machine_key world c file) ≡ false → IsFreshIn world c file
     → IsFreshIn (without_opens world test) c file
 unfolding with_opens
@@ -93,8 +90,7 @@ dropped_fresh world c test file s own fresh f = record {
   base = f.base;
   relay = f.relay;
   bound = fewer_bound world (without_opens world test) c file (without test world.server.opens) refl refl
-      (λ some. lease_stays world.server (without test world.server.opens) (machine_key world c file) some)
-      refl s own fresh f;
+      (λ some. lease_stays world.server (without test world.server.opens) (machine_key world c file) some) refl s own fresh f;
   acks_read = f.acks_read;
 }
 
@@ -116,8 +112,7 @@ closed_fresh off c file_id file s own fresh low f =
       machine = refl;
       requests = refl;
       replies = sent;
-    }) (plain_told c off.past) low file
-    (still_sends off new c off.past reply file tt refl
+    }) (plain_told c off.past) low file (still_sends off new c off.past reply file tt refl
     (fewer_bound off new c file (without test off.server.opens) refl refl
     (λ some. lease_stays off.server (without test off.server.opens) (machine_key off c file) some)
     (ap (λ q. reads_after own_key file (belief_in ((off.clients c).entries file).phase).read q) sent
@@ -129,8 +124,7 @@ timed_past : (c client file at : ℕ) (past : List Fact) → HasMore c past (Fac
     × (content_of at (Fact.Expired client file ∷ past) ≡ content_of at past)
     × (places_of c (Fact.Expired client file ∷ past) ≡ places_of c past)
 unfolding sendings takings content_of
-timed_past c client file at past =
-    (record { more = []; sent = append_nothing (sendings c past); took = refl }, refl, refl)
+timed_past c client file at past = (record { more = []; sent = append_nothing (sendings c past); took = refl }, refl, refl)
   where
     append_nothing : {X : Type 0} (xs : List X) → xs ≡ xs ++ []
     append_nothing [] = refl
@@ -157,13 +151,11 @@ timer_fresh world c at file s own fresh f =
           (later_fact world.past (Fact.Expired c at)) f.relay));
       bound = fewer_bound world (timed_out world c at) c file (without (has_key key) world.server.opens) refl refl
           (λ some. lease_stays world.server (without (has_key key) world.server.opens) (machine_key world c file) some)
-          refl s (λ one there by. own one (among_filter (λ o. not (has_key key o)) one world.server.opens there).0 by)
-          fresh f;
+          refl s (λ one there by. own one (among_filter (λ o. not (has_key key o)) one world.server.opens there).0 by) fresh f;
       acks_read = f.acks_read;
     }
 
-timer_was : (world : World) (c at file : ℕ)
-    → (timed_out world c at).server.expired (machine_key world c file) ≡ false
+timer_was : (world : World) (c at file : ℕ) → (timed_out world c at).server.expired (machine_key world c file) ≡ false
     → world.server.expired (machine_key world c file) ≡ false
 unfolding key_expired opens_dropped with_opens
 timer_was world c at file = put_key-cases (λ b. b ≡ false → world.server.expired (machine_key world c file) ≡ false)
@@ -176,8 +168,7 @@ noted_places : (c : ℕ) (past : List Fact) (notes : List Note) → (sendings c 
     × (takings c (past_noted c past notes) ≡ takings c past)
 unfolding sendings takings
 noted_places c past [] = (refl, refl)
-noted_places c past (Note.Settled number outcome ∷ notes) =
-    noted_places c (fact_of c (Note.Settled number outcome) ∷ past) notes
+noted_places c past (Note.Settled number outcome ∷ notes) = noted_places c (fact_of c (Note.Settled number outcome) ∷ past) notes
 noted_places c past (note ∷ notes) = noted_places c (fact_of c note ∷ past) notes
 
 noted_more : (c : ℕ) (past : List Fact) (notes : List Note) → HasMore c past (past_noted c past notes)
@@ -219,8 +210,7 @@ stepped_was : (world : World) (c : ℕ) (step : Step) → is_up (world.links c) 
     → (stepped_in world c step).server.expired (machine_key (stepped_in world c step) c file) ≡ false
     → world.server.expired (machine_key world c file) ≡ false
 stepped_was world c step up guid file fresh = ap (λ g. world.server.expired (key_of c (lease_key g file)))
-    (sym (step_of world c step up guid).guid)
-    ∙ ap₂ (λ (x : Server) (m : Client). x.expired (key_of c (lease_key m.guid file)))
+    (sym (step_of world c step up guid).guid) ∙ ap₂ (λ (x : Server) (m : Client). x.expired (key_of c (lease_key m.guid file)))
     (sym (step_of world c step up guid).server) (sym (step_of world c step up guid).clients) ∙ fresh
 
 kept_reads : (old new : Phase) → ((now : LiveEntry) → new ≡ Phase.Live now → WasSoLive old now)
@@ -258,8 +248,7 @@ command_fresh world c command up file f =
       bound = λ e. f.bound (after e);
       acks_read = each_append (AckReads key left) (world.requests c) step.requests
           (each_weaker (AckReads key (left_reads world c file)) (AckReads key left) (world.requests c)
-          (acks_fewer key (left_reads world c file) left after) f.acks_read)
-          (all_about key left step.requests k.about);
+          (acks_fewer key (left_reads world c file) left after) f.acks_read) (all_about key left step.requests k.about);
     })
 
 -- ---- a reply is taken
@@ -281,14 +270,12 @@ drop_next {X} (suc count) (y ∷ xs) rest x e = drop_next count xs rest x e
 one_more : (count : ℕ) → count + 1 ≡ suc count
 one_more count = omega arith
 
-took_places : (c : ℕ) (past : List Fact) (place : List Fact) (rest : List (List Fact))
-    → places_of c past ≡ place ∷ rest
+took_places : (c : ℕ) (past : List Fact) (place : List Fact) (rest : List (List Fact)) → places_of c past ≡ place ∷ rest
     → (places_of c (Fact.Took c ∷ past) ≡ rest) × (last_sending c (Fact.Took c ∷ past) ≡ Some place)
 unfolding sendings takings last_sending
 took_places c past place rest e =
     let n = drop_next (takings c past) (sendings c past) rest place e in
-    let t : (if c == c then takings c past + 1 else takings c past) ≡ suc (takings c past) =
-    own (c == c) (eq-eqb c c refl) in
+    let t : (if c == c then takings c past + 1 else takings c past) ≡ suc (takings c past) = own (c == c) (eq-eqb c c refl) in
     (ap (λ k. drop k (sendings c past)) t ∙ n.0, ap (λ k. last_of k (sendings c past)) t ∙ n.1)
   where
     own : (b : Bool) → b ≡ true → (if b then takings c past + 1 else takings c past) ≡ suc (takings c past)
@@ -310,8 +297,7 @@ record HasNext (c : ℕ) (key : List ℕ) (file : ℕ) (past : List Fact) (reads
 
 next_of : (c : ℕ) (key : List ℕ) (file : ℕ) (past : List Fact) (reads : Bool) (old : List ℕ)
     (places : List (List Fact)) (reply : Reply) (queue : List Reply) (now : List ℕ)
-    → IsRelayed c key file past reads old places (reply ∷ queue) now
-    → HasNext c key file past reads old places reply queue now
+    → IsRelayed c key file past reads old places (reply ∷ queue) now → HasNext c key file past reads old places reply queue now
 next_of c key file past reads old [] reply queue now r = absurd r
 next_of c key file past reads old (place ∷ rest) reply queue now r =
     record { place = place; rest = rest; are = refl; follows = r.0; tells = r.1; relay = r.2 }
@@ -319,11 +305,8 @@ next_of c key file past reads old (place ∷ rest) reply queue now r =
 take_fresh : (world : World) (c : ℕ) (reply : Reply) (queue : List Reply) → is_up (world.links c) ≡ true
     → world.replies c ≡ reply ∷ queue → (file : ℕ)
     → TakesFresh c (world.clients c) world.past reply (taken (world.clients c) reply)
-    → IsDueTo c (world.clients c) world.past reply
-    → (is_live ((world.clients c).entries file).phase ≡ true
-    → is_ack_break (file_key world c file) reply ≡ true
-    → Each (OnGiven GivesNothing
-    (file_key world c file) file) queue)
+    → IsDueTo c (world.clients c) world.past reply → (is_live ((world.clients c).entries file).phase ≡ true
+    → is_ack_break (file_key world c file) reply ≡ true → Each (OnGiven GivesNothing (file_key world c file) file) queue)
     → IsFreshIn world c file → IsFreshIn (reply_taken world c reply queue) c file
 take_fresh world c reply queue up first file takes due quiet f =
     let machine = world.clients c in
@@ -369,8 +352,7 @@ take_fresh world c reply queue up first file takes due quiet f =
       acks_read = each_append (AckReads key end) (world.requests c) step.requests
           (each_weaker (AckReads key (left_reads world c file)) (AckReads key end) (world.requests c)
           (acks_fewer key (left_reads world c file) end (λ e. ap (λ q. reads_after key file reads q) first ∙ fewer e))
-          f.acks_read)
-          after.acks;
+          f.acks_read) after.acks;
     }))
 
 -- ---- a client connects
@@ -392,26 +374,22 @@ connect_fresh world c g down file =
     let step = connection_made machine in
     let is_off : is_up (world.links c) ≡ false = ap is_up down in
     let online : machine.is_online ≡ false = g.online c ∙ ap (λ l. not (is_down l)) down in
-    let turn : ℕ → List Request =
-    λ f. (connect_turn machine f (machine.entries f).sent (machine.entries f).phase).requests in
+    let turn : ℕ → List Request = λ f. (connect_turn machine f (machine.entries f).sent (machine.entries f).phase).requests in
     let past = past_noted c back.past step.notes in
     let phase = (step.client.entries file).phase in
-    let dark : (belief_in phase).read ≡ false =
-    idle file online (machine.entries file).phase ((g.clients c).entries file) in
+    let dark : (belief_in phase).read ≡ false = idle file online (machine.entries file).phase ((g.clients c).entries file) in
     let none : back.replies c ≡ [] = (g.tied c).replies is_off in
     let nothing : places_of c past ≡ [] = same_places c back.past step.notes ∙ joined_places c world.past in
     stepped_fresh back c step (ap is_up (put_same world.links c Link.Up)) refl file
     (subst (λ q. IsFreshFor c (file_key back c file) file (back.server.leases (machine_key back c file)) phase
     (back.requests c ++ step.requests) q past) (sym none) (record {
       old = [];
-      base = λ live is bytes b. absurd (not_live file online (machine.entries file).phase ((g.clients c).entries file) live
-          is);
+      base = λ live is bytes b. absurd (not_live file online (machine.entries file).phase ((g.clients c).entries file) live is);
       relay = subst (λ p. IsRelayed c (file_key back c file) file past (belief_in phase).read [] p []
           (content_of file past)) (sym nothing) (λ reads. absurd (true≢false (sym reads ∙ dark)));
       bound = λ reads. absurd (true≢false (sym reads ∙ dark));
       acks_read = subst (λ q. Each (AckReads (file_key back c file) (belief_in phase).read) (q ++ step.requests))
-          (sym ((g.tied c).requests is_off))
-          (all_about (file_key back c file) (belief_in phase).read step.requests
+          (sym ((g.tied c).requests is_off)) (all_about (file_key back c file) (belief_in phase).read step.requests
           (each_flat IsAboutFile turn (numbers_to machine.files)
           (λ f. about f (machine.entries f).sent (machine.entries f).phase)));
     }))
@@ -515,8 +493,7 @@ fresh_moves = record {
       (popped_fresh world c file (a up file fresh));
   ack_done = λ world c given lowered v good oldest there breaks within a up file fresh.
       acked_fresh world c given oldest file (low_of world (ground_of world v) c up) (a up file fresh);
-  hold = λ world at one v good oldest may turn a up file fresh.
-      popped_fresh world one.client file (a up file fresh);
+  hold = λ world at one v good oldest may turn a up file fresh. popped_fresh world one.client file (a up file fresh);
   dropped = λ world c test v good away a up file fresh. dropped_fresh world c test file
       (standing_moves.dropped world c test v.leases.structure good away (v.leases.structure.opens c good) up)
       (λ x there by. own_of world v c good x (left_there world test x there) by) fresh (a up file fresh);
@@ -541,13 +518,11 @@ fresh_moves = record {
       let machine = world.clients c in
       let was : is_up (world.links c) ≡ true = was_up gone c (taken machine reply) up in
       let before = stepped_was gone c (taken machine reply) was (taken-stays machine reply).guid file fresh in
-      take_fresh world c reply queue was first file
-      (any_reply machine (TakesFresh c machine world.past)
+      take_fresh world c reply queue was first file (any_reply machine (TakesFresh c machine world.past)
       (takes_fresh c machine world.past ((ground_of world v).clients c) (known_by world v c good)) reply)
       (due_of world c reply queue v good was first)
       (quiet_behind world c file reply queue first (v.leases.beliefs c good was) before) (a was file before);
   notice = λ world c v good cut a on. absurd (true≢false (sym on
       ∙ ap (λ (l : ℕ → Link). is_up (l c)) (stepped_links (record world { links = put world.links c Link.Down }) c
-      (noticed (world.clients c)))
-      ∙ ap is_up (put_same world.links c Link.Down)));
+      (noticed (world.clients c))) ∙ ap is_up (put_same world.links c Link.Down)));
 }

@@ -98,8 +98,7 @@ pub record HasOpenOn (world : World) (c file : ℕ) : Type 0 where
 
 pub open_left : (world : World) (c file : ℕ) → IsSound world.server
     → ((one : Open) → Among one world.server.opens → one.client ≡ c → IsOwnOpen (world.clients c).guid one)
-    → ((world.server.leases (machine_key world c file)) ≡ no_lease → ⊥)
-    → HasOpenOn world c file
+    → ((world.server.leases (machine_key world c file)) ≡ no_lease → ⊥) → HasOpenOn world c file
 open_left world c file sound own some =
     let key = machine_key world c file in
     let there = not_false (list_any (has_key key) world.server.opens) (λ none. some (sound.no_open key none)) in
@@ -121,13 +120,11 @@ open_left world c file sound own some =
         (Some (lease_key (world.clients c).guid one.file)) ≡ true) (sym by)
         (is_key-refl c (lease_key (world.clients c).guid one.file)))
 
-    same_file : (one : Open) → machine_key world c file ≡ key_of c (lease_key (world.clients c).guid one.file)
-        → one.file ≡ file
+    same_file : (one : Open) → machine_key world c file ≡ key_of c (lease_key (world.clients c).guid one.file) → one.file ≡ file
     same_file one e = either (one.file == file) (λ same. eqb-true one.file file same)
         (λ apart. clash (bytes_eq (lease_key (world.clients c).guid file) (lease_key (world.clients c).guid one.file))
         ((bytes_eq-Decides (lease_key (world.clients c).guid file) (lease_key (world.clients c).guid one.file)).1
-        (ap (λ (k : Key). k.bytes) e))
-        (keys_apart (world.clients c).guid file one.file
+        (ap (λ (k : Key). k.bytes) e)) (keys_apart (world.clients c).guid file one.file
         (λ same. clash (one.file == file) (eq-eqb one.file file (sym same)) apart)))
 
 reads_some : (lease : Lease) → (ends_as lease).read ≡ true → lease ≡ no_lease → ⊥
@@ -154,8 +151,7 @@ unmoved_fresh world new c u sound own file f =
       relay = subst (λ p. IsRelayed c key file new.past (belief_in ((world.clients c).entries file).phase).read f.old p
           (world.replies c) (content_of file new.past)) (sym (ap₂ (λ n p. drop n p) u.spared.took u.spared.sent))
           (relayed_later c key file world.past new.past _ f.old (places_of c world.past) (world.replies c)
-          (content_of file new.past) u.later
-          (relayed_now c key file world.past _ f.old (places_of c world.past) (world.replies c)
+          (content_of file new.past) u.later (relayed_now c key file world.past _ f.old (places_of c world.past) (world.replies c)
           (content_of file world.past) (content_of file new.past)
           (λ reads. let left = f.bound reads in
           let o = open_left world c file sound own (reads_some (world.server.leases at) left) in
@@ -179,8 +175,7 @@ pub record IsToldIn (c : ℕ) (past middle new : List Fact) : Type 0 where
   pub sent : sendings c middle ≡ sendings c past
   pub took : takings c middle ≡ takings c past
 
-told_sent : (c : ℕ) (past middle new : List Fact) → IsToldIn c past middle new
-    → sendings c new ≡ sendings c past ++ middle ∷ []
+told_sent : (c : ℕ) (past middle new : List Fact) → IsToldIn c past middle new → sendings c new ≡ sendings c past ++ middle ∷ []
 unfolding sendings
 told_sent c past middle new t = ap (sendings c) t.is ∙ own (c == c) (eq-eqb c c refl)
   where
@@ -227,8 +222,7 @@ relayed_sent : (c : ℕ) (key : List ℕ) (file : ℕ) (past : List Fact) (reads
     (places : List (List Fact)) (queue : List Reply) (now next : List ℕ) (place : List Fact) (reply : Reply)
     → ((from : List ℕ) → (reads_after key file reads queue ≡ true → now ≡ from)
     → reads_after key file reads queue ≡ true → Follows c file past from (content_of file place) reply)
-    → TellsBytes c past place reply → next ≡ content_of file place
-    → IsRelayed c key file past reads old places queue now
+    → TellsBytes c past place reply → next ≡ content_of file place → IsRelayed c key file past reads old places queue now
     → IsRelayed c key file past reads old (places ++ place ∷ []) (queue ++ reply ∷ []) next
 relayed_sent c key file past reads old [] [] now next place reply follows tells is r =
     (λ e. follows old r e, tells, λ e. is)
@@ -277,8 +271,7 @@ sent_fresh world new c middle reply s told low file sends f =
 
 -- ---- replies that give nothing and break nothing
 
-pub bare_reads : (key : List ℕ) (file : ℕ) (reads : Bool) (reply : Reply) → is_bare reply
-    → reads_by key file reads reply ≡ reads
+pub bare_reads : (key : List ℕ) (file : ℕ) (reads : Bool) (reply : Reply) → is_bare reply → reads_by key file reads reply ≡ reads
 bare_reads key file reads (Reply.Created other id contexts) bare = absurd bare
 bare_reads key file reads (Reply.Break notice) bare = absurd bare
 bare_reads key file reads reply bare = refl
@@ -323,8 +316,7 @@ pub gone_reads : (world : World) (c file : ℕ) → IsStandingAt world c
 gone_reads world c file s own fresh none =
     let x = nothing_stands world c file s own fresh none in
     ap (λ b. reads_after (file_key world c file) file b (world.replies c))
-    (not_live_reads ((world.clients c).entries file).phase x.0)
-    ∙ after_none (file_key world c file) file (world.replies c) x.1
+    (not_live_reads ((world.clients c).entries file).phase x.0) ∙ after_none (file_key world c file) file (world.replies c) x.1
   where
     not_live_reads : (phase : Phase) → is_live phase ≡ false → (belief_in phase).read ≡ false
     not_live_reads (Phase.Live live) e = absurd (true≢false e)

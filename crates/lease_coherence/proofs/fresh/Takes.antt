@@ -54,8 +54,7 @@ promoted_by : (key : List ℕ) (belief : State) (given : Option LeaseGiven)
 promoted_by key belief None e = absurd (true≢false (sym e))
 promoted_by key belief (Some given) e = by_cases given.in_progress (bytes_eq given.key key) e
   where
-    by_cases : (busy own : Bool)
-        → (if busy then belief else (if own then given.state else nothing_cached)).read ≡ true
+    by_cases : (busy own : Bool) → (if busy then belief else (if own then given.state else nothing_cached)).read ≡ true
         → (if busy then belief.read else (own && given.state.read)) ≡ true
     by_cases true own h = h
     by_cases false true h = h
@@ -104,8 +103,7 @@ more_fresh c machine past at file_id answer turn live next s was is about base g
     (ap (λ (b : State). b.read) (sym given) ∙ ap (λ p. (belief_in p).read) (sym is) ∙ e))))
     (λ now so bytes b.
     let mine = base bytes (ap (λ (l : LiveEntry). l.base) (one_live now next (sym is ∙ so)) ∙ b) in
-    m.base live was bytes mine
-    ∙ sym (m.follows (ap (λ p. (belief_in p).read) was ∙ base_reads machine at live bytes s was mine)))
+    m.base live was bytes mine ∙ sym (m.follows (ap (λ p. (belief_in p).read) was ∙ base_reads machine at live bytes s was mine)))
     (all_about (lease_key machine.guid at) _ turn.requests about))
 
 -- ---- breaks
@@ -117,8 +115,7 @@ ack_elsewhere machine file at notice state reads ne own = if_cases (Each (AckRea
     notice.ack_required (Request.Acknowledge (Some (record { key = notice.key; state = state })) ∷ []) []
     (λ required. (
       λ same r. clash (bytes_eq (lease_key machine.guid file) (lease_key machine.guid at))
-          (ap (bytes_eq (lease_key machine.guid file))
-          ((bytes_eq-Decides (lease_key machine.guid at) notice.key).0 own) ∙ same)
+          (ap (bytes_eq (lease_key machine.guid file)) ((bytes_eq-Decides (lease_key machine.guid at) notice.key).0 own) ∙ same)
           (keys_apart machine.guid file at ne),
       tt,
     ))
@@ -142,8 +139,7 @@ lowered_fresh c machine past at notice live new s own was is =
     (λ e. read_so e)
     (λ now so bytes b.
     let mine = kept_base new.read live.base bytes (ap (λ (l : LiveEntry). l.base) (one_live now _ so) ∙ b) in
-    m.base live was bytes mine
-    ∙ sym (m.follows (ap (λ p. (belief_in p).read) was ∙ base_reads machine at live bytes s was mine)))
+    m.base live was bytes mine ∙ sym (m.follows (ap (λ p. (belief_in p).read) was ∙ base_reads machine at live bytes s was mine)))
     (each_append (AckReads (lease_key machine.guid at) (reads_after (lease_key machine.guid at) at new.read queue)) writes
     (acknowledgment notice new) (all_about (lease_key machine.guid at) _ writes about)
     (if_cases (Each (AckReads (lease_key machine.guid at) (reads_after (lease_key machine.guid at) at new.read queue)))
@@ -156,8 +152,7 @@ lowered_fresh c machine past at notice live new s own was is =
     ))
     (λ plain. tt))))
   where
-    kept_base : (b : Bool) (base : Option (List ℕ)) (bytes : List ℕ) → (if b then base else None) ≡ Some bytes
-        → base ≡ Some bytes
+    kept_base : (b : Bool) (base : Option (List ℕ)) (bytes : List ℕ) → (if b then base else None) ≡ Some bytes → base ≡ Some bytes
     kept_base true base bytes e = e
     kept_base false base bytes e = absurd (no_base bytes e)
 
@@ -168,11 +163,9 @@ lowered_fresh c machine past at notice live new s own was is =
 
 parked_fresh : (c : ℕ) (machine : Client) (past : List Fact) (at : ℕ) (notice : BreakNotice) (live : LiveEntry)
     → IsSoundClient machine → bytes_eq (lease_key machine.guid at) notice.key ≡ true
-    → TakesFresh c machine past (Reply.Break (Some notice))
-    (turned machine at (parked_closed live (sent_of machine at)))
+    → TakesFresh c machine past (Reply.Break (Some notice)) (turned machine at (parked_closed live (sent_of machine at)))
 unfolding parked_closed
-parked_fresh c machine past at notice live s own =
-    turn_fresh c machine past (Reply.Break (Some notice)) at _ s
+parked_fresh c machine past at notice live s own = turn_fresh c machine past (Reply.Break (Some notice)) at _ s
     (λ file ne. broken_elsewhere c machine past at notice file own ne)
     (λ file reads ne. all_about (lease_key machine.guid file) reads _ (writes_close_about live.file_id live.unsent [] tt))
     (λ place queue old m. here_fresh machine (Reply.Break (Some notice)) at _ place queue
@@ -185,20 +178,15 @@ parked_fresh c machine past at notice live s own =
 -- ---- reads and writes
 
 read_fresh : (c : ℕ) (machine : Client) (past : List Fact) (at file_id : ℕ) (bytes : List ℕ) (live : LiveEntry)
-    → IsSoundClient machine → IsKnownBy c machine past → (machine.entries at).phase ≡ Phase.Live live
-    → live.file_id ≡ file_id
-    → TakesFresh c machine past (Reply.ReadDone file_id bytes)
-    (turned machine at (read_turn live (sent_of machine at) bytes))
+    → IsSoundClient machine → IsKnownBy c machine past → (machine.entries at).phase ≡ Phase.Live live → live.file_id ≡ file_id
+    → TakesFresh c machine past (Reply.ReadDone file_id bytes) (turned machine at (read_turn live (sent_of machine at) bytes))
 unfolding read_turn
-read_fresh c machine past at file_id bytes live s k was id =
-    turn_fresh c machine past (Reply.ReadDone file_id bytes) at _ s
+read_fresh c machine past at file_id bytes live s k was id = turn_fresh c machine past (Reply.ReadDone file_id bytes) at _ s
     (λ file ne. record { reads = λ e. refl; same = λ e old new f. f })
     (λ file reads ne. tt)
     (λ place queue old m. here_fresh machine (Reply.ReadDone file_id bytes) at _ place queue
     (λ e. ap (λ p. (belief_in p).read) was ∙ e)
-    (λ now so b e. by_read place live.belief.read refl b
-    (ap (λ (l : LiveEntry). l.base) (one_live now _ so) ∙ e) m.tells)
-    tt)
+    (λ now so b e. by_read place live.belief.read refl b (ap (λ (l : LiveEntry). l.base) (one_live now _ so) ∙ e) m.tells) tt)
   where
     own_file : was_opened live.file_id at c past ≡ true
     own_file = let n : IsNamedPhase c at past (Phase.Live live) = subst (IsNamedPhase c at past) was (k.names at).phase in
@@ -208,8 +196,7 @@ read_fresh c machine past at file_id bytes live s k was id =
     some_bytes a b e = cc
 
     by_read : (place : List Fact) (reads : Bool) → live.belief.read ≡ reads → (b : List ℕ)
-        → (if reads then Some bytes else live.base) ≡ Some b → HasBytes c file_id past place bytes
-        → b ≡ content_of at place
+        → (if reads then Some bytes else live.base) ≡ Some b → HasBytes c file_id past place bytes → b ≡ content_of at place
     by_read place true r b e t = sym (some_bytes bytes b e) ∙ t.is
         ∙ ap (λ f. content_of f place) (opened_once file_id t.file c at c past t.opened
         (subst (λ i. was_opened i at c past ≡ true) id own_file))
@@ -222,8 +209,7 @@ record IsFound (pending : List Pending) (number : ℕ) : Type 0 where
   there : Among write pending
   numbered : write.number ≡ number
 
-found_write : (pending : List Pending) (number : ℕ) → list_any (is_numbered number) pending ≡ true
-    → IsFound pending number
+found_write : (pending : List Pending) (number : ℕ) → list_any (is_numbered number) pending ≡ true → IsFound pending number
 found_write pending number has = by_find (find (is_numbered number) pending) refl
   where
     by_find : (found : Option Pending) → find (is_numbered number) pending ≡ found → IsFound pending number
@@ -242,25 +228,21 @@ found_write pending number has = by_find (find (is_numbered number) pending) ref
     by_find (Some write) e = let p = find_has (is_numbered number) write pending e in
         record { write = write; found = e; there = p.0; numbered = eqb-true write.number number p.1 }
 
-each_among : (P : Pending → Type 0) (pending : List Pending) (write : Pending) → Each P pending → Among write pending
-    → P write
+each_among : (P : Pending → Type 0) (pending : List Pending) (write : Pending) → Each P pending → Among write pending → P write
 each_among P [] write each a = absurd a
 each_among P (w ∷ pending) write each a =
     ⊎_elim (λ same. subst P (sym same) each.0) (λ later. each_among P pending write each.1 later) a
 
 written_fresh : (c : ℕ) (machine : Client) (past : List Fact) (at file_id number : ℕ) → IsSoundClient machine
-    → IsKnownBy c machine past → has_sent machine number at ≡ true
-    → TakesFresh c machine past (Reply.WriteDone file_id number)
+    → IsKnownBy c machine past → has_sent machine number at ≡ true → TakesFresh c machine past (Reply.WriteDone file_id number)
     (turned machine at (write_done_turn number (machine.entries at)))
 unfolding write_done_turn
-written_fresh c machine past at file_id number s k has =
-    turn_fresh c machine past (Reply.WriteDone file_id number) at _ s
+written_fresh c machine past at file_id number s k has = turn_fresh c machine past (Reply.WriteDone file_id number) at _ s
     (λ file ne. written_elsewhere c machine past k at file_id number has file ne)
     (λ file reads ne. tt)
     (λ place queue old m. here_fresh machine (Reply.WriteDone file_id number) at _ place queue
     (λ e. same_reads _ (machine.entries at).phase e)
-    (λ now so bytes b. by_phase (machine.entries at).phase refl place queue old m now so bytes b)
-    tt)
+    (λ now so bytes b. by_phase (machine.entries at).phase refl place queue old m now so bytes b) tt)
   where
     f : IsFound (machine.entries at).sent number
     f = found_write (machine.entries at).sent number has
@@ -270,8 +252,7 @@ written_fresh c machine past at file_id number s k has =
     same_reads write Phase.Closed e = e
     same_reads write phase e = e
 
-    patched_so : (write : Pending) (base : Option (List ℕ)) (bytes : List ℕ)
-        → base_with (Some write) base ≡ Some bytes
+    patched_so : (write : Pending) (base : Option (List ℕ)) (bytes : List ℕ) → base_with (Some write) base ≡ Some bytes
         → (was : List ℕ) × (base ≡ Some was) × (bytes ≡ patched was write.patch)
     patched_so write None bytes e = absurd (no_base bytes e)
     patched_so write (Some was) bytes e = (was, refl, sym (some_same (patched was write.patch) bytes e))
@@ -279,8 +260,7 @@ written_fresh c machine past at file_id number s k has =
         some_same : (a b : List ℕ) → Some a ≡ Some b → a ≡ b
         some_same a b e = cc
 
-    follow : (old new : List ℕ) → Follows c at past old new (Reply.WriteDone file_id number)
-        → new ≡ patched old (f.write).patch
+    follow : (old new : List ℕ) → Follows c at past old new (Reply.WriteDone file_id number) → new ≡ patched old (f.write).patch
     follow old new h = ⊎_elim
         (λ p. p.is ∙ ap (patched old) (k.once at at number p.patch (f.write).patch p.written mine).patch_is)
         (λ e. absurd (number_elsewhere c machine past k at number has e.other e.apart e.patch e.written)) h
@@ -296,8 +276,7 @@ written_fresh c machine past at file_id number s k has =
     by_phase (Phase.Live live) is place queue old m now so bytes b =
         let p = patched_so f.write live.base bytes (ap (λ w. base_with w live.base) (sym f.found)
         ∙ ap (λ (l : LiveEntry). l.base) (one_live now _ so) ∙ b) in
-        p.2 ∙ ap (λ x. patched x (f.write).patch) (m.base live is p.0 p.1)
-        ∙ sym (follow old (content_of at place)
+        p.2 ∙ ap (λ x. patched x (f.write).patch) (m.base live is p.0 p.1) ∙ sym (follow old (content_of at place)
         (m.follows (ap (λ q. (belief_in q).read) is ∙ base_reads machine at live p.0 s is p.1)))
     by_phase phase is place queue old m now so bytes b = let x : ⊥ = cc in absurd x
 
@@ -350,7 +329,6 @@ takes_fresh c machine past s k = record {
       (λ due file. record { reads = λ e. refl; same = λ e old new f. f });
 }
   where
-    kept : (b : Bool) (base : Option (List ℕ)) (bytes : List ℕ) → (if b then base else None) ≡ Some bytes
-        → base ≡ Some bytes
+    kept : (b : Bool) (base : Option (List ℕ)) (bytes : List ℕ) → (if b then base else None) ≡ Some bytes → base ≡ Some bytes
     kept true base bytes e = e
     kept false base bytes e = absurd (no_base bytes e)

@@ -32,8 +32,7 @@ given_reads key reads (Some given) = if given.in_progress then reads else (bytes
 abbrev pub reads_by : List ℕ → ℕ → Bool → Reply → Bool
 reads_by key file reads (Reply.Created other file_id (Some answer)) =
     if other == file then given_reads key reads answer.lease else reads
-reads_by key file reads (Reply.Break (Some notice)) =
-    if bytes_eq key notice.key then reads && notice.lowered.read else reads
+reads_by key file reads (Reply.Break (Some notice)) = if bytes_eq key notice.key then reads && notice.lowered.read else reads
 reads_by key file reads reply = reads
 
 -- and once all are taken
@@ -116,8 +115,7 @@ after_nothing key file reads (reply ∷ queue) each e =
     by_nothing key file reads reply each.0 (after_nothing key file (reads_by key file reads reply) queue each.1 e)
 
 -- where nothing is created, there are none that weren't
-by_none : (key : List ℕ) (file : ℕ) (reply : Reply) → is_created file reply ≡ false
-    → reads_by key file false reply ≡ false
+by_none : (key : List ℕ) (file : ℕ) (reply : Reply) → is_created file reply ≡ false → reads_by key file false reply ≡ false
 by_none key file (Reply.Created other id (Some answer)) e = rw (e) refl
 by_none key file (Reply.Break (Some notice)) e =
     if_cases (λ b. b ≡ false) (bytes_eq key notice.key) (false && notice.lowered.read) false (λ own. refl) (λ other. refl)
@@ -133,8 +131,7 @@ after_none key file (reply ∷ queue) each = ap (λ b. reads_after key file b qu
 
 -- an acknowledgment of the key keeps reads, where any are left in the end
 abbrev pub AckReads : List ℕ → Bool → Request → Type 0
-AckReads key reads (Request.Acknowledge (Some lease)) =
-    bytes_eq key lease.key ≡ true → reads ≡ true → lease.state.read ≡ true
+AckReads key reads (Request.Acknowledge (Some lease)) = bytes_eq key lease.key ≡ true → reads ≡ true → lease.state.read ≡ true
 AckReads key reads request = ⊤
 
 pub acks_fewer : (key : List ℕ) (reads less : Bool) → (less ≡ true → reads ≡ true) → (request : Request)
@@ -142,15 +139,13 @@ pub acks_fewer : (key : List ℕ) (reads less : Bool) → (less ≡ true → rea
 acks_fewer key reads less fewer (Request.Acknowledge (Some lease)) a = λ own e. a own (fewer e)
 acks_fewer key reads less fewer request a = tt
 
-pub no_acks_read : (key : List ℕ) (reads : Bool) (queue : List Request) → acks key queue ≡ 0
-    → Each (AckReads key reads) queue
+pub no_acks_read : (key : List ℕ) (reads : Bool) (queue : List Request) → acks key queue ≡ 0 → Each (AckReads key reads) queue
 no_acks_read key reads [] e = tt
 no_acks_read key reads (Request.OnFile request ∷ queue) e = (tt, no_acks_read key reads queue (right (acks key queue) e))
   where
     right : (n : ℕ) → 0 + n ≡ 0 → n ≡ 0
     right n e = omega (arith, e)
-no_acks_read key reads (Request.Acknowledge None ∷ queue) e =
-    (tt, no_acks_read key reads queue (right (acks key queue) e))
+no_acks_read key reads (Request.Acknowledge None ∷ queue) e = (tt, no_acks_read key reads queue (right (acks key queue) e))
   where
     right : (n : ℕ) → 0 + n ≡ 0 → n ≡ 0
     right n e = omega (arith, e)
@@ -203,8 +198,7 @@ IsRelayed c key file past reads old [] [] now = reads ≡ true → now ≡ old
 IsRelayed c key file past reads old [] (reply ∷ queue) now = ⊥
 IsRelayed c key file past reads old (place ∷ places) [] now = ⊥
 IsRelayed c key file past reads old (place ∷ places) (reply ∷ queue) now =
-    (reads ≡ true → Follows c file past old (content_of file place) reply)
-    × TellsBytes c past place reply
+    (reads ≡ true → Follows c file past old (content_of file place) reply) × TellsBytes c past place reply
     × IsRelayed c key file past (reads_by key file reads reply) (content_of file place) places queue now
 
 follows_later : (c file : ℕ) (past new : List Fact) (old next : List ℕ) (reply : Reply) → IsLater past new
@@ -228,16 +222,14 @@ tells_later c past new place reply later t = tt
 
 pub relayed_later : (c : ℕ) (key : List ℕ) (file : ℕ) (past new : List Fact) (reads : Bool) (old : List ℕ)
     (places : List (List Fact)) (queue : List Reply) (now : List ℕ) → IsLater past new
-    → IsRelayed c key file past reads old places queue now
-    → IsRelayed c key file new reads old places queue now
+    → IsRelayed c key file past reads old places queue now → IsRelayed c key file new reads old places queue now
 relayed_later c key file past new reads old [] [] now later r = r
 relayed_later c key file past new reads old [] (reply ∷ queue) now later r = absurd r
 relayed_later c key file past new reads old (place ∷ places) [] now later r = absurd r
 relayed_later c key file past new reads old (place ∷ places) (reply ∷ queue) now later r = (
   λ e. follows_later c file past new old (content_of file place) reply later (r.0 e),
   tells_later c past new place reply later r.1,
-  relayed_later c key file past new (reads_by key file reads reply) (content_of file place) places queue now later
-      r.2,
+  relayed_later c key file past new (reads_by key file reads reply) (content_of file place) places queue now later r.2,
 )
 
 pub relayed_fewer : (c : ℕ) (key : List ℕ) (file : ℕ) (past : List Fact) (reads less : Bool) (old : List ℕ)
@@ -254,8 +246,7 @@ relayed_fewer c key file past reads less old (place ∷ places) (reply ∷ queue
 )
 
 pub relayed_now : (c : ℕ) (key : List ℕ) (file : ℕ) (past : List Fact) (reads : Bool) (old : List ℕ)
-    (places : List (List Fact)) (queue : List Reply) (now next : List ℕ)
-    → (reads_after key file reads queue ≡ true → next ≡ now)
+    (places : List (List Fact)) (queue : List Reply) (now next : List ℕ) → (reads_after key file reads queue ≡ true → next ≡ now)
     → IsRelayed c key file past reads old places queue now → IsRelayed c key file past reads old places queue next
 relayed_now c key file past reads old [] [] now next same r = λ e. same e ∙ r e
 relayed_now c key file past reads old [] (reply ∷ queue) now next same r = absurd r

@@ -147,15 +147,13 @@ ack_kept world c given oldest sound breaks t file live is write own =
     (λ zero. absurd (some_acks (acks key oldest.queue) (ap (λ x. one_if x + acks key oldest.queue) (sym own)
     ∙ ap (acks key) (sym oldest.is_first) ∙ zero)))
     (λ a. let all : Each (AckKeeps key) (Request.Acknowledge (Some given) ∷ oldest.queue) =
-    subst (Each (AckKeeps key)) oldest.is_first (a.bounds live is write) in all.0)
-    (t.files file fresh).believed.answers
+    subst (Each (AckKeeps key)) oldest.is_first (a.bounds live is write) in all.0) (t.files file fresh).believed.answers
 
 done_holds : (world : World) (c : ℕ) (given : LeaseOf) → IsOldest world c (Request.Acknowledge (Some given))
     → IsSound world.server → is_breaking (world.server.leases (key_of c given.key)) ≡ true → HasTrust world c
     → (world.clients c).is_online ≡ true
     → ((file : ℕ) → IsSoundPhase (world.clients c).is_online ((world.clients c).entries file).sent
-    ((world.clients c).entries file).phase) → IsSafeUp world c
-    → EntryHolds (popped world c) (done_in world c given) c
+    ((world.clients c).entries file).phase) → IsSafeUp world c → EntryHolds (popped world c) (done_in world c given) c
 done_holds world c given oldest sound breaks t online phases u = record {
   live = λ file live is write x there by on h. other_held world c given file
       (λ own had. still_held world c given file (ack_kept world c given oldest sound breaks t file live is write own) had) h;

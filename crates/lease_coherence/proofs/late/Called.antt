@@ -98,8 +98,7 @@ pub command_entries : (world : World) (c : ℕ) (command : Command) → IsKnownB
 command_entries world c command k e = let machine = world.clients c in
     stepped_entries world c (commanded machine command) (commanded-stays machine command).guid
     (any_command machine (StepSafe world c machine) (commands_safe world c machine
-    (λ file. unbuffered_clean c file (machine.last_number + 1) world.past
-    (new_number c machine world.past k file))) command) e
+    (λ file. unbuffered_clean c file (machine.last_number + 1) world.past (new_number c machine world.past k file))) command) e
 
 pub command_late : (world : World) (c : ℕ) (command : Command) → IsKnownBy c (world.clients c) world.past
     → (is_up (world.links c) ≡ true → IsKnownUp world c) → IsNotLate world c
@@ -110,8 +109,7 @@ command_late world c command known k a = let machine = world.clients c in
       up = λ up. let was = was_up world c step up in let u = a.up was in
           stepped_up world c no_settles step []
           (step_well world c no_settles step was (k was) (commanded-stays machine command).guid
-          (commanded-stays machine command).files
-          (called_sound machine (ClientCall.Commanded command) ((k was).ground.clients c))
+          (commanded-stays machine command).files (called_sound machine (ClientCall.Commanded command) ((k was).ground.clients c))
           (called_tells machine (ClientCall.Commanded command) ((k was).ground.clients c))
           (any_command machine (StepFrom machine no_settles) (commands_from machine) command)
           (any_command machine (AnchorsOn machine) (commands_anchor machine) command))
@@ -159,8 +157,7 @@ gone_counted : (world : World) (c : ℕ) (queue : List Reply) → Ground world �
 unfolding opened_count was_opened
 gone_counted world c queue g = record { last = g.counted.last; opens = g.counted.opens }
 
-gone_well : (world : World) (c : ℕ) (reply : Reply) (queue : List Reply) → is_up (world.links c) ≡ true
-    → IsKnownUp world c
+gone_well : (world : World) (c : ℕ) (reply : Reply) (queue : List Reply) → is_up (world.links c) ≡ true → IsKnownUp world c
     → IsStepWell (reply_gone world c queue) c (λ n. settles_of n reply) (taken (world.clients c) reply)
 gone_well world c reply queue was k =
     let machine = world.clients c in
@@ -178,8 +175,7 @@ gone_well world c reply queue was k =
           (λ r. request_later c machine.guid world.past gone.past later r)
           (record { queued = k.names.requests; held = k.names.held });
       tells = called_tells machine (ClientCall.Taken reply) (k.ground.clients c);
-      from = any_reply machine (λ r s. StepFrom machine (λ n. settles_of n r) s) (takes_from machine (k.ground.clients c))
-          reply;
+      from = any_reply machine (λ r s. StepFrom machine (λ n. settles_of n r) s) (takes_from machine (k.ground.clients c)) reply;
       anchors = any_reply machine (λ r s. AnchorsOn machine s) (takes_anchor machine) reply;
       answers = λ file fresh. ⊎_elim (λ zero. inl zero) (λ a. inr a.bounds) (k.trust.files file fresh).believed.answers;
       stands = λ file live is fresh. let o = live_open world c k.stands file live is fresh in record {
@@ -220,8 +216,7 @@ take_late world c reply queue first was k a =
     let step = taken machine reply in
     let gone = reply_gone world c queue in
     let u = a.up was in
-    let entries : IsSafeAt gone c =
-    entries_like world gone c (gone_like world c queue) k.ids k.names
+    let entries : IsSafeAt gone c = entries_like world gone c (gone_like world c queue) k.ids k.names
     (all_hold world gone c (λ file x there by on h. h)) a.entries in record {
       entries = stepped_entries gone c step (taken-stays machine reply).guid
           (any_reply machine (TakesSafe gone c machine) (takes_safe gone c machine (k.ground.clients c) refl) reply

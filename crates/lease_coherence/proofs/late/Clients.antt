@@ -60,8 +60,7 @@ pub record EntryFrom (old : Entry) (new : Entry) (reply_settles : ℕ → ℕ) :
 
 pub record StepFrom (client : Client) (settles : ℕ → ℕ) (step : Step) : Type 0 where
   pub sends : SendsWrites client step
-  pub entries : (file : ℕ) → knows_file client file ≡ true
-      → EntryFrom (client.entries file) (step.client.entries file) settles
+  pub entries : (file : ℕ) → knows_file client file ≡ true → EntryFrom (client.entries file) (step.client.entries file) settles
 
 abbrev pub no_settles : ℕ → ℕ
 no_settles number = 0
@@ -87,8 +86,7 @@ turned_from client at turn settles sends here others = record {
 }
 
 wrote_from : (client : Client) (at : ℕ) (entry : Entry) (answer : Answer) (requests : List Request) (write : Pending)
-    → SendsWrites client (wrote_step client at entry answer requests write)
-    → EntryFrom (client.entries at) entry no_settles
+    → SendsWrites client (wrote_step client at entry answer requests write) → EntryFrom (client.entries at) entry no_settles
     → StepFrom client no_settles (wrote_step client at entry answer requests write)
 wrote_from client at entry answer requests write sends here = record {
   sends = sends;
@@ -137,8 +135,7 @@ flush_sends : (client : Client) (at : ℕ) (turn : Turn) (live : LiveEntry) (tai
     → (client.entries at).phase ≡ Phase.Live live → Each IsOther tail
     → turn.requests ≡ write_requests live.file_id live.unsent ++ tail → SendsWrites client (turned client at turn)
 unfolding turned
-flush_sends client at turn live tail is others are =
-    SendsWrites.Flush at live is live.unsent (λ w a. a) tail others are
+flush_sends client at turn live tail is others are = SendsWrites.Flush at live is live.unsent (λ w a. a) tail others are
 
 flush_some : (client : Client) (at : ℕ) (turn : Turn) (live : LiveEntry) (writes : List Pending)
     → (client.entries at).phase ≡ Phase.Live live
@@ -147,8 +144,7 @@ flush_some : (client : Client) (at : ℕ) (turn : Turn) (live : LiveEntry) (writ
 unfolding turned
 flush_some client at turn live writes is all tail others are = SendsWrites.Flush at live is writes all tail others are
 
-plain_sends : (client : Client) (at : ℕ) (turn : Turn) → Each IsOther turn.requests
-    → SendsWrites client (turned client at turn)
+plain_sends : (client : Client) (at : ℕ) (turn : Turn) → Each IsOther turn.requests → SendsWrites client (turned client at turn)
 unfolding turned
 plain_sends client at turn others = SendsWrites.NoWrite others
 
@@ -165,16 +161,13 @@ commands_from client = record {
       (plain_entry (client.entries file) _ refl (no_live_again _));
   asked = λ file live terms is idle some. quiet_from client file _ (plain_sends client file _ (tt, tt))
       (plain_entry (client.entries file) _ refl (no_live_again _));
-  anew = λ file live terms is idle none. quiet_from client file _
-      (flush_sends client file _ live _ is.is_so (tt, (tt, tt)) refl)
-      (flush_entry (client.entries file) _ live live.unsent is.is_so (λ w a. a) refl
-      (opening_again terms.access terms.share));
+  anew = λ file live terms is idle none. quiet_from client file _ (flush_sends client file _ live _ is.is_so (tt, (tt, tt)) refl)
+      (flush_entry (client.entries file) _ live live.unsent is.is_so (λ w a. a) refl (opening_again terms.access terms.share));
   fewer = λ file live is more. quiet_from client file _ (plain_sends client file _ tt)
       (plain_entry (client.entries file) _ refl (no_live_again _));
   parked = λ file live is idle done stays. quiet_from client file _ (plain_sends client file _ tt)
       (plain_entry (client.entries file) _ refl (no_live_again _));
-  closed = λ file live is idle done goes. quiet_from client file _
-      (flush_sends client file _ live _ is.is_so (tt, tt) refl)
+  closed = λ file live is idle done goes. quiet_from client file _ (flush_sends client file _ live _ is.is_so (tt, tt) refl)
       (flush_entry (client.entries file) _ live live.unsent is.is_so (λ w a. a) refl closed_again);
   cached = λ file live base is reads has. record {
     sends = SendsWrites.NoWrite tt;
@@ -222,8 +215,7 @@ settles_one client s at used has file ne w a = ap one_if (not_true (used == w.nu
     (ap (λ n. has_number n (unanswered_in (client.entries file))) (eqb-true used w.number same)
     ∙ number_append w.number (sent_of client file) (unsent_in (client.entries file).phase)
     ∙ true_or (has_number w.number (sent_of client file)) _ (number_there w (sent_of client file) a))
-    (s.numbers.apart at file used (λ e. ne (sym e))
-    (number_append used (sent_of client at) (unsent_in (client.entries at).phase)
+    (s.numbers.apart at file used (λ e. ne (sym e)) (number_append used (sent_of client at) (unsent_in (client.entries at).phase)
     ∙ true_or (has_number used (sent_of client at)) _ has))))
 
 -- what is left of the sent writes once one is settled
@@ -234,8 +226,7 @@ unfolding sent_without
 left_numbers used low last [] more e w a = absurd a
 left_numbers used low last (x ∷ sent) more e w a = let r = rising_rest x low last (sent ++ more) e in
     if_cases (λ l. Among w l → Among w (x ∷ sent)
-    × ((used == w.number) ≡ false ⊎ (has_number used (x ∷ sent) ≡ false))) (x.number == used) sent
-    (x ∷ sent_without used sent)
+    × ((used == w.number) ≡ false ⊎ (has_number used (x ∷ sent) ≡ false))) (x.number == used) sent (x ∷ sent_without used sent)
     (λ same b. (
       inr b,
       inl (not_true (used == w.number) (λ also. clash (has_number x.number (sent ++ more))
@@ -253,8 +244,7 @@ left_numbers used low last (x ∷ sent) more e w a = let r = rising_rest x low l
     (inr p.0, ⊎_elim (λ apart. inl apart) (λ none. inr (rw (other) none)) p.1)) b) a
 
 left_entry : (client : Client) → IsSoundClient client → (at used : ℕ) → has_sent client used at ≡ true → (new : Entry)
-    → new.sent ≡ sent_without used (sent_of client at)
-    → ((parted : Parted) → new.phase ≡ Phase.Reconnecting parted
+    → new.sent ≡ sent_without used (sent_of client at) → ((parted : Parted) → new.phase ≡ Phase.Reconnecting parted
     → (client.entries at).phase ≡ Phase.Reconnecting parted)
     → EntryFrom (client.entries at) new (λ number. one_if (used == number))
 left_entry client s at used has new same again = record {
@@ -303,8 +293,7 @@ pub takes_from : (client : Client) → IsSoundClient client
 unfolding opened_turn reconnected_turn promoted_turn read_turn write_done_turn parked_closed closed_by_server
 takes_from client s = record {
   passed = λ reply why. passed_from client reply why;
-  parked_closes = λ at notice live found is parked. quiet_from client at _
-      (flush_sends client at _ live _ is (tt, tt) refl)
+  parked_closes = λ at notice live found is parked. quiet_from client at _ (flush_sends client at _ live _ is (tt, tt) refl)
       (flush_entry (client.entries at) _ live live.unsent is (λ w a. a) refl closed_again);
   lowered = λ at notice live found is stays. lowered_from client at notice live (meet live.belief notice.lowered) is;
   opened = λ at file_id answer access share is. quiet_from client at _ (plain_sends client at _ tt)

@@ -37,8 +37,7 @@ from_among P (w ∷ writes) all = (all w (inl refl), from_among P writes (λ x a
 
 pub at_among : (P : Pending → Type 0) (writes : List Pending) (w : Pending) → Each P writes → Among w writes → P w
 at_among P [] w each a = absurd a
-at_among P (x ∷ writes) w each a =
-    ⊎_elim (λ same. subst P (sym same) each.0) (λ later. at_among P writes w each.1 later) a
+at_among P (x ∷ writes) w each a = ⊎_elim (λ same. subst P (sym same) each.0) (λ later. at_among P writes w each.1 later) a
 
 each_parts : (P : Pending → Type 0) (xs ys : List Pending) → Each P (xs ++ ys) → Each P xs × Each P ys
 each_parts P [] ys e = (tt, e)
@@ -48,8 +47,7 @@ each_parts P (x ∷ xs) ys e = let r = each_parts P xs ys e.1 in ((e.0, r.0), r.
 
 pub sound_live : (client : Client) (file : ℕ) (live : LiveEntry) → IsSoundClient client
     → (client.entries file).phase ≡ Phase.Live live → IsSoundLive live
-sound_live client file live s is =
-    (subst (IsSoundPhase client.is_online (client.entries file).sent) is (s.entries file)).1
+sound_live client file live s is = (subst (IsSoundPhase client.is_online (client.entries file).sent) is (s.entries file)).1
 
 -- unsent writes stand under writes that are cached
 pub unsent_writes : (live : LiveEntry) → IsSoundLive live → (w : Pending) → Among w live.unsent → live.belief.write ≡ true
@@ -79,10 +77,8 @@ unfolding turned
 turned_safe world c client at turn here file p = put_safe world c client at turn.entry here file p
 
 -- an entry that was live
-was_live : (world : World) (c : ℕ) (client : Client) (at : ℕ) (live : LiveEntry)
-    → (client.entries at).phase ≡ Phase.Live live
-    → PhaseSafe world c at (client.entries at).sent (client.entries at).phase
-    → LiveSafe world c at (sent_of client at) live
+was_live : (world : World) (c : ℕ) (client : Client) (at : ℕ) (live : LiveEntry) → (client.entries at).phase ≡ Phase.Live live
+    → PhaseSafe world c at (client.entries at).sent (client.entries at).phase → LiveSafe world c at (sent_of client at) live
 was_live world c client at live is p = subst (PhaseSafe world c at (sent_of client at)) is p
 
 -- and believes no more, with writes that were safe
@@ -96,18 +92,15 @@ less_live world c file sent after live now id less clean p = λ x there by same 
 -- an entry that is live as that one
 less_entry : (world : World) (c : ℕ) (client : Client) (at : ℕ) (live now : LiveEntry) (entry : Entry)
     → (client.entries at).phase ≡ Phase.Live live → entry.phase ≡ Phase.Live now → now.file_id ≡ live.file_id
-    → (now.belief.write ≡ true → live.belief.write ≡ true)
-    → (Each (IsClean c at world.past) (sent_of client at ++ live.unsent)
+    → (now.belief.write ≡ true → live.belief.write ≡ true) → (Each (IsClean c at world.past) (sent_of client at ++ live.unsent)
     → Each (IsClean c at world.past) (entry.sent ++ now.unsent))
-    → PhaseSafe world c at (client.entries at).sent (client.entries at).phase
-    → PhaseSafe world c at entry.sent entry.phase
+    → PhaseSafe world c at (client.entries at).sent (client.entries at).phase → PhaseSafe world c at entry.sent entry.phase
 less_entry world c client at live now entry is so id less clean p = subst (PhaseSafe world c at entry.sent) (sym so)
     (less_live world c at (sent_of client at) entry.sent live now id less clean (was_live world c client at live is p))
 
 less_turn : (world : World) (c : ℕ) (client : Client) (at : ℕ) (live now : LiveEntry) (turn : Turn)
     → (client.entries at).phase ≡ Phase.Live live → turn.entry.phase ≡ Phase.Live now → now.file_id ≡ live.file_id
-    → (now.belief.write ≡ true → live.belief.write ≡ true)
-    → (Each (IsClean c at world.past) (sent_of client at ++ live.unsent)
+    → (now.belief.write ≡ true → live.belief.write ≡ true) → (Each (IsClean c at world.past) (sent_of client at ++ live.unsent)
     → Each (IsClean c at world.past) (turn.entry.sent ++ now.unsent)) → StepSafe world c client (turned client at turn)
 less_turn world c client at live now turn is so id less clean =
     turned_safe world c client at turn (less_entry world c client at live now turn.entry is so id less clean)
@@ -124,8 +117,7 @@ same_turn world c client at live now turn is so sent id belief unsent = less_tur
 -- ---- commands
 
 pub commands_safe : (world : World) (c : ℕ) (client : Client)
-    → ((file : ℕ) → is_touched c file (client.last_number + 1) world.past ≡ false)
-    → HasCommands client (StepSafe world c client)
+    → ((file : ℕ) → is_touched c file (client.last_number + 1) world.past ≡ false) → HasCommands client (StepSafe world c client)
 unfolding cached_read opened_anew write_buffered write_sent flush_on_live
 commands_safe world c client fresh = record {
   refused = λ refusal file p. p;
@@ -142,12 +134,10 @@ commands_safe world c client fresh = record {
       let write = next_write client patch true in
       let now : LiveEntry = record live { unsent = live.unsent ++ write ∷ [] } in
       let entry = live_entry now (sent_of client file) in
-      put_safe world c client file entry
-      (less_entry world c client file live now entry is.is_so refl refl (λ w. w)
+      put_safe world c client file entry (less_entry world c client file live now entry is.is_so refl refl (λ w. w)
       (λ each. let parts = each_parts (IsClean c file world.past) (sent_of client file) live.unsent each in
       each_append (IsClean c file world.past) (sent_of client file) (live.unsent ++ write ∷ [])
-      parts.0 (each_append (IsClean c file world.past) live.unsent (write ∷ []) parts.1
-      ((λ b. fresh file), tt)))) f p;
+      parts.0 (each_append (IsClean c file world.past) live.unsent (write ∷ []) parts.1 ((λ b. fresh file), tt)))) f p;
   written = λ file live patch is fits sends f p. put_safe world c client file _
       (λ q. λ x there by id write. clash live.belief.write write sends) f p;
   flushed = λ file live is. less_turn world c client file live _ _ is.is_so refl refl (λ w. w)
@@ -172,8 +162,7 @@ pub record IsTakenSafe (world : World) (c : ℕ) (client : Client) (reply : Repl
 abbrev pub TakesSafe : World → ℕ → Client → Reply → Step → Type 0
 TakesSafe world c client reply step = IsTakenSafe world c client reply → StepSafe world c client step
 
-pub given_so : (key : List ℕ) (given : Option LeaseGiven) → (given_state key given).write ≡ true
-    → given_writes key given ≡ true
+pub given_so : (key : List ℕ) (given : Option LeaseGiven) → (given_state key given).write ≡ true → given_writes key given ≡ true
 given_so key None e = absurd (true≢false (sym e))
 given_so key (Some given) e = by_cases given.in_progress (bytes_eq given.key key) e
   where
@@ -190,8 +179,7 @@ promoted_so : (key : List ℕ) (belief : State) (given : Option LeaseGiven)
 promoted_so key belief None e = absurd (true≢false (sym e))
 promoted_so key belief (Some given) e = by_cases given.in_progress (bytes_eq given.key key) e
   where
-    by_cases : (busy own : Bool)
-        → (if busy then belief else (if own then given.state else nothing_cached)).write ≡ true
+    by_cases : (busy own : Bool) → (if busy then belief else (if own then given.state else nothing_cached)).write ≡ true
         → ((busy || (own && given.state.write)) ≡ true) × ((belief.write ≡ true)
         ⊎ ((if own && not busy then given.state else nothing_cached).write ≡ true))
     by_cases true own h = (refl, inl h)
@@ -232,8 +220,7 @@ grant_taken world c client file file_id answer guid known t write x there by id 
     }
 
 lowered_safe : (world : World) (c : ℕ) (client : Client) (at : ℕ) (notice : BreakNotice) (live : LiveEntry)
-    → (client.entries at).phase ≡ Phase.Live live
-    → StepSafe world c client
+    → (client.entries at).phase ≡ Phase.Live live → StepSafe world c client
     (turned client at (belief_lowered live (sent_of client at) notice (meet live.belief notice.lowered)))
 unfolding belief_lowered
 lowered_safe world c client at notice live is =
@@ -263,21 +250,18 @@ fewer_entry : (world : World) (c : ℕ) (client : Client) (at number : ℕ) (liv
 fewer_entry world c client at number live now entry is so sent id belief unsent =
     less_entry world c client at live now entry is so id (λ w. ap (λ (s : State). s.write) (sym belief) ∙ w)
     (λ each. let parts = each_parts (IsClean c at world.past) (sent_of client at) live.unsent each in
-    each_append (IsClean c at world.past) entry.sent now.unsent
-    (subst (Each (IsClean c at world.past)) (sym sent)
+    each_append (IsClean c at world.past) entry.sent now.unsent (subst (Each (IsClean c at world.past)) (sym sent)
     (each_without (IsClean c at world.past) number (sent_of client at) parts.0))
     (subst (Each (IsClean c at world.past)) (sym unsent) parts.1))
 
 written_safe : (world : World) (c : ℕ) (client : Client) (at number : ℕ) (write : Option Pending) (phase : Phase)
     → (client.entries at).phase ≡ phase → PhaseSafe world c at (client.entries at).sent (client.entries at).phase
     → PhaseSafe world c at (sent_without number (sent_of client at)) (phase_with write phase)
-written_safe world c client at number write (Phase.Live live) is p =
-    fewer_entry world c client at number live _ (record {
-      phase = phase_with write (Phase.Live live);
-      sent = sent_without number (sent_of client at);
-    }) is refl refl refl refl refl p
-written_safe world c client at number write (Phase.Offline parted) is p =
-    subst (PhaseSafe world c at (sent_of client at)) is p
+written_safe world c client at number write (Phase.Live live) is p = fewer_entry world c client at number live _ (record {
+  phase = phase_with write (Phase.Live live);
+  sent = sent_without number (sent_of client at);
+}) is refl refl refl refl refl p
+written_safe world c client at number write (Phase.Offline parted) is p = subst (PhaseSafe world c at (sent_of client at)) is p
 written_safe world c client at number write (Phase.Reconnecting parted) is p =
     subst (PhaseSafe world c at (sent_of client at)) is p
 written_safe world c client at number write phase is p = tt
@@ -288,8 +272,7 @@ failed_safe : (world : World) (c : ℕ) (client : Client) (at number : ℕ) (pha
 failed_safe world c client at number (Phase.Live live) is p =
     fewer_entry world c client at number live live _ is refl refl refl refl refl p
 failed_safe world c client at number (Phase.Offline parted) is p = subst (PhaseSafe world c at (sent_of client at)) is p
-failed_safe world c client at number (Phase.Reconnecting parted) is p =
-    subst (PhaseSafe world c at (sent_of client at)) is p
+failed_safe world c client at number (Phase.Reconnecting parted) is p = subst (PhaseSafe world c at (sent_of client at)) is p
 failed_safe world c client at number phase is p = tt
 
 -- an entry that asked for more
@@ -298,13 +281,11 @@ promoted_safe : (world : World) (c : ℕ) (client : Client) (at file_id : ℕ) (
     → IsSoundClient client → client.guid ≡ (world.clients c).guid → (client.entries at).phase ≡ Phase.Live live
     → IsTakenSafe world c client (Reply.Created at file_id (Some answer)) → next.file_id ≡ file_id
     → next.belief ≡ promoted_belief (lease_key client.guid at) live.belief answer.lease
-    → ((w : Pending) → Among w next.unsent → Among w live.unsent)
-    → StepSafe world c client (turned client at turn)
+    → ((w : Pending) → Among w next.unsent → Among w live.unsent) → StepSafe world c client (turned client at turn)
 promoted_safe world c client at file_id answer live next turn so_next so_sent s guid is t new belief fewer =
     turned_safe world c client at turn (λ p. subst (λ l. PhaseSafe world c at l turn.entry.phase) (sym so_sent)
     (subst (PhaseSafe world c at (sent_of client at)) (sym so_next) (λ x there by id write.
-    let so = promoted_so (lease_key client.guid at) live.belief answer.lease
-    (ap (λ (b : State). b.write) (sym belief) ∙ write) in
+    let so = promoted_so (lease_key client.guid at) live.belief answer.lease (ap (λ (b : State). b.write) (sym belief) ∙ write) in
     let known = is_known client at (Phase.Live live) s is (live_not_closed live) in
     let safe = t.grant at known refl x there by (id ∙ new) in
     let fresh = safe.timely (subst (λ g. given_writes (lease_key g at) answer.lease ≡ true) guid so.0) in
@@ -312,8 +293,7 @@ promoted_safe world c client at file_id answer live next turn so_next so_sent s 
     let old = was_live world c client at live is p o.one o.there o.by o.id in
     let unsent : Each (IsClean c at world.past) next.unsent = from_among (IsClean c at world.past) next.unsent
     (λ w a. let mine = fewer w a in
-    at_among (IsClean c at world.past) live.unsent w
-    (each_parts (IsClean c at world.past) (sent_of client at) live.unsent
+    at_among (IsClean c at world.past) live.unsent w (each_parts (IsClean c at world.past) (sent_of client at) live.unsent
     (old (unsent_writes live (sound_live client at live s is) w mine)).1).1 mine) in ⊎_elim
     (λ had. let was = old had in (
       was.0,
@@ -321,8 +301,7 @@ promoted_safe world c client at file_id answer live next turn so_next so_sent s 
           (each_parts (IsClean c at world.past) (sent_of client at) live.unsent was.1).0 unsent,
     ))
     (λ gives. let g = grant_taken world c client at file_id answer guid known t gives x there by (id ∙ new) in
-    (g.holds, each_append (IsClean c at world.past) (sent_of client at) next.unsent g.clean unsent))
-    so.1)))
+    (g.holds, each_append (IsClean c at world.past) (sent_of client at) next.unsent g.clean unsent)) so.1)))
 
 pub takes_safe : (world : World) (c : ℕ) (client : Client) → IsSoundClient client → client.guid ≡ (world.clients c).guid
     → HasTakes client (TakesSafe world c client)
@@ -364,20 +343,17 @@ takes_safe world c client s guid = record {
   where
     some_kept : (b : Bool) (at : ℕ) (parted : Parted) → Each (KeptWrite world c at) parted.writes
         → Each (IsClean c at world.past) (if b then parted.writes else [])
-    some_kept true at parted each =
-        each_weaker (KeptWrite world c at) (IsClean c at world.past) parted.writes (λ w k b. k.1) each
+    some_kept true at parted each = each_weaker (KeptWrite world c at) (IsClean c at world.past) parted.writes (λ w k b. k.1) each
     some_kept false at parted each = tt
 
-    some_unsent : (b : Bool) (live : LiveEntry) (w : Pending) → Among w (if b then live.unsent else [])
-        → Among w live.unsent
+    some_unsent : (b : Bool) (live : LiveEntry) (w : Pending) → Among w (if b then live.unsent else []) → Among w live.unsent
     some_unsent true live w a = a
     some_unsent false live w a = absurd a
 
 -- ---- notices and connects
 
 kept_filter : (world : World) (c file : ℕ) (writes : List Pending) → holds_write world c file ≡ true
-    → Each (IsClean c file world.past) writes
-    → Each (KeptWrite world c file) (filter (λ w. w.buffered) writes)
+    → Each (IsClean c file world.past) writes → Each (KeptWrite world c file) (filter (λ w. w.buffered) writes)
 kept_filter world c file [] holds each = tt
 kept_filter world c file (w ∷ writes) holds each = if_cases (Each (KeptWrite world c file)) w.buffered
     (w ∷ filter (λ y. y.buffered) writes) (filter (λ y. y.buffered) writes)
@@ -385,8 +361,7 @@ kept_filter world c file (w ∷ writes) holds each = if_cases (Each (KeptWrite w
     (λ b. kept_filter world c file writes holds each.1)
 
 pub notices_safe : (world : World) (c file : ℕ) (sent : List Pending)
-    → HasNotices sent (λ phase turn. PhaseSafe world c file sent phase
-    → PhaseSafe world c file turn.entry.sent turn.entry.phase)
+    → HasNotices sent (λ phase turn. PhaseSafe world c file sent phase → PhaseSafe world c file turn.entry.sent turn.entry.phase)
 notices_safe world c file sent = record {
   closed = λ p. tt;
   opening = λ access share p. tt;

@@ -43,8 +43,7 @@ off_opens : (world off : World) (c : ℕ) (request : FileRequest) → IsSource w
 off_opens world off c request source = from_source world off c request
     (λ o. o.server.opens ≡ world.server.opens) source refl (λ file left. refl)
 
-off_none : (world off : World) (c : ℕ) (request : FileRequest) → IsSource world off c request → NoneLate world
-    → NoneLate off
+off_none : (world off : World) (c : ℕ) (request : FileRequest) → IsSource world off c request → NoneLate world → NoneLate off
 off_none world off c request source l = subst (EachFact NoLateWrite) (sym (off_past world off c request source)) l
 
 change_clean : (world off : World) (c file_id number : ℕ) (patch : Patch) (one : Open) → HasRecord world
@@ -91,8 +90,7 @@ noted_none : (client : ℕ) (past : List Fact) (notes : List Note) → EachFact 
 noted_none client past [] l = l
 noted_none client past (Note.Settled number outcome ∷ notes) l =
     noted_none client (fact_of client (Note.Settled number outcome) ∷ past) notes (tt, l)
-noted_none client past (note ∷ notes) l =
-    noted_none client (fact_of client note ∷ past) notes (tt, l)
+noted_none client past (note ∷ notes) l = noted_none client (fact_of client note ∷ past) notes (tt, l)
 
 stepped_none : (world : World) (client : ℕ) (step : Step) → NoneLate world → NoneLate (stepped_in world client step)
 stepped_none world client step l = subst (EachFact NoLateWrite) (sym (stepped_past world client step))
@@ -107,12 +105,10 @@ none_moves world (Move.Expire client file) (on, breaks) v l = (tt, l)
 none_moves world (Move.Scavenge file_id) may v l = l
 none_moves world (Move.Connect client) down v l =
     stepped_none (come_back world client) client (connection_made (world.clients client)) (tt, l)
-none_moves world (Move.Commanded client command) may v l =
-    stepped_none world client (commanded (world.clients client) command) l
+none_moves world (Move.Commanded client command) may v l = stepped_none world client (commanded (world.clients client) command) l
 none_moves world (Move.Take client reply queue) first v l =
     stepped_none (reply_gone world client queue) client (taken (world.clients client) reply) (tt, l)
-none_moves world (Move.Notice client) cut v l =
-    stepped_none (record world { links = put world.links client Link.Down }) client
+none_moves world (Move.Notice client) cut v l = stepped_none (record world { links = put world.links client Link.Down }) client
     (noticed (world.clients client)) l
 none_moves world move up v l = (tt, l)
 
@@ -131,8 +127,7 @@ first_none setup = starts_none 1 setup.files [] tt
 pub run_late : (setup : Setup) (events : List Event) → is_allowed_setup setup ≡ true
     → Both HasRecord NoneLate (after (first_world setup) events)
 run_late setup events allowed = runs_have (Both HasRecord NoneLate) (λ world v. ground_in world v.0)
-    (carried_both HasRecord NoneLate record_carried none_moves) setup
-    (first_record setup allowed, first_none setup) events
+    (carried_both HasRecord NoneLate record_carried none_moves) setup (first_record setup allowed, first_none setup) events
 
 pub no_write_is_late : InRuns NoLateWrite
 no_write_is_late setup events allowed = subst (EachFact NoLateWrite)

@@ -45,8 +45,7 @@ off_clean world off c request source s = ⊎_elim (λ a. subst (λ o. SentClean 
 
 -- ---- a new open
 
-granted_like : (off : World) (c file : ℕ) (access : Access) (share : Share) (ask : CreateAsk) (asked : LeaseOf)
-    (lease : Lease)
+granted_like : (off : World) (c file : ℕ) (access : Access) (share : Share) (ask : CreateAsk) (asked : LeaseOf) (lease : Lease)
     → IsLike off (granted_in off c file access share (record ask { lease = Some asked }) lease) c
 granted_like off c file access share ask asked lease = record {
   machine = refl;
@@ -54,8 +53,7 @@ granted_like off c file access share ask asked lease = record {
   from = λ x there by low. ⊎_elim (λ old. itself off x old)
       (λ new. ⊎_elim (λ same. absurd (above off.server.last_id
       (subst (λ n. n ≤ off.server.last_id) (ap (λ (o : Open). o.file_id) same) low))) (λ none. absurd none) new)
-      (among_append x off.server.opens
-      (new_open off.server c file access share (Some asked) ask.durable lease ∷ []) there);
+      (among_append x off.server.opens (new_open off.server c file access share (Some asked) ask.durable lease ∷ []) there);
   timely = λ f x there by on e. e;
 }
   where
@@ -81,8 +79,7 @@ granted_asked off c file access share ask asked named sound free ids n clean a =
     (λ other h. h)) n refl refl refl (put_same off.replies c (off.replies c ++ reply ∷ []))
     (λ up at known same x there by id. let mine = own_named off c file at asked named same in record {
       timely = λ gives. ap off.server.expired mine ∙ fresh at gives;
-      clean = λ gives write there buffered none.
-          (opened_past c file off.past).touched at write.number
+      clean = λ gives write there buffered none. (opened_past c file off.past).touched at write.number
           ∙ clean up at known (ap off.server.expired mine
           ∙ fresh at (given_so (file_key off c at) asked.key lease gives)) write there none;
     }) a
@@ -90,8 +87,7 @@ granted_asked off c file access share ask asked named sound free ids n clean a =
     still : (off.server.leases (key_of c asked.key)).state.write ≡ true
         → (lease_granted off.server (key_of c asked.key) file asked.state).state.write ≡ true
     still h = grant_keeps off.server (key_of c asked.key) file asked.state access share sound free
-        (not_true (off.server.expired (key_of c asked.key)) (λ out.
-        clash (off.server.leases (key_of c asked.key)).state.write h
+        (not_true (off.server.expired (key_of c asked.key)) (λ out. clash (off.server.leases (key_of c asked.key)).state.write h
         (ap (λ (l : Lease). l.state.write) (sound.timed_out (key_of c asked.key) out)))) h
 
     fresh : (at : ℕ) → given_writes (file_key off c at) (Some (record {

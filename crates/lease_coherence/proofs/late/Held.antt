@@ -59,8 +59,7 @@ none_waits world c sound n file x there by on holds (FileRequest.Write file_id n
     let parts = open_parts c file_id b.one found.1 in
     let here = asks b.one found.0 parts.0 in
     none_in_the_way (λ lease. breaks_to_some lease) world.server (key_of_open b.one) (machine_key world c file)
-    (b.one).file x sound
-    (ap₂ key_under parts.1.0 (n.opens b.one found.0 parts.1.0)
+    (b.one).file x sound (ap₂ key_under parts.1.0 (n.opens b.one found.0 parts.1.0)
     ∙ ap (λ g. Some (key_of c (lease_key (world.clients c).guid g))) here) there
     (own_has_key world c file x by on (n.opens x there by)) (on ∙ sym here) holds b.is_blocked
 none_waits world c sound n file x there by on holds request named asks b = absurd b
@@ -142,8 +141,7 @@ hold_late world at one oldest may turn sound ids n a = record {
         held = λ place x b own. ⊎_elim (λ old. u.held place x old own)
             (λ fresh. ⊎_elim (λ old. u.held at x old own)
             (λ last. ⊎_elim (λ same. subst (λ (h : Held). HeldPlain world one.client (Request.OnFile h.request)) (sym same) plain)
-            (λ none. absurd none) last)
-            (among_append x (world.server.held at) (one ∷ []) fresh.1))
+            (λ none. absurd none) last) (among_append x (world.server.held at) (one ∷ []) fresh.1))
             (among_put world.server.held at (world.server.held at ++ one ∷ []) place x b);
         acks_keep = acks_like (popped world one.client) new one.client (held_like (popped world one.client) at one)
             (popped_ids world one.client ids) ((popped world one.client).requests one.client)

@@ -90,8 +90,7 @@ unfolding is_touched
 noted_touched c client file number past [] = refl
 noted_touched c client file number past (Note.Settled n outcome ∷ notes) =
     noted_touched c client file number (fact_of client (Note.Settled n outcome) ∷ past) notes
-noted_touched c client file number past (note ∷ notes) =
-    noted_touched c client file number (fact_of client note ∷ past) notes
+noted_touched c client file number past (note ∷ notes) = noted_touched c client file number (fact_of client note ∷ past) notes
 
 -- ---- requests
 
@@ -135,16 +134,14 @@ pub held_up : (world new : World) (c : ℕ) → IsLike world new c → KnowsIds 
     → new.server.held ≡ world.server.held → IsNamedAt world c
     → ((file : ℕ) (one : Held) → Among one (world.server.held file) → one.client ≡ c
     → HeldPlain world c (Request.OnFile one.request))
-    → (file : ℕ) (one : Held) → Among one (new.server.held file) → one.client ≡ c
-    → HeldPlain new c (Request.OnFile one.request)
+    → (file : ℕ) (one : Held) → Among one (new.server.held file) → one.client ≡ c → HeldPlain new c (Request.OnFile one.request)
 held_up world new c like ids held n plain file one a own =
     let was = subst (λ (h : ℕ → List Held). Among one (h file)) held a in
     still one.request (plain file one was own) (n.held file one was own)
   where
     still : (r : FileRequest) → HeldPlain world c (Request.OnFile r)
         → IsNamedRequest c (world.clients c).guid world.past (Request.OnFile r) → HeldPlain new c (Request.OnFile r)
-    still (FileRequest.Write file_id number patch) p w =
-        plain_like world new c like ids file_id w.file number w.opened p
+    still (FileRequest.Write file_id number patch) p w = plain_like world new c like ids file_id w.file number w.opened p
     still request p w = tt
 
 -- ---- acknowledgments
@@ -195,8 +192,7 @@ grant_like world new c file like ids sent front (Reply.Created other file_id (So
       timely = λ e. like.timely file x there (sym w.client ∙ on.1) (sym w.file ∙ on.0)
           (safe.timely (ap (λ k. given_writes k answer.lease) (sym key) ∙ e));
       clean = λ e write a buffered none. like.past.touched file write.number
-          ∙ safe.clean (ap (λ k. (given_state k answer.lease).write) (sym key) ∙ e) write
-          a buffered none;
+          ∙ safe.clean (ap (λ k. (given_state k answer.lease).write) (sym key) ∙ e) write a buffered none;
     }
 grant_like world new c file like ids sent front reply n g = tt
 

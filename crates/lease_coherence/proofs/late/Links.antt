@@ -31,8 +31,7 @@ use Rattle.lease_laws.proofs.client.cases.Links.{any_notice}
 
 -- ---- a connection is lost
 
-pub cut_late : (world : World) (c : ℕ) → KnowsIds world c → IsNamedAt world c → IsNotLate world c
-    → IsNotLate (cut_off world c) c
+pub cut_late : (world : World) (c : ℕ) → KnowsIds world c → IsNamedAt world c → IsNotLate world c → IsNotLate (cut_off world c) c
 unfolding opens_dropped opens_disconnected client_forgotten with_opens
 cut_late world c ids n a = record {
   entries = entries_like world (cut_off world c) c (record {
@@ -57,8 +56,7 @@ cut_late world c ids n a = record {
         → (y : Open) × Among y (without (is_lost world.server c) world.server.opens) × (x ≡ disconnected c y)
     was x there = among_map (disconnected c) x (without (is_lost world.server c) world.server.opens) there
 
-    same : (one : Open) (f : Open → ℕ) → ((o : Open) → f (record o { connected = false }) ≡ f o)
-        → f (disconnected c one) ≡ f one
+    same : (one : Open) (f : Open → ℕ) → ((o : Open) → f (record o { connected = false }) ≡ f o) → f (disconnected c one) ≡ f one
     same one f still = if_cases (λ o. f o ≡ f one) (one.client == c) (record one { connected = false }) one
         (λ here. still one) (λ other. refl)
 
@@ -72,8 +70,7 @@ notice_late world c a =
       entries = stepped_entries base c (noticed machine) refl
           (λ file. any_notice (machine.entries file).sent _ (notices_safe base c file (machine.entries file).sent)
           (machine.entries file).phase) a.entries;
-      up = λ up. absurd (true≢false (sym up
-          ∙ ap (λ (l : ℕ → Link). is_up (l c)) (stepped_links base c (noticed machine))
+      up = λ up. absurd (true≢false (sym up ∙ ap (λ (l : ℕ → Link). is_up (l c)) (stepped_links base c (noticed machine))
           ∙ ap is_up (put_same world.links c Link.Down)));
     }
 
@@ -96,8 +93,7 @@ create_safe : (world : World) (c : ℕ) (r : Request) → IsCreate r → WriteSa
 create_safe world c (Request.OnFile (FileRequest.Create file access share contexts)) is = tt
 create_safe world c request is = absurd is
 
-back_safe : (world : World) (c : ℕ) → KnowsIds world c → IsNamedAt world c → IsSafeAt world c
-    → IsSafeAt (come_back world c) c
+back_safe : (world : World) (c : ℕ) → KnowsIds world c → IsNamedAt world c → IsSafeAt world c → IsSafeAt (come_back world c) c
 unfolding joined
 back_safe world c ids n e = entries_like world (come_back world c) c (record {
   machine = refl;

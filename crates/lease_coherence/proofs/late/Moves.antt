@@ -39,8 +39,7 @@ pub replied_late : (off new : World) (c : ℕ) (reply : Reply) → IsLike off ne
     → IsNamedAt off c → new.requests c ≡ off.requests c → new.server.held ≡ off.server.held
     → new.links c ≡ off.links c → new.replies c ≡ off.replies c ++ reply ∷ []
     → (is_up (off.links c) ≡ true → (file : ℕ) → knows_file (off.clients c) file ≡ true
-    → GrantSafe new c file ((off.clients c).entries file).sent (off.replies c) reply)
-    → IsNotLate off c → IsNotLate new c
+    → GrantSafe new c file ((off.clients c).entries file).sent (off.replies c) reply) → IsNotLate off c → IsNotLate new c
 replied_late off new c reply like ids holds n requests held link replies last a =
     like_late off new c like ids holds n requests held link
     (λ up u file known. grants_more off new c reply file like ids n replies (last up file known) u known) a
@@ -49,8 +48,7 @@ replied_late off new c reply like ids holds n requests held link replies last a 
 pub unsent_late : (off new : World) (c : ℕ) → IsLike off new c → KnowsIds off c → StillHolds off new c
     → IsNamedAt off c → new.requests c ≡ off.requests c → new.server.held ≡ off.server.held
     → new.links c ≡ off.links c → new.replies c ≡ off.replies c → IsNotLate off c → IsNotLate new c
-unsent_late off new c like ids holds n requests held link replies a =
-    like_late off new c like ids holds n requests held link
+unsent_late off new c like ids holds n requests held link replies a = like_late off new c like ids holds n requests held link
     (λ up u file known. let sent = ((off.clients c).entries file).sent in
     subst (GrantsSafe new c file sent []) (sym replies)
     (grants_like off new c file like ids sent [] (off.replies c) n.replies (u.given file known))) a
@@ -106,8 +104,7 @@ closing_like world c test = record {
   timely = λ file x there by on e. e;
 }
 
-still_closing : (world : World) (c : ℕ) (test : Open → Bool) → IsNamedAt world c
-    → StillHolds world (without_opens world test) c
+still_closing : (world : World) (c : ℕ) (test : Open → Bool) → IsNamedAt world c → StillHolds world (without_opens world test) c
 unfolding with_opens
 still_closing world c test n file x there by on h =
     ap (λ (l : Lease). l.state.write) (closing_holds world test c n.opens file x there by on) ∙ h
@@ -143,8 +140,7 @@ leased_late world key lease current lowered ids n keeps a =
     (put_same world.replies key.client (world.replies key.client ++ reply ∷ [])) (λ up file known. tt) a
 
 pub lower_late : (world : World) (key : Key) (lowered : State) → KnowsIds world key.client
-    → IsNamedAt world key.client → needs_acknowledgment (world.server.leases key).state ≡ false
-    → IsNotLate world key.client
+    → IsNamedAt world key.client → needs_acknowledgment (world.server.leases key).state ≡ false → IsNotLate world key.client
     → IsNotLate (leased_in world key (record { state = lowered; broken_to = None })
     (break_notice key (world.server.leases key).state lowered)) key.client
 lower_late world key lowered ids n light a =
@@ -153,8 +149,7 @@ lower_late world key lowered ids n light a =
     (true_or ((world.server.leases key).state.write) ((world.server.leases key).state.handle) w) light) a
 
 pub begin_late : (world : World) (key : Key) (lowered : State) → KnowsIds world key.client
-    → IsNamedAt world key.client → IsNotLate world key.client
-    → IsNotLate (leased_in world key (record {
+    → IsNamedAt world key.client → IsNotLate world key.client → IsNotLate (leased_in world key (record {
       state = (world.server.leases key).state;
       broken_to = Some lowered;
     }) (break_notice key (world.server.leases key).state lowered)) key.client

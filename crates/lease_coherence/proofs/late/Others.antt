@@ -26,10 +26,8 @@ use Rattle.lease_coherence.proofs.standing.Words.{asked_unmoved, asked_weaker}
 
 -- ---- leases and files
 
-holds_same : (world new : World) (c : ℕ) → IsUnmoved world new c → (file : ℕ)
-    → holds_write new c file ≡ holds_write world c file
-holds_same world new c u file =
-    ap (λ (m : Client). (new.server.leases (key_of c (lease_key m.guid file))).state.write) u.machine
+holds_same : (world new : World) (c : ℕ) → IsUnmoved world new c → (file : ℕ) → holds_write new c file ≡ holds_write world c file
+holds_same world new c u file = ap (λ (m : Client). (new.server.leases (key_of c (lease_key m.guid file))).state.write) u.machine
     ∙ ap (λ (l : Lease). l.state.write) (u.leases (machine_key world c file) refl)
 
 touched_same : (world new : World) (c : ℕ) → IsUnmoved world new c → IsNamedAt world c → (file : ℕ) (x : Open)
@@ -47,8 +45,7 @@ phase_unmoved : (world new : World) (c file : ℕ) (sent : List Pending) (phase 
     → IsNamedAt world c → KnowsIds world c
     → ((live : LiveEntry) → phase ≡ Phase.Live live → was_opened live.file_id file c world.past ≡ true)
     → ((parted : Parted) → (phase ≡ Phase.Offline parted) ⊎ (phase ≡ Phase.Reconnecting parted)
-    → was_opened parted.file_id file c world.past ≡ true)
-    → PhaseSafe world c file sent phase → PhaseSafe new c file sent phase
+    → was_opened parted.file_id file c world.past ≡ true) → PhaseSafe world c file sent phase → PhaseSafe new c file sent phase
 phase_unmoved world new c file sent (Phase.Live live) u n ids live_ids parted_ids p = λ x there by id write.
     let was = u.from x by there in
     let on = (ids.on live.file_id file (live_ids live refl) x was id).0 in
@@ -159,8 +156,7 @@ unmoved_late world new c u n ids bears a = record {
   up = λ up. let was = ap is_up (sym u.link) ∙ up in up_unmoved was (a.up was);
 }
   where
-    held_was : (file : ℕ) (one : Held) → Among one (new.server.held file) → one.client ≡ c
-        → Among one (world.server.held file)
+    held_was : (file : ℕ) (one : Held) → Among one (new.server.held file) → one.client ≡ c → Among one (world.server.held file)
     held_was file one there own = (among_filter (λ h. h.client == c) one (world.server.held file)
         (subst (λ (l : List Held). Among one l) (u.held file)
         (among_filtered (λ h. h.client == c) one (new.server.held file) there (eq-eqb one.client c own)))).0
@@ -169,8 +165,7 @@ unmoved_late world new c u n ids bears a = record {
     up_unmoved was old = record {
       writes = asked_weaker (WriteSafe world c) (WriteSafe new c) new c (write_unmoved world new c u n)
           (asked_unmoved (WriteSafe world c) world new c u old.writes);
-      held = λ file one there own. plain_unmoved world new c u one.request
-          (old.held file one (held_was file one there own) own);
+      held = λ file one there own. plain_unmoved world new c u one.request (old.held file one (held_was file one there own) own);
       acks_keep = subst (AcksKeep new c) (sym u.requests) (acks_unmoved world new c u (world.requests c) old.acks_keep);
       again = λ file parted is. ap₂ acks (same_key world new c u.machine file) u.requests
           ∙ old.again file parted (ap (λ (m : Client). (m.entries file).phase) (sym u.machine) ∙ is);

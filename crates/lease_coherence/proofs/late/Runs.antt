@@ -56,8 +56,7 @@ up_in world v c good up = record {
   trust = v.leases.beliefs c good up;
 }
 
-off_ids : (world off : World) → HasRecord world → (c : ℕ) (request : FileRequest) → IsSource world off c request
-    → KnowsIds off c
+off_ids : (world off : World) → HasRecord world → (c : ℕ) (request : FileRequest) → IsSource world off c request → KnowsIds off c
 off_ids world off v c request source = ids_of off c (off_counted world off c request source (ground_in world v))
 
 off_names : (world off : World) → HasRecord world → (c : ℕ) (request : FileRequest) → has_strayed c world.past ≡ false
@@ -66,8 +65,7 @@ off_names world off v c request good source = (off_named world off c request c s
 
 off_in : (world off : World) → HasRecord world → (c : ℕ) (request : FileRequest) → has_strayed c world.past ≡ false
     → IsSource world off c request → IsNotLate world c → IsNotLate off c
-off_in world off v c request good source a =
-    off_late world off c request source (ids_in world v c) (names_in world v c good) a
+off_in world off v c request good source a = off_late world off c request source (ids_in world v c) (names_in world v c good) a
 
 clean_in : (world : World) → HasRecord world → (c : ℕ) → has_strayed c world.past ≡ false
     → is_up (world.links c) ≡ true → IsSafeUp world c → SentClean world c
@@ -161,10 +159,8 @@ late_moves = record {
       begin_late world key lowered (ids_in world v key.client) (names_in world v key.client good) a;
   cut = λ world c v good up a. cut_late world c (ids_in world v c) (names_in world v c good) a;
   timer = λ world c at v good on breaks a. timer_late world c at (ids_in world v c) (names_in world v c good) a;
-  connect = λ world c v good down a.
-      connect_late world c (ground_in world v) down (ids_in world v c) (names_in world v c good) a;
-  command = λ world c command v good a.
-      command_late world c command (known_by world v c good) (λ up. up_in world v c good up) a;
+  connect = λ world c v good down a. connect_late world c (ground_in world v) down (ids_in world v c) (names_in world v c good) a;
+  command = λ world c command v good a. command_late world c command (known_by world v c good) (λ up. up_in world v c good up) a;
   take = λ world c reply queue v good first a. let up = takes_up world v c reply queue first in
       take_late world c reply queue first up (up_in world v c good up) a;
   notice = λ world c v good cut a. notice_late world c a;

@@ -64,8 +64,7 @@ pub record EntryHolds (world new : World) (c : ℕ) : Type 0 where
   pub live : (file : ℕ) (live : LiveEntry) → ((world.clients c).entries file).phase ≡ Phase.Live live
       → live.belief.write ≡ true → (x : Open) → Among x new.server.opens → x.client ≡ c → x.file ≡ file
       → holds_write world c file ≡ true → holds_write new c file ≡ true
-  pub parted : (file : ℕ) (parted : Parted)
-      → (((world.clients c).entries file).phase ≡ Phase.Offline parted)
+  pub parted : (file : ℕ) (parted : Parted) → (((world.clients c).entries file).phase ≡ Phase.Offline parted)
       ⊎ (((world.clients c).entries file).phase ≡ Phase.Reconnecting parted)
       → (x : Open) → Among x new.server.opens → x.client ≡ c → x.file ≡ file
       → holds_write world c file ≡ true → holds_write new c file ≡ true
@@ -119,8 +118,7 @@ left_like world c at left = record {
   timely = λ file x there by on e. e;
 }
 
-pub popped_safe : (world : World) (c : ℕ) → KnowsIds world c → IsNamedAt world c → IsSafeUp world c
-    → IsSafeUp (popped world c) c
+pub popped_safe : (world : World) (c : ℕ) → KnowsIds world c → IsNamedAt world c → IsSafeUp world c → IsSafeUp (popped world c) c
 popped_safe world c ids n u =
     let left = put_same world.requests c (rest_of (world.requests c)) in
     let asked = asked_popped (WriteSafe world c) world c u.writes in record {
@@ -159,8 +157,7 @@ off_safe world off c request source ids n u =
 -- ---- the part on its way
 
 pub up_like : (off new : World) (c : ℕ) → IsLike off new c → KnowsIds off c → StillHolds off new c → IsNamedAt off c
-    → new.requests c ≡ off.requests c → new.server.held ≡ off.server.held
-    → ((file : ℕ) → knows_file (off.clients c) file ≡ true
+    → new.requests c ≡ off.requests c → new.server.held ≡ off.server.held → ((file : ℕ) → knows_file (off.clients c) file ≡ true
     → GrantsSafe new c file ((off.clients c).entries file).sent [] (new.replies c)) → IsSafeUp off c → IsSafeUp new c
 up_like off new c like ids holds n requests held grants u = record {
   writes = writes_up off new c like ids holds requests held n u.writes;
@@ -182,12 +179,10 @@ grant_bare world c file sent front reply bare = tt
 pub grants_more : (off new : World) (c : ℕ) (reply : Reply) (file : ℕ) → IsLike off new c → KnowsIds off c
     → IsNamedAt off c → new.replies c ≡ off.replies c ++ reply ∷ []
     → GrantSafe new c file ((off.clients c).entries file).sent (off.replies c) reply → IsSafeUp off c
-    → knows_file (off.clients c) file ≡ true
-    → GrantsSafe new c file ((off.clients c).entries file).sent [] (new.replies c)
+    → knows_file (off.clients c) file ≡ true → GrantsSafe new c file ((off.clients c).entries file).sent [] (new.replies c)
 grants_more off new c reply file like ids n replies last u known =
     let sent = ((off.clients c).entries file).sent in
-    subst (GrantsSafe new c file sent []) (sym replies)
-    (grants_last new c file sent [] (off.replies c) reply
+    subst (GrantsSafe new c file sent []) (sym replies) (grants_last new c file sent [] (off.replies c) reply
     (grants_like off new c file like ids sent [] (off.replies c) n.replies (u.given file known)) last)
 
 -- ---- a write that was sent, and isn't answered yet
@@ -214,8 +209,7 @@ queued_write P number [] each some = absurd (some refl)
 queued_write P number (Request.OnFile request ∷ queue) each some = by_count (write_of number request) refl
     (λ more. queued_write P number queue each.1 more)
   where
-    by_count : (n : ℕ) → write_of number request ≡ n
-        → ((writes number queue ≡ 0 → ⊥) → IsWriteOf P number) → IsWriteOf P number
+    by_count : (n : ℕ) → write_of number request ≡ n → ((writes number queue ≡ 0 → ⊥) → IsWriteOf P number) → IsWriteOf P number
     by_count zero e rest = rest (λ none. some (both (write_of number request) (writes number queue) e none))
       where
         both : (a b : ℕ) → a ≡ 0 → b ≡ 0 → a + b ≡ 0
@@ -265,8 +259,7 @@ found_write P world c file number a some = by_count (writes number (world.reques
         never : (m : ℕ) → suc m ≡ 0 → ⊥
         never m e = omega (arith, e)
 
-numbered_some : (write : Pending) (pending : List Pending) → Among write pending
-    → numbered_in write.number pending ≡ 0 → ⊥
+numbered_some : (write : Pending) (pending : List Pending) → Among write pending → numbered_in write.number pending ≡ 0 → ⊥
 numbered_some write [] a e = absurd a
 numbered_some write (x ∷ pending) a e = ⊎_elim
     (λ same. one_more (numbered_in write.number pending) (ap (λ b. one_if b + numbered_in write.number pending)
@@ -279,8 +272,7 @@ numbered_some write (x ∷ pending) a e = ⊎_elim
     right : (a b : ℕ) → a + b ≡ 0 → b ≡ 0
     right a b e = omega (arith, e)
 
-each_named : (P : Pending → Type 0) (pending : List Pending) (write : Pending) → Each P pending → Among write pending
-    → P write
+each_named : (P : Pending → Type 0) (pending : List Pending) (write : Pending) → Each P pending → Among write pending → P write
 each_named P [] write each a = absurd a
 each_named P (w ∷ pending) write each a =
     ⊎_elim (λ same. subst P (sym same) each.0) (λ later. each_named P pending write each.1 later) a
@@ -297,8 +289,7 @@ sent_clean world c u once stands n k file known fresh write a none =
     let count = once.counts file number known (inl (write.patch, written)) in
     let all = asked_both (WriteSafe world c) (WriteStands world c) (λ r. WriteSafe world c r × WriteStands world c r) world c
     (λ r p q. (p, q)) u.writes stands in
-    let every = asked_both (λ r. WriteSafe world c r × WriteStands world c r)
-    (IsNamedRequest c (world.clients c).guid world.past)
+    let every = asked_both (λ r. WriteSafe world c r × WriteStands world c r) (IsNamedRequest c (world.clients c).guid world.past)
     (λ r. (WriteSafe world c r × WriteStands world c r) × IsNamedRequest c (world.clients c).guid world.past r) world c
     (λ r p q. (p, q)) all (named_asked world c n) in
     let f = found_write (λ r. (WriteSafe world c r × WriteStands world c r)
@@ -310,11 +301,9 @@ sent_clean world c u once stands n k file known fresh write a none =
     sum : (l s t : ℕ) → l ≡ 0 → s ≡ 0 → l + s ≡ t → t ≡ 0
     sum l s t e f g = omega (arith, e, f, g)
 
-    by_write : (file_id : ℕ) (patch : Patch)
-        → WriteSafe world c (Request.OnFile (FileRequest.Write file_id write.number patch))
+    by_write : (file_id : ℕ) (patch : Patch) → WriteSafe world c (Request.OnFile (FileRequest.Write file_id write.number patch))
         → WriteStandsOn world c file_id → WasWrittenOn c file_id write.number patch world.past
-        → has_written c file write.number write.patch world.past ≡ true
-        → is_touched c file write.number world.past ≡ false
+        → has_written c file write.number write.patch world.past ≡ true → is_touched c file write.number world.past ≡ false
     by_write file_id patch safe s w written =
         let here : s.file ≡ file = opened_once file_id s.file c w.file c world.past s.opened w.opened
         ∙ sym (k.once file w.file write.number write.patch patch written w.written).file_is in
@@ -345,8 +334,7 @@ expired_nothing server key file want sound out =
 -- of a key whose timer ran out nothing is given
 pub gives_timely : (key : List ℕ) (asked : List ℕ) (lease : Lease) (out : Bool)
     → (out ≡ true → (is_breaking lease ≡ false) × (lease.state.write ≡ false))
-    → given_writes key (Some (record { key = asked; state = lease.state; in_progress = is_breaking lease })) ≡ true
-    → out ≡ false
+    → given_writes key (Some (record { key = asked; state = lease.state; in_progress = is_breaking lease })) ≡ true → out ≡ false
 gives_timely key asked lease out nothing e = not_true out (λ o. let n = nothing o in ⊎_elim
     (λ busy. clash (is_breaking lease) busy n.0)
     (λ writes. clash lease.state.write (and_parts (bytes_eq asked key) lease.state.write writes).1 n.1)
@@ -388,7 +376,6 @@ closing_holds world test c own file x there by on =
 pub none_in_the_way : (test : Lease → Bool) (server : Server) (own : Option Key) (key : Key) (file : ℕ) (x : Open)
     → IsSound server → own ≡ Some key → Among x server.opens → has_key key x ≡ true → x.file ≡ file
     → (server.leases key).state.write ≡ true → IsBlockedBy test server own file → ⊥
-none_in_the_way test server own key file x sound is there has on writes b =
-    clash (has_key key b.one)
+none_in_the_way test server own key file x sound is there has on writes b = clash (has_key key b.one)
     (sound.one_writer key x b.one writes there has b.is_there (b.is_on_file ∙ sym on))
     (sym (ap (λ o. has_own_key o b.one) is) ∙ b.is_other)

@@ -144,8 +144,7 @@ any_same world c step guid =
     let server = stepped_server world c step in
     let machine = stepped_machine world c step in
     let key : (file : ℕ) → machine_key (stepped_in world c step) c file ≡ machine_key world c file =
-    λ file. ap (λ (m : Client). key_of c (lease_key m.guid file)) machine
-    ∙ ap (λ g. key_of c (lease_key g file)) guid in record {
+    λ file. ap (λ (m : Client). key_of c (lease_key m.guid file)) machine ∙ ap (λ g. key_of c (lease_key g file)) guid in record {
       opens = ap (λ (s : Server). s.opens) server;
       holds = λ file. ap₂ (λ (s : Server) k. (s.leases k).state.write) server (key file);
       expired = λ file. ap₂ (λ (s : Server) k. s.expired k) server (key file);
@@ -164,12 +163,10 @@ phase_same world new c file sent (Phase.Live live) i p = λ x there by id write.
     )
 phase_same world new c file sent (Phase.Offline parted) i p = λ x there by id.
     each_weaker (KeptWrite world c file) (KeptWrite new c file) parted.writes
-    (λ w k. (i.holds file ∙ k.0, i.touched file w.number ∙ k.1))
-    (p x (subst (λ (l : List Open). Among x l) i.opens there) by id)
+    (λ w k. (i.holds file ∙ k.0, i.touched file w.number ∙ k.1)) (p x (subst (λ (l : List Open). Among x l) i.opens there) by id)
 phase_same world new c file sent (Phase.Reconnecting parted) i p = λ x there by id.
     each_weaker (KeptWrite world c file) (KeptWrite new c file) parted.writes
-    (λ w k. (i.holds file ∙ k.0, i.touched file w.number ∙ k.1))
-    (p x (subst (λ (l : List Open). Among x l) i.opens there) by id)
+    (λ w k. (i.holds file ∙ k.0, i.touched file w.number ∙ k.1)) (p x (subst (λ (l : List Open). Among x l) i.opens there) by id)
 phase_same world new c file sent phase i p = tt
 
 pub stepped_entries : (world : World) (c : ℕ) (step : Step) → step.client.guid ≡ (world.clients c).guid
@@ -268,8 +265,7 @@ new_safe world c settles step w e = by_sends w.from.sends
         (sym on) (record {
           held = λ b. i.holds at ∙ safe.0;
           clean = i.touched at write.number ∙ safe.1;
-        }))
-        (each_weaker IsOther (WriteSafe (stepped_in world c step) c) tail (other_safe (stepped_in world c step) c) others))
+        })) (each_weaker IsOther (WriteSafe (stepped_in world c step) c) tail (other_safe (stepped_in world c step) c) others))
     by_sends (SendsWrites.New at live is patch are notes) =
         let number = (world.clients c).last_number + 1 in
         subst (Each (WriteSafe (stepped_in world c step) c)) (sym are) (
@@ -364,8 +360,7 @@ new_acks world c settles step w e file = by_sends w.from.sends
         → x.file_id ≡ live.file_id → Each (AckKeeps (file_key world c at)) (world.requests c)
     open_there at live is write a x there by id =
         let safe = unsent_safe world c settles step w e at live is write a x there by id in
-        let fresh = not_true (world.server.expired (machine_key world c at)) (λ out.
-        clash (holds_write world c at) safe.0
+        let fresh = not_true (world.server.expired (machine_key world c at)) (λ out. clash (holds_write world c at) safe.0
         (ap (λ (l : Lease). l.state.write) (w.server_sound.timed_out (machine_key world c at) out))) in ⊎_elim
         (λ zero. no_acks_keep (file_key world c at) (world.requests c) zero)
         (λ keeps. keeps live is (unsent_writes live (sound_live (world.clients c) at live w.client_sound is) write a))
@@ -400,10 +395,8 @@ new_acks world c settles step w e file = by_sends w.from.sends
         (others_plain tail others)))))
         (λ apart. inr (subst (Each (NotBuffered (stepped_in world c step) c file)) (sym are)
         (each_writes (NotBuffered (stepped_in world c step) c file) live.file_id (write ∷ writes) tail
-        (λ y a x there by id on. clash (at == file)
-        (eq-eqb at file (sym (w.ids.on live.file_id at (w.live_ids at live is) x
-        (subst (λ (l : List Open). Among x l) i.opens there) id).0 ∙ on)) apart)
-        (others_plain tail others))))
+        (λ y a x there by id on. clash (at == file) (eq-eqb at file (sym (w.ids.on live.file_id at (w.live_ids at live is) x
+        (subst (λ (l : List Open). Among x l) i.opens there) id).0 ∙ on)) apart) (others_plain tail others))))
 
 more_acks : (world : World) (c : ℕ) (settles : ℕ → ℕ) (step : Step) → IsStepWell world c settles step
     → AcksKeep (stepped_in world c step) c step.requests
@@ -411,10 +404,8 @@ more_acks world c settles step w = by_sends w.from.sends
   where
     by_sends : SendsWrites (world.clients c) step → AcksKeep (stepped_in world c step) c step.requests
     by_sends (SendsWrites.NoWrite others) = others_keep (stepped_in world c step) c step.requests others
-    by_sends (SendsWrites.Flush at live is writes all tail others are) =
-        subst (AcksKeep (stepped_in world c step) c) (sym are)
-        (writes_keep (stepped_in world c step) c live.file_id writes tail
-        (others_keep (stepped_in world c step) c tail others))
+    by_sends (SendsWrites.Flush at live is writes all tail others are) = subst (AcksKeep (stepped_in world c step) c) (sym are)
+        (writes_keep (stepped_in world c step) c live.file_id writes tail (others_keep (stepped_in world c step) c tail others))
     by_sends (SendsWrites.New at live is patch are notes) = subst (AcksKeep (stepped_in world c step) c) (sym are) tt
 
 -- ---- grants
@@ -431,8 +422,7 @@ grant_after world c settles step w e file from front left sum (Reply.Created oth
       timely = λ gives. i.expired file ∙ safe.timely (ap (λ k. given_writes k answer.lease) (sym (i.key file)) ∙ gives);
       clean = λ gives write a buffered none.
           let given = ap (λ k. (given_state k answer.lease).write) (sym (i.key file)) ∙ gives in
-          i.touched file write.number
-          ∙ by_from safe given write buffered none (from.sent write a);
+          i.touched file write.number ∙ by_from safe given write buffered none (from.sent write a);
     }
   where
     zero_sum : (a b d : ℕ) → a ≡ b + d → b ≡ 0 → d ≡ 0 → a ≡ 0
@@ -496,18 +486,15 @@ stepped_up world c settles step front w sum e o =
       };
       held = λ file one a own. let was = subst (λ (s : Server). Among one (s.held file)) is.server a in
           old_plain world c settles step w one.request (o.held file one was own) (w.named.held file one was own);
-      acks_keep = subst (AcksKeep new c) (sym is.queued)
-          (acks_more new c (world.requests c) step.requests
+      acks_keep = subst (AcksKeep new c) (sym is.queued) (acks_more new c (world.requests c) step.requests
           (old_acks world c settles step w (world.requests c) w.named.queued o.acks_keep)
           (λ file. ⊎_elim (λ keeps. inl (subst (λ k. Each (AckKeeps k) (world.requests c)) (sym (i.key file)) keeps))
           (λ none. inr none) (new_acks world c settles step w e file)) (more_acks world c settles step w));
       again = λ file parted phase. ap₂ acks (i.key file) is.queued
           ∙ none_more file parted (ap (λ (m : Client). (m.entries file).phase) (sym is.clients) ∙ phase);
       given = λ file known. subst (λ (m : Client). GrantsSafe new c file (m.entries file).sent [] (new.replies c))
-          (sym is.clients)
-          (subst (λ (r : ℕ → List Reply). GrantsSafe new c file (step.client.entries file).sent [] (r c))
-          (sym (stepped_replies world c step))
-          (let k = was_known file known in
+          (sym is.clients) (subst (λ (r : ℕ → List Reply). GrantsSafe new c file (step.client.entries file).sent [] (r c))
+          (sym (stepped_replies world c step)) (let k = was_known file known in
           grants_after world c settles step w e file (w.from.entries file k) front [] sum (world.replies c) (o.given file k)));
     }
   where

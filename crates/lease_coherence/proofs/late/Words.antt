@@ -50,12 +50,10 @@ HeldPlain world c request = ⊤
 
 abbrev pub LiveSafe : World → ℕ → ℕ → List Pending → LiveEntry → Type 0
 LiveSafe world c file sent live = (x : Open) → Among x world.server.opens → x.client ≡ c → x.file_id ≡ live.file_id
-    → live.belief.write ≡ true
-    → (holds_write world c file ≡ true) × Each (IsClean c file world.past) (sent ++ live.unsent)
+    → live.belief.write ≡ true → (holds_write world c file ≡ true) × Each (IsClean c file world.past) (sent ++ live.unsent)
 
 abbrev pub KeptWrite : World → ℕ → ℕ → Pending → Type 0
-KeptWrite world c file write =
-    (holds_write world c file ≡ true) × (is_touched c file write.number world.past ≡ false)
+KeptWrite world c file write = (holds_write world c file ≡ true) × (is_touched c file write.number world.past ≡ false)
 
 abbrev pub KeptSafe : World → ℕ → ℕ → Parted → Type 0
 KeptSafe world c file parted = (x : Open) → Among x world.server.opens → x.client ≡ c → x.file_id ≡ parted.file_id
@@ -98,8 +96,7 @@ given_writes key (Some given) = given.in_progress || (bytes_eq given.key key && 
 -- settles, are safe
 pub record IsGrantSafe (world : World) (c file file_id : ℕ) (sent : List Pending) (front : List Reply)
     (given : Option LeaseGiven) : Type 0 where
-  pub timely : given_writes (file_key world c file) given ≡ true
-      → world.server.expired (machine_key world c file) ≡ false
+  pub timely : given_writes (file_key world c file) given ≡ true → world.server.expired (machine_key world c file) ≡ false
   pub clean : (given_state (file_key world c file) given).write ≡ true → (write : Pending) → Among write sent
       → write.buffered ≡ true → settling write.number front ≡ 0 → is_touched c file write.number world.past ≡ false
 
@@ -173,19 +170,16 @@ pub same_key : (world new : World) (c : ℕ) → new.clients c ≡ world.clients
     → file_key new c file ≡ file_key world c file
 same_key world new c machine file = ap (λ (m : Client). lease_key m.guid file) machine
 
-pub phase_like : (world new : World) (c file : ℕ) (sent : List Pending) (phase : Phase) → IsLike world new c
-    → KnowsIds world c
+pub phase_like : (world new : World) (c file : ℕ) (sent : List Pending) (phase : Phase) → IsLike world new c → KnowsIds world c
     → ((live : LiveEntry) → phase ≡ Phase.Live live → was_opened live.file_id file c world.past ≡ true)
     → ((parted : Parted) → (phase ≡ Phase.Offline parted) ⊎ (phase ≡ Phase.Reconnecting parted)
     → was_opened parted.file_id file c world.past ≡ true)
     → ((live : LiveEntry) → phase ≡ Phase.Live live → live.belief.write ≡ true → (x : Open) → Among x new.server.opens
     → x.client ≡ c → x.file ≡ file → holds_write world c file ≡ true → holds_write new c file ≡ true)
     → ((parted : Parted) → (phase ≡ Phase.Offline parted) ⊎ (phase ≡ Phase.Reconnecting parted) → (x : Open)
-    → Among x new.server.opens → x.client ≡ c → x.file ≡ file → holds_write world c file ≡ true
-    → holds_write new c file ≡ true)
+    → Among x new.server.opens → x.client ≡ c → x.file ≡ file → holds_write world c file ≡ true → holds_write new c file ≡ true)
     → PhaseSafe world c file sent phase → PhaseSafe new c file sent phase
-phase_like world new c file sent (Phase.Live live) like ids live_ids parted_ids live_holds parted_holds p =
-    λ x there by id write.
+phase_like world new c file sent (Phase.Live live) like ids live_ids parted_ids live_holds parted_holds p = λ x there by id write.
     let opened = live_ids live refl in
     let w = like.from x there by (subst (λ n. n ≤ world.server.last_id) (sym id) (ids.low live.file_id file opened)) in
     let on = ids.on live.file_id file opened w.was w.there (w.id ∙ id) in
@@ -193,8 +187,7 @@ phase_like world new c file sent (Phase.Live live) like ids live_ids parted_ids 
       live_holds live refl write x there (sym w.client ∙ on.1) (sym w.file ∙ on.0) old.0,
       clean_like c file world.past new.past like.past (sent ++ live.unsent) old.1,
     )
-phase_like world new c file sent (Phase.Offline parted) like ids live_ids parted_ids live_holds parted_holds p =
-    λ x there by id.
+phase_like world new c file sent (Phase.Offline parted) like ids live_ids parted_ids live_holds parted_holds p = λ x there by id.
     let opened = parted_ids parted (inl refl) in
     let w = like.from x there by (subst (λ n. n ≤ world.server.last_id) (sym id) (ids.low parted.file_id file opened)) in
     let on = ids.on parted.file_id file opened w.was w.there (w.id ∙ id) in
@@ -238,8 +231,7 @@ write_like world new c like ids file_id file number opened holds safe x there by
     })
 
 pub plain_like : (world new : World) (c : ℕ) → IsLike world new c → KnowsIds world c → (file_id file number : ℕ)
-    → was_opened file_id file c world.past ≡ true
-    → ((x : Open) → Among x world.server.opens → x.client ≡ c → x.file_id ≡ file_id
+    → was_opened file_id file c world.past ≡ true → ((x : Open) → Among x world.server.opens → x.client ≡ c → x.file_id ≡ file_id
     → has_buffered c x.file number world.past ≡ false)
     → (x : Open) → Among x new.server.opens → x.client ≡ c → x.file_id ≡ file_id → has_buffered c x.file number new.past ≡ false
 plain_like world new c like ids file_id file number opened plain x there by id =

@@ -42,8 +42,7 @@ with_held world file left =
 pub record HasArrived (world : World) (off : World) (client : ℕ) (request : FileRequest) : Type 0 where
   pub oldest : IsOldest world client (Request.OnFile request)
   pub is_off : off ≡ popped world client
-  pub in_turn : (file : ℕ) → file_asked world.server client request ≡ Ok file
-      → is_behind client (world.server.held file) ≡ false
+  pub in_turn : (file : ℕ) → file_asked world.server client request ≡ Ok file → is_behind client (world.server.held file) ≡ false
 
 -- or the first of its client that is held on a file
 pub record WasHeld (world : World) (off : World) (client : ℕ) (request : FileRequest) : Type 0 where
@@ -89,15 +88,13 @@ done_reply given = Reply.AckDone (Some (record { key = given.key; state = grante
 abbrev pub granted_in : World → ℕ → ℕ → Access → Share → CreateAsk → Lease → World
 granted_in world client file access share ask lease = record world {
   server = record (lease_put world.server client ask.lease lease) {
-    opens = world.server.opens
-        ++ new_open world.server client file access share ask.lease ask.durable lease ∷ [];
+    opens = world.server.opens ++ new_open world.server client file access share ask.lease ask.durable lease ∷ [];
     last_id = world.server.last_id + 1;
   };
-  replies = put world.replies client (world.replies client
-      ++ Reply.Created file (world.server.last_id + 1) (Some (record {
-        lease = lease_given ask.lease lease;
-        durable = ask.durable && lease.state.handle;
-      })) ∷ []);
+  replies = put world.replies client (world.replies client ++ Reply.Created file (world.server.last_id + 1) (Some (record {
+    lease = lease_given ask.lease lease;
+    durable = ask.durable && lease.state.handle;
+  })) ∷ []);
   past = Fact.Sent client ∷ Fact.Opened file client ∷ world.past;
 }
 
@@ -127,8 +124,7 @@ without_opens world test =
 
 -- a lease is put, and its client is told
 abbrev pub leased_in : World → Key → Lease → Reply → World
-leased_in world key lease reply =
-    told_to (record world { server = with_lease world.server key lease }) key.client reply
+leased_in world key lease reply = told_to (record world { server = with_lease world.server key lease }) key.client reply
 
 -- a request is held
 abbrev pub held_in : World → ℕ → Held → World
@@ -151,8 +147,7 @@ pub record HasDeeds (world : World) (P : World → Type 0) : Type 0 where
       → P (told_to off client (Reply.CreateFailed file Status.InsufficientResources))
   pub granted : (off : World) (client file : ℕ) (access : Access) (share : Share) (ask : CreateAsk)
       → IsSource world off client (FileRequest.Create file access share (Some ask)) → ask.reconnect ≡ None
-      → has_file off.server file ≡ true
-      → IsFree off.server.opens off.server.leases (own_key client ask.lease) file access share
+      → has_file off.server file ≡ true → IsFree off.server.opens off.server.leases (own_key client ask.lease) file access share
       → P (granted_in off client file access share ask (lease_after off.server client file ask.lease))
   pub reconnected : (off : World) (client file : ℕ) (access : Access) (share : Share) (ask : CreateAsk) (file_id : ℕ)
       → IsSource world off client (FileRequest.Create file access share (Some ask)) → ask.reconnect ≡ Some file_id
@@ -170,13 +165,11 @@ pub record HasDeeds (world : World) (P : World → Type 0) : Type 0 where
       → P (told_to (without_opens off (λ other. other.file_id == file_id)) client (Reply.Closed file_id))
   pub ack_failed : (client : ℕ) (given : Option LeaseOf) (status : Status)
       → IsOldest world client (Request.Acknowledge given) → world.server.present client ≡ true
-      → IsRefusedAck world.server client given
-      → P (told_to (popped world client) client (Reply.AckFailed status))
+      → IsRefusedAck world.server client given → P (told_to (popped world client) client (Reply.AckFailed status))
   pub ack_done : (client : ℕ) (given : LeaseOf) (lowered : State)
       → IsOldest world client (Request.Acknowledge (Some given)) → world.server.present client ≡ true
       → has_lease world.server (key_of client given.key) ≡ true
-      → (world.server.leases (key_of client given.key)).broken_to ≡ Some lowered
-      → is_state_within given.state lowered ≡ true
+      → (world.server.leases (key_of client given.key)).broken_to ≡ Some lowered → is_state_within given.state lowered ≡ true
       → P (leased_in (popped world client) (key_of client given.key)
       (record { state = granted_form_of given.state; broken_to = None })
       (Reply.AckDone (Some (record { key = given.key; state = granted_form_of given.state }))))
@@ -201,8 +194,7 @@ create_deed : (world off : World) (P : World → Type 0) → HasDeeds world P �
     → has_file off.server file ≡ true → MayCreate off.server client file access share ask.lease again
     → P (served off (created client file access share ask.lease ask.durable again (begun off.server)))
 unfolding granted granted_with reconnected served all_delivered delivered
-create_deed world off P h client file access share ask None e source on may =
-    if_both (off.server.last_id == last_file_id) _ _
+create_deed world off P h client file access share ask None e source on may = if_both (off.server.last_id == last_file_id) _ _
     (h.full off client file access share ask source) (h.granted off client file access share ask source e on may)
   where
     if_both : (b : Bool) (x y : Progress) → P (served off x) → P (served off y) → P (served off (if b then x else y))
@@ -212,8 +204,7 @@ create_deed world off P h client file access share ask (Some file_id) e source o
     h.reconnected off client file access share ask file_id source e on may
 
 contexts_deed : (world off : World) (P : World → Type 0) → HasDeeds world P → (client file : ℕ) (access : Access)
-    (share : Share) (contexts : Option CreateAsk)
-    → IsSource world off client (FileRequest.Create file access share contexts)
+    (share : Share) (contexts : Option CreateAsk) → IsSource world off client (FileRequest.Create file access share contexts)
     → MayServe off.server client (FileRequest.Create file access share contexts)
     → P (served off (concluded client (FileRequest.Create file access share contexts) (begun off.server) Outcome.Ready))
 unfolding answered
@@ -225,30 +216,26 @@ contexts_deed world off P h client file access share (Some ask) source may =
 open_found : (off : World) (P : World → Type 0) (found : Option Open) (one : Open) (done : ℕ → Progress → Progress)
     → found ≡ Some one → P (served off (done one.file (begun off.server)))
     → P (served off (on_open found done (begun off.server)))
-open_found off P found one done e p =
-    subst (λ o. P (served off (on_open o done (begun off.server)))) (sym e) p
+open_found off P found one done e p = subst (λ o. P (served off (on_open o done (begun off.server)))) (sym e) p
 
 request_deed : (world off : World) (P : World → Type 0) → HasDeeds world P → (client : ℕ) (request : FileRequest)
     (outcome : Outcome) → IsSource world off client request → MayEnd off.server client request outcome
     → P (served off (concluded client request (begun off.server) outcome))
 unfolding refused answered changed closed opens_dropped served all_delivered delivered
-request_deed world off P h client request (Outcome.Refused status) source may =
-    h.refused off client request status source may.1
+request_deed world off P h client request (Outcome.Refused status) source may = h.refused off client request status source may.1
 request_deed world off P h client request Outcome.Waits source may = absurd may
 request_deed world off P h client (FileRequest.Create file access share contexts) Outcome.Ready source may =
     contexts_deed world off P h client file access share contexts source may.1
 request_deed world off P h client (FileRequest.Read file_id) Outcome.Ready source may =
     let has = may.1 in open_found off P (connected_open off.server client file_id) has.one
-    (λ file. read_done client file file_id) has.found
-    (h.read off client file_id has.one source has.found has.allowed)
+    (λ file. read_done client file file_id) has.found (h.read off client file_id has.one source has.found has.allowed)
 request_deed world off P h client (FileRequest.Write file_id number patch) Outcome.Ready source may =
     let has = may.1 in open_found off P (connected_open off.server client file_id) has.one
     (λ file. changed client file file_id number patch) has.found
     (h.changed off client file_id number patch has.one source has.found has.allowed)
 request_deed world off P h client (FileRequest.Close file_id) Outcome.Ready source may =
     let has = may.1 in open_found off P (connected_open off.server client file_id) has.one
-    (λ file. closed client file_id) has.found
-    (h.closed off client file_id has.one source has.found)
+    (λ file. closed client file_id) has.found (h.closed off client file_id has.one source has.found)
 
 -- an acknowledgment is judged
 judged_deed : (world : World) (P : World → Type 0) → HasDeeds world P → (client : ℕ) (given : LeaseOf)
@@ -280,10 +267,8 @@ acknowledged_deed : (world : World) (P : World → Type 0) → HasDeeds world P 
     → P (served (popped world client) (acknowledged client given (begun world.server)))
 unfolding acknowledged served all_delivered delivered
 acknowledged_deed world P h client None oldest up = h.ack_failed client None Status.InvalidParameter oldest up tt
-acknowledged_deed world P h client (Some given) oldest up =
-    either_way (has_lease world.server (key_of client given.key)) _ _
-    (λ there. judged_deed world P h client given (world.server.leases (key_of client given.key)).broken_to oldest up
-    there refl)
+acknowledged_deed world P h client (Some given) oldest up = either_way (has_lease world.server (key_of client given.key)) _ _
+    (λ there. judged_deed world P h client given (world.server.leases (key_of client given.key)).broken_to oldest up there refl)
     (λ none. h.ack_failed client (Some given) Status.ObjectNameNotFound oldest up
     (λ there. clash (has_lease world.server (key_of client given.key)) there none))
   where
@@ -297,8 +282,7 @@ pub step_deed : (world : World) (P : World → Type 0) → HasDeeds world P → 
     → P (moved world step)
 unfolding held_left request_held opens_dropped lease_lowered break_begun served all_delivered delivered
 step_deed world P h (SmallStep.Answer client request outcome) next =
-    request_deed world (popped world client) P h client request outcome
-    (record {
+    request_deed world (popped world client) P h client request outcome (record {
       up = up_of outcome next.guarded;
       from = inl (record { oldest = next.due; is_off = refl; in_turn = next.in_turn });
     }) next.guarded
@@ -307,8 +291,7 @@ step_deed world P h (SmallStep.Answer client request outcome) next =
     up_of Outcome.Waits may = absurd may
     up_of outcome may = may.0
 step_deed world P h (SmallStep.AnswerHeld file before one behind outcome) next =
-    request_deed world (with_held world file (before ++ behind)) P h one.client one.request outcome
-    (record {
+    request_deed world (with_held world file (before ++ behind)) P h one.client one.request outcome (record {
       up = up_of outcome next.guarded.1;
       from = inr (record {
         file = file;
@@ -354,8 +337,7 @@ step_deed world P h (SmallStep.AnswerHeld file before one behind outcome) next =
     same_end (Outcome.Refused status) r may = (may.0, same_refuse r status may.1)
     same_end Outcome.Waits r may = absurd may
     same_end Outcome.Ready r may = (may.0, same_serve r may.1)
-step_deed world P h (SmallStep.Acknowledge client given) next =
-    acknowledged_deed world P h client given next.due next.guarded
+step_deed world P h (SmallStep.Acknowledge client given) next = acknowledged_deed world P h client given next.due next.guarded
 step_deed world P h (SmallStep.Hold file one) next = h.hold file one next.due next.guarded next.in_turn
 step_deed world P h (SmallStep.Drop key) next = h.drop key
 step_deed world P h (SmallStep.Lower key lowered) next = h.lower key lowered next.guarded.0 next.guarded.1

@@ -80,12 +80,10 @@ connected world client = stepped_in (come_back world client) client (connection_
 
 -- a client takes a reply
 abbrev pub reply_gone : World → ℕ → List Reply → World
-reply_gone world client queue =
-    happened (record world { replies = put world.replies client queue }) (Fact.Took client)
+reply_gone world client queue = happened (record world { replies = put world.replies client queue }) (Fact.Took client)
 
 abbrev pub reply_taken : World → ℕ → Reply → List Reply → World
-reply_taken world client reply queue =
-    stepped_in (reply_gone world client queue) client (taken (world.clients client) reply)
+reply_taken world client reply queue = stepped_in (reply_gone world client queue) client (taken (world.clients client) reply)
 
 -- a client notices that its connection is lost
 abbrev pub noticed_by : World → ℕ → World
@@ -158,12 +156,10 @@ nothing_given world progress e = ap (λ outs. all_delivered (record world { serv
 -- a call that takes no request
 quiet_call : (V : World → Type 0) → IsCarried V → (world : World) (call : Call) → IsFine world.server
     → WaitsWell world.server → ((request : Request) (client : ℕ) → call ≡ Call.Receive client request → ⊥)
-    → V (record world { server = (call_begun world.server call).server })
-    → V (served world (called world.server call))
+    → V (record world { server = (call_begun world.server call).server }) → V (served world (called world.server call))
 quiet_call V k world call f w other v = go call other v
   where
-    from : (c : Call) → own_steps world.server c ≡ 0
-        → V (record world { server = (call_begun world.server c).server })
+    from : (c : Call) → own_steps world.server c ≡ 0 → V (record world { server = (call_begun world.server c).server })
         → V (served world (called world.server c))
     from c none v =
         let go = called-steps world.server c f.sound w in
@@ -175,8 +171,7 @@ quiet_call V k world call f w other v = go call other v
         (subst V (sym (nothing_given world (call_begun world.server c) (call_begun-silent world.server c))) v)))
 
     go : (c : Call) → ((request : Request) (client : ℕ) → c ≡ Call.Receive client request → ⊥)
-        → V (record world { server = (call_begun world.server c).server })
-        → V (served world (called world.server c))
+        → V (record world { server = (call_begun world.server c).server }) → V (served world (called world.server c))
     go (Call.Receive client request) other v = absurd (other request client refl)
     go call other v = from call refl v
 
@@ -189,8 +184,7 @@ unfolding served all_delivered
 request_call V k world client request queue f w up first v =
     let call = Call.Receive client request in
     let go = called-steps world.server call f.sound w in
-    let due = once_due go.steps world client request queue go.are_of
-    (go.are_own ∙ ap (λ b. if b then 1 else 0) up) first in
+    let due = once_due go.steps world client request queue go.are_of (go.are_own ∙ ap (λ b. if b then 1 else 0) up) first in
     subst (λ (q : List Request). V (served (record world { requests = put world.requests client q })
     (receive world.server client request))) (ap (λ (q : List Request). rest_of q) first)
     (subst (λ p. V (served (popped world client) p)) (sym go.lead)
@@ -218,8 +212,7 @@ server_takes_moves V ground k world client (request ∷ queue) e at =
 
     is_linked : (b : Bool) → is_up (world.links client) ≡ b → is_up (world.links client) ≡ true
     is_linked true up = up
-    is_linked false down = absurd (never request queue
-        (sym e ∙ ((ground world at.holds).tied client).requests down))
+    is_linked false down = absurd (never request queue (sym e ∙ ((ground world at.holds).tied client).requests down))
 
 client_takes_moves : (V : World → Type 0) → IsCarried V → (world : World) (client : ℕ) (queue : List Reply)
     → world.replies client ≡ queue → V world → V (client_takes world client queue)
@@ -236,8 +229,7 @@ not_chosen true x y e = let c : ⊥ = cc in absurd c
 not_chosen false x y e = refl
 
 cut_moves : (V : World → Type 0) → ((world : World) → V world → Ground world) → IsCarried V
-    → (world : World) (client : ℕ) (link : Link) → world.links client ≡ link → IsAt V world
-    → V (cut_over world client link)
+    → (world : World) (client : ℕ) (link : Link) → world.links client ≡ link → IsAt V world → V (cut_over world client link)
 unfolding link_cut
 cut_moves V ground k world client Link.Up e at =
     let g = ground world at.holds in
@@ -250,8 +242,7 @@ cut_moves V ground k world client Link.Up e at =
     quiet_call V k lost (Call.Cut client) g.fine at.waits (λ request c never. absurd (cc))
     (subst (λ (s : Server). V (record lost { server = s }))
     (sym (ap (λ (p : Progress). p.server) (chosen (world.server.present client) _ (begun world.server)
-    ((g.tied client).present ∙ ap is_up e))))
-    (k world (Move.Cut client) e at.holds))
+    ((g.tied client).present ∙ ap is_up e)))) (k world (Move.Cut client) e at.holds))
 cut_moves V ground k world client link e at = at.holds
 
 notice_moves : (V : World → Type 0) → IsCarried V → (world : World) (client : ℕ) (link : Link)
@@ -261,22 +252,19 @@ notice_moves V k world client Link.Cut e v = k world (Move.Notice client) e v
 notice_moves V k world client link e v = v
 
 connect_moves : (V : World → Type 0) → ((world : World) → V world → Ground world) → IsCarried V
-    → (world : World) (client : ℕ) (link : Link) → world.links client ≡ link → V world
-    → V (connect_over world client link)
+    → (world : World) (client : ℕ) (link : Link) → world.links client ≡ link → V world → V (connect_over world client link)
 unfolding link_connected join joined served all_delivered
 connect_moves V ground k world client Link.Down e v =
     let g = ground world v in
     let back : World = happened (record world { links = put world.links client Link.Up }) (Fact.Joined client) in
     subst (λ (p : Progress). V (stepped_in (served back p) client (connection_made (world.clients client))))
     (sym (not_chosen (world.server.present client) (begun world.server) (joined client (begun world.server))
-    ((g.tied client).present ∙ ap is_up e)))
-    (k world (Move.Connect client) e v)
+    ((g.tied client).present ∙ ap is_up e))) (k world (Move.Connect client) e v)
 connect_moves V ground k world client link e v = v
 
 timer_moves : (V : World → Type 0) → ((world : World) → V world → Ground world) → IsCarried V
     → (world : World) (client file : ℕ) → has_file world.server file ≡ true
-    → breaking world.server (machine_key world client file) ≡ true → IsAt V world
-    → V (timer_expired world client file)
+    → breaking world.server (machine_key world client file) ≡ true → IsAt V world → V (timer_expired world client file)
 unfolding timer_expired
 timer_moves V ground k world client file on breaks at =
     let g = ground world at.holds in
@@ -312,8 +300,7 @@ applied_moves V ground k world (Event.ServerTakes client) at =
 applied_moves V ground k world (Event.ClientTakes client) at =
     client_takes_moves V k world client (world.replies client) refl at.holds
 applied_moves V ground k world (Event.Cut client) at = cut_moves V ground k world client (world.links client) refl at
-applied_moves V ground k world (Event.Notice client) at =
-    notice_moves V k world client (world.links client) refl at.holds
+applied_moves V ground k world (Event.Notice client) at = notice_moves V k world client (world.links client) refl at.holds
 applied_moves V ground k world (Event.Connect client) at =
     connect_moves V ground k world client (world.links client) refl at.holds
 applied_moves V ground k world (Event.Expire client file) at = if_cases V (has_file world.server file)

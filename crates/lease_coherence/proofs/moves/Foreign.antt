@@ -112,8 +112,7 @@ filter_twice test keep [] stays = refl
 filter_twice test keep (x ∷ held) stays = if_cases
     (λ l. filter test l ≡ filter test (x ∷ held)) (keep x) (x ∷ filter keep held) (filter keep held)
     (λ kept. ap (λ l. if test x then x ∷ l else l) (filter_twice test keep held stays))
-    (λ gone. filter_twice test keep held stays
-    ∙ sym (not_chosen (test x) (x ∷ filter test held) (filter test held)
+    (λ gone. filter_twice test keep held stays ∙ sym (not_chosen (test x) (x ∷ filter test held) (filter test held)
     (not_true (test x) (λ passes. clash (keep x) (stays x passes) gone))))
 
 -- ---- what may be granted or changed for another
@@ -163,8 +162,7 @@ given_up lease lawful up = by_end lease.broken_to refl
 
         less : (s : State) → is_state_within s lease.state ≡ true → lease.state ≡ nothing_cached → s.read ≡ false
         less s within nothing = not_true s.read (λ reads. clash lease.state.read
-            (both s.read lease.state.read (and_parts _ _ (and_parts _ _ within).0).0 reads)
-            (ap (λ (x : State). x.read) nothing))
+            (both s.read lease.state.read (and_parts _ _ (and_parts _ _ within).0).0 reads) (ap (λ (x : State). x.read) nothing))
           where
             both : (a b : Bool) → (not a || b) ≡ true → a ≡ true → b ≡ true
             both true b e f = e
@@ -231,11 +229,9 @@ pub unmoved_off : (world off : World) (client : ℕ) (request : FileRequest) (c 
     → IsSource world off client request → client ≢ c → IsUnmoved world off c
 unmoved_off world off client request c source ne = ⊎_elim
     (λ a. subst (λ o. IsUnmoved world o c) (sym a.is_off) (unmoved_popped world client c ne))
-    (λ h. subst (λ o. IsUnmoved world o c) (sym h.is_off)
-    (unmoved_held world h.file (h.before ++ h.behind) c
+    (λ h. subst (λ o. IsUnmoved world o c) (sym h.is_off) (unmoved_held world h.file (h.before ++ h.behind) c
     (filter_off (λ one. one.client == c) h.before h.behind (held_of client request) (apart client c ne)
-    ∙ ap (held_by c) (sym h.held))))
-    source.from
+    ∙ ap (held_by c) (sym h.held)))) source.from
 
 -- the server of the part from which a request was taken off is known as the whole one is
 pub off_ground : (world off : World) (client : ℕ) (request : FileRequest) → IsSource world off client request
@@ -244,8 +240,7 @@ off_ground world off client request source g = ⊎_elim
     (λ a. subst (λ o. (key : Key) → list_any (has_key key) o.server.opens ≡ false → o.server.leases key ≡ no_lease)
     (sym a.is_off) (λ key e. g.fine.sound.no_open key e))
     (λ h. subst (λ o. (key : Key) → list_any (has_key key) o.server.opens ≡ false → o.server.leases key ≡ no_lease)
-    (sym h.is_off) (λ key e. g.fine.sound.no_open key e))
-    source.from
+    (sym h.is_off) (λ key e. g.fine.sound.no_open key e)) source.from
 
 pub off_sound : (world off : World) (client : ℕ) (request : FileRequest) → IsSource world off client request
     → IsSound world.server → IsSound off.server
@@ -316,8 +311,7 @@ pub unmoved_granted : (world : World) (client file : ℕ) (access : Access) (sha
     → IsUnmoved world (granted_in world client file access share ask lease) c
 unmoved_granted world client file access share ask lease c ne none = let s = unmoved_same world c in record {
   later = later_two world.past (Fact.Opened file client) (Fact.Sent client);
-  spared = spared_two c world.server.opens world.server.leases (Fact.Opened file client) (Fact.Sent client) world.past
-      none ne;
+  spared = spared_two c world.server.opens world.server.leases (Fact.Opened file client) (Fact.Sent client) world.past none ne;
   machine = refl;
   link = refl;
   requests = refl;
@@ -326,8 +320,7 @@ unmoved_granted world client file access share ask lease c ne none = let s = unm
   kept = λ one own a. among_before one world.server.opens _ a;
   from = λ one own a. ⊎_elim (λ old. old)
       (λ new. ⊎_elim (λ same. absurd (ne (sym (ap (λ (o : Open). o.client) same) ∙ own))) (λ none. absurd none) new)
-      (among_append one world.server.opens
-      (new_open world.server client file access share ask.lease ask.durable lease ∷ []) a);
+      (among_append one world.server.opens (new_open world.server client file access share ask.lease ask.durable lease ∷ []) a);
   leases = λ key own. lease_same ask.lease key own;
   expired = λ key own. expired_same ask.lease key;
 }
@@ -352,12 +345,10 @@ unmoved_granted world client file access share ask lease c ne none = let s = unm
 -- an open that stays as it is while others are mapped
 pub map_kept : (f : Open → Open) (one : Open) (opens : List Open) → f one ≡ one → Among one opens → Among one (map f opens)
 map_kept f one [] same a = absurd a
-map_kept f one (x ∷ opens) same a =
-    ⊎_elim (λ e. inl (sym same ∙ ap f e)) (λ later. inr (map_kept f one opens same later)) a
+map_kept f one (x ∷ opens) same a = ⊎_elim (λ e. inl (sym same ∙ ap f e)) (λ later. inr (map_kept f one opens same later)) a
 
 pub unmoved_mapped : (world : World) (f : Open → Open) (c : ℕ)
-    → ((one : Open) → one.client ≡ c → Among one world.server.opens → f one ≡ one)
-    → ((one : Open) → (f one).client ≡ one.client)
+    → ((one : Open) → one.client ≡ c → Among one world.server.opens → f one ≡ one) → ((one : Open) → (f one).client ≡ one.client)
     → IsUnmoved world (record world { server = record world.server { opens = map f world.server.opens } }) c
 unmoved_mapped world f c same client = let s = unmoved_same world c in record {
   later = s.later;

@@ -24,8 +24,7 @@ pub from_source : (world off : World) (client : ℕ) (request : FileRequest) (P 
     → ((file : ℕ) (left : List Held) → P (with_held world file left)) → P off
 from_source world off client request P source arrived held = ⊎_elim
     (λ a. subst P (sym a.is_off) arrived)
-    (λ h. subst P (sym h.is_off) (held h.file (h.before ++ h.behind)))
-    source.from
+    (λ h. subst P (sym h.is_off) (held h.file (h.before ++ h.behind))) source.from
 
 -- what notes make of the record
 noted_past : (world : World) (client : ℕ) (notes : List Note)
@@ -38,8 +37,7 @@ pub stepped_past : (world : World) (client : ℕ) (step : Step)
     → (stepped_in world client step).past ≡ past_noted client world.past step.notes
 unfolding stepped_in requests_sent
 stepped_past world client step = noted_past
-    (requests_sent (record world { clients = put world.clients client step.client }) client step.requests) client
-    step.notes
+    (requests_sent (record world { clients = put world.clients client step.client }) client step.requests) client step.notes
 
 -- notes change no queue
 noted_requests : (world : World) (client : ℕ) (notes : List Note) → (noted world client notes).requests ≡ world.requests
@@ -56,11 +54,9 @@ pub stepped_requests : (world : World) (client : ℕ) (step : Step) → (stepped
     ≡ put world.requests client (sent_over (world.links client) (world.requests client) step.requests)
 unfolding stepped_in requests_sent
 stepped_requests world client step = noted_requests
-    (requests_sent (record world { clients = put world.clients client step.client }) client step.requests) client
-    step.notes
+    (requests_sent (record world { clients = put world.clients client step.client }) client step.requests) client step.notes
 
 pub stepped_replies : (world : World) (client : ℕ) (step : Step) → (stepped_in world client step).replies ≡ world.replies
 unfolding stepped_in requests_sent
 stepped_replies world client step = noted_replies
-    (requests_sent (record world { clients = put world.clients client step.client }) client step.requests) client
-    step.notes
+    (requests_sent (record world { clients = put world.clients client step.client }) client step.requests) client step.notes

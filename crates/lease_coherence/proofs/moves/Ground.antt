@@ -64,19 +64,16 @@ answered_well : (file : ℕ) (before behind : List Held) (one : Held) (progress 
 unfolding held_left
 answered_well file before behind one progress after f held same at x a = ⊎_elim
     (λ old. held_well progress.server at x f.orderly old)
-    (λ left. subst (λ n. IsHeldWell progress.server n x) (sym left.0)
-    (held_well progress.server file x f.orderly
+    (λ left. subst (λ n. IsHeldWell progress.server n x) (sym left.0) (held_well progress.server file x f.orderly
     (subst (λ (l : List Held). Among x l) (sym held) (among_more x one before behind left.1))))
-    (among_put progress.server.held file (before ++ behind) at x
-    (subst (λ (h : ℕ → List Held). Among x (h at)) same a))
+    (among_put progress.server.held file (before ++ behind) at x (subst (λ (h : ℕ → List Held). Among x (h at)) same a))
 
 step_well : (step : SmallStep) (progress : Progress) → IsFine progress.server → IsGuarded step progress.server
     → IsInTurn step progress.server → (file : ℕ) (one : Held) → Among one ((step_taken step progress).server.held file)
     → IsHeldWell progress.server file one
 unfolding request_held opens_dropped with_opens lease_lowered break_begun
 step_well (SmallStep.Answer client request outcome) progress f may turn =
-    same_well progress (concluded client request progress outcome) f.orderly
-    (concluded-held client request progress outcome)
+    same_well progress (concluded client request progress outcome) f.orderly (concluded-held client request progress outcome)
 step_well (SmallStep.AnswerHeld file before one behind outcome) progress f may turn =
     answered_well file before behind one progress
     (concluded one.client one.request (held_left file (before ++ behind) progress) outcome) f may.0
@@ -88,11 +85,9 @@ step_well (SmallStep.Hold file one) progress f may turn = λ at x a. ⊎_elim
     (λ new. ⊎_elim
     (λ old. held_well progress.server at x f.orderly (subst (λ n. Among x (progress.server.held n)) (sym new.0) old))
     (λ last. ⊎_elim
-    (λ same. subst (λ n. IsHeldWell progress.server n x) (sym new.0)
-    (subst (IsHeldWell progress.server file) (sym same)
+    (λ same. subst (λ n. IsHeldWell progress.server n x) (sym new.0) (subst (IsHeldWell progress.server file) (sym same)
     (asked_well one.client one.request progress f may.0 file turn)))
-    (λ none. absurd none) last)
-    (among_append x (progress.server.held file) (one ∷ []) new.1))
+    (λ none. absurd none) last) (among_append x (progress.server.held file) (one ∷ []) new.1))
     (among_put progress.server.held file (progress.server.held file ++ one ∷ []) at x a)
 step_well step progress f may turn = λ at x a. held_well progress.server at x f.orderly a
 
@@ -110,8 +105,7 @@ popped_tied world client c t = record {
   present = t.present;
   requests = λ down. by_client (λ d. world.requests d ≡ [] → (popped world client).requests d ≡ []) client c
       (λ none. put_same world.requests client (rest_of (world.requests client)) ∙ ap (λ (q : List Request). rest_of q) none)
-      (λ ne apart none. put_other world.requests client (rest_of (world.requests client)) c ne ∙ none)
-      (t.requests down);
+      (λ ne apart none. put_other world.requests client (rest_of (world.requests client)) c ne ∙ none) (t.requests down);
   replies = t.replies;
   served = t.served;
   counted = t.counted;
@@ -137,17 +131,14 @@ off_links (SmallStep.Answer client request outcome) world = refl
 off_links step world = refl
 
 -- the server after a move, its clients and links, and its record
-pub moved_server : (world : World) (step : SmallStep)
-    → (moved world step).server ≡ (step_taken step (begun world.server)).server
+pub moved_server : (world : World) (step : SmallStep) → (moved world step).server ≡ (step_taken step (begun world.server)).server
 moved_server world step = served-server (taken_off step world) (step_taken step (begun world.server))
 
 pub moved_clients : (world : World) (step : SmallStep) → (moved world step).clients ≡ world.clients
-moved_clients world step =
-    served-clients (taken_off step world) (step_taken step (begun world.server)) ∙ off_clients step world
+moved_clients world step = served-clients (taken_off step world) (step_taken step (begun world.server)) ∙ off_clients step world
 
 pub moved_links : (world : World) (step : SmallStep) → (moved world step).links ≡ world.links
-moved_links world step =
-    served_links (taken_off step world) (step_taken step (begun world.server)) ∙ off_links step world
+moved_links world step = served_links (taken_off step world) (step_taken step (begun world.server)) ∙ off_links step world
 
 pub moved_past : (world : World) (step : SmallStep)
     → (moved world step).past ≡ told world.past (step_taken step (begun world.server)).outs
@@ -156,8 +147,7 @@ moved_past world step = let p = step_taken step (begun world.server) in
     all_delivered_past (record (taken_off step world) { server = p.server }) p.outs
     ∙ ap (λ past. told past p.outs) (off_past step world)
 
-moved_tied : (world : World) (step : SmallStep) → Ground world → IsNext world step
-    → (c : ℕ) → IsTied (moved world step) c
+moved_tied : (world : World) (step : SmallStep) → Ground world → IsNext world step → (c : ℕ) → IsTied (moved world step) c
 unfolding served
 moved_tied world step g next c =
     let p = step_taken step (begun world.server) in
@@ -169,8 +159,7 @@ moved_tied world step g next c =
     (reach p.outs (subst (EachOut (outs.IsFine world.server)) (sym more.are_more) more.each))
     (λ d. carried off (record off { server = p.server }) d
     (go.ups d ∙ (g.tied d).present ∙ ap (λ (l : ℕ → Link). is_up (l d)) (sym (off_links step world))
-    ∙ sym (off_tied step world d (g.tied d)).present)
-    refl refl refl refl refl refl (off_tied step world d (g.tied d))) c
+    ∙ sym (off_tied step world d (g.tied d)).present) refl refl refl refl refl refl (off_tied step world d (g.tied d))) c
   where
     reach : (list : List Out) → EachOut (outs.IsFine world.server) list → EachOut (IsToPresent world.server) list
     reach [] each = tt
@@ -179,8 +168,7 @@ moved_tied world step g next c =
 moved_ground : (world : World) (step : SmallStep) → Ground world → IsNext world step → Ground (moved world step)
 moved_ground world step g next =
     let p = step_taken step (begun world.server) in record {
-      fine = subst IsFine (sym (moved_server world step))
-          (step_fine step (begun world.server) g.fine next.guarded next.in_turn);
+      fine = subst IsFine (sym (moved_server world step)) (step_fine step (begun world.server) g.fine next.guarded next.in_turn);
       counted = subst (λ past. IsCounted past (moved world step).server) (sym (moved_past world step))
           (subst (IsCounted (told world.past p.outs)) (sym (moved_server world step))
           (step_counted world.past step (begun world.server) g.fine.sound next.guarded g.counted));
@@ -192,8 +180,7 @@ moved_ground world step g next =
 
 -- ---- steps of a client
 
-pub called_sound : (client : Client) (call : ClientCall) → IsSoundClient client
-    → IsSoundClient (client_called client call).client
+pub called_sound : (client : Client) (call : ClientCall) → IsSoundClient client → IsSoundClient (client_called client call).client
 called_sound client call s = record {
   entries = called_entries client call s.entries;
   in_files = called_in_files client call s.in_files;
@@ -204,8 +191,7 @@ noted_counted : (world : World) (client : ℕ) (notes : List Note) (server : Ser
     → IsCounted (noted world client notes).past server
 unfolding noted
 noted_counted world client [] server c = c
-noted_counted world client (note ∷ notes) server c =
-    noted_counted (happened world (fact_of client note)) client notes server
+noted_counted world client (note ∷ notes) server c = noted_counted (happened world (fact_of client note)) client notes server
     (same_counted world.past (fact_of client note ∷ world.past) server (note_same world.past client note) c)
 
 -- a client that steps, in a world where all but its being online is known
@@ -249,22 +235,17 @@ cut_ground world client g e = record {
   counted = begun_so (Fact.Dropped client ∷ world.past) world.server (Call.Cut client) _
       (fact_counted world.past (Fact.Dropped client) world.server tt g.counted)
       (chosen (world.server.present client) _ (begun world.server) ((g.tied client).present ∙ ap is_up e));
-  tied = λ c. by_client (IsTied (cut_off world client)) client c
-      (record {
-        present = put_same world.server.present client false
-            ∙ sym (ap is_up (put_same world.links client Link.Cut));
-        requests = λ d. put_same world.requests client [];
-        replies = λ d. put_same world.replies client [];
-        served = λ t. clash (is_served client (Fact.Dropped client ∷ world.past)) t
-            (rw (eq-eqb client client refl) refl);
-        counted = λ u. clash (is_up (put world.links client Link.Cut client)) u
-            (ap is_up (put_same world.links client Link.Cut));
-      })
+  tied = λ c. by_client (IsTied (cut_off world client)) client c (record {
+    present = put_same world.server.present client false ∙ sym (ap is_up (put_same world.links client Link.Cut));
+    requests = λ d. put_same world.requests client [];
+    replies = λ d. put_same world.replies client [];
+    served = λ t. clash (is_served client (Fact.Dropped client ∷ world.past)) t (rw (eq-eqb client client refl) refl);
+    counted = λ u. clash (is_up (put world.links client Link.Cut client)) u (ap is_up (put_same world.links client Link.Cut));
+  })
       (λ ne apart. carried world (cut_off world client) c (put_other world.server.present client false c ne)
       (put_other world.links client Link.Cut c ne) (put_other world.requests client [] c ne)
       (put_other world.replies client [] c ne) (rw (apart) refl) refl refl (g.tied c));
-  online = λ c. by_client (IsOnline (cut_off world client)) client c
-      (g.online client ∙ ap (λ k. not (is_down k)) e
+  online = λ c. by_client (IsOnline (cut_off world client)) client c (g.online client ∙ ap (λ k. not (is_down k)) e
       ∙ ap (λ k. not (is_down k)) (sym (put_same world.links client Link.Cut)))
       (λ ne apart. g.online c ∙ ap (λ k. not (is_down k)) (sym (put_other world.links client Link.Cut c ne)));
   clients = g.clients;
@@ -279,17 +260,15 @@ timer_ground world client file g breaks =
       counted = begun_so (Fact.Expired client file ∷ world.past) world.server (Call.Expire key) _
           (fact_counted world.past (Fact.Expired client file) world.server tt g.counted)
           (chosen (breaking world.server key) _ (begun world.server) breaks);
-      tied = λ c. by_client (IsTied (timed_out world client file)) client c
-          (let t = g.tied client in record {
-            present = t.present;
-            requests = t.requests;
-            replies = t.replies;
-            served = λ s. clash (is_served client (Fact.Expired client file ∷ world.past)) s
-                (rw (eq-eqb client client refl) refl);
-            counted = t.counted;
-          })
-          (λ ne apart. carried world (timed_out world client file) c refl refl refl refl (rw (apart) refl) refl refl
-          (g.tied c));
+      tied = λ c. by_client (IsTied (timed_out world client file)) client c (let t = g.tied client in record {
+        present = t.present;
+        requests = t.requests;
+        replies = t.replies;
+        served = λ s. clash (is_served client (Fact.Expired client file ∷ world.past)) s
+            (rw (eq-eqb client client refl) refl);
+        counted = t.counted;
+      })
+          (λ ne apart. carried world (timed_out world client file) c refl refl refl refl (rw (apart) refl) refl refl (g.tied c));
       online = g.online;
       clients = g.clients;
     }
@@ -310,35 +289,27 @@ scavenge_ground world file_id g = record {
 back_tied : (world : World) (client : ℕ) → is_up (world.links client) ≡ false → ((c : ℕ) → IsTied world c)
     → (c : ℕ) → IsTied (come_back world client) c
 unfolding joined is_served sendings takings
-back_tied world client down tied c = by_client (IsTied (come_back world client)) client c
-    (record {
-      present = put_same world.server.present client true ∙ sym (ap is_up (put_same world.links client Link.Up));
-      requests = λ d. clash (is_up (put world.links client Link.Up client)) up d;
-      replies = λ d. clash (is_up (put world.links client Link.Up client)) up d;
-      served = λ t. up;
-      counted = λ u. rw (eq-eqb client client refl, (tied client).replies down) refl;
-    })
+back_tied world client down tied c = by_client (IsTied (come_back world client)) client c (record {
+  present = put_same world.server.present client true ∙ sym (ap is_up (put_same world.links client Link.Up));
+  requests = λ d. clash (is_up (put world.links client Link.Up client)) up d;
+  replies = λ d. clash (is_up (put world.links client Link.Up client)) up d;
+  served = λ t. up;
+  counted = λ u. rw (eq-eqb client client refl, (tied client).replies down) refl;
+})
     (λ ne apart. carried world (come_back world client) c (put_other world.server.present client true c ne)
-    (put_other world.links client Link.Up c ne) refl refl (rw (apart) refl) (rw (apart) refl) (rw (apart) refl)
-    (tied c))
+    (put_other world.links client Link.Up c ne) refl refl (rw (apart) refl) (rw (apart) refl) (rw (apart) refl) (tied c))
   where
     up : is_up (put world.links client Link.Up client) ≡ true
     up = ap is_up (put_same world.links client Link.Up)
 
-connect_ground : (world : World) (client : ℕ) → Ground world → world.links client ≡ Link.Down
-    → Ground (connected world client)
+connect_ground : (world : World) (client : ℕ) → Ground world → world.links client ≡ Link.Down → Ground (connected world client)
 unfolding joined connection_made all_turned
-connect_ground world client g e = stepped_ground (come_back world client) client ClientCall.Connected
-    (record {
-      sound = joined-sound client (begun world.server) g.fine.sound;
-      orderly = joined-orderly client (begun world.server) g.fine.orderly;
-    })
-    (fact_counted world.past (Fact.Joined client) _ tt
-    (record { last = g.counted.last; opens = g.counted.opens }))
-    (back_tied world client (ap is_up e) g.tied)
-    (sym (ap (λ k. not (is_down k)) (put_same world.links client Link.Up)))
-    (λ c ne. g.online c ∙ ap (λ k. not (is_down k)) (sym (put_other world.links client Link.Up c ne)))
-    g.clients
+connect_ground world client g e = stepped_ground (come_back world client) client ClientCall.Connected (record {
+  sound = joined-sound client (begun world.server) g.fine.sound;
+  orderly = joined-orderly client (begun world.server) g.fine.orderly;
+}) (fact_counted world.past (Fact.Joined client) _ tt (record { last = g.counted.last; opens = g.counted.opens }))
+    (back_tied world client (ap is_up e) g.tied) (sym (ap (λ k. not (is_down k)) (put_same world.links client Link.Up)))
+    (λ c ne. g.online c ∙ ap (λ k. not (is_down k)) (sym (put_other world.links client Link.Up c ne))) g.clients
 
 command_ground : (world : World) (client : ℕ) (command : Command) → Ground world
     → Ground (stepped_in world client (commanded (world.clients client) command))
@@ -370,18 +341,15 @@ gone_tied world client reply queue e tied c = by_client (IsTied (reply_gone worl
 take_ground : (world : World) (client : ℕ) (reply : Reply) (queue : List Reply) → Ground world
     → world.replies client ≡ reply ∷ queue → Ground (reply_taken world client reply queue)
 take_ground world client reply queue g e = stepped_ground (reply_gone world client queue) client (ClientCall.Taken reply)
-    g.fine (fact_counted world.past (Fact.Took client) world.server tt g.counted)
-    (gone_tied world client reply queue e g.tied)
+    g.fine (fact_counted world.past (Fact.Took client) world.server tt g.counted) (gone_tied world client reply queue e g.tied)
     ((taken-stays (world.clients client) reply).online ∙ g.online client) (λ c ne. g.online c) g.clients
 
-notice_ground : (world : World) (client : ℕ) → Ground world → world.links client ≡ Link.Cut
-    → Ground (noticed_by world client)
+notice_ground : (world : World) (client : ℕ) → Ground world → world.links client ≡ Link.Cut → Ground (noticed_by world client)
 unfolding noticed all_turned
 notice_ground world client g e = stepped_ground (record world { links = put world.links client Link.Down }) client
     ClientCall.Noticed g.fine g.counted (relinked world client Link.Down (ap is_up e) refl g.tied)
     (sym (ap (λ k. not (is_down k)) (put_same world.links client Link.Down)))
-    (λ c ne. g.online c ∙ ap (λ k. not (is_down k)) (sym (put_other world.links client Link.Down c ne)))
-    g.clients
+    (λ c ne. g.online c ∙ ap (λ k. not (is_down k)) (sym (put_other world.links client Link.Down c ne))) g.clients
 
 stray_ground : (world : World) (client : ℕ) (request : Request) → Ground world → Ground (strayed world client request)
 unfolding requests_sent is_served sendings takings

@@ -65,8 +65,7 @@ all_delivered_rest : (world : World) (server : Server) (requests : ℕ → List 
     → all_delivered (with_rest world server requests) outs ≡ with_rest (all_delivered world outs) server requests
 unfolding all_delivered
 all_delivered_rest world server requests [] = refl
-all_delivered_rest world server requests (out ∷ outs) =
-    ap (λ w. all_delivered w outs) (delivered_rest world server requests out)
+all_delivered_rest world server requests (out ∷ outs) = ap (λ w. all_delivered w outs) (delivered_rest world server requests out)
     ∙ all_delivered_rest (delivered world out) server requests outs
 
 all_delivered_append : (world : World) (outs more : List Out)
@@ -83,8 +82,7 @@ delivered_requests world out = refl
 all_delivered_requests : (world : World) (outs : List Out) → (all_delivered world outs).requests ≡ world.requests
 unfolding all_delivered
 all_delivered_requests world [] = refl
-all_delivered_requests world (out ∷ outs) =
-    all_delivered_requests (delivered world out) outs ∙ delivered_requests world out
+all_delivered_requests world (out ∷ outs) = all_delivered_requests (delivered world out) outs ∙ delivered_requests world out
 
 pub served_requests : (world : World) (progress : Progress) → (served world progress).requests ≡ world.requests
 unfolding served
@@ -100,11 +98,9 @@ served_twice base progress step =
     let start : World = record base { server = progress.server } in
     sym (ap (λ (s : Server). all_delivered (record base { server = s }) (step_taken step progress).outs) f.server
     ∙ ap (λ outs. all_delivered (record base { server = fresh.server }) outs) f.outs
-    ∙ all_delivered_append (record base { server = fresh.server }) progress.outs fresh.outs
-    ∙ ap (λ w. all_delivered w fresh.outs)
+    ∙ all_delivered_append (record base { server = fresh.server }) progress.outs fresh.outs ∙ ap (λ w. all_delivered w fresh.outs)
     (all_delivered_rest start fresh.server start.requests progress.outs
-    ∙ ap (λ r. with_rest (all_delivered start progress.outs) fresh.server r)
-    (sym (all_delivered_requests start progress.outs))))
+    ∙ ap (λ r. with_rest (all_delivered start progress.outs) fresh.server r) (sym (all_delivered_requests start progress.outs))))
 
 -- requests leave their queue whatever is given out
 popped_served : (base : World) (progress : Progress) (client : ℕ)
@@ -144,8 +140,7 @@ abbrev pub AreDue : List SmallStep → World → Type 0
 AreDue [] world = ⊤
 AreDue (step ∷ steps) world = IsDue step world × AreDue steps (taken_off step world)
 
-due_served : (step : SmallStep) (base : World) (progress : Progress) → IsDue step base
-    → IsDue step (served base progress)
+due_served : (step : SmallStep) (base : World) (progress : Progress) → IsDue step base → IsDue step (served base progress)
 due_served (SmallStep.Answer client request outcome) base progress due = record {
   queue = due.queue;
   is_first = ap (λ (r : ℕ → List Request). r client) (served_requests base progress) ∙ due.is_first;
@@ -162,8 +157,7 @@ due_served (SmallStep.AnswerHeld file before one behind outcome) base progress d
 due_served step base progress due = tt
 
 -- what each next step keeps, all steps of a call keep
-pub steps_keep : (V : World → Type 0)
-    → ((world : World) (step : SmallStep) → V world → IsNext world step → V (moved world step))
+pub steps_keep : (V : World → Type 0) → ((world : World) (step : SmallStep) → V world → IsNext world step → V (moved world step))
     → (steps : List SmallStep) (base : World) (progress : Progress) → AreGuarded steps progress
     → AreInTurn steps progress → AreDue steps base → V (served base progress)
     → V (served (all_taken_off steps base) (steps_taken steps progress))
@@ -208,8 +202,7 @@ same_request : (client other : ℕ) (request asked : Request) → Call.Receive c
 same_request client other request asked e = cc
 
 oldest_of : (base : World) (client other : ℕ) (request asked : Request) (queue : List Request)
-    → base.requests client ≡ request ∷ queue → Call.Receive client request ≡ Call.Receive other asked
-    → IsOldest base other asked
+    → base.requests client ≡ request ∷ queue → Call.Receive client request ≡ Call.Receive other asked → IsOldest base other asked
 oldest_of base client other request asked queue first e = record {
   queue = queue;
   is_first = ap base.requests (sym (same_client client other request asked e)) ∙ first

@@ -58,8 +58,7 @@ pub record IsOwnMoved (V : World → Type 0) (A : World → ℕ → Type 0) : Ty
       → has_strayed c world.past ≡ false → IsSource world off c request → MayRefuse off.server c request status
       → A world c → A (told_to off c (refusal_of request status)) c
   pub full : (world off : World) (c file : ℕ) (access : Access) (share : Share) (ask : CreateAsk) → V world
-      → has_strayed c world.past ≡ false
-      → IsSource world off c (FileRequest.Create file access share (Some ask)) → A world c
+      → has_strayed c world.past ≡ false → IsSource world off c (FileRequest.Create file access share (Some ask)) → A world c
       → A (told_to off c (Reply.CreateFailed file Status.InsufficientResources)) c
   pub granted : (world off : World) (c file : ℕ) (access : Access) (share : Share) (ask : CreateAsk) → V world
       → has_strayed c world.past ≡ false
@@ -74,8 +73,7 @@ pub record IsOwnMoved (V : World → Type 0) (A : World → ℕ → Type 0) : Ty
       → A (reconnected_in off c file ask file_id) c
   pub read : (world off : World) (c file_id : ℕ) (one : Open) → V world → has_strayed c world.past ≡ false
       → IsSource world off c (FileRequest.Read file_id) → connected_open off.server c file_id ≡ Some one
-      → may_read one.access ≡ true → A world c
-      → A (told_to off c (Reply.ReadDone file_id (off.server.contents one.file))) c
+      → may_read one.access ≡ true → A world c → A (told_to off c (Reply.ReadDone file_id (off.server.contents one.file))) c
   pub changed : (world off : World) (c file_id number : ℕ) (patch : Patch) (one : Open) → V world
       → has_strayed c world.past ≡ false → IsSource world off c (FileRequest.Write file_id number patch)
       → connected_open off.server c file_id ≡ Some one → MayChange off.server patch one → A world c
@@ -88,10 +86,8 @@ pub record IsOwnMoved (V : World → Type 0) (A : World → ℕ → Type 0) : Ty
       → IsRefusedAck world.server c given → A world c → A (told_to (popped world c) c (Reply.AckFailed status)) c
   pub ack_done : (world : World) (c : ℕ) (given : LeaseOf) (lowered : State) → V world
       → has_strayed c world.past ≡ false → IsOldest world c (Request.Acknowledge (Some given))
-      → has_lease world.server (key_of c given.key) ≡ true
-      → (world.server.leases (key_of c given.key)).broken_to ≡ Some lowered
-      → is_state_within given.state lowered ≡ true → A world c
-      → A (leased_in (popped world c) (key_of c given.key)
+      → has_lease world.server (key_of c given.key) ≡ true → (world.server.leases (key_of c given.key)).broken_to ≡ Some lowered
+      → is_state_within given.state lowered ≡ true → A world c → A (leased_in (popped world c) (key_of c given.key)
       (record { state = granted_form_of given.state; broken_to = None })
       (Reply.AckDone (Some (record { key = given.key; state = granted_form_of given.state })))) c
   pub hold : (world : World) (file : ℕ) (one : Held) → V world → has_strayed one.client world.past ≡ false
@@ -101,13 +97,11 @@ pub record IsOwnMoved (V : World → Type 0) (A : World → ℕ → Type 0) : Ty
   pub dropped : (world : World) (c : ℕ) (test : Open → Bool) → V world → has_strayed c world.past ≡ false
       → ((one : Open) → test one ≡ true → one.connected ≡ false) → A world c → A (without_opens world test) c
   pub lower : (world : World) (key : Key) (lowered : State) → V world → has_strayed key.client world.past ≡ false
-      → MayLower world.server key lowered → needs_acknowledgment (world.server.leases key).state ≡ false
-      → A world key.client
+      → MayLower world.server key lowered → needs_acknowledgment (world.server.leases key).state ≡ false → A world key.client
       → A (leased_in world key (record { state = lowered; broken_to = None })
       (break_notice key (world.server.leases key).state lowered)) key.client
   pub begin : (world : World) (key : Key) (lowered : State) → V world → has_strayed key.client world.past ≡ false
-      → MayLower world.server key lowered → needs_acknowledgment (world.server.leases key).state ≡ true
-      → A world key.client
+      → MayLower world.server key lowered → needs_acknowledgment (world.server.leases key).state ≡ true → A world key.client
       → A (leased_in world key (record { state = (world.server.leases key).state; broken_to = Some lowered })
       (break_notice key (world.server.leases key).state lowered)) key.client
   pub cut : (world : World) (c : ℕ) → V world → has_strayed c world.past ≡ false → world.links c ≡ Link.Up
@@ -120,8 +114,7 @@ pub record IsOwnMoved (V : World → Type 0) (A : World → ℕ → Type 0) : Ty
   pub command : (world : World) (c : ℕ) (command : Command) → V world → has_strayed c world.past ≡ false
       → A world c → A (stepped_in world c (commanded (world.clients c) command)) c
   pub take : (world : World) (c : ℕ) (reply : Reply) (queue : List Reply) → V world
-      → has_strayed c world.past ≡ false → world.replies c ≡ reply ∷ queue → A world c
-      → A (reply_taken world c reply queue) c
+      → has_strayed c world.past ≡ false → world.replies c ≡ reply ∷ queue → A world c → A (reply_taken world c reply queue) c
   pub notice : (world : World) (c : ℕ) → V world → has_strayed c world.past ≡ false → world.links c ≡ Link.Cut
       → A world c → A (noticed_by world c) c
 
@@ -141,12 +134,10 @@ for_all V A k world new client v a own other c good = by_client
 -- the opens of others, where one of a client is connected again, or closed
 others_apart : (world off : World) (client : ℕ) (request : FileRequest) → IsSource world off client request → Ground world
     → (file_id : ℕ) (mine : Open) → Among mine off.server.opens → mine.file_id ≡ file_id → mine.client ≡ client
-    → (c : ℕ) → client ≢ c → (one : Open) → one.client ≡ c → Among one off.server.opens
-    → (one.file_id == file_id) ≡ false
+    → (c : ℕ) → client ≢ c → (one : Open) → one.client ≡ c → Among one off.server.opens → (one.file_id == file_id) ≡ false
 others_apart world off client request source g file_id mine there id by c ne one own a =
     let counted = off_counted world off client request source g in
-    apart one.file_id file_id (λ same. ne (sym by
-    ∙ opened_by file_id mine.file mine.client one.file one.client off.past
+    apart one.file_id file_id (λ same. ne (sym by ∙ opened_by file_id mine.file mine.client one.file one.client off.past
     (subst (λ i. was_opened i mine.file mine.client off.past ≡ true) id (counted.opens mine there))
     (subst (λ i. was_opened i one.file one.client off.past ≡ true) same (counted.opens one a)) ∙ own))
 
@@ -169,12 +160,10 @@ deeds_all : (V : World → Type 0) (A : World → ℕ → Type 0) → ((world : 
 deeds_all V A ground k world v a = record {
   refused = λ off client request status source may. for_all V A k world _ client v a
       (λ g x. k.refused world off client request status v g source may x)
-      (λ c ne. unmoved_then world off _ c (unmoved_off world off client request c source ne)
-      (unmoved_told off client _ c ne));
+      (λ c ne. unmoved_then world off _ c (unmoved_off world off client request c source ne) (unmoved_told off client _ c ne));
   full = λ off client file access share ask source. for_all V A k world _ client v a
       (λ g x. k.full world off client file access share ask v g source x)
-      (λ c ne. unmoved_then world off _ c (unmoved_off world off client _ c source ne)
-      (unmoved_told off client _ c ne));
+      (λ c ne. unmoved_then world off _ c (unmoved_off world off client _ c source ne) (unmoved_told off client _ c ne));
   granted = λ off client file access share ask source none on free. for_all V A k world _ client v a
       (λ g x. k.granted world off client file access share ask v g source none on free x)
       (λ c ne. unmoved_then world off _ c (unmoved_off world off client _ c source ne)
@@ -183,18 +172,14 @@ deeds_all V A ground k world v a = record {
   reconnected = λ off client file access share ask file_id source again on waits. for_all V A k world _ client v a
       (λ g x. k.reconnected world off client file access share ask file_id v g source again on waits x)
       (λ c ne. unmoved_then world off _ c (unmoved_off world off client _ c source ne)
-      (unmoved_then off (record off { server = record off.server { opens = map (connected_again file_id) off.server.opens } })
-      _ c
+      (unmoved_then off (record off { server = record off.server { opens = map (connected_again file_id) off.server.opens } }) _ c
       (let parts = awaits_parts client file (own_key client ask.lease) file_id waits.one waits.waits in
       unmoved_mapped off (connected_again file_id) c
       (λ one own x. again_same file_id one (others_apart world off client _ source (ground world v) file_id waits.one
-      waits.is_there parts.0 parts.1.0 c ne one own x))
-      (again_client file_id))
-      (unmoved_told _ client _ c ne)));
+      waits.is_there parts.0 parts.1.0 c ne one own x)) (again_client file_id)) (unmoved_told _ client _ c ne)));
   read = λ off client file_id one source found may. for_all V A k world _ client v a
       (λ g x. k.read world off client file_id one v g source found may x)
-      (λ c ne. unmoved_then world off _ c (unmoved_off world off client _ c source ne)
-      (unmoved_told off client _ c ne));
+      (λ c ne. unmoved_then world off _ c (unmoved_off world off client _ c source ne) (unmoved_told off client _ c ne));
   changed = λ off client file_id number patch one source found may. for_all V A k world _ client v a
       (λ g x. k.changed world off client file_id number patch one v g source found may x)
       (λ c ne. let there = find_has _ one off.server.opens found in
@@ -202,8 +187,7 @@ deeds_all V A ground k world v a = record {
       let apart : one.client ≢ c = λ e. ne (sym mine ∙ e) in
       let sound = off_sound world off client _ source (ground world v).fine.sound in
       unmoved_then world off _ c (unmoved_off world off client _ c source ne)
-      (unmoved_content off client one.file file_id number patch c ne
-      (change_no_writer off.server one c apart sound there.0)
+      (unmoved_content off client one.file file_id number patch c ne (change_no_writer off.server one c apart sound there.0)
       (change_no_reader off.server one c apart sound may.alone)));
   closed = λ off client file_id one source found. for_all V A k world _ client v a
       (λ g x. k.closed world off client file_id one v g source found x)
@@ -213,8 +197,7 @@ deeds_all V A ground k world v a = record {
       (unmoved_then off (without_opens off (λ other. other.file_id == file_id)) _ c
       (unmoved_without off (λ other. other.file_id == file_id) c (off_ground world off client _ source (ground world v))
       (λ other own x. others_apart world off client _ source (ground world v) file_id one there.0 parts.0 parts.1.0
-      c ne other own x))
-      (unmoved_told _ client _ c ne)));
+      c ne other own x)) (unmoved_told _ client _ c ne)));
   ack_failed = λ client given status oldest up why. for_all V A k world _ client v a
       (λ g x. k.ack_failed world client given status v g oldest why x)
       (λ c ne. unmoved_then world (popped world client) _ c (unmoved_popped world client c ne)
@@ -253,8 +236,7 @@ unmoved_cut world client c g ne =
       requests = put_other world.requests client [] c (λ e. ne (sym e));
       replies = put_other world.replies client [] c (λ e. ne (sym e));
       held = λ file. filter_twice (λ h. h.client == c) (λ h. not (h.client == client)) (world.server.held file)
-          (λ h mine. false_not (h.client == client)
-          (apart h.client client (λ e. ne (sym e ∙ eqb-true h.client c mine))));
+          (λ h mine. false_not (h.client == client) (apart h.client client (λ e. ne (sym e ∙ eqb-true h.client c mine))));
       kept = λ one own a. off.kept one own (lost.kept one own a);
       from = λ one own a. lost.from one own (off.from one own a);
       leases = lost.leases;
@@ -269,8 +251,7 @@ unmoved_cut world client c g ne =
     client_same one = if_cases (λ o. o.client ≡ one.client) (one.client == client)
         (record one { connected = false }) one (λ same. refl) (λ other. refl)
 
-unmoved_timer : (world : World) (client file c : ℕ) → Ground world → client ≢ c
-    → IsUnmoved world (timed_out world client file) c
+unmoved_timer : (world : World) (client file c : ℕ) → Ground world → client ≢ c → IsUnmoved world (timed_out world client file) c
 unfolding key_expired opens_dropped with_opens
 unmoved_timer world client file c g ne =
     let key = machine_key world client file in
@@ -313,12 +294,10 @@ unmoved_stepped world client step c ne =
     let s = unmoved_same world c in
     let server = stepped_server world client step in
     let away : c ≢ client = λ e. ne (sym e) in record {
-      later = subst (IsLater world.past) (sym (stepped_past world client step))
-          (later_noted client world.past step.notes);
+      later = subst (IsLater world.past) (sym (stepped_past world client step)) (later_noted client world.past step.notes);
       spared = subst (IsSpared c world.server.opens world.server.leases world.past) (sym (stepped_past world client step))
           (spared_noted c world.server.opens world.server.leases client world.past step.notes ne);
-      machine = ap (λ (t : ℕ → _). t c) (stepped_clients world client step)
-          ∙ put_other world.clients client step.client c away;
+      machine = ap (λ (t : ℕ → _). t c) (stepped_clients world client step) ∙ put_other world.clients client step.client c away;
       link = ap (λ (l : ℕ → Link). l c) (stepped_links world client step);
       requests = ap (λ (q : ℕ → List Request). q c) (stepped_requests world client step)
           ∙ put_other world.requests client _ c away;
@@ -383,8 +362,7 @@ unmoved_strayed world client request c ne = let s = unmoved_same world c in reco
 
 -- a move of one client, by what it does to that client and to the others
 moved_all : (V : World → Type 0) (A : World → ℕ → Type 0) → IsOwnMoved V A → (world new : World) (client : ℕ) → V world
-    → OfGood A world → IsLater world.past new.past
-    → (has_strayed client world.past ≡ false → A world client → A new client)
+    → OfGood A world → IsLater world.past new.past → (has_strayed client world.past ≡ false → A world client → A new client)
     → ((c : ℕ) → client ≢ c → IsUnmoved world new c) → OfGood A new
 moved_all V A k world new client v a later own other c good =
     for_all V A k world new client v a own other c (later.strayed c good)

@@ -47,8 +47,7 @@ created_follows : (client file : ℕ) (access : Access) (share : Share) (asked :
 unfolding granted granted_with reconnected
 created_follows client file access share asked durable None progress =
     if_follows progress.outs (progress.server.last_id == last_file_id) _ _ _ _
-    (reply_follows client (Reply.CreateFailed file Status.InsufficientResources) progress)
-    (record { server = refl; outs = refl })
+    (reply_follows client (Reply.CreateFailed file Status.InsufficientResources) progress) (record { server = refl; outs = refl })
 created_follows client file access share asked durable (Some file_id) progress =
     record { server = refl; outs = refl }
 
@@ -65,8 +64,7 @@ contexts_follow None done progress each = same_follows progress
 contexts_follow (Some ask) done progress each = each ask
 
 concluded_follows : (client : ℕ) (request : FileRequest) (outcome : Outcome) (progress : Progress)
-    → Follows progress.outs (concluded client request progress outcome)
-    (concluded client request (begun progress.server) outcome)
+    → Follows progress.outs (concluded client request progress outcome) (concluded client request (begun progress.server) outcome)
 unfolding refused answered changed closed opens_dropped
 concluded_follows client request (Outcome.Refused status) progress = reply_follows client _ progress
 concluded_follows client request Outcome.Waits progress = same_follows progress
@@ -92,8 +90,7 @@ judged_follows : (key : Key) (state : State) (lowered : Option State) (progress 
 unfolding break_ended
 judged_follows key state None progress = reply_follows key.client _ progress
 judged_follows key state (Some lowered) progress = if_follows progress.outs (is_state_within state lowered) _ _ _ _
-    (record { server = refl; outs = refl })
-    (reply_follows key.client (Reply.AckFailed Status.RequestNotAccepted) progress)
+    (record { server = refl; outs = refl }) (reply_follows key.client (Reply.AckFailed Status.RequestNotAccepted) progress)
 
 acknowledged_follows : (client : ℕ) (given : Option LeaseOf) (progress : Progress)
     → Follows progress.outs (acknowledged client given progress) (acknowledged client given (begun progress.server))
@@ -101,8 +98,7 @@ unfolding acknowledged
 acknowledged_follows client None progress = reply_follows client _ progress
 acknowledged_follows client (Some given) progress =
     if_follows progress.outs (has_lease progress.server (key_of client given.key)) _ _ _ _
-    (judged_follows (key_of client given.key) given.state
-    (progress.server.leases (key_of client given.key)).broken_to progress)
+    (judged_follows (key_of client given.key) given.state (progress.server.leases (key_of client given.key)).broken_to progress)
     (reply_follows client (Reply.AckFailed Status.ObjectNameNotFound) progress)
 
 -- any step

@@ -43,15 +43,13 @@ Spares c opens leases (Fact.Sent client) = client ≢ c
 Spares c opens leases (Fact.Took client) = client ≢ c
 Spares c opens leases (Fact.Wrote client file number patch buffered) = client ≢ c
 Spares c opens leases (Fact.Opened file client) = HasNoWriter c opens leases file
-Spares c opens leases (Fact.Changed file client number patch) =
-    HasNoWriter c opens leases file × HasNoReader c opens leases file
+Spares c opens leases (Fact.Changed file client number patch) = HasNoWriter c opens leases file × HasNoReader c opens leases file
 Spares c opens leases fact = ⊤
 
 pub record IsSpared (c : ℕ) (opens : List Open) (leases : Key → Lease) (past new : List Fact) : Type 0 where
   pub sent : sendings c new ≡ sendings c past
   pub took : takings c new ≡ takings c past
-  pub written : (file number : ℕ) (patch : Patch)
-      → has_written c file number patch new ≡ has_written c file number patch past
+  pub written : (file number : ℕ) (patch : Patch) → has_written c file number patch new ≡ has_written c file number patch past
   pub buffered : (file number : ℕ) → has_buffered c file number new ≡ has_buffered c file number past
   pub clean : (key : Key) (one : Open) → one.client ≡ c → Among one opens → has_key key one ≡ true → (number : ℕ)
       → (has_buffered c one.file number past ≡ true → (leases key).state.write ≡ true)
@@ -59,11 +57,9 @@ pub record IsSpared (c : ℕ) (opens : List Open) (leases : Key → Lease) (past
   pub content : (key : Key) (one : Open) → one.client ≡ c → Among one opens → has_key key one ≡ true
       → (ends_as (leases key)).read ≡ true → content_of one.file new ≡ content_of one.file past
   pub alone : (key : Key) (one : Open) → one.client ≡ c → Among one opens → has_key key one ≡ true
-      → (leases key).state.write ≡ true → touched_since_lost c one.file past ≡ false
-      → touched_since_lost c one.file new ≡ false
+      → (leases key).state.write ≡ true → touched_since_lost c one.file past ≡ false → touched_since_lost c one.file new ≡ false
 
-pub spared_same : (c : ℕ) (opens : List Open) (leases : Key → Lease) (past : List Fact)
-    → IsSpared c opens leases past past
+pub spared_same : (c : ℕ) (opens : List Open) (leases : Key → Lease) (past : List Fact) → IsSpared c opens leases past past
 spared_same c opens leases past = record {
   sent = refl;
   took = refl;
@@ -105,12 +101,10 @@ untouched false apart was touched never e = e
 
 opened_clean : (c : ℕ) (opens : List Open) (leases : Key → Lease) (past : List Fact) (file client : ℕ)
     → HasNoWriter c opens leases file → (key : Key) (one : Open) → one.client ≡ c → Among one opens
-    → has_key key one ≡ true → (number : ℕ)
-    → (has_buffered c one.file number past ≡ true → (leases key).state.write ≡ true)
+    → has_key key one ≡ true → (number : ℕ) → (has_buffered c one.file number past ≡ true → (leases key).state.write ≡ true)
     → (file == one.file) ≡ true → has_buffered c one.file number past ≡ true → ⊥
 opened_clean c opens leases past file client none key one own there has number writes here was =
-    clash (leases key).state.write (writes was)
-    (none key one own there (sym (eqb-true file one.file here)) has)
+    clash (leases key).state.write (writes was) (none key one own there (sym (eqb-true file one.file here)) has)
 
 since : (a b : Bool) → b ≡ false → (a && b) ≡ false
 since true b e = e
@@ -185,8 +179,7 @@ spared_fact c opens leases (Fact.Opened file client) past s = record {
   written = λ f n p. refl;
   buffered = λ f n. refl;
   clean = λ key one own there has number writes e.
-      untouched (file == one.file) (not (client == c)) (has_buffered c one.file number past)
-      (is_touched c one.file number past)
+      untouched (file == one.file) (not (client == c)) (has_buffered c one.file number past) (is_touched c one.file number past)
       (opened_clean c opens leases past file client s key one own there has number writes) e;
   content = λ key one own there has reads. refl;
   alone = λ key one own there has writes e. untouched_since (file == one.file) (not (client == c))
@@ -198,13 +191,10 @@ spared_fact c opens leases (Fact.Changed file client number patch) past s = reco
   took = refl;
   written = λ f n p. refl;
   buffered = λ f n. refl;
-  clean = λ key one own there has n writes e.
-      untouched (file == one.file) (not (client == c)) (has_buffered c one.file n past)
-      (is_touched c one.file n past)
-      (opened_clean c opens leases past file client s.0 key one own there has n writes) e;
+  clean = λ key one own there has n writes e. untouched (file == one.file) (not (client == c)) (has_buffered c one.file n past)
+      (is_touched c one.file n past) (opened_clean c opens leases past file client s.0 key one own there has n writes) e;
   content = λ key one own there has reads. either (file == one.file)
-      (λ here. clash (ends_as (leases key)).read reads
-      (s.1 key one own there (sym (eqb-true file one.file here)) has))
+      (λ here. clash (ends_as (leases key)).read reads (s.1 key one own there (sym (eqb-true file one.file here)) has))
       (λ away. rw (away) refl);
   alone = λ key one own there has writes e. untouched_since (file == one.file) (not (client == c))
       (touched_since_lost c one.file past)
@@ -225,8 +215,7 @@ spared_fact c opens leases (Fact.Wrote client file number patch buffered) past s
     no d f n ne = rw (not_true (d == c) (λ e. ne (eqb-true d c e))) refl
 
     none : (d f n : ℕ) (p : Patch) → d ≢ c
-        → ((d == c && file == f && number == n && same_patch patch p) || has_written c f n p past)
-        ≡ has_written c f n p past
+        → ((d == c && file == f && number == n && same_patch patch p) || has_written c f n p past) ≡ has_written c f n p past
     none d f n p ne = rw (not_true (d == c) (λ e. ne (eqb-true d c e))) refl
 spared_fact c opens leases (Fact.Settled client number outcome) past s = record {
   sent = refl;
@@ -265,6 +254,5 @@ pub spared_noted : (c : ℕ) (opens : List Open) (leases : Key → Lease) (clien
 spared_noted c opens leases client past [] ne = spared_same c opens leases past
 spared_noted c opens leases client past (note ∷ notes) ne = spared_then c opens opens leases leases past
     (fact_of client note ∷ past) (past_noted client (fact_of client note ∷ past) notes) (λ one own a. a)
-    (λ key one own has. refl)
-    (spared_fact c opens leases (fact_of client note) past (note_spares c opens leases client note ne))
+    (λ key one own has. refl) (spared_fact c opens leases (fact_of client note) past (note_spares c opens leases client note ne))
     (spared_noted c opens leases client (fact_of client note ∷ past) notes ne)

@@ -52,8 +52,7 @@ HasNames client machine past = (file : ℕ) → IsNamedEntry client file past (m
 settled_true : (client : ℕ) (past : List Fact) (outcome : Settlement) (writes : List Pending)
     → (outcome ≡ Settlement.Done → ⊥) → EachNote (IsTrueDone client past) (settled_as outcome writes)
 settled_true client past outcome [] never = tt
-settled_true client past outcome (write ∷ writes) never =
-    (one outcome never, settled_true client past outcome writes never)
+settled_true client past outcome (write ∷ writes) never = (one outcome never, settled_true client past outcome writes never)
   where
     one : (o : Settlement) → (o ≡ Settlement.Done → ⊥) → IsTrueDone client past (Note.Settled write.number o)
     one Settlement.Done never = absurd (never refl)
@@ -82,8 +81,7 @@ turned_named client machine past file turn names entry requests settled =
       entries = λ f. entry_later client f past (past_noted client past notes) later _
           (by_client (λ g. IsNamedEntry client g past (put machine.entries file turn.entry g)) file f
           (subst (IsNamedEntry client file past) (sym (put_same machine.entries file turn.entry)) entry)
-          (λ ne apart. subst (IsNamedEntry client f past) (sym (put_other machine.entries file turn.entry f ne))
-          (names f)));
+          (λ ne apart. subst (IsNamedEntry client f past) (sym (put_other machine.entries file turn.entry f ne)) (names f)));
       done = notes_append (IsTrueDone client past) turn.settled _ settled
           (believed_true client past file (belief_of (machine.entries file)) (belief_of turn.entry));
     }
@@ -116,8 +114,7 @@ create_named client machine past file terms = record {
     none : (n : ℕ) → None ≡ Some n → ⊥
     none n e = cc
 
-close_named : (client : ℕ) (guid : List ℕ) (past : List Fact) (file file_id : ℕ)
-    → was_opened file_id file client past ≡ true
+close_named : (client : ℕ) (guid : List ℕ) (past : List Fact) (file file_id : ℕ) → was_opened file_id file client past ≡ true
     → IsNamedRequest client guid past (Request.OnFile (FileRequest.Close file_id))
 close_named client guid past file file_id opened = record { file = file; opened = opened }
 
@@ -139,8 +136,7 @@ just_written client file number patch buffered past = true_or _ (has_written cli
 wrote_named : (client : ℕ) (machine : Client) (past : List Fact) (file : ℕ) (entry : Entry) (answer : Answer)
     (requests : List Request) (write : Pending) → HasNames client machine past
     → IsNamedEntry client file (Fact.Wrote client file write.number write.patch write.buffered ∷ past) entry
-    → Each (IsNamedRequest client machine.guid
-    (Fact.Wrote client file write.number write.patch write.buffered ∷ past)) requests
+    → Each (IsNamedRequest client machine.guid (Fact.Wrote client file write.number write.patch write.buffered ∷ past)) requests
     → IsStepNamed client machine past (wrote_step machine file entry answer requests write)
 wrote_named client machine past file entry answer requests write names named asked =
     let fact = Fact.Wrote client file write.number write.patch write.buffered in record {
@@ -155,8 +151,7 @@ wrote_named client machine past file entry answer requests write names named ask
 live_named : (client : ℕ) (machine : Client) (past : List Fact) (file : ℕ) (live : LiveEntry)
     → HasNames client machine past → (machine.entries file).phase ≡ Phase.Live live
     → IsNamedPhase client file past (Phase.Live live)
-live_named client machine past file live names is =
-    subst (IsNamedPhase client file past) is (names file).phase
+live_named client machine past file live names is = subst (IsNamedPhase client file past) is (names file).phase
 
 commands_named : (client : ℕ) (machine : Client) (past : List Fact) → HasNames client machine past
     → HasCommands machine (IsStepNamed client machine past)
@@ -171,32 +166,26 @@ commands_named client machine past names = record {
       (record { sent = (names file).sent; phase = live_named client machine past file live names is.is_so })
       (create_named client machine past file (joint_terms live terms), tt) tt;
   anew = λ file live terms is idle none. let n = live_named client machine past file live names is.is_so in
-      turned_named client machine past file _ names
-      (record {
+      turned_named client machine past file _ names (record {
         sent = each_append (WasWritten client file past) (sent_of machine file) live.unsent (names file).sent n.1;
         phase = tt;
-      })
-      (each_append (IsNamedRequest client machine.guid past) (write_requests live.file_id live.unsent) _
+      }) (each_append (IsNamedRequest client machine.guid past) (write_requests live.file_id live.unsent) _
       (writes_named client machine.guid past file live.file_id live.unsent n.0 n.1)
-      (close_named client machine.guid past file live.file_id n.0, (create_named client machine past file terms, tt)))
-      tt;
+      (close_named client machine.guid past file live.file_id n.0, (create_named client machine past file terms, tt))) tt;
   fewer = λ file live is more. turned_named client machine past file _ names
       (record { sent = (names file).sent; phase = live_named client machine past file live names is.is_so }) tt tt;
   parked = λ file live is idle done stays. turned_named client machine past file _ names
       (record { sent = (names file).sent; phase = live_named client machine past file live names is.is_so }) tt tt;
   closed = λ file live is idle done goes. let n = live_named client machine past file live names is.is_so in
-      turned_named client machine past file _ names
-      (record {
+      turned_named client machine past file _ names (record {
         sent = each_append (WasWritten client file past) (sent_of machine file) live.unsent (names file).sent n.1;
         phase = tt;
-      })
-      (each_append (IsNamedRequest client machine.guid past) (write_requests live.file_id live.unsent) _
+      }) (each_append (IsNamedRequest client machine.guid past) (write_requests live.file_id live.unsent) _
       (writes_named client machine.guid past file live.file_id live.unsent n.0 n.1)
       (close_named client machine.guid past file live.file_id n.0, tt)) tt;
   cached = λ file live base is reads has. record {
     requests = tt;
-    entries = λ f.
-        entry_later client f past _ (later_fact past _) (machine.entries f) (names f);
+    entries = λ f. entry_later client f past _ (later_fact past _) (machine.entries f) (names f);
     done = (tt, tt);
   };
   read = λ file live is idle. let n = live_named client machine past file live names is.is_so in
@@ -207,8 +196,7 @@ commands_named client machine past names = record {
       let write = next_write machine patch true in
       let fact = Fact.Wrote client file write.number write.patch write.buffered in
       let later = later_fact past fact in
-      wrote_named client machine past file _ Answer.Done [] write names
-      (record {
+      wrote_named client machine past file _ Answer.Done [] write names (record {
         sent = writes_later client file past (fact ∷ past) later (sent_of machine file) (names file).sent;
         phase = (
           later.opened live.file_id file client n.0,
@@ -222,8 +210,7 @@ commands_named client machine past names = record {
       let write = next_write machine patch false in
       let fact = Fact.Wrote client file write.number write.patch write.buffered in
       let later = later_fact past fact in
-      wrote_named client machine past file _ Answer.Waiting _ write names
-      (record {
+      wrote_named client machine past file _ Answer.Waiting _ write names (record {
         sent = each_append (WasWritten client file (fact ∷ past)) (sent_of machine file) (write ∷ [])
             (writes_later client file past (fact ∷ past) later (sent_of machine file) (names file).sent)
             (just_written client file write.number patch false past, tt);
@@ -240,8 +227,7 @@ commands_named client machine past names = record {
         tt,
       );
   flushed = λ file live is. let n = live_named client machine past file live names is.is_so in
-      turned_named client machine past file _ names
-      (record {
+      turned_named client machine past file _ names (record {
         sent = each_append (WasWritten client file past) (sent_of machine file) live.unsent (names file).sent n.1;
         phase = (n.0, tt);
       }) (writes_named client machine.guid past file live.file_id live.unsent n.0 n.1) tt;
@@ -255,8 +241,7 @@ flushed_named P old new unsent each =
     (each_either P (gives_up old new) unsent [] each tt, each_either P (gives_up old new) [] unsent tt each)
 
 ack_named : (client : ℕ) (machine : Client) (past : List Fact) (file : ℕ) (notice : BreakNotice) (state : State)
-    → is_key_of machine notice.key file ≡ true
-    → Each (IsNamedRequest client machine.guid past) (acknowledgment notice state)
+    → is_key_of machine notice.key file ≡ true → Each (IsNamedRequest client machine.guid past) (acknowledgment notice state)
 ack_named client machine past file notice state own =
     if_cases (Each (IsNamedRequest client machine.guid past)) notice.ack_required _ []
     (λ required. (
@@ -271,10 +256,8 @@ ack_named client machine past file notice state own =
     (λ plain. tt)
 
 either_true : (client : ℕ) (past : List Fact) (b : Bool) (outcome : Settlement) (writes : List Pending)
-    → (outcome ≡ Settlement.Done → ⊥)
-    → EachNote (IsTrueDone client past) (if b then [] else settled_as outcome writes)
-either_true client past b outcome writes never =
-    if_cases (EachNote (IsTrueDone client past)) b [] (settled_as outcome writes)
+    → (outcome ≡ Settlement.Done → ⊥) → EachNote (IsTrueDone client past) (if b then [] else settled_as outcome writes)
+either_true client past b outcome writes never = if_cases (EachNote (IsTrueDone client past)) b [] (settled_as outcome writes)
     (λ keeps. tt) (λ loses. settled_true client past outcome writes never)
 
 phase_written : (client file : ℕ) (past : List Fact) (write : Option Pending) (phase : Phase)
@@ -306,24 +289,20 @@ unfolding opened_turn reconnected_turn promoted_turn read_turn write_done_turn p
 takes_named client machine past names = record {
   passed = λ reply why named. idle_named client machine past Answer.Quiet names;
   parked_closes = λ file notice live at is parked named. let n = live_named client machine past file live names is in
-      turned_named client machine past file _ names
-      (record {
+      turned_named client machine past file _ names (record {
         sent = each_append (WasWritten client file past) (sent_of machine file) live.unsent (names file).sent n.1;
         phase = tt;
-      })
-      (each_append (IsNamedRequest client machine.guid past) (write_requests live.file_id live.unsent) _
+      }) (each_append (IsNamedRequest client machine.guid past) (write_requests live.file_id live.unsent) _
       (writes_named client machine.guid past file live.file_id live.unsent n.0 n.1)
       (close_named client machine.guid past file live.file_id n.0, tt)) tt;
   lowered = λ file notice live at is stays named. let n = live_named client machine past file live names is in
       let new = meet live.belief notice.lowered in
       let gone = flushed live.belief new live.unsent in
       let parts = flushed_named (WasWritten client file past) live.belief new live.unsent n.1 in
-      turned_named client machine past file _ names
-      (record {
+      turned_named client machine past file _ names (record {
         sent = each_append (WasWritten client file past) (sent_of machine file) gone (names file).sent parts.0;
         phase = (n.0, parts.1);
-      })
-      (each_append (IsNamedRequest client machine.guid past) (write_requests live.file_id gone) (acknowledgment notice new)
+      }) (each_append (IsNamedRequest client machine.guid past) (write_requests live.file_id gone) (acknowledgment notice new)
       (writes_named client machine.guid past file live.file_id gone n.0 parts.0)
       (ack_named client machine past file notice new (found_so machine (is_key_of machine notice.key) file at))) tt;
   opened = λ file file_id answer access share is named. turned_named client machine past file _ names
@@ -331,31 +310,25 @@ takes_named client machine past names = record {
   reconnected = λ file file_id answer parted is named.
       let n : IsNamedPhase client file past (Phase.Reconnecting parted) =
       subst (IsNamedPhase client file past) is (names file).phase in
-      turned_named client machine past file _ names
-      (record {
+      turned_named client machine past file _ names (record {
         sent = (names file).sent;
         phase = (
           n.0,
-          each_either (WasWritten client file past) (first_belief machine file answer).write
-              parted.writes [] n.1 tt,
+          each_either (WasWritten client file past) (first_belief machine file answer).write parted.writes [] n.1 tt,
         );
-      }) tt
-      (either_true client past (first_belief machine file answer).write Settlement.Lost parted.writes no_lost);
+      }) tt (either_true client past (first_belief machine file answer).write Settlement.Lost parted.writes no_lost);
   promoted = λ file file_id answer live asked is asks named.
       let n = live_named client machine past file live names is in
       let belief = promoted_belief (lease_key machine.guid file) live.belief answer.lease in
-      turned_named client machine past file _ names
-      (record {
+      turned_named client machine past file _ names (record {
         sent = (names file).sent;
         phase = (named, each_either (WasWritten client file past) belief.write live.unsent [] n.1 tt);
-      })
-      (close_named client machine.guid past file live.file_id n.0, tt)
+      }) (close_named client machine.guid past file live.file_id n.0, tt)
       (either_true client past belief.write Settlement.Failed live.unsent no_failed);
   not_opened = λ file status access share is named. turned_named client machine past file _ names
       (record { sent = (names file).sent; phase = tt }) tt tt;
   not_reconnected = λ file status parted is named. turned_named client machine past file _ names
-      (record { sent = (names file).sent; phase = tt }) tt
-      (settled_true client past Settlement.Lost parted.writes no_lost);
+      (record { sent = (names file).sent; phase = tt }) tt (settled_true client past Settlement.Lost parted.writes no_lost);
   not_promoted = λ file status live asked is asks named. turned_named client machine past file _ names
       (record { sent = (names file).sent; phase = live_named client machine past file live names is }) tt tt;
   read = λ file file_id bytes live is id some named. turned_named client machine past file _ names
@@ -365,21 +338,19 @@ takes_named client machine past names = record {
       (settled_true client past Settlement.Failed live.unsent no_failed);
   not_read = λ file file_id status live is id some named. turned_named client machine past file _ names
       (record { sent = (names file).sent; phase = live_named client machine past file live names is }) tt tt;
-  written = λ file file_id number at known named. turned_named client machine past file _ names
-      (record {
-        sent = each_without (WasWritten client file past) number (sent_of machine file) (names file).sent;
-        phase = phase_written client file past (find (is_numbered number) (sent_of machine file))
-            (machine.entries file).phase (names file).phase;
-      }) tt (named, tt);
+  written = λ file file_id number at known named. turned_named client machine past file _ names (record {
+    sent = each_without (WasWritten client file past) number (sent_of machine file) (names file).sent;
+    phase = phase_written client file past (find (is_numbered number) (sent_of machine file))
+        (machine.entries file).phase (names file).phase;
+  }) tt (named, tt);
   write_closed = λ file file_id number status live at known is id gone named. turned_named client machine past file _ names
       (opening_named client file past live.asking (sent_without number (sent_of machine file))
       (each_without (WasWritten client file past) number (sent_of machine file) (names file).sent)) tt
       (tt, settled_true client past Settlement.Failed live.unsent no_failed);
-  not_written = λ file file_id number status at known named. turned_named client machine past file _ names
-      (record {
-        sent = each_without (WasWritten client file past) number (sent_of machine file) (names file).sent;
-        phase = (names file).phase;
-      }) tt (tt, tt);
+  not_written = λ file file_id number status at known named. turned_named client machine past file _ names (record {
+    sent = each_without (WasWritten client file past) number (sent_of machine file) (names file).sent;
+    phase = (names file).phase;
+  }) tt (tt, tt);
 }
 
 -- ---- connections
@@ -409,8 +380,7 @@ all_named client machine past online turn each =
         (turn file (machine.entries file)).requests _ (each file).requests (all_requests files)
 
     all_done : (files : List ℕ) → EachNote (IsTrueDone client past) (flat_map
-        (λ file. (turn file (machine.entries file)).settled
-        ++ believes_noted file (belief_of (machine.entries file))
+        (λ file. (turn file (machine.entries file)).settled ++ believes_noted file (belief_of (machine.entries file))
         (belief_of (turn file (machine.entries file)).entry)) files)
     all_done [] = tt
     all_done (file ∷ files) = notes_append (IsTrueDone client past) _ _
@@ -420,8 +390,7 @@ all_named client machine past online turn each =
 
 -- what an entry is left with where the connection is lost
 lost_turn : (client : ℕ) (guid : List ℕ) (past : List Fact) (file : ℕ) (phase : Phase) (unanswered : List Pending)
-    → IsNamedPhase client file past phase
-    → IsTurnNamed client guid past file
+    → IsNamedPhase client file past phase → IsTurnNamed client guid past file
     (silent_turn (record { phase = phase; sent = [] }) (settled_as Settlement.Unknown unanswered))
 lost_turn client guid past file phase unanswered n = record {
   entry = record { sent = tt; phase = n };
@@ -486,8 +455,7 @@ call_named client machine past (ClientCall.Taken reply) names named =
 call_named client machine past ClientCall.Noticed names named = all_named client machine past false
     (λ file entry. notice_turn entry.sent entry.phase)
     (λ file. any_notice (machine.entries file).sent _ (notices_named client machine.guid past file (machine.entries file).sent)
-    (machine.entries file).phase
-    (names file).sent (names file).phase)
+    (machine.entries file).phase (names file).sent (names file).phase)
 call_named client machine past ClientCall.Connected names named = all_named client machine past true
     (λ file entry. connect_turn machine file entry.sent entry.phase)
     (λ file. connect_named client machine past file (machine.entries file).sent (machine.entries file).phase

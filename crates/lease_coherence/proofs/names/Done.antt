@@ -68,28 +68,23 @@ here_named world client call same named n =
     let guid : machine.guid ≡ (next.clients client).guid = sym (ap (λ (m : Client). m.guid) mine ∙ same) in
     record {
       requests = subst (λ (q : ℕ → List Request). Each (IsNamedRequest client (next.clients client).guid next.past) (q client))
-          (sym (stepped_requests world client step))
-          (subst (Each (IsNamedRequest client (next.clients client).guid next.past))
-          (sym (put_same world.requests client _))
-          (subst (λ p. Each (IsNamedRequest client (next.clients client).guid p)
+          (sym (stepped_requests world client step)) (subst (Each (IsNamedRequest client (next.clients client).guid next.past))
+          (sym (put_same world.requests client _)) (subst (λ p. Each (IsNamedRequest client (next.clients client).guid p)
           (sent_over (world.links client) (world.requests client) step.requests)) past
           (subst (λ g. Each (IsNamedRequest client g new)
           (sent_over (world.links client) (world.requests client) step.requests)) guid
           (sent_each (IsNamedRequest client machine.guid new) (world.links client) (world.requests client) step.requests
           (each_weaker (IsNamedRequest client machine.guid world.past) (IsNamedRequest client machine.guid new)
           (world.requests client)
-          (λ request r. request_later client machine.guid world.past new later request r) n.requests)
-          s.requests))));
-      held = λ file one a own.
-          subst (λ p. IsNamedOnFile client (next.clients client).guid p one.request) past
+          (λ request r. request_later client machine.guid world.past new later request r) n.requests) s.requests))));
+      held = λ file one a own. subst (λ p. IsNamedOnFile client (next.clients client).guid p one.request) past
           (subst (λ g. IsNamedOnFile client g new one.request) guid
           (on_file_later client machine.guid world.past new later one.request
           (n.held file one (subst (λ (x : Server). Among one (x.held file)) (sym server) a) own)));
       opens = λ one a own. subst (λ g. IsOwnOpen g one) guid
           (n.opens one (subst (λ (x : Server). Among one x.opens) (sym server) a) own);
       replies = subst (λ (r : ℕ → List Reply). Each (IsNamedReply client next.past) (r client))
-          (sym (stepped_replies world client step))
-          (subst (λ p. Each (IsNamedReply client p) (world.replies client)) past
+          (sym (stepped_replies world client step)) (subst (λ p. Each (IsNamedReply client p) (world.replies client)) past
           (replies_later client world.past new (world.replies client) later n.replies));
       entries = λ file. subst (λ (m : Client). IsNamedEntry client file next.past (m.entries file)) (sym mine)
           (subst (λ p. IsNamedEntry client file p (step.client.entries file)) past (s.entries file));
@@ -171,8 +166,7 @@ scavenge_named : (world : World) (file_id : ℕ) → IsNamed world → IsNamed (
 unfolding opens_dropped with_opens
 scavenge_named world file_id n c good = let m = n c good in
     at_later world (left_behind world file_id) c (later_same world.past) refl m.requests m.held
-    (λ one a own. m.opens one (among_filter (λ o. not (is_left_behind file_id o)) one world.server.opens a).0 own)
-    m.replies m
+    (λ one a own. m.opens one (among_filter (λ o. not (is_left_behind file_id o)) one world.server.opens a).0 own) m.replies m
 
 back_named : (world : World) (client : ℕ) → IsNamed world → IsNamed (come_back world client)
 unfolding joined
@@ -193,16 +187,14 @@ gone_named world client reply queue first n c good =
     (λ old. subst (Each (IsNamedReply client (Fact.Took client ∷ world.past))) (sym (put_same world.replies client queue))
     (subst (Each (IsNamedReply client (Fact.Took client ∷ world.past))) first old).1)
     (λ ne apart old. subst (Each (IsNamedReply c (Fact.Took client ∷ world.past)))
-    (sym (put_other world.replies client queue c ne)) old)
-    (replies_later c world.past _ (world.replies c) later m.replies)) m
+    (sym (put_other world.replies client queue c ne)) old) (replies_later c world.past _ (world.replies c) later m.replies)) m
 
 strayed_named : (world : World) (client : ℕ) (request : Request) → IsNamed world → IsNamed (strayed world client request)
 unfolding requests_sent has_strayed
 strayed_named world client request n c good =
     let later = later_fact world.past (Fact.Strayed client) in
     let m = n c (later.strayed c good) in
-    at_later world (strayed world client request) c later refl
-    (either (client == c)
+    at_later world (strayed world client request) c later refl (either (client == c)
     (λ same. clash (has_strayed c (Fact.Strayed client ∷ world.past)) (true_or (client == c) (has_strayed c world.past) same)
     good)
     (λ apart. subst (Each (IsNamedRequest c (world.clients c).guid world.past))
@@ -225,8 +217,7 @@ moved_true : (world : World) (step : SmallStep) → Ground world → IsNext worl
     → HasTrueNames (moved world step)
 moved_true world step g next t = (
   λ c good. step_deed world (λ new. (d : ℕ) → has_strayed d world.past ≡ false → IsNamedAt new d)
-      (deeds_named world g t.0) step next c
-      ((later_told world.past (step_taken step (begun world.server)).outs).strayed c
+      (deeds_named world g t.0) step next c ((later_told world.past (step_taken step (begun world.server)).outs).strayed c
       (subst (λ past. has_strayed c past ≡ false) (moved_past world step) good)),
   subst (EachFact NoFalseDone) (sym (moved_past world step))
       (told_true world.past (step_taken step (begun world.server)).outs t.1),
@@ -275,8 +266,7 @@ stepped_true world client call same named t =
       stepped_named world client call same named t.0,
       subst (EachFact NoFalseDone) (sym (stepped_past world client step))
           (noted_true client world.past world.past step.notes (later_same world.past)
-          (λ good. (call_named client (world.clients client) world.past call (t.0 client good).entries (named good)).done)
-          t.1),
+          (λ good. (call_named client (world.clients client) world.past call (t.0 client good).entries (named good)).done) t.1),
     )
 
 pub true_moves : IsMoved Ground HasTrueNames
@@ -295,8 +285,7 @@ true_moves world (Move.Take client reply queue) first g t = stepped_true (reply_
     (replies_later client world.past (Fact.Took client ∷ world.past) (reply ∷ queue) later
     (subst (Each (IsNamedReply client world.past)) first (t.0 client (later.strayed client good)).replies)).0)
     (gone_named world client reply queue first t.0, (tt, t.1))
-true_moves world (Move.Notice client) cut g t =
-    stepped_true (record world { links = put world.links client Link.Down }) client
+true_moves world (Move.Notice client) cut g t = stepped_true (record world { links = put world.links client Link.Down }) client
     ClientCall.Noticed refl (λ good. tt) (
       λ c good. let m = t.0 c good in
           at_later world (record world { links = put world.links client Link.Down }) c (later_same world.past) refl

@@ -51,8 +51,7 @@ at_later world new client later same requests held opens replies n = record {
       (each_weaker (IsNamedRequest client (world.clients client).guid world.past)
       (IsNamedRequest client (world.clients client).guid new.past) (new.requests client)
       (λ request r. request_later client (world.clients client).guid world.past new.past later request r) requests);
-  held = λ file one a own.
-      subst (λ (m : Client). IsNamedOnFile client m.guid new.past one.request) (sym same)
+  held = λ file one a own. subst (λ (m : Client). IsNamedOnFile client m.guid new.past one.request) (sym same)
       (on_file_later client (world.clients client).guid world.past new.past later one.request (held file one a own));
   opens = λ one a own. subst (λ (m : Client). IsOwnOpen m.guid one) (sym same) (opens one a own);
   replies = replies;
@@ -74,8 +73,7 @@ pub told_named : (world new : World) (client : ℕ) (reply : Reply) (c : ℕ) �
     → (client ≡ c → IsNamedReply c new.past reply) → IsNamedAt world c → IsNamedAt new c
 told_named world new client reply c later clients requests held opens replies named n =
     at_later world new c later (ap (λ (t : ℕ → Client). t c) clients)
-    (subst (λ (q : ℕ → List Request). Each (IsNamedRequest c (world.clients c).guid world.past) (q c)) (sym requests)
-    n.requests)
+    (subst (λ (q : ℕ → List Request). Each (IsNamedRequest c (world.clients c).guid world.past) (q c)) (sym requests) n.requests)
     (λ file one a own. n.held file one (held file one a) own) opens
     (subst (λ (r : ℕ → List Reply). Each (IsNamedReply c new.past) (r c)) (sym replies)
     (by_client (λ d. (client ≡ d → IsNamedReply d new.past reply) → Each (IsNamedReply d new.past) (world.replies d)
@@ -87,8 +85,7 @@ told_named world new client reply c later clients requests held opens replies na
 
 -- a request is taken off
 pub off_named : (world off : World) (client : ℕ) (request : FileRequest) (c : ℕ) → IsSource world off client request
-    → IsNamedAt world c
-    → IsNamedAt off c × (c ≡ client → IsNamedOnFile c (off.clients c).guid off.past request)
+    → IsNamedAt world c → IsNamedAt off c × (c ≡ client → IsNamedOnFile c (off.clients c).guid off.past request)
 off_named world off client request c source n = ⊎_elim
     (λ a. subst (λ o. IsNamedAt o c × (c ≡ client → IsNamedOnFile c (o.clients c).guid o.past request)) (sym a.is_off) (
       at_later world (popped world client) c (later_same world.past) refl
@@ -98,8 +95,7 @@ off_named world off client request c source n = ⊎_elim
           (λ each. subst (Each (IsNamedRequest client (world.clients client).guid world.past))
           (sym (put_same world.requests client _)) (each_rest _ (world.requests client) each))
           (λ ne apart each. subst (Each (IsNamedRequest c (world.clients c).guid world.past))
-          (sym (put_other world.requests client _ c ne)) each) n.requests)
-          n.held n.opens n.replies n,
+          (sym (put_other world.requests client _ c ne)) each) n.requests) n.held n.opens n.replies n,
       (λ same. first_of (ap world.requests same ∙ a.oldest.is_first) n.requests),
     ))
     (λ h. subst (λ o. IsNamedAt o c × (c ≡ client → IsNamedOnFile c (o.clients c).guid o.past request)) (sym h.is_off) (
@@ -107,13 +103,11 @@ off_named world off client request c source n = ⊎_elim
           (λ file one a own. ⊎_elim (λ old. n.held file one old own)
           (λ left. n.held h.file one (subst (λ (l : List Held). Among one l) (sym h.held)
           (among_more one _ h.before h.behind left.1)) own)
-          (among_put world.server.held h.file (h.before ++ h.behind) file one a))
-          n.opens n.replies n,
+          (among_put world.server.held h.file (h.before ++ h.behind) file one a)) n.opens n.replies n,
       (λ same. n.held h.file (held_of client request) (subst (λ (l : List Held). Among (held_of client request) l)
           (sym h.held) (among_behind (held_of client request) h.before (held_of client request ∷ h.behind) (inl refl)))
           (sym same)),
-    ))
-    source.from
+    )) source.from
   where
     first_of : {queue : List Request} → world.requests c ≡ Request.OnFile request ∷ queue
         → Each (IsNamedRequest c (world.clients c).guid world.past) (world.requests c)
@@ -143,8 +137,7 @@ pub off_counted : (world off : World) (client : ℕ) (request : FileRequest) →
     → Ground world → IsCountedOff off
 off_counted world off client request source g = ⊎_elim
     (λ a. subst IsCountedOff (sym a.is_off) (record { last = g.counted.last; opens = g.counted.opens }))
-    (λ h. subst IsCountedOff (sym h.is_off) (record { last = g.counted.last; opens = g.counted.opens }))
-    source.from
+    (λ h. subst IsCountedOff (sym h.is_off) (record { last = g.counted.last; opens = g.counted.opens })) source.from
 
 just_opened : (file client : ℕ) (past : List Fact)
     → was_opened (opened_count past + 1) file client (Fact.Sent client ∷ Fact.Opened file client ∷ past) ≡ true
@@ -153,8 +146,7 @@ just_opened file client past = true_or _ (was_opened (opened_count past + 1) fil
     (and_both _ _ (eq-eqb (opened_count past + 1) (opened_count past + 1) refl)
     (and_both _ _ (eq-eqb file file refl) (eq-eqb client client refl)))
 
-just_accepted : (file client number : ℕ) (patch : Patch) (past : List Fact)
-    → has_written client file number patch past ≡ true
+just_accepted : (file client number : ℕ) (patch : Patch) (past : List Fact) → has_written client file number patch past ≡ true
     → is_accepted client number (Fact.Sent client ∷ Fact.Changed file client number patch ∷ past) ≡ true
 unfolding is_accepted
 just_accepted file client number patch past written = true_or _ (is_accepted client number past)
@@ -165,11 +157,9 @@ new_own : (guid : List ℕ) (past : List Fact) (client file : ℕ) (ask : Create
     → asked_key ask.lease ≡ Some (lease_key guid file)
 new_own guid past client file ask own = ap asked_key own.asks ∙ ap (λ k. Some k) own.key
 
-granted_named : (off : World) (client file : ℕ) (access : Access) (share : Share) (ask : CreateAsk) (c : ℕ)
-    → IsCountedOff off
+granted_named : (off : World) (client file : ℕ) (access : Access) (share : Share) (ask : CreateAsk) (c : ℕ) → IsCountedOff off
     → (c ≡ client → IsNamedOnFile c (off.clients c).guid off.past (FileRequest.Create file access share (Some ask)))
-    → IsNamedAt off c
-    → IsNamedAt (granted_in off client file access share ask (lease_after off.server client file ask.lease)) c
+    → IsNamedAt off c → IsNamedAt (granted_in off client file access share ask (lease_after off.server client file ask.lease)) c
 granted_named off client file access share ask c counted own n =
     let lease = lease_after off.server client file ask.lease in
     told_named off (granted_in off client file access share ask lease) client _ c
@@ -177,20 +167,16 @@ granted_named off client file access share ask c counted own n =
     (λ at one a. lease_put_rest off.server client ask.lease lease (λ s. Among one (s.held at) → Among one (off.server.held at))
     (λ l x. x) a)
     (λ one a mine. ⊎_elim (λ old. n.opens one old mine)
-    (λ new. ⊎_elim (λ same. subst (IsOwnOpen (off.clients c).guid) (sym same)
-    (new_own (off.clients c).guid off.past c file ask
-    (own (sym mine ∙ ap (λ (o : Open). o.client) same)))) (λ none. absurd none) new)
-    (among_append one off.server.opens
-    (new_open off.server client file access share ask.lease ask.durable lease ∷ []) a))
-    refl
+    (λ new. ⊎_elim (λ same. subst (IsOwnOpen (off.clients c).guid) (sym same) (new_own (off.clients c).guid off.past c file ask
+    (own (sym mine ∙ ap (λ (o : Open). o.client) same)))) (λ none. absurd none) new) (among_append one off.server.opens
+    (new_open off.server client file access share ask.lease ask.durable lease ∷ []) a)) refl
     (λ same. subst (λ d. was_opened (off.server.last_id + 1) file d
     (Fact.Sent client ∷ Fact.Opened file client ∷ off.past) ≡ true) same
     (subst (λ n. was_opened (n + 1) file client (Fact.Sent client ∷ Fact.Opened file client ∷ off.past) ≡ true)
     (sym counted.last) (just_opened file client off.past))) n
 
 -- the parts of what a test found
-pub awaits_parts : (client file : ℕ) (own : Option Key) (file_id : ℕ) (one : Open)
-    → awaits client file own file_id one ≡ true
+pub awaits_parts : (client file : ℕ) (own : Option Key) (file_id : ℕ) (one : Open) → awaits client file own file_id one ≡ true
     → (one.file_id ≡ file_id) × ((one.client ≡ client) × (one.file ≡ file))
 unfolding awaits
 awaits_parts client file None file_id one e = absurd (true≢false (sym e))
@@ -201,24 +187,20 @@ awaits_parts client file (Some key) file_id one e =
     let f = and_parts _ _ d.0 in
     (eqb-true one.file_id file_id f.0, (eqb-true one.client client d.1, eqb-true one.file file b.1))
 
-pub open_parts : (client file_id : ℕ) (one : Open)
-    → (one.file_id == file_id && one.client == client && one.connected) ≡ true
+pub open_parts : (client file_id : ℕ) (one : Open) → (one.file_id == file_id && one.client == client && one.connected) ≡ true
     → (one.file_id ≡ file_id) × ((one.client ≡ client) × (one.connected ≡ true))
 open_parts client file_id one e =
     let a = and_parts _ _ e in
     let b = and_parts _ _ a.0 in
     (eqb-true one.file_id file_id b.0, (eqb-true one.client client b.1, a.1))
 
-again_own : (guid : List ℕ) (file_id : ℕ) (opens : List Open) (one : Open)
-    → Among one (map (connected_again file_id) opens)
+again_own : (guid : List ℕ) (file_id : ℕ) (opens : List Open) (one : Open) → Among one (map (connected_again file_id) opens)
     → ((x : Open) → Among x opens → x.client ≡ one.client → IsOwnOpen guid x) → IsOwnOpen guid one
 again_own guid file_id opens one a each =
     let x = among_map (connected_again file_id) one opens a in
     if_cases (λ o. one ≡ o → IsOwnOpen guid one) ((x.0).file_id == file_id) (record (x.0) { connected = true }) (x.0)
-    (λ here same. subst (IsOwnOpen guid) (sym same)
-    (each x.0 x.1 (sym (ap (λ (o : Open). o.client) same))))
-    (λ there same. subst (IsOwnOpen guid) (sym same)
-    (each x.0 x.1 (sym (ap (λ (o : Open). o.client) same)))) x.2
+    (λ here same. subst (IsOwnOpen guid) (sym same) (each x.0 x.1 (sym (ap (λ (o : Open). o.client) same))))
+    (λ there same. subst (IsOwnOpen guid) (sym same) (each x.0 x.1 (sym (ap (λ (o : Open). o.client) same)))) x.2
 
 pub deeds_named : (world : World) → Ground world → IsNamed world
     → HasDeeds world (λ new. (c : ℕ) → has_strayed c world.past ≡ false → IsNamedAt new c)
@@ -253,13 +235,10 @@ deeds_named world g named = record {
       let there = find_has _ one off.server.opens found in
       let parts = open_parts client file_id one there.1 in
       told_named off (changed_in off client one.file file_id number patch) client _ c
-      (later_two off.past (Fact.Changed one.file client number patch) (Fact.Sent client)) refl refl (λ at x a. a)
-      n.0.opens refl
+      (later_two off.past (Fact.Changed one.file client number patch) (Fact.Sent client)) refl refl (λ at x a. a) n.0.opens refl
       (λ same. let asked = n.1 (sym same) in
-      subst (λ d. is_accepted d number (Fact.Sent client ∷ Fact.Changed one.file client number patch ∷ off.past) ≡ true)
-      same
-      (just_accepted one.file client number patch off.past
-      (subst (λ f. has_written client f number patch off.past ≡ true)
+      subst (λ d. is_accepted d number (Fact.Sent client ∷ Fact.Changed one.file client number patch ∷ off.past) ≡ true) same
+      (just_accepted one.file client number patch off.past (subst (λ f. has_written client f number patch off.past ≡ true)
       (opened_once file_id asked.file c one.file one.client off.past asked.opened
       (subst (λ i. was_opened i one.file one.client off.past ≡ true) parts.0
       ((off_counted world off client _ source g).opens one there.0)))
@@ -279,8 +258,7 @@ deeds_named world g named = record {
   hold = λ file one oldest may turn c good. held_named world file one c oldest (named c good);
   drop = λ key c good. let n = named c good in
       at_later world _ c (later_same world.past) refl n.requests n.held
-      (λ x a mine. n.opens x (among_filter (λ o. not (is_left_open key o)) x world.server.opens a).0 mine)
-      n.replies n;
+      (λ x a mine. n.opens x (among_filter (λ o. not (is_left_open key o)) x world.server.opens a).0 mine) n.replies n;
   lower = λ key lowered may light c good. let n = named c good in
       told_named world _ key.client _ c (later_fact world.past (Fact.Sent key.client)) refl refl
       (λ at x a. a) n.opens refl (λ same. tt) n;
@@ -292,14 +270,12 @@ deeds_named world g named = record {
     popped_named : (w : World) (client c : ℕ) → IsNamedAt w c → IsNamedAt (popped w client) c
     popped_named w client c n = at_later w (popped w client) c (later_same w.past) refl
         (by_client (λ d. Each (IsNamedRequest d (w.clients d).guid w.past) (w.requests d)
-        → Each (IsNamedRequest d (w.clients d).guid w.past)
-        (put w.requests client (rest_of (w.requests client)) d)) client c
+        → Each (IsNamedRequest d (w.clients d).guid w.past) (put w.requests client (rest_of (w.requests client)) d)) client c
         (λ each. subst (Each (IsNamedRequest client (w.clients client).guid w.past))
         (sym (put_same w.requests client (rest_of (w.requests client))))
         (each_rest (IsNamedRequest client (w.clients client).guid w.past) (w.requests client) each))
         (λ ne apart each. subst (Each (IsNamedRequest c (w.clients c).guid w.past))
-        (sym (put_other w.requests client (rest_of (w.requests client)) c ne)) each) n.requests)
-        n.held n.opens n.replies n
+        (sym (put_other w.requests client (rest_of (w.requests client)) c ne)) each) n.requests) n.held n.opens n.replies n
 
     held_named : (w : World) (file : ℕ) (one : Held) (c : ℕ) → IsOldest w one.client (Request.OnFile one.request)
         → IsNamedAt w c → IsNamedAt (held_in (popped w one.client) file one) c
@@ -311,7 +287,5 @@ deeds_named world g named = record {
         (λ last. ⊎_elim (λ same. subst (λ (h : Held). IsNamedOnFile c (w.clients c).guid w.past h.request) (sym same)
         (subst (Each (IsNamedRequest c (w.clients c).guid w.past))
         (ap w.requests (sym own ∙ ap (λ (h : Held). h.client) same) ∙ oldest.is_first) n.requests).0)
-        (λ none. absurd none) last)
-        (among_append x (w.server.held file) (one ∷ []) new.1))
-        (among_put w.server.held file (w.server.held file ++ one ∷ []) at x a))
-        p.opens p.replies p
+        (λ none. absurd none) last) (among_append x (w.server.held file) (one ∷ []) new.1))
+        (among_put w.server.held file (w.server.held file ++ one ∷ []) at x a)) p.opens p.replies p

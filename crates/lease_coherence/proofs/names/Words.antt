@@ -24,8 +24,7 @@ pub each_weaker : {X : Type 0} (P Q : X → Type 0) (xs : List X) → ((x : X) �
 each_weaker P Q [] weaker each = tt
 each_weaker P Q (x ∷ xs) weaker each = (weaker x each.0, each_weaker P Q xs weaker each.1)
 
-pub each_rest : {X : Type 0} (P : X → Type 0) (xs : List X) → Each P xs
-    → Each P (rest_of xs)
+pub each_rest : {X : Type 0} (P : X → Type 0) (xs : List X) → Each P xs → Each P (rest_of xs)
 each_rest P [] each = tt
 each_rest P (x ∷ xs) each = each.1
 
@@ -128,13 +127,11 @@ opened_once place file client other by (Fact.Opened of_file opener ∷ past) e f
     (λ again. sym (eqb-true of_file file (and_parts _ _ (and_parts _ _ now).1).0)
     ∙ eqb-true of_file other (and_parts _ _ (and_parts _ _ again).1).0)
     (λ before. absurd (above (opened_count past) (eqb-true place (opened_count past + 1) (and_parts _ _ now).0)
-    (opened_within place other by past before)))
-    (or_true _ (was_opened place other by past) f))
+    (opened_within place other by past before))) (or_true _ (was_opened place other by past) f))
     (λ before. ⊎_elim
     (λ again. absurd (above (opened_count past) (eqb-true place (opened_count past + 1) (and_parts _ _ again).0)
     (opened_within place file client past before)))
-    (λ earlier. opened_once place file client other by past before earlier)
-    (or_true _ (was_opened place other by past) f))
+    (λ earlier. opened_once place file client other by past before earlier) (or_true _ (was_opened place other by past) f))
     (or_true _ (was_opened place file client past) e)
   where
     above : (n : ℕ) → place ≡ n + 1 → place ≤ n → ⊥
@@ -151,13 +148,11 @@ opened_by place file client other by (Fact.Opened of_file opener ∷ past) e f =
     (λ again. sym (eqb-true opener client (and_parts _ _ (and_parts _ _ now).1).1)
     ∙ eqb-true opener by (and_parts _ _ (and_parts _ _ again).1).1)
     (λ before. absurd (above (opened_count past) (eqb-true place (opened_count past + 1) (and_parts _ _ now).0)
-    (opened_within place other by past before)))
-    (or_true _ (was_opened place other by past) f))
+    (opened_within place other by past before))) (or_true _ (was_opened place other by past) f))
     (λ before. ⊎_elim
     (λ again. absurd (above (opened_count past) (eqb-true place (opened_count past + 1) (and_parts _ _ again).0)
     (opened_within place file client past before)))
-    (λ earlier. opened_by place file client other by past before earlier)
-    (or_true _ (was_opened place other by past) f))
+    (λ earlier. opened_by place file client other by past before earlier) (or_true _ (was_opened place other by past) f))
     (or_true _ (was_opened place file client past) e)
   where
     above : (n : ℕ) → place ≡ n + 1 → place ≤ n → ⊥

@@ -61,8 +61,7 @@ use Rattle.lease_coherence.proofs.records.Known.{HasRecord}
 
 -- no write of it is left
 left_writes : (world off : World) (c file_id : ℕ) (one : Open) → IsSource world off c (FileRequest.Close file_id)
-    → Ground world → connected_open off.server c file_id ≡ Some one → IsInOrder world c
-    → AllAsked (IsNoWrite file_id) off c
+    → Ground world → connected_open off.server c file_id ≡ Some one → IsInOrder world c → AllAsked (IsNoWrite file_id) off c
 unfolding file_asked
 left_writes world off c file_id one source g found o = ⊎_elim arrived was_held source.from
   where
@@ -77,8 +76,7 @@ left_writes world off c file_id one source g found o = ⊎_elim arrived was_held
         → (patch : _) → x.request ≡ FileRequest.Write file_id number patch → one.file ≡ at
     same_place at x a mine number patch is = about_file x.request is (g.fine.orderly.held_about at x a)
       where
-        about_file : (r : FileRequest) → r ≡ FileRequest.Write file_id number patch
-            → IsAbout world.server at r → one.file ≡ at
+        about_file : (r : FileRequest) → r ≡ FileRequest.Write file_id number patch → IsAbout world.server at r → one.file ≡ at
         about_file r is about = on_open (subst (IsAbout world.server at) is about)
           where
             on_open : IsOpenOn world.server at file_id → one.file ≡ at
@@ -96,8 +94,7 @@ left_writes world off c file_id one source g found o = ⊎_elim arrived was_held
     own_among : (x : Held) (held : List Held) → Among x held → x.client ≡ c → is_behind c held ≡ true
     own_among x [] a own = absurd a
     own_among x (y ∷ held) a own = ⊎_elim
-        (λ same. true_or (y.client == c) (is_behind c held)
-        (eq-eqb y.client c (ap (λ (h : Held). h.client) (sym same) ∙ own)))
+        (λ same. true_or (y.client == c) (is_behind c held) (eq-eqb y.client c (ap (λ (h : Held). h.client) (sym same) ∙ own)))
         (λ later. or_later (y.client == c) (is_behind c held) (own_among x held later own)) a
       where
         or_later : (p q : Bool) → q ≡ true → (p || q) ≡ true
@@ -126,8 +123,7 @@ left_writes world off c file_id one source g found o = ⊎_elim arrived was_held
         subst (λ w. AllAsked (IsNoWrite file_id) w c) (sym a.is_off) (record {
           queued = subst (Each (IsNoWrite file_id))
               (sym (put_same world.requests c (rest_of (world.requests c)) ∙ ap rest_of a.oldest.is_first)) q.0;
-          held = λ at x b own. not_held at x (λ number patch is.
-              clash (is_behind c (world.server.held one.file))
+          held = λ at x b own. not_held at x (λ number patch is. clash (is_behind c (world.server.held one.file))
               (own_among x (world.server.held one.file)
               (subst (λ n. Among x (world.server.held n)) (sym (same_place at x b mine number patch is)) b) own) none);
         })
@@ -148,8 +144,7 @@ left_writes world off c file_id one source g found o = ⊎_elim arrived was_held
           held = λ at x b own. either (at == h.file)
               (λ same. in_left x (subst (λ l. Among x l) (ap (put world.server.held h.file (h.before ++ h.behind))
               (eqb-true at h.file same) ∙ put_same world.server.held h.file (h.before ++ h.behind)) b) own parts.0)
-              (λ other. not_held at x (λ number patch is. clash (at == h.file)
-              (eq-eqb at h.file (sym (same_place at x
+              (λ other. not_held at x (λ number patch is. clash (at == h.file) (eq-eqb at h.file (sym (same_place at x
               (subst (λ l. Among x l) (put_other world.server.held h.file (h.before ++ h.behind) at
               (λ e. clash (at == h.file) (eq-eqb at h.file e) other)) b) mine number patch is) ∙ place)) other));
         })
@@ -248,19 +243,16 @@ not_closed_held c file_id (one ∷ held) each = if_cases (λ l. Each (IsNoClose 
 stepped_order : (world : World) (c : ℕ) (step : Step) → is_up (world.links c) ≡ true
     → step.client.guid ≡ (world.clients c).guid → SendsInOrder (world.clients c) step → IsStandingAt world c
     → ((file : ℕ) (live : LiveEntry) → ((world.clients c).entries file).phase ≡ Phase.Live live
-    → was_opened live.file_id file c world.past ≡ true) → IsInOrder world c
-    → IsInOrder (stepped_in world c step) c
+    → was_opened live.file_id file c world.past ≡ true) → IsInOrder world c → IsInOrder (stepped_in world c step) c
 stepped_order world c step up guid sends s opened o = record {
   ordered = λ file. subst (λ q. AreOrdered (as_requests (held_by c (new.server.held file)) ++ q)) (sym is.queued)
       (subst (λ (x : Server). AreOrdered (as_requests (held_by c (x.held file)) ++ (world.requests c ++ step.requests)))
       (sym is.server)
       (subst AreOrdered (append_three (as_requests (held_by c (world.server.held file))) (world.requests c) step.requests)
       (ordered_more (asked_of world c file) step.requests (o.ordered file) sends.ordered
-      (each_weaker (UnderLive (world.clients c)) (IsOpenIn (asked_of world c file)) step.requests (open_in file)
-      sends.under))));
+      (each_weaker (UnderLive (world.clients c)) (IsOpenIn (asked_of world c file)) step.requests (open_in file) sends.under))));
   stands = record {
-    queued = subst (Each (WriteStands new c)) (sym is.queued)
-        (each_append (WriteStands new c) (world.requests c) step.requests
+    queued = subst (Each (WriteStands new c)) (sym is.queued) (each_append (WriteStands new c) (world.requests c) step.requests
         (each_weaker (WriteStands world c) (WriteStands new c) (world.requests c)
         (stands_later world new c later stays) o.stands.queued)
         (each_weaker (UnderLive (world.clients c)) (WriteStands new c) step.requests new_stands sends.under));
@@ -322,8 +314,7 @@ IsCreate request = ⊥
 
 creates_ordered : (queue : List Request) → Each IsCreate queue → AreOrdered queue
 creates_ordered [] each = tt
-creates_ordered (Request.OnFile (FileRequest.Create file access share contexts) ∷ queue) each =
-    (tt, creates_ordered queue each.1)
+creates_ordered (Request.OnFile (FileRequest.Create file access share contexts) ∷ queue) each = (tt, creates_ordered queue each.1)
 creates_ordered (Request.OnFile (FileRequest.Read file_id) ∷ queue) each = absurd each.0
 creates_ordered (Request.OnFile (FileRequest.Write file_id number patch) ∷ queue) each = absurd each.0
 creates_ordered (Request.OnFile (FileRequest.Close file_id) ∷ queue) each = absurd each.0
@@ -341,16 +332,14 @@ connect_creates world c g down =
     let machine = world.clients c in
     let back = come_back world c in
     let step = connection_made machine in
-    let turn : ℕ → List Request =
-    λ f. (connect_turn machine f (machine.entries f).sent (machine.entries f).phase).requests in
+    let turn : ℕ → List Request = λ f. (connect_turn machine f (machine.entries f).sent (machine.entries f).phase).requests in
     let queued : (connected world c).requests c ≡ flat_map turn (numbers_to machine.files) =
     (step_of back c step (ap is_up (put_same world.links c Link.Up)) refl).queued
     ∙ ap (λ (q : List Request). q ++ flat_map turn (numbers_to machine.files)) ((g.tied c).requests (ap is_up down)) in
     subst (Each IsCreate) (sym queued) (each_flat IsCreate turn (numbers_to machine.files)
     (λ f. only f (machine.entries f).sent (machine.entries f).phase))
   where
-    only : (f : ℕ) (sent : List Pending) (phase : Phase)
-        → Each IsCreate (connect_turn (world.clients c) f sent phase).requests
+    only : (f : ℕ) (sent : List Pending) (phase : Phase) → Each IsCreate (connect_turn (world.clients c) f sent phase).requests
     only f sent (Phase.Offline parted) = (tt, tt)
     only f sent phase = tt
 
@@ -370,8 +359,7 @@ connect_order world c g down =
           (creates_ordered (new.requests c) creates);
       stands = record {
         queued = each_weaker IsCreate (WriteStands new c) (new.requests c) (create_stands new c) creates;
-        held = λ file one a own. absurd (not_there one (subst (λ (l : List Held). Among one l)
-            (connect_held world c g down file)
+        held = λ file one a own. absurd (not_there one (subst (λ (l : List Held). Among one l) (connect_held world c g down file)
             (among_filtered (λ h. h.client == c) one (new.server.held file) a (eq-eqb one.client c own))));
       };
     }
@@ -426,21 +414,18 @@ order_moves = record {
       (later_two off.past (Fact.Opened file c) (Fact.Sent c)) (λ one own y x. among_before one off.server.opens _ x)
       (off_order world off c _ source (a (link_of world off c _ source up)));
   reconnected = λ world off c file access share ask file_id v good source again on waits a up.
-      replied_order off (reconnected_in off c file ask file_id) c refl refl refl refl
-      (later_fact off.past (Fact.Sent c))
+      replied_order off (reconnected_in off c file ask file_id) c refl refl refl refl (later_fact off.past (Fact.Sent c))
       (λ one own y x. map_kept (connected_again file_id) one off.server.opens (again_up file_id one y) x)
       (off_order world off c _ source (a (link_of world off c _ source up)));
   read = λ world off c file_id one v good source found may a up.
       replied_order off (told_to off c (Reply.ReadDone file_id (off.server.contents one.file))) c refl refl refl refl
-      (later_fact off.past (Fact.Sent c)) (λ x own y z. z)
-      (off_order world off c _ source (a (link_of world off c _ source up)));
+      (later_fact off.past (Fact.Sent c)) (λ x own y z. z) (off_order world off c _ source (a (link_of world off c _ source up)));
   changed = λ world off c file_id number patch one v good source found may a up.
       replied_order off (changed_in off c one.file file_id number patch) c refl refl refl refl
       (later_two off.past (Fact.Changed one.file c number patch) (Fact.Sent c)) (λ x own y z. z)
       (off_order world off c _ source (a (link_of world off c _ source up)));
   closed = λ world off c file_id one v good source found a up.
-      closed_order world off c file_id one source (ground_of world v) found
-      (a (link_of world off c _ source up));
+      closed_order world off c file_id one source (ground_of world v) found (a (link_of world off c _ source up));
   ack_failed = λ world c given status v good oldest why a up.
       replied_order (popped world c) (told_to (popped world c) c (Reply.AckFailed status)) c refl refl refl refl
       (later_fact world.past (Fact.Sent c)) (λ one own y x. x) (popped_order world c _ oldest (a up));
@@ -457,11 +442,10 @@ order_moves = record {
       replied_order world (leased_in world key (record { state = lowered; broken_to = None })
       (break_notice key (world.server.leases key).state lowered)) key.client refl refl refl refl
       (later_fact world.past (Fact.Sent key.client)) (λ one own y x. x) (a up);
-  begin = λ world key lowered v good may heavy a up.
-      replied_order world (leased_in world key (record {
-        state = (world.server.leases key).state;
-        broken_to = Some lowered;
-      }) (break_notice key (world.server.leases key).state lowered)) key.client refl refl refl refl
+  begin = λ world key lowered v good may heavy a up. replied_order world (leased_in world key (record {
+    state = (world.server.leases key).state;
+    broken_to = Some lowered;
+  }) (break_notice key (world.server.leases key).state lowered)) key.client refl refl refl refl
       (later_fact world.past (Fact.Sent key.client)) (λ one own y x. x) (a up);
   cut = λ world c v good up a on. absurd (true≢false (sym on ∙ ap is_up (put_same world.links c Link.Cut)));
   timer = λ world c at v good on breaks a up. same_order world (timed_out world c at) c refl refl
@@ -469,8 +453,7 @@ order_moves = record {
   connect = λ world c v good down a up. connect_order world c (ground_of world v) down;
   command = λ world c command v good a up.
       let was = was_up world c (commanded (world.clients c) command) up in
-      stepped_order world c (commanded (world.clients c) command) was
-      (commanded-stays (world.clients c) command).guid
+      stepped_order world c (commanded (world.clients c) command) was (commanded-stays (world.clients c) command).guid
       (any_command (world.clients c) (SendsInOrder (world.clients c)) (commands_send (world.clients c)) command)
       (v.leases.structure.opens c good was) (live_opened world c (names_of world v c good)) (a was);
   take = λ world c reply queue v good first a up.
@@ -487,6 +470,5 @@ order_moves = record {
       (λ file id x. stands_by world gone c file id refl refl (λ one own y same z. z) x) (a was));
   notice = λ world c v good cut a on. absurd (true≢false (sym on
       ∙ ap (λ (l : ℕ → Link). is_up (l c)) (stepped_links (record world { links = put world.links c Link.Down }) c
-      (noticed (world.clients c)))
-      ∙ ap is_up (put_same world.links c Link.Down)));
+      (noticed (world.clients c))) ∙ ap is_up (put_same world.links c Link.Down)));
 }

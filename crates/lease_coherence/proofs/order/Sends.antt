@@ -161,8 +161,7 @@ off_stands world off c request source file id s = ⊎_elim
     (λ a. subst (λ o. Stands o c file id) (sym a.is_off)
     (stands_by world (popped world c) c file id refl refl (λ one own up same x. x) s))
     (λ h. subst (λ o. Stands o c file id) (sym h.is_off)
-    (stands_by world (with_held world h.file (h.before ++ h.behind)) c file id refl refl (λ one own up same x. x) s))
-    source.from
+    (stands_by world (with_held world h.file (h.before ++ h.behind)) c file id refl refl (λ one own up same x. x) s)) source.from
 
 pub off_order : (world off : World) (c : ℕ) (request : FileRequest) → IsSource world off c request → IsInOrder world c
     → IsInOrder off c

@@ -44,8 +44,7 @@ each_part P (x ∷ xs) ys e = let r = each_part P xs ys e.1 in ((e.0, r.0), r.1)
 each_less : {X : Type 0} (P : X → Type 0) (xs ys : List X) (x : X) → Each P (xs ++ x ∷ ys) → Each P (xs ++ ys)
 each_less P xs ys x e = let r = each_part P xs (x ∷ ys) e in each_append P xs ys r.0 r.1.1
 
-allows_less : (request : Request) (xs ys : List Request) (x : Request) → Allows request (xs ++ x ∷ ys)
-    → Allows request (xs ++ ys)
+allows_less : (request : Request) (xs ys : List Request) (x : Request) → Allows request (xs ++ x ∷ ys) → Allows request (xs ++ ys)
 allows_less (Request.OnFile (FileRequest.Close file_id)) xs ys x a = each_less (IsNoWrite file_id) xs ys x a
 allows_less request xs ys x a = tt
 
@@ -65,8 +64,7 @@ IsOpenIn before (Request.OnFile (FileRequest.Write file_id number patch)) = Each
 IsOpenIn before request = ⊤
 
 no_write_of : (file_id : ℕ) (before behind : List Request)
-    → Each (IsOpenIn (Request.OnFile (FileRequest.Close file_id) ∷ before)) behind
-    → Each (IsNoWrite file_id) behind
+    → Each (IsOpenIn (Request.OnFile (FileRequest.Close file_id) ∷ before)) behind → Each (IsNoWrite file_id) behind
 no_write_of file_id before [] each = tt
 no_write_of file_id before (Request.OnFile (FileRequest.Write other number patch) ∷ behind) each =
     (λ e. (each.0).0 (sym e), no_write_of file_id before behind each.1)
@@ -95,8 +93,7 @@ allows_more (Request.OnFile (FileRequest.Close file_id)) xs more a each =
 allows_more request xs more a each = tt
 
 -- and more, of which no write is closed before
-pub ordered_more : (xs more : List Request) → AreOrdered xs → AreOrdered more → Each (IsOpenIn xs) more
-    → AreOrdered (xs ++ more)
+pub ordered_more : (xs more : List Request) → AreOrdered xs → AreOrdered more → Each (IsOpenIn xs) more → AreOrdered (xs ++ more)
 ordered_more [] more o p each = p
 ordered_more (request ∷ xs) more o p each =
     (allows_more request xs more o.0 each, ordered_more xs more o.1 p (open_less request xs more each))
@@ -120,14 +117,12 @@ append_three (x ∷ xs) ys zs = ap (λ l. x ∷ l) (append_three xs ys zs)
 pub asked_among : (c : ℕ) (before behind : List Held) (one : Held) (queue : List Request) → (one.client == c) ≡ true
     → as_requests (held_by c (before ++ one ∷ behind)) ++ queue
     ≡ as_requests (held_by c before) ++ Request.OnFile one.request ∷ (as_requests (held_by c behind) ++ queue)
-asked_among c before behind one queue own =
-    ap (λ l. as_requests l ++ queue) (held_append c before (one ∷ behind)
+asked_among c before behind one queue own = ap (λ l. as_requests l ++ queue) (held_append c before (one ∷ behind)
     ∙ ap (λ l. held_by c before ++ l) (chosen (one.client == c) (one ∷ held_by c behind) (held_by c behind) own))
     ∙ ap (λ l. l ++ queue) (as_append (held_by c before) (one ∷ held_by c behind))
     ∙ append_three (as_requests (held_by c before)) (Request.OnFile one.request ∷ as_requests (held_by c behind)) queue
 
-pub asked_left : (c : ℕ) (before behind : List Held) (queue : List Request)
-    → as_requests (held_by c (before ++ behind)) ++ queue
+pub asked_left : (c : ℕ) (before behind : List Held) (queue : List Request) → as_requests (held_by c (before ++ behind)) ++ queue
     ≡ as_requests (held_by c before) ++ (as_requests (held_by c behind) ++ queue)
 asked_left c before behind queue = ap (λ l. as_requests l ++ queue) (held_append c before behind)
     ∙ ap (λ l. l ++ queue) (as_append (held_by c before) (held_by c behind))
@@ -164,9 +159,7 @@ off_ordered world off c file request source o = ⊎_elim
     (λ a. subst (λ x. AreOrdered (asked_of x c file)) (sym a.is_off)
     (popped_ordered world c file (Request.OnFile request) a.oldest o))
     (λ h. subst (λ x. AreOrdered (asked_of x c file)) (sym h.is_off)
-    (left_ordered world c file h.file h.before h.behind (held_of c request)
-    (eq-eqb c c refl) h.held o))
-    source.from
+    (left_ordered world c file h.file h.before h.behind (held_of c request) (eq-eqb c c refl) h.held o)) source.from
 
 -- none of the client's
 pub none_behind : (c : ℕ) (held : List Held) → is_behind c held ≡ false → held_by c held ≡ []
@@ -197,8 +190,7 @@ held_ordered world at one oldest file o =
     (subst (λ n. AreOrdered (asked_of world c n)) same o)))))
     (λ there. subst (λ l. AreOrdered (as_requests (held_by c l) ++ (popped world c).requests c))
     (sym (put_other world.server.held at (world.server.held at ++ one ∷ []) file
-    (λ e. clash (file == at) (eq-eqb file at e) there)))
-    (popped_ordered world c file (Request.OnFile one.request) oldest o))
+    (λ e. clash (file == at) (eq-eqb file at e) there))) (popped_ordered world c file (Request.OnFile one.request) oldest o))
 
 -- ---- one client
 

@@ -67,8 +67,7 @@ use Rattle.lease_laws.proofs.client.cases.Links.{HasNotices, any_notice}
 -- ---- the same client and link
 
 -- by what holds of each FileId that was given
-kept_untouched : (world new : World) (c : ℕ) → new.clients c ≡ world.clients c → new.links c ≡ world.links c
-    → IsNamedAt world c
+kept_untouched : (world new : World) (c : ℕ) → new.clients c ≡ world.clients c → new.links c ≡ world.links c → IsNamedAt world c
     → ((file id : ℕ) → was_opened id file c world.past ≡ true → UntouchedUnder world c file id
     → UntouchedUnder new c file id) → IsUntouched world c → IsUntouched new c
 kept_untouched world new c machine link n keeps a file = subst
@@ -100,11 +99,9 @@ same_from world c id x there by same = (x, there, by, same)
 
 off_untouched : (world off : World) (c : ℕ) (request : FileRequest) → IsSource world off c request
     → IsUntouched world c → IsUntouched off c
-off_untouched world off c request source a =
-    from_source world off c request (λ o. IsUntouched o c) source a (λ file left. a)
+off_untouched world off c request source a = from_source world off c request (λ o. IsUntouched o c) source a (λ file left. a)
 
-told_untouched : (off : World) (c : ℕ) (reply : Reply) → IsNamedAt off c → IsUntouched off c
-    → IsUntouched (told_to off c reply) c
+told_untouched : (off : World) (c : ℕ) (reply : Reply) → IsNamedAt off c → IsUntouched off c → IsUntouched (told_to off c reply) c
 told_untouched off c reply n a = kept_untouched off (told_to off c reply) c refl refl n
     (λ file id named u. under_by off (told_to off c reply) c file id
     (λ x there by same. same_from off c id x there by same) (λ w. w)
@@ -199,13 +196,11 @@ none_parted world off c file access share ask g source none counted s parted is 
 
 granted_untouched : (world off : World) (c file : ℕ) (access : Access) (share : Share) (ask : CreateAsk) (asked : LeaseOf)
     → ask.lease ≡ Some asked → asked.key ≡ lease_key (off.clients c).guid file → is_up (off.links c) ≡ true
-    → KnowsIds off c → IsNamedAt off c
-    → ((parted : Parted) → (((off.clients c).entries file).phase ≡ Phase.Offline parted)
+    → KnowsIds off c → IsNamedAt off c → ((parted : Parted) → (((off.clients c).entries file).phase ≡ Phase.Offline parted)
     ⊎ (((off.clients c).entries file).phase ≡ Phase.Reconnecting parted) → ⊥)
     → IsUntouched off c → IsUntouched (granted_in off c file access share ask (lease_after off.server c file ask.lease)) c
 granted_untouched world off c file access share ask asked e named up ids n never a = subst
-    (λ o. IsUntouched (granted_in off c file access share (record ask { lease = o }) (lease_after off.server c file o)) c)
-    (sym e)
+    (λ o. IsUntouched (granted_in off c file access share (record ask { lease = o }) (lease_after off.server c file o)) c) (sym e)
     (up_untouched off new c refl up
     (λ at parted is u. under_by off new c at parted.file_id
     (λ x there by same. ⊎_elim (λ old. (x, old, by, same))
@@ -216,8 +211,7 @@ granted_untouched world off c file access share ask asked e named up ids n never
     (put_key-cases (λ (l : Lease). l.state.write ≡ true → holds_write off c at ≡ true) off.server.leases
     (key_of c asked.key) lease (machine_key off c at)
     (λ same w. absurd (apart at parted is same)) (λ other w. w))
-    (λ y there by same w clean. sent_touched c c at (Fact.Opened file c ∷ off.past) ∙ own_opened c at file off.past ∙ clean)
-    u) a)
+    (λ y there by same w clean. sent_touched c c at (Fact.Opened file c ∷ off.past) ∙ own_opened c at file off.past ∙ clean) u) a)
   where
     lease : Lease
     lease = lease_after off.server c file (Some asked)
@@ -236,8 +230,7 @@ granted_untouched world off c file access share ask asked e named up ids n never
 
     -- the key is of the file that is opened, whose entry isn't parted
     apart : (at : ℕ) (parted : Parted) → (((off.clients c).entries at).phase ≡ Phase.Offline parted)
-        ⊎ (((off.clients c).entries at).phase ≡ Phase.Reconnecting parted)
-        → machine_key off c at ≡ key_of c asked.key → ⊥
+        ⊎ (((off.clients c).entries at).phase ≡ Phase.Reconnecting parted) → machine_key off c at ≡ key_of c asked.key → ⊥
     apart at parted is same = either (at == file)
         (λ here. let e = eqb-true at file here in never parted
         (⊎_elim (λ x. inl (ap (λ f. ((off.clients c).entries f).phase) (sym e) ∙ x))
@@ -358,8 +351,7 @@ notice_untouched world c cut a =
     stepped_untouched world (record world { links = put world.links c Link.Down }) c (noticed machine) refl refl refl
     (λ file. refl)
     (λ file. any_notice (machine.entries file).sent _ (notices_untouched world (put world.links c Link.Down) c file
-    (machine.entries file).sent)
-    (machine.entries file).phase (ap is_up cut)) a
+    (machine.entries file).sent) (machine.entries file).phase (ap is_up cut)) a
 
 connect_untouched : (world : World) (c : ℕ) → IsUntouched world c → IsUntouched (connected world c) c
 unfolding connection_made all_turned joined

@@ -86,13 +86,11 @@ unfolding touched_since_lost
 noted_touched c client file past [] = refl
 noted_touched c client file past (Note.Settled number outcome ∷ notes) =
     noted_touched c client file (fact_of client (Note.Settled number outcome) ∷ past) notes
-noted_touched c client file past (note ∷ notes) =
-    noted_touched c client file (fact_of client note ∷ past) notes
+noted_touched c client file past (note ∷ notes) = noted_touched c client file (fact_of client note ∷ past) notes
 
 -- ---- in another world
 
-pub under_by : (world new : World) (c file id : ℕ)
-    → ((x : Open) → Among x new.server.opens → x.client ≡ c → x.file_id ≡ id
+pub under_by : (world new : World) (c file id : ℕ) → ((x : Open) → Among x new.server.opens → x.client ≡ c → x.file_id ≡ id
     → (y : Open) × (Among y world.server.opens) × (y.client ≡ c) × (y.file_id ≡ id))
     → (holds_write new c file ≡ true → holds_write world c file ≡ true)
     → ((y : Open) → Among y world.server.opens → y.client ≡ c → y.file_id ≡ id → holds_write world c file ≡ true
@@ -105,8 +103,7 @@ under_by world new c file id from holds touched u x there by same writes =
 
 pub phase_by : (world new : World) (c file : ℕ) (phase : Phase)
     → ((live : LiveEntry) → phase ≡ Phase.Live live → is_up (new.links c) ≡ false
-    → (is_up (world.links c) ≡ false → UntouchedUnder world c file live.file_id)
-    → UntouchedUnder new c file live.file_id)
+    → (is_up (world.links c) ≡ false → UntouchedUnder world c file live.file_id) → UntouchedUnder new c file live.file_id)
     → ((parted : Parted) → (phase ≡ Phase.Offline parted) ⊎ (phase ≡ Phase.Reconnecting parted)
     → UntouchedUnder world c file parted.file_id → UntouchedUnder new c file parted.file_id)
     → PhaseUntouched world c file phase → PhaseUntouched new c file phase
@@ -169,8 +166,7 @@ gone_parts : (up : Bool) (old : Phase) (asking : Option Asked) (sent : List Pend
 gone_parts up old None sent = tt
 gone_parts up old (Some asked) sent = tt
 
-with_parts : (old : Phase) (write : Option Pending) (phase : Phase) → old ≡ phase
-    → PartedBy true old (phase_with write phase)
+with_parts : (old : Phase) (write : Option Pending) (phase : Phase) → old ≡ phase → PartedBy true old (phase_with write phase)
 with_parts old write (Phase.Live live) is = λ off. absurd (true≢false off)
 with_parts old write (Phase.Offline parted) is = is
 with_parts old write (Phase.Reconnecting parted) is = is
@@ -193,10 +189,8 @@ takes_part machine = record {
   read_closed = λ file id status live is same gone. put_parts true machine file _
       (gone_parts true _ live.asking (sent_of machine file));
   not_read = λ file id status live is same some. put_parts true machine file _ (λ off. absurd (true≢false off));
-  written = λ file id number has known. put_parts true machine file _
-      (with_parts _ _ (machine.entries file).phase refl);
+  written = λ file id number has known. put_parts true machine file _ (with_parts _ _ (machine.entries file).phase refl);
   write_closed = λ file id number status live has known is same gone. put_parts true machine file _
       (gone_parts true _ live.asking (sent_without number (sent_of machine file)));
-  not_written = λ file id number status has known. put_parts true machine file _
-      (same_parts true (machine.entries file).phase);
+  not_written = λ file id number status has known. put_parts true machine file _ (same_parts true (machine.entries file).phase);
 }

@@ -14,8 +14,7 @@ use Rattle.lease_laws.proofs.world.FileIds.{told, fact_told}
 pub record IsLater (past : List Fact) (new : List Fact) : Type 0 where
   pub started : (file : ℕ) → is_started file past ≡ true → is_started file new ≡ true
   pub joined : (client : ℕ) → has_joined client past ≡ true → has_joined client new ≡ true
-  pub opened : (place file client : ℕ) → was_opened place file client past ≡ true
-      → was_opened place file client new ≡ true
+  pub opened : (place file client : ℕ) → was_opened place file client past ≡ true → was_opened place file client new ≡ true
   pub written : (client file number : ℕ) (patch : Patch) → has_written client file number patch past ≡ true
       → has_written client file number patch new ≡ true
   pub accepted : (client number : ℕ) → is_accepted client number past ≡ true → is_accepted client number new ≡ true
@@ -49,8 +48,7 @@ or_none : (a b : Bool) → (a || b) ≡ false → b ≡ false
 or_none true b e = let c : ⊥ = cc in absurd c
 or_none false b e = e
 
-started_later : (file : ℕ) (fact : Fact) (past : List Fact) → is_started file past ≡ true
-    → is_started file (fact ∷ past) ≡ true
+started_later : (file : ℕ) (fact : Fact) (past : List Fact) → is_started file past ≡ true → is_started file (fact ∷ past) ≡ true
 unfolding is_started
 started_later file (Fact.Start other bytes) past e = or_later (other == file) (is_started file past) e
 started_later file (_) past e = e
@@ -72,16 +70,14 @@ written_later : (client file number : ℕ) (patch : Patch) (fact : Fact) (past :
     → has_written client file number patch past ≡ true → has_written client file number patch (fact ∷ past) ≡ true
 unfolding has_written
 written_later client file number patch (Fact.Wrote writer other used bytes buffered) past e = or_later
-    (writer == client && other == file && used == number && same_patch bytes patch)
-    (has_written client file number patch past) e
+    (writer == client && other == file && used == number && same_patch bytes patch) (has_written client file number patch past) e
 written_later client file number patch (_) past e = e
 
 accepted_later : (client number : ℕ) (fact : Fact) (past : List Fact) → is_accepted client number past ≡ true
     → is_accepted client number (fact ∷ past) ≡ true
 unfolding is_accepted
 accepted_later client number (Fact.Changed file writer used patch) past e = or_later
-    (writer == client && used == number && has_written client file number patch past)
-    (is_accepted client number past) e
+    (writer == client && used == number && has_written client file number patch past) (is_accepted client number past) e
 accepted_later client number (_) past e = e
 
 strayed_before : (client : ℕ) (fact : Fact) (past : List Fact) → has_strayed client (fact ∷ past) ≡ false

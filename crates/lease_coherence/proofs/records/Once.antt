@@ -20,8 +20,7 @@ written_number c file number patch (Fact.Wrote writer other used bytes buffered 
     (and_parts (writer == c && other == file && used == number) (same_patch bytes patch) now).0 in
     true_or (writer == c && used == number) (has_number c number past)
     (and_both (writer == c) (used == number) (and_parts (writer == c) (other == file) p.0).0 p.1))
-    (λ before. later (writer == c && used == number) (has_number c number past)
-    (written_number c file number patch past before))
+    (λ before. later (writer == c && used == number) (has_number c number past) (written_number c file number patch past before))
     (or_true _ (has_written c file number patch past) e)
   where
     later : (a b : Bool) → b ≡ true → (a || b) ≡ true
@@ -39,8 +38,7 @@ buffered_number c file number (Fact.Wrote writer other used bytes buffered ∷ p
     (and_parts (writer == c && other == file && used == number) buffered now).0 in
     true_or (writer == c && used == number) (has_number c number past)
     (and_both (writer == c) (used == number) (and_parts (writer == c) (other == file) p.0).0 p.1))
-    (λ before. later (writer == c && used == number) (has_number c number past)
-    (buffered_number c file number past before))
+    (λ before. later (writer == c && used == number) (has_number c number past) (buffered_number c file number past before))
     (or_true _ (has_buffered c file number past) e)
   where
     later : (a b : Bool) → b ≡ true → (a || b) ≡ true
@@ -56,8 +54,7 @@ buffered_written c file number [] e = absurd (true≢false (sym e))
 buffered_written c file number (Fact.Wrote writer other used bytes buffered ∷ past) e = ⊎_elim
     (λ now. (
       bytes,
-      true_or (writer == c && other == file && used == number && same_patch bytes bytes)
-          (has_written c file number bytes past)
+      true_or (writer == c && other == file && used == number && same_patch bytes bytes) (has_written c file number bytes past)
           (and_both (writer == c && other == file && used == number) (same_patch bytes bytes)
           (and_parts (writer == c && other == file && used == number) buffered now).0
           (and_both (bytes.offset == bytes.offset) (bytes_eq bytes.bytes bytes.bytes)
@@ -65,10 +62,8 @@ buffered_written c file number (Fact.Wrote writer other used bytes buffered ∷ 
     ))
     (λ before. let w = buffered_written c file number past before in (
       w.0,
-      later (writer == c && other == file && used == number && same_patch bytes w.0)
-          (has_written c file number w.0 past) w.1,
-    ))
-    (or_true _ (has_buffered c file number past) e)
+      later (writer == c && other == file && used == number && same_patch bytes w.0) (has_written c file number w.0 past) w.1,
+    )) (or_true _ (has_buffered c file number past) e)
   where
     later : (a b : Bool) → b ≡ true → (a || b) ≡ true
     later true b e = refl
@@ -109,8 +104,7 @@ written_once c file other number patch bytes (Fact.Wrote writer of_file used was
     (λ before. ⊎_elim
     (λ again. absurd (used_by (parts_of other bytes again).0 (written_number c file number patch past before)))
     (λ earlier. written_once c file other number patch bytes past well.1 before earlier)
-    (or_true _ (has_written c other number bytes past) f))
-    (or_true _ (has_written c file number patch past) e)
+    (or_true _ (has_written c other number bytes past) f)) (or_true _ (has_written c file number patch past) e)
   where
     new : not (has_number writer used past) ≡ true
     new = (and_parts (is_started of_file past && is_within_limit was) (not (has_number writer used past)) well.0).1
@@ -120,8 +114,7 @@ written_once c file other number patch bytes (Fact.Wrote writer of_file used was
     clashing false e f = true≢false (sym f)
 
     used_by : ((writer == c) ≡ true) × ((used == number) ≡ true) → has_number c number past ≡ true → ⊥
-    used_by by has = clashing (has_number writer used past) new
-        (ap (λ w. has_number w used past) (eqb-true writer c by.0)
+    used_by by has = clashing (has_number writer used past) new (ap (λ w. has_number w used past) (eqb-true writer c by.0)
         ∙ ap (λ n. has_number c n past) (eqb-true used number by.1) ∙ has)
 
     parts_of : (at : ℕ) (p : Patch) → (writer == c && of_file == at && used == number && same_patch was p) ≡ true
@@ -132,8 +125,7 @@ written_once c file other number patch bytes (Fact.Wrote writer of_file used was
         let d = and_parts (writer == c) (of_file == at) b.0 in ((d.0, b.1), (d.1, a.1))
 written_once c file other number patch bytes (Fact.Start at was ∷ past) well e f =
     written_once c file other number patch bytes past well.1 e f
-written_once c file other number patch bytes (_ ∷ past) well e f =
-    written_once c file other number patch bytes past well.1 e f
+written_once c file other number patch bytes (_ ∷ past) well e f = written_once c file other number patch bytes past well.1 e f
 
 -- what wasn't buffered isn't touched
 pub unbuffered_clean : (c file number : ℕ) (past : List Fact) → has_buffered c file number past ≡ false

@@ -34,8 +34,7 @@ first_structure setup = let names = first_true setup in record {
 }
 
 pub run_structure : (setup : Setup) (events : List Event) → HasStructure (after (first_world setup) events)
-run_structure setup events = runs_have HasStructure (λ world v. v.ground) structure_carried setup
-    (first_structure setup) events
+run_structure setup events = runs_have HasStructure (λ world v. v.ground) structure_carried setup (first_structure setup) events
 
 pub names_of_runs : NamesOfRuns
 names_of_runs setup events client good = (run_structure setup events).named client good

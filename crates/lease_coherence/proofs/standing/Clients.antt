@@ -125,8 +125,7 @@ others_given file live queue each = each_weaker (FitsGiven file (Phase.Live live
 leave_turn : (world : World) (c file : ℕ) (queue : List Reply) (live : LiveEntry) (new : Phase) (more : List Request)
     → EntryStands world c file (Phase.Live live) queue → again_of new ≡ None → ((id : ℕ) → FitsPhase new id)
     → ((id : ℕ) → IsNotUnder id new) → PhaseStands world c file new → Each (TurnAsks file new) more
-    → ((id : ℕ) → Each (IsNoClose id) more)
-    → TurnStands world c file (Phase.Live live) queue new
+    → ((id : ℕ) → Each (IsNoClose id) more) → TurnStands world c file (Phase.Live live) queue new
     (write_requests live.file_id live.unsent ++ Request.OnFile (FileRequest.Close live.file_id) ∷ more)
 leave_turn world c file queue live new more s plain free away stands asks closes = record {
   phase = stands;
@@ -147,8 +146,7 @@ leave_turn world c file queue live new more s plain free away stands asks closes
 -- ---- commands
 
 abbrev pub AllEntries : World → ℕ → List Reply → Type 0
-AllEntries world client queue =
-    (file : ℕ) → EntryStands world client file ((world.clients client).entries file).phase queue
+AllEntries world client queue = (file : ℕ) → EntryStands world client file ((world.clients client).entries file).phase queue
 
 pub commands_stand : (world : World) (c : ℕ) (queue : List Reply) → AllEntries world c queue
     → HasCommands (world.clients c) (StepStands world c queue)
@@ -215,8 +213,7 @@ pub record IsLastCreate (world : World) (client : ℕ) (file : ℕ) (queue : Lis
   pub asked : AllAsked (IsNoCreate file) world client
   pub answers : Each (IsNoAnswer file) queue
 
-unanswered : (file : ℕ) (phase : Phase) (queue : List Reply) → Each (IsNoAnswer file) queue
-    → Each (FitsGiven file phase) queue
+unanswered : (file : ℕ) (phase : Phase) (queue : List Reply) → Each (IsNoAnswer file) queue → Each (FitsGiven file phase) queue
 unanswered file phase queue each = each_weaker (IsNoAnswer file) (FitsGiven file phase) queue never each
   where
     never : (reply : Reply) → IsNoAnswer file reply → FitsGiven file phase reply
@@ -259,8 +256,7 @@ lowered_stands world c queue file live sent notice new s =
     (acknowledgment notice new) (writes_ask file (Phase.Live next) live.file_id (flushed live.belief new live.unsent))
     (ack_asks file (Phase.Live next) notice new))
     (λ id. each_append (IsNoClose id) (write_requests live.file_id (flushed live.belief new live.unsent))
-    (acknowledgment notice new) (writes_close live.file_id id (flushed live.belief new live.unsent))
-    (ack_closes id notice new))
+    (acknowledgment notice new) (writes_close live.file_id id (flushed live.belief new live.unsent)) (ack_closes id notice new))
 
 -- an entry whose open is gone
 gone_turn : (world : World) (c : ℕ) (queue : List Reply) (file : ℕ) (live : LiveEntry) (sent : List Pending)
@@ -288,8 +284,7 @@ still_turn world c queue file phase s =
 
 with_turn : (world : World) (c : ℕ) (queue : List Reply) (file : ℕ) (write : Option Pending) (phase : Phase)
     → EntryStands world c file phase queue → TurnStands world c file phase queue (phase_with write phase) []
-with_turn world c queue file write (Phase.Live live) s =
-    same_turn world c file queue live _ [] refl s tt (λ id. tt)
+with_turn world c queue file write (Phase.Live live) s = same_turn world c file queue live _ [] refl s tt (λ id. tt)
 with_turn world c queue file write phase s = still_turn world c queue file phase s
 
 pub takes_stand : (world : World) (c : ℕ) (queue : List Reply) → AllEntries world c queue
@@ -305,8 +300,7 @@ takes_stand world c queue all = record {
   opened = λ file file_id answer access share is given last. StepStands.Turns file _ refl refl
       (from file (Phase.Opening access share) is (record {
         phase = (given.stands, given.not_closed);
-        given = unanswered file
-            (opened_turn file_id access share (sent_of (world.clients c) file) answer
+        given = unanswered file (opened_turn file_id access share (sent_of (world.clients c) file) answer
             (first_belief (world.clients c) file answer)).entry.phase queue (last (ap has_asked is)).answers;
         again = inl refl;
         asks = tt;
@@ -316,8 +310,7 @@ takes_stand world c queue all = record {
       let same : file_id ≡ parted.file_id = subst (λ p. FitsPhase p file_id) is given.fits in
       StepStands.Turns file _ refl refl (from file (Phase.Reconnecting parted) is (record {
         phase = (subst (Stands world c file) same given.stands, subst (NotClosed world c) same given.not_closed);
-        given = unanswered file
-            (reconnected_turn parted (sent_of (world.clients c) file)
+        given = unanswered file (reconnected_turn parted (sent_of (world.clients c) file)
             (first_belief (world.clients c) file answer)).entry.phase queue (last (ap has_asked is)).answers;
         again = inr (last (ap has_asked is)).asked;
         asks = tt;
@@ -327,8 +320,7 @@ takes_stand world c queue all = record {
       let other : file_id ≢ live.file_id = subst (λ p. FitsPhase p file_id) is given.fits in
       StepStands.Turns file _ refl refl (from file (Phase.Live live) is (record {
         phase = (given.stands, given.not_closed);
-        given = unanswered file
-            (promoted_turn live (sent_of (world.clients c) file) asked file_id answer.durable
+        given = unanswered file (promoted_turn live (sent_of (world.clients c) file) asked file_id answer.durable
             (promoted_belief (lease_key (world.clients c).guid file) live.belief answer.lease)).entry.phase queue
             (last (ap has_asked is ∙ ap is_some asks)).answers;
         again = inl refl;

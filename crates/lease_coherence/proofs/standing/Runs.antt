@@ -147,8 +147,7 @@ last_create world c reply queue g up counted first file one asks =
         by_request : (r : FileRequest) → x.request ≡ r → IsNoCreate file (Request.OnFile r)
         by_request (FileRequest.Create other access share contexts) is = λ same.
             let about : other ≡ at = subst (IsAbout world.server at) is (g.fine.orderly.held_about at x a) in
-            none_one (create_of file x.request)
-            (ap (create_of file) is ∙ ap one_if (eq-eqb other file same))
+            none_one (create_of file x.request) (ap (create_of file) is ∙ ap one_if (eq-eqb other file same))
             (no_held file (held_by c (world.server.held file)) x none
             (among_filtered (λ h. h.client == c) x (world.server.held file)
             (subst (λ n. Among x (world.server.held n)) (sym about ∙ same) a) (eq-eqb x.client c own)))
@@ -211,8 +210,7 @@ gone_standing world c reply queue first s = record {
     closed_same : {id : ℕ} → NotClosed world c id → NotClosed (reply_gone world c queue) c id
     closed_same {id} n = record { queued = n.queued; held = n.held }
 
-    phase_same : (file : ℕ) (phase : Phase) → PhaseStands world c file phase
-        → PhaseStands (reply_gone world c queue) c file phase
+    phase_same : (file : ℕ) (phase : Phase) → PhaseStands world c file phase → PhaseStands (reply_gone world c queue) c file phase
     phase_same file (Phase.Live live) p = (stands_same p.0, closed_same p.1)
     phase_same file (Phase.Reconnecting parted) p = closed_same p
     phase_same file phase p = tt
@@ -227,16 +225,13 @@ gone_standing world c reply queue first s = record {
 pub each_flat : (P : Request → Type 0) (turn : ℕ → List Request) (files : List ℕ) → ((file : ℕ) → Each P (turn file))
     → Each P (flat_map turn files)
 each_flat P turn [] each = tt
-each_flat P turn (file ∷ files) each =
-    each_append P (turn file) (flat_map turn files) (each file) (each_flat P turn files each)
+each_flat P turn (file ∷ files) each = each_append P (turn file) (flat_map turn files) (each file) (each_flat P turn files each)
 
-no_entry : {X : Type 0} (held : List Held) (c : ℕ) (one : Held) → held_by c held ≡ [] → Among one held
-    → one.client ≡ c → X
+no_entry : {X : Type 0} (held : List Held) (c : ℕ) (one : Held) → held_by c held ≡ [] → Among one held → one.client ≡ c → X
 no_entry held c one none a own = absurd (subst (λ (l : List Held). Among one l) none
     (among_filtered (λ h. h.client == c) one held a (eq-eqb one.client c own)))
 
-connect_standing : (world : World) (c : ℕ) → Ground world → world.links c ≡ Link.Down
-    → IsStandingAt (connected world c) c
+connect_standing : (world : World) (c : ℕ) → Ground world → world.links c ≡ Link.Down → IsStandingAt (connected world c) c
 unfolding joined connection_made all_turned
 connect_standing world c g down =
     let machine = world.clients c in
@@ -245,8 +240,7 @@ connect_standing world c g down =
     let new = connected world c in
     let is_off : is_up (world.links c) ≡ false = ap is_up down in
     let online : machine.is_online ≡ false = g.online c ∙ ap (λ l. not (is_down l)) down in
-    let turn : ℕ → List Request =
-    λ f. (connect_turn machine f (machine.entries f).sent (machine.entries f).phase).requests in
+    let turn : ℕ → List Request = λ f. (connect_turn machine f (machine.entries f).sent (machine.entries f).phase).requests in
     let queued : new.requests c ≡ flat_map turn (numbers_to machine.files) =
     ap (λ (q : ℕ → List Request). q c) (stepped_requests back c step) ∙ put_same back.requests c _
     ∙ ap (λ link. sent_over link (world.requests c) step.requests) (put_same world.links c Link.Up)
@@ -259,8 +253,7 @@ connect_standing world c g down =
       given = subst (Each (GivenWell new c))
           (sym (ap (λ (r : ℕ → List Reply). r c) (stepped_replies back c step) ∙ (g.tied c).replies is_off)) tt;
       asked = subst (λ (m : Client). AllAsked (AskFits m) new c) (sym mine) (record {
-        queued = subst (Each (AskFits step.client)) (sym queued)
-            (each_flat (AskFits step.client) turn (numbers_to machine.files)
+        queued = subst (Each (AskFits step.client)) (sym queued) (each_flat (AskFits step.client) turn (numbers_to machine.files)
             (λ file. fits_at file (machine.entries file).phase refl));
         held = λ at one a own. no_entry (new.server.held at) c one (none at) a own;
       });
@@ -272,8 +265,7 @@ connect_standing world c g down =
         ((world.clients c).entries file).phase).requests
     fits_at file (Phase.Offline parted) is = subst (λ p. Each (AskFits (connection_made (world.clients c)).client)
         (connect_turn (world.clients c) file ((world.clients c).entries file).sent p).requests) (sym is) (
-          sym (ap (λ p. again_of
-              (connect_turn (world.clients c) file ((world.clients c).entries file).sent p).entry.phase) is),
+          sym (ap (λ p. again_of (connect_turn (world.clients c) file ((world.clients c).entries file).sent p).entry.phase) is),
           tt,
         )
     fits_at file phase is = subst (λ p. Each (AskFits (connection_made (world.clients c)).client)
@@ -286,8 +278,7 @@ connect_standing world c g down =
 
     all_open : (new : World) (id : ℕ) → new.requests c ≡ flat_map
         (λ f. (connect_turn (world.clients c) f ((world.clients c).entries f).sent ((world.clients c).entries f).phase).requests)
-        (numbers_to (world.clients c).files)
-        → ((at : ℕ) → held_by c (new.server.held at) ≡ []) → NotClosed new c id
+        (numbers_to (world.clients c).files) → ((at : ℕ) → held_by c (new.server.held at) ≡ []) → NotClosed new c id
     all_open new id queued none = record {
       queued = subst (Each (IsNoClose id)) (sym queued) (each_flat (IsNoClose id)
           (λ f. (connect_turn (world.clients c) f ((world.clients c).entries f).sent
@@ -298,8 +289,7 @@ connect_standing world c g down =
 
     phase_of : (new : World) (file : ℕ) → (world.clients c).is_online ≡ false → new.requests c ≡ flat_map
         (λ f. (connect_turn (world.clients c) f ((world.clients c).entries f).sent ((world.clients c).entries f).phase).requests)
-        (numbers_to (world.clients c).files)
-        → ((at : ℕ) → held_by c (new.server.held at) ≡ []) → (phase : Phase)
+        (numbers_to (world.clients c).files) → ((at : ℕ) → held_by c (new.server.held at) ≡ []) → (phase : Phase)
         → ((world.clients c).entries file).phase ≡ phase
         → PhaseStands new c file (connect_turn (world.clients c) file ((world.clients c).entries file).sent
         ((world.clients c).entries file).phase).entry.phase
@@ -309,8 +299,7 @@ connect_standing world c g down =
         ((g.clients c).entries file)))
       where
         by_phase : (p : Phase) → IsSoundPhase (world.clients c).is_online ((world.clients c).entries file).sent p
-            → PhaseStands new c file
-            (connect_turn (world.clients c) file ((world.clients c).entries file).sent p).entry.phase
+            → PhaseStands new c file (connect_turn (world.clients c) file ((world.clients c).entries file).sent p).entry.phase
         by_phase (Phase.Live live) sound = clash (world.clients c).is_online sound.0 off
         by_phase (Phase.Offline parted) sound = all_open new parted.file_id queued none
         by_phase (Phase.Reconnecting parted) sound = clash (world.clients c).is_online sound.0 off
@@ -343,13 +332,11 @@ given_gone world c queue (_) w = w
 -- the link was up where the request came from
 pub link_of : (world off : World) (c : ℕ) (request : FileRequest) → IsSource world off c request
     → is_up (off.links c) ≡ true → is_up (world.links c) ≡ true
-link_of world off c request source up =
-    ap (λ (l : ℕ → Link). is_up (l c)) (sym (off_rest world off c request source).1.0) ∙ up
+link_of world off c request source up = ap (λ (l : ℕ → Link). is_up (l c)) (sym (off_rest world off c request source).1.0) ∙ up
 
 pub standing_moves : IsOwnMoved HasStructure IsUpStanding
 standing_moves = record {
-  unmoved = λ world new c v good u a up.
-      unmoved_standing world new c u (a (ap is_up (sym u.link) ∙ up));
+  unmoved = λ world new c v good u a up. unmoved_standing world new c u (a (ap is_up (sym u.link) ∙ up));
   refused = λ world off c request status v good source may a up.
       told_standing off c (refusal_of request status) (refusal_plain request status)
       (off_standing world off c request source (a (link_of world off c request source up)));
@@ -409,8 +396,7 @@ standing_moves = record {
       s;
   notice = λ world c v good cut a on. absurd (true≢false (sym on
       ∙ ap (λ (l : ℕ → Link). is_up (l c)) (stepped_links (record world { links = put world.links c Link.Down }) c
-      (noticed (world.clients c)))
-      ∙ ap is_up (put_same world.links c Link.Down)));
+      (noticed (world.clients c))) ∙ ap is_up (put_same world.links c Link.Down)));
 }
   where
     fits_off : (world off : World) (c : ℕ) (request : FileRequest) → IsSource world off c request
@@ -419,8 +405,7 @@ standing_moves = record {
         subst (λ (t : ℕ → Client). AskFits (t c) (Request.OnFile request)) (sym (off_rest world off c request source).0)
         (asked_off (AskFits (world.clients c)) world off c request source s.asked).1
 
-    strayed_after : (world : World) (c : ℕ) → has_strayed c world.past ≡ false
-        → has_strayed c (Fact.Took c ∷ world.past) ≡ false
+    strayed_after : (world : World) (c : ℕ) → has_strayed c world.past ≡ false → has_strayed c (Fact.Took c ∷ world.past) ≡ false
     strayed_after world c good = took_strayed c world.past good
 
     first_given : (world : World) (c : ℕ) (reply : Reply) (queue : List Reply) → world.replies c ≡ reply ∷ queue

@@ -40,8 +40,7 @@ use Rattle.lease_coherence.proofs.standing.Words.{asked_popped, asked_off, asked
 pub stands_by : (world new : World) (c file file_id : ℕ) → new.clients c ≡ world.clients c
     → new.server.expired ≡ world.server.expired
     → ((one : Open) → one.client ≡ c → one.connected ≡ true → one.file_id ≡ file_id → Among one world.server.opens
-    → Among one new.server.opens)
-    → Stands world c file file_id → Stands new c file file_id
+    → Among one new.server.opens) → Stands world c file file_id → Stands new c file file_id
 stands_by world new c file file_id machine expired kept s = ⊎_elim
     (λ out. inl (ap (λ (e : Key → Bool). e (machine_key new c file)) expired
     ∙ ap (λ (m : Client). world.server.expired (key_of c (lease_key m.guid file))) machine ∙ out))
@@ -55,10 +54,8 @@ stands_by world new c file file_id machine expired kept s = ⊎_elim
     })) s
 
 -- a server that leaves opens and timers alone
-frame_same : (world new : World) (c : ℕ) → new.clients c ≡ world.clients c
-    → new.server.expired ≡ world.server.expired
-    → ((one : Open) → one.client ≡ c → one.connected ≡ true → Among one world.server.opens
-    → Among one new.server.opens)
+frame_same : (world new : World) (c : ℕ) → new.clients c ≡ world.clients c → new.server.expired ≡ world.server.expired
+    → ((one : Open) → one.client ≡ c → one.connected ≡ true → Among one world.server.opens → Among one new.server.opens)
     → ((P : Request → Type 0) → AllAsked P world c → AllAsked P new c) → IsFrame world new c
 frame_same world new c machine expired kept asked = record {
   machine = machine;
@@ -68,13 +65,11 @@ frame_same world new c machine expired kept asked = record {
   asks = λ a. asked (AskFits (world.clients c)) a;
 }
 
-pub frame_off : (world off : World) (c : ℕ) (request : FileRequest) → IsSource world off c request
-    → IsFrame world off c
+pub frame_off : (world off : World) (c : ℕ) (request : FileRequest) → IsSource world off c request → IsFrame world off c
 frame_off world off c request source = ⊎_elim
     (λ a. subst (λ o. IsFrame world o c) (sym a.is_off)
     (frame_same world (popped world c) c refl refl (λ one own up x. x) (λ P x. asked_popped P world c x)))
-    (λ h. frame_held h.file (h.before ++ h.behind) h.is_off)
-    source.from
+    (λ h. frame_held h.file (h.before ++ h.behind) h.is_off) source.from
   where
     frame_held : (file : ℕ) (left : List Held) → off ≡ with_held world file left → IsFrame world off c
     frame_held file left is_off = record {
@@ -126,8 +121,7 @@ refusal_plain request status = tt
 -- ---- grants
 
 -- no Close of a FileId that wasn't given yet
-new_open_asked : (off : World) (c : ℕ) (counted : IsCountedOff off) → IsNamedAt off c
-    → NotClosed off c (off.server.last_id + 1)
+new_open_asked : (off : World) (c : ℕ) (counted : IsCountedOff off) → IsNamedAt off c → NotClosed off c (off.server.last_id + 1)
 new_open_asked off c counted n = record {
   queued = each_weaker (IsNamedRequest c (off.clients c).guid off.past) (IsNoClose (off.server.last_id + 1))
       (off.requests c) request_low n.requests;
@@ -137,8 +131,7 @@ new_open_asked off c counted n = record {
     above : (m : ℕ) → m + 1 ≤ m → ⊥
     above m h = omega (arith, h)
 
-    request_low : (r : Request) → IsNamedRequest c (off.clients c).guid off.past r
-        → IsNoClose (off.server.last_id + 1) r
+    request_low : (r : Request) → IsNamedRequest c (off.clients c).guid off.past r → IsNoClose (off.server.last_id + 1) r
     request_low (Request.OnFile (FileRequest.Close file_id)) named = λ same. above off.server.last_id
         (subst (λ m. off.server.last_id + 1 ≤ m) (sym counted.last)
         (subst (λ m. m ≤ opened_count off.past) same (opened_within file_id named.file c off.past named.opened)))
@@ -152,8 +145,7 @@ named_live world c file live n is =
     subst (IsNamedPhase c file world.past) is (n.entries file).phase in named.0
 
 -- a new open isn't that of a live entry
-new_fits : (off : World) (c file : ℕ) → IsCountedOff off → IsNamedAt off c
-    → again_of ((off.clients c).entries file).phase ≡ None
+new_fits : (off : World) (c file : ℕ) → IsCountedOff off → IsNamedAt off c → again_of ((off.clients c).entries file).phase ≡ None
     → FitsPhase ((off.clients c).entries file).phase (off.server.last_id + 1)
 new_fits off c file counted n plain = by_phase ((off.clients c).entries file).phase refl plain
   where
@@ -165,8 +157,7 @@ new_fits off c file counted n plain = by_phase ((off.clients c).entries file).ph
 
     by_phase : (phase : Phase) → ((off.clients c).entries file).phase ≡ phase → again_of phase ≡ None
         → FitsPhase phase (off.server.last_id + 1)
-    by_phase (Phase.Live live) is e = λ same. above off.server.last_id
-        (subst (λ m. off.server.last_id + 1 ≤ m) (sym counted.last)
+    by_phase (Phase.Live live) is e = λ same. above off.server.last_id (subst (λ m. off.server.last_id + 1 ≤ m) (sym counted.last)
         (subst (λ m. m ≤ opened_count off.past) (sym same)
         (opened_within live.file_id file c off.past (named_live off c file live n is))))
     by_phase (Phase.Reconnecting parted) is e = absurd (no_some parted.file_id e)
@@ -251,8 +242,7 @@ reconnected_standing off c file access share ask file_id fits again waits s =
         made = if_cases (λ x. x ≡ record o { connected = true }) (o.file_id == file_id) (record o { connected = true }) o
             (λ same. refl) (λ other. clash (o.file_id == file_id) (eq-eqb o.file_id file_id id) other)
 
-        mapped : (opens : List Open) → Among o opens
-            → Among (record o { connected = true }) (map (connected_again file_id) opens)
+        mapped : (opens : List Open) → Among o opens → Among (record o { connected = true }) (map (connected_again file_id) opens)
         mapped [] x = absurd x
         mapped (y ∷ opens) x = ⊎_elim (λ same. inl (sym made ∙ ap (connected_again file_id) same))
             (λ later. inr (mapped opens later)) x
@@ -277,13 +267,11 @@ closed_standing world off c file_id source s =
       asks = λ a. let m = off_frame.asks a in record { queued = m.queued; held = m.held };
     } in
     given_more world new c (Reply.Closed file_id) f
-    (ap (λ (r : ℕ → List Reply). put r c (r c ++ Reply.Closed file_id ∷ [])) (off_rest world off c _ source).1.1)
-    tt s
+    (ap (λ (r : ℕ → List Reply). put r c (r c ++ Reply.Closed file_id ∷ [])) (off_rest world off c _ source).1.1) tt s
 
 -- opens that aren't connected are closed
 pub dropped_standing : (world : World) (c : ℕ) (test : Open → Bool)
-    → ((one : Open) → test one ≡ true → one.connected ≡ false) → IsStandingAt world c
-    → IsStandingAt (without_opens world test) c
+    → ((one : Open) → test one ≡ true → one.connected ≡ false) → IsStandingAt world c → IsStandingAt (without_opens world test) c
 unfolding with_opens
 dropped_standing world c test away s =
     let new = without_opens world test in
@@ -297,8 +285,7 @@ dropped_standing world c test away s =
 -- a lease changes, and its client is told
 pub leased_standing : (world : World) (key : Key) (lease : Lease) (reply : Reply) → plain_reply reply
     → IsStandingAt world key.client → IsStandingAt (leased_in world key lease reply) key.client
-leased_standing world key lease reply plain s =
-    given_more world (leased_in world key lease reply) key.client reply
+leased_standing world key lease reply plain s = given_more world (leased_in world key lease reply) key.client reply
     (frame_same world (leased_in world key lease reply) key.client refl refl (λ one own up a. a)
     (λ P a. record { queued = a.queued; held = a.held })) refl (plain_well _ key.client reply plain) s
 
@@ -314,8 +301,7 @@ changed_standing off c file file_id number patch s =
 pub popped_standing : (world : World) (c : ℕ) → IsStandingAt world c → IsStandingAt (popped world c) c
 popped_standing world c s =
     let f = frame_same world (popped world c) c refl refl (λ one own up a. a) (λ P a. asked_popped P world c a) in
-    framed_at world (popped world c) c f
-    (each_weaker (GivenWell world c) (GivenWell (popped world c) c) (world.replies c)
+    framed_at world (popped world c) c f (each_weaker (GivenWell world c) (GivenWell (popped world c) c) (world.replies c)
     (λ r w. framed_given world (popped world c) c f r w) s.given) s
 
 pub held_standing : (world : World) (file : ℕ) (one : Held) → IsOldest world one.client (Request.OnFile one.request)
@@ -340,8 +326,7 @@ timer_stands world c file n at id x =
     (λ same. refl) (λ there. absurd (none_other o has there))))
     (λ other. inr (record {
       one = o.one;
-      there = among_filtered (λ y. not (has_key key y)) o.one world.server.opens o.there
-          (false_not (has_key key o.one) other);
+      there = among_filtered (λ y. not (has_key key y)) o.one world.server.opens o.there (false_not (has_key key o.one) other);
       id = o.id;
       by = o.by;
       on_file = o.on_file;
@@ -354,8 +339,7 @@ timer_stands world c file n at id x =
         (subst (λ d. is_key (machine_key world c at) d (Some (lease_key (world.clients c).guid at)) ≡ true) (sym o.by)
         (is_key-refl c (lease_key (world.clients c).guid at)))
 
-    none_other : (o : IsOpenFor world c at id)
-        → has_key (machine_key world c file) o.one ≡ true
+    none_other : (o : IsOpenFor world c at id) → has_key (machine_key world c file) o.one ≡ true
         → key_eq (machine_key world c at) (machine_key world c file) ≡ false → ⊥
     none_other o has there = clash (key_eq (machine_key world c at) (machine_key world c file))
         (ap (λ k. key_eq (machine_key world c at) k)
@@ -395,6 +379,5 @@ unmoved_standing world new c u s =
       closes = λ id m. asked_unmoved (IsNoClose id) world new c u m;
       asks = λ a. asked_unmoved (AskFits (world.clients c)) world new c u a;
     } in
-    framed_at world new c f
-    (subst (Each (GivenWell new c)) (sym u.replies)
+    framed_at world new c f (subst (Each (GivenWell new c)) (sym u.replies)
     (each_weaker (GivenWell world c) (GivenWell new c) (world.replies c) (λ r w. framed_given world new c f r w) s.given)) s

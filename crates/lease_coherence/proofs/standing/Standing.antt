@@ -42,15 +42,13 @@ step_of world client step up guid = record {
   server = stepped_server world client step;
   clients = stepped_machine world client step;
   guid = guid;
-  queued = ap (λ (q : ℕ → List Request). q client) (stepped_requests world client step)
-      ∙ put_same world.requests client _
+  queued = ap (λ (q : ℕ → List Request). q client) (stepped_requests world client step) ∙ put_same world.requests client _
       ∙ ap (λ link. sent_over link (world.requests client) step.requests) (up_link (world.links client) up);
 }
 
 -- what stands, stands after it
 pub stands_after : (world new : World) (c : ℕ) (machine : Client) (requests : List Request)
-    → IsStepped world new c machine requests → (file file_id : ℕ) → Stands world c file file_id
-    → Stands new c file file_id
+    → IsStepped world new c machine requests → (file file_id : ℕ) → Stands world c file file_id → Stands new c file file_id
 stands_after world new c machine requests is file file_id s = ⊎_elim
     (λ out. inl (ap₂ (λ (x : Server) (m : Client). x.expired (key_of c (lease_key m.guid file))) is.server is.clients
     ∙ ap (λ g. world.server.expired (key_of c (lease_key g file))) is.guid ∙ out))
@@ -90,8 +88,7 @@ idle_standing world new c machine is same replies s =
       stands_after world new c machine [] is file live.file_id p.0,
       asked_after (IsNoClose live.file_id) world new c machine [] is p.1 tt,
     )
-    phase_after file (Phase.Reconnecting parted) p =
-        asked_after (IsNoClose parted.file_id) world new c machine [] is p tt
+    phase_after file (Phase.Reconnecting parted) p = asked_after (IsNoClose parted.file_id) world new c machine [] is p tt
     phase_after file phase p = tt
 
     given_after : new.clients c ≡ world.clients c → (reply : Reply) → GivenWell world c reply → GivenWell new c reply
@@ -104,8 +101,7 @@ idle_standing world new c machine is same replies s =
 
 -- ---- a step that changes one
 
-each_two : {X : Type 0} (P Q R : X → Type 0) (xs : List X) → ((x : X) → P x → Q x → R x) → Each P xs → Each Q xs
-    → Each R xs
+each_two : {X : Type 0} (P Q R : X → Type 0) (xs : List X) → ((x : X) → P x → Q x → R x) → Each P xs → Each Q xs → Each R xs
 each_two P Q R [] both p q = tt
 each_two P Q R (x ∷ xs) both p q = (both x p.0 q.0, each_two P Q R xs both p.1 q.1)
 
@@ -135,8 +131,7 @@ kept_open : (world : World) (c file : ℕ) (queue : List Reply) (entry : Entry) 
     → Each (IsNoClose file_id) requests
 kept_open world c file queue entry requests t n other file_id opened here = ⊎_elim
     (λ none. none file_id)
-    (λ old. old.only file_id (λ same. apart old.live old.was old.left old.not_given same))
-    t.closes
+    (λ old. old.only file_id (λ same. apart old.live old.was old.left old.not_given same)) t.closes
   where
     apart : (live : LiveEntry) → ((world.clients c).entries file).phase ≡ Phase.Live live
         → IsNotUnder live.file_id entry.phase → Each (IsNotGiven file live.file_id) queue → live.file_id ≡ file_id → ⊥
@@ -158,19 +153,17 @@ turn_standing world new c file queue machine entry requests is entries here repl
       (by_client (λ g. PhaseStands new c g (put (world.clients c).entries file entry g).phase) file f
       (subst (λ (e : Entry). PhaseStands new c file e.phase) (sym (put_same (world.clients c).entries file entry))
       (own_phase entry.phase refl t.phase))
-      (λ ne apart. subst (λ (e : Entry). PhaseStands new c f e.phase)
-      (sym (put_other (world.clients c).entries file entry f ne))
+      (λ ne apart. subst (λ (e : Entry). PhaseStands new c f e.phase) (sym (put_other (world.clients c).entries file entry f ne))
       (other_phase f ne ((world.clients c).entries f).phase refl (s.phases f)))));
   given = subst (Each (GivenWell new c)) (sym (replies ∙ here))
       (each_three (GivenWell world c) (GivenOpen requests) (FitsGiven file entry.phase) (GivenWell new c) queue
       given_after (subst (Each (GivenWell world c)) here s.given) given_open t.given);
-  asked = subst (λ (m : Client). AllAsked (AskFits m) new c) (sym is.clients)
-      (record {
-        queued = subst (Each (AskFits machine)) (sym is.queued)
-            (each_append (AskFits machine) (world.requests c) requests (old_asks.queued)
-            (each_weaker (TurnAsks file entry.phase) (AskFits machine) requests new_ask t.asks));
-        held = λ at one x own. old_asks.held at one (subst (λ (y : Server). Among one (y.held at)) is.server x) own;
-      });
+  asked = subst (λ (m : Client). AllAsked (AskFits m) new c) (sym is.clients) (record {
+    queued = subst (Each (AskFits machine)) (sym is.queued)
+        (each_append (AskFits machine) (world.requests c) requests (old_asks.queued)
+        (each_weaker (TurnAsks file entry.phase) (AskFits machine) requests new_ask t.asks));
+    held = λ at one x own. old_asks.held at one (subst (λ (y : Server). Among one (y.held at)) is.server x) own;
+  });
 }
   where
     entry_at : (f : ℕ) → f ≢ file → (machine.entries f) ≡ (world.clients c).entries f
@@ -188,12 +181,10 @@ turn_standing world new c file queue machine entry requests is entries here repl
     own_phase : (phase : Phase) → entry.phase ≡ phase → PhaseStands world c file phase → PhaseStands new c file phase
     own_phase (Phase.Live live) e p = (
       stands_after world new c machine requests is file live.file_id p.0,
-      asked_after (IsNoClose live.file_id) world new c machine requests is p.1
-          (⊎_elim (λ none. none live.file_id)
+      asked_after (IsNoClose live.file_id) world new c machine requests is p.1 (⊎_elim (λ none. none live.file_id)
           (λ old. old.only live.file_id (λ same. subst (IsNotUnder old.live.file_id) e old.left (sym same))) t.closes),
     )
-    own_phase (Phase.Reconnecting parted) e p =
-        asked_after (IsNoClose parted.file_id) world new c machine requests is p
+    own_phase (Phase.Reconnecting parted) e p = asked_after (IsNoClose parted.file_id) world new c machine requests is p
         (⊎_elim (λ none. none parted.file_id)
         (λ old. old.only parted.file_id (λ same. subst (IsNotUnder old.live.file_id) e old.left (sym same))) t.closes)
     own_phase phase e p = tt
@@ -215,8 +206,7 @@ turn_standing world new c file queue machine entry requests is entries here repl
       asked_after (IsNoClose live.file_id) world new c machine requests is p.1
           (closes f live.file_id (named_live_at f live e) (λ old was same left given x. ne same)),
     )
-    other_phase f ne (Phase.Reconnecting parted) e p =
-        asked_after (IsNoClose parted.file_id) world new c machine requests is p
+    other_phase f ne (Phase.Reconnecting parted) e p = asked_after (IsNoClose parted.file_id) world new c machine requests is p
         (closes f parted.file_id (named_parted_at f parted e) (λ old was same left given x. ne same))
     other_phase f ne phase e p = tt
 
@@ -225,8 +215,7 @@ turn_standing world new c file queue machine entry requests is entries here repl
     open_alone none reply = tt
 
     open_beside : (old : ClosesOld file ((world.clients c).entries file).phase entry.phase queue requests)
-        → (reply : Reply) → IsNamedReply c world.past reply → IsNotGiven file old.live.file_id reply
-        → GivenOpen requests reply
+        → (reply : Reply) → IsNamedReply c world.past reply → IsNotGiven file old.live.file_id reply → GivenOpen requests reply
     open_beside old (Reply.Created g id None) named away = absurd named
     open_beside old (Reply.Created g id (Some answer)) named away = old.only id (λ same.
         let mine : IsNamedPhase c file world.past (Phase.Live old.live) =
@@ -243,8 +232,7 @@ turn_standing world new c file queue machine entry requests is entries here repl
         (λ none. each_weaker (IsNamedReply c world.past) (GivenOpen requests) queue
         (λ reply named. open_alone none reply) names_here)
         (λ old. each_two (IsNamedReply c world.past) (IsNotGiven file old.live.file_id) (GivenOpen requests) queue
-        (open_beside old) names_here old.not_given)
-        t.closes
+        (open_beside old) names_here old.not_given) t.closes
 
     fits_after : (g id : ℕ) → FitsPhase ((world.clients c).entries g).phase id → (g ≡ file → FitsPhase entry.phase id)
         → FitsPhase (machine.entries g).phase id
@@ -271,8 +259,7 @@ turn_standing world new c file queue machine entry requests is entries here repl
     ask_same same (Request.OnFile (FileRequest.Create g access share (Some ask))) fits = fits ∙ either (g == file)
         (λ e. let own = eqb-true g file e in
         ap (λ f. again_of ((world.clients c).entries f).phase) own ∙ sym same
-        ∙ sym (ap (λ (x : Entry). again_of x.phase) entry_here)
-        ∙ ap (λ f. again_of (machine.entries f).phase) (sym own))
+        ∙ sym (ap (λ (x : Entry). again_of x.phase) entry_here) ∙ ap (λ f. again_of (machine.entries f).phase) (sym own))
         (λ e. again_other g (λ x. clash (g == file) (eq-eqb g file x) e))
     ask_same same request fits = tt
 
@@ -283,8 +270,7 @@ turn_standing world new c file queue machine entry requests is entries here repl
     old_asks : AllAsked (AskFits machine) world c
     old_asks = ⊎_elim
         (λ same. asked_weaker (AskFits (world.clients c)) (AskFits machine) world c (ask_same same) s.asked)
-        (λ none. asked_two (AskFits (world.clients c)) (IsNoCreate file) (AskFits machine) world c ask_none s.asked none)
-        t.again
+        (λ none. asked_two (AskFits (world.clients c)) (IsNoCreate file) (AskFits machine) world c ask_none s.asked none) t.again
 
     new_ask : (r : Request) → TurnAsks file entry.phase r → AskFits machine r
     new_ask (Request.OnFile (FileRequest.Create g access share (Some ask))) asks =

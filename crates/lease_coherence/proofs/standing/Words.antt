@@ -55,8 +55,7 @@ asked_off P world off c request source a = ⊎_elim
       },
       a.held h.file (held_of c request) (subst (λ (l : List Held). Among (held_of c request) l) (sym h.held)
           (among_behind (held_of c request) h.before (held_of c request ∷ h.behind) (inl refl))) refl,
-    ))
-    source.from
+    )) source.from
 
 -- one is held
 pub asked_held : (P : Request → Type 0) (world : World) (file : ℕ) (one : Held)
@@ -68,8 +67,7 @@ asked_held P world file one oldest a = let p = asked_popped P world one.client a
       (λ new. ⊎_elim (λ old. a.held file x old own)
       (λ last. ⊎_elim (λ same. subst (λ (h : Held). P (Request.OnFile h.request)) (sym same)
       (head_of P (world.requests one.client) oldest.queue (Request.OnFile one.request) oldest.is_first a.queued))
-      (λ none. absurd none) last)
-      (among_append x (world.server.held file) (one ∷ []) new.1))
+      (λ none. absurd none) last) (among_append x (world.server.held file) (one ∷ []) new.1))
       (among_put world.server.held file (world.server.held file ++ one ∷ []) at x b);
 }
 
@@ -91,13 +89,11 @@ pub record IsFrame (world : World) (new : World) (client : ℕ) : Type 0 where
   pub stands : (file file_id : ℕ) → NotClosed world client file_id → Stands world client file file_id
       → Stands new client file file_id
   pub closes : (file_id : ℕ) → NotClosed world client file_id → NotClosed new client file_id
-  pub asks : AllAsked (AskFits (world.clients client)) world client
-      → AllAsked (AskFits (world.clients client)) new client
+  pub asks : AllAsked (AskFits (world.clients client)) world client → AllAsked (AskFits (world.clients client)) new client
 
 pub framed_phase : (world new : World) (c file : ℕ) (phase : Phase) → IsFrame world new c
     → PhaseStands world c file phase → PhaseStands new c file phase
-framed_phase world new c file (Phase.Live live) f p =
-    (f.stands file live.file_id p.1 p.0, f.closes live.file_id p.1)
+framed_phase world new c file (Phase.Live live) f p = (f.stands file live.file_id p.1 p.0, f.closes live.file_id p.1)
 framed_phase world new c file (Phase.Reconnecting parted) f p = f.closes parted.file_id p
 framed_phase world new c file phase f p = tt
 

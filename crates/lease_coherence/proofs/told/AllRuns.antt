@@ -36,5 +36,4 @@ first_leases setup = record {
 }
 
 pub run_leases : (setup : Setup) (events : List Event) → HasLeases (after (first_world setup) events)
-run_leases setup events = runs_have HasLeases (λ world v. v.structure.ground) leases_carried setup
-    (first_leases setup) events
+run_leases setup events = runs_have HasLeases (λ world v. v.structure.ground) leases_carried setup (first_leases setup) events

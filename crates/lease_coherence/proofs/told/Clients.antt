@@ -35,16 +35,14 @@ use Rattle.lease_coherence.proofs.creates.Counts.{none_asked}
 
 -- an entry stays live, or closes its open
 abbrev pub StaysOrCloses : Client → Step → ℕ → Type 0
-StaysOrCloses machine step file =
-    (is_live (machine.entries file).phase ≡ true → is_live (step.client.entries file).phase ≡ true)
+StaysOrCloses machine step file = (is_live (machine.entries file).phase ≡ true → is_live (step.client.entries file).phase ≡ true)
     ⊎ IsClosing machine step file
 
 abbrev pub StepTold : Client → Step → Type 0
 StepTold machine step = (file : ℕ) → StaysOrCloses machine step file
 
 -- with a turn of one file, the others are as they were
-put_told : (machine : Client) (at : ℕ) (entry : Entry) (step : Step)
-    → step.client.entries ≡ put machine.entries at entry
+put_told : (machine : Client) (at : ℕ) (entry : Entry) (step : Step) → step.client.entries ≡ put machine.entries at entry
     → ((is_live (machine.entries at).phase ≡ true → is_live entry.phase ≡ true) ⊎ IsClosing machine step at)
     → StepTold machine step
 put_told machine at entry step is here file = by_client (λ f. StaysOrCloses machine step f) at file
@@ -70,14 +68,13 @@ turn_closes : (machine : Client) (at : ℕ) (turn : Turn) (live : LiveEntry) (mo
     → turn.requests ≡ write_requests live.file_id live.unsent ++ Request.OnFile (FileRequest.Close live.file_id) ∷ more
     → StepTold machine (turned machine at turn)
 unfolding turned
-turn_closes machine at turn live more is idle sends = put_told machine at turn.entry (turned machine at turn) refl
-    (inr (record {
-      live = live;
-      was = is;
-      idle = idle;
-      closes = λ asked none. subst (λ q. ClosedBefore at live.file_id (asked ++ q)) (sym sends)
-          (closed_behind at live.file_id asked _ none (closed_behind_writes at live.file_id live.unsent more));
-    }))
+turn_closes machine at turn live more is idle sends = put_told machine at turn.entry (turned machine at turn) refl (inr (record {
+  live = live;
+  was = is;
+  idle = idle;
+  closes = λ asked none. subst (λ q. ClosedBefore at live.file_id (asked ++ q)) (sym sends)
+      (closed_behind at live.file_id asked _ none (closed_behind_writes at live.file_id live.unsent more));
+}))
 
 pub commands_told : (machine : Client) → HasCommands machine (StepTold machine)
 unfolding cached_read opened_anew write_buffered write_sent flush_on_live
@@ -107,8 +104,7 @@ commands_told machine = record {
 -- a break that was to be met is acknowledged with the step, or still is to be met, or the entry closes its open
 abbrev pub IsToldStill : Client → Step → List Reply → ℕ → Type 0
 IsToldStill machine step queue file = (acks (lease_key machine.guid file) step.requests ≡ 0 → ⊥)
-    ⊎ (HasMet (lease_key machine.guid file) file (is_live (step.client.entries file).phase) queue
-    ⊎ IsClosing machine step file)
+    ⊎ (HasMet (lease_key machine.guid file) file (is_live (step.client.entries file).phase) queue ⊎ IsClosing machine step file)
 
 pub record IsMetAt (machine : Client) (reply : Reply) (queue : List Reply) (file : ℕ) (asked : List Request) : Type 0
   where
@@ -149,15 +145,13 @@ left_told machine reply step none leaves whole queue file asked m met = ⊎_elim
     (leaves whole queue file asked m) later))) met
 
 -- a turn of one file
-turn_leaves : (machine : Client) (reply : Reply) (at : ℕ) (turn : Turn)
-    → ((file : ℕ) → file ≢ at → is_created file reply ≡ false)
+turn_leaves : (machine : Client) (reply : Reply) (at : ℕ) (turn : Turn) → ((file : ℕ) → file ≢ at → is_created file reply ≡ false)
     → (IsWhole reply → (queue : List Reply) (asked : List Request) → IsMetAt machine reply queue at asked
     → (is_live (machine.entries at).phase || is_created at reply) ≡ true → is_live turn.entry.phase ≡ true)
     → LeavesLive machine reply (turned machine at turn)
 unfolding turned
 turn_leaves machine reply at turn others here whole queue file asked m = by_client
-    (λ f. IsMetAt machine reply queue f asked
-    → (is_live (machine.entries f).phase || is_created f reply) ≡ true
+    (λ f. IsMetAt machine reply queue f asked → (is_live (machine.entries f).phase || is_created f reply) ≡ true
     → is_live (put machine.entries at turn.entry f).phase ≡ true) at file
     (λ k e. ap (λ (x : Entry). is_live x.phase) (put_same machine.entries at turn.entry) ∙ here whole queue asked k e)
     (λ ne off k e. ap (λ (x : Entry). is_live x.phase) (put_other machine.entries at turn.entry file ne)
@@ -217,16 +211,13 @@ passed_leaves machine (Reply.Created other id (Some answer)) why = leaves
     leaves : LeavesLive machine (Reply.Created other id (Some answer)) (quiet_step machine)
     leaves whole queue file asked m e = ⊎_elim (λ live. live)
         (λ here. absurd (none (creates file asked) (answers file queue) (one_if (other == file)) (asked_by machine file)
-        m.counted (ap one_if here)
-        (ap one_if (ap (λ f. has_asked (machine.entries f).phase) (sym (eqb-true other file here))
-        ∙ none_asked (machine.entries other).phase why))))
-        (or_true (is_live (machine.entries file).phase) (other == file) e)
+        m.counted (ap one_if here) (ap one_if (ap (λ f. has_asked (machine.entries f).phase) (sym (eqb-true other file here))
+        ∙ none_asked (machine.entries other).phase why)))) (or_true (is_live (machine.entries file).phase) (other == file) e)
 passed_leaves machine (Reply.Created other id None) why = λ whole. absurd whole
 passed_leaves machine (Reply.Break notice) why = idle_leaves machine (Reply.Break notice) (λ f. refl)
 passed_leaves machine reply why = idle_leaves machine _ (λ f. refl)
 
-passed_no_break : (machine : Client) (reply : Reply) → IsSoundClient machine → PassesOver machine reply
-    → IsNoBreak machine reply
+passed_no_break : (machine : Client) (reply : Reply) → IsSoundClient machine → PassesOver machine reply → IsNoBreak machine reply
 passed_no_break machine (Reply.Break (Some notice)) s why = never
   where
     never : IsNoBreak machine (Reply.Break (Some notice))
@@ -275,8 +266,7 @@ acks_sent : (key : List ℕ) (notice : BreakNotice) (state : State) (writes : Li
 acks_sent key notice state writes about is = if_cases (λ q. acks key (writes ++ q) ≡ 0 → ⊥) notice.ack_required
     (Request.Acknowledge (Some (record { key = notice.key; state = state })) ∷ []) []
     (λ asked e. one_more (acks key writes) (acks key (Request.Acknowledge (Some (record { key = notice.key; state = state })) ∷
-    []))
-    (sym (acks_append key writes _) ∙ e) (ap (λ b. one_if b + 0) own))
+    [])) (sym (acks_append key writes _) ∙ e) (ap (λ b. one_if b + 0) own))
     (λ plain. clash notice.ack_required (and_parts notice.ack_required (bytes_eq key notice.key) is).0 plain)
   where
     own : bytes_eq key notice.key ≡ true
@@ -309,8 +299,7 @@ elsewhere_told machine at notice turn queue file own there met = ⊎_elim
     was false e = e
 
 parked_told : (machine : Client) → IsSoundClient machine → (at : ℕ) (notice : BreakNotice) (live : LiveEntry)
-    → is_key_of machine notice.key at ≡ true → (machine.entries at).phase ≡ Phase.Live live
-    → (live.handles == 0) ≡ true
+    → is_key_of machine notice.key at ≡ true → (machine.entries at).phase ≡ Phase.Live live → (live.handles == 0) ≡ true
     → TakeTold machine (Reply.Break (Some notice)) (turned machine at (parked_closed live (sent_of machine at)))
 unfolding parked_closed turned
 parked_told machine s at notice live own is parked whole queue file asked m met = either (file == at)
@@ -323,8 +312,7 @@ parked_told machine s at notice live own is parked whole queue file asked m met 
     }))))
     (λ there. elsewhere_told machine at notice (parked_closed live (sent_of machine at)) queue file own there met)
 
-lowered_told : (machine : Client) (at : ℕ) (notice : BreakNotice) (live : LiveEntry)
-    → is_key_of machine notice.key at ≡ true
+lowered_told : (machine : Client) (at : ℕ) (notice : BreakNotice) (live : LiveEntry) → is_key_of machine notice.key at ≡ true
     → TakeTold machine (Reply.Break (Some notice)) (turned machine at (lowered_by machine at notice live))
 unfolding belief_lowered turned
 lowered_told machine at notice live own whole queue file asked m met = either (file == at)
@@ -438,12 +426,9 @@ takes_live machine s = record {
   parked_closes = λ at notice live found is parked. parked_lives machine s at notice live
       (found_so machine (is_key_of machine notice.key) at found) is parked;
   lowered = λ at notice live found is stays. plain_lives machine (Reply.Break (Some notice)) at _ (λ f. refl) (λ e. refl);
-  opened = λ at file_id answer access share is.
-      granted_lives machine at file_id answer _ refl;
-  reconnected = λ at file_id answer parted is.
-      granted_lives machine at file_id answer _ refl;
-  promoted = λ at file_id answer live asked is asks.
-      granted_lives machine at file_id answer _ refl;
+  opened = λ at file_id answer access share is. granted_lives machine at file_id answer _ refl;
+  reconnected = λ at file_id answer parted is. granted_lives machine at file_id answer _ refl;
+  promoted = λ at file_id answer live asked is asks. granted_lives machine at file_id answer _ refl;
   not_opened = λ at status access share is. plain_lives machine (Reply.CreateFailed at status) at _ (λ f. refl)
       (λ e. clash (is_live (machine.entries at).phase) e (ap is_live is));
   not_reconnected = λ at status parted is. plain_lives machine (Reply.CreateFailed at status) at _ (λ f. refl)

@@ -73,8 +73,7 @@ none_before : (file : ℕ) (queue : List Reply) (last : Reply) → NoneCreated f
 none_before file [] last none = tt
 none_before file (reply ∷ queue) last none = (none.0, none_before file queue last none.1)
 
-none_last : (file : ℕ) (queue : List Reply) (last : Reply) → NoneCreated file (queue ++ last ∷ [])
-    → is_created file last ≡ false
+none_last : (file : ℕ) (queue : List Reply) (last : Reply) → NoneCreated file (queue ++ last ∷ []) → is_created file last ≡ false
 none_last file [] last none = none.0
 none_last file (reply ∷ queue) last none = none_last file queue last none.1
 
@@ -120,10 +119,8 @@ sent_lone : (world new : World) (c : ℕ) (reply : Reply) → (new.clients c).gu
     → new.replies c ≡ world.replies c ++ reply ∷ []
     → ((file : ℕ) → (is_created file reply ≡ true) ⊎ KeepsHandles world new c file)
     → ((file : ℕ) → is_lone_break (file_key world c file) reply ≡ true
-    → (new.server.leases (machine_key world c file)).state.handle ≡ false)
-    → HasLone world c → HasLone new c
-sent_lone world new c reply guid replies fits lone h file =
-    by_guid world new c file (world.replies c ++ reply ∷ []) guid replies
+    → (new.server.leases (machine_key world c file)).state.handle ≡ false) → HasLone world c → HasLone new c
+sent_lone world new c reply guid replies fits lone h file = by_guid world new c file (world.replies c ++ reply ∷ []) guid replies
     (after_last (file_key world c file) file (holds_handles world c file) _ (world.replies c) reply (fits file) (lone file)
     (h file))
 

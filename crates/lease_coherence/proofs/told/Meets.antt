@@ -91,8 +91,7 @@ parked_asks world c file lowered reply queue w first b =
     (ap (is_ack_break key) b.is ∙ and_both (b.notice).ack_required (bytes_eq key (b.notice).key) asks b.own))
     (λ plain. clash (holds_handles world c file) held
     (lone (subst (AfterLone key file (holds_handles world c file)) first (v.1 c w.good file))
-    (ap (is_lone_break key) b.is ∙ and_both (not (b.notice).ack_required) (bytes_eq key (b.notice).key)
-    (ap not plain) b.own)))
+    (ap (is_lone_break key) b.is ∙ and_both (not (b.notice).ack_required) (bytes_eq key (b.notice).key) (ap not plain) b.own)))
   where
     none_behind : NoneCreated file queue
     none_behind = none_granted file queue (rest (creates file (asked_of world c file)) (answer_of file reply)
@@ -140,8 +139,7 @@ meets_now world c file lowered reply queue w first live is =
       asks = b.asks;
       tells = sym w.breaking ∙ told b.notice (subst (TellsState (file_key world c file) (lease_of world c file).broken_to) b.is
           (head (subst (BreaksTell (file_key world c file) file (lease_of world c file).broken_to
-          (is_live ((world.clients c).entries file).phase)) first
-          ((w.known.0.within c w.good w.up).files file w.fresh).breaks)))
+          (is_live ((world.clients c).entries file).phase)) first ((w.known.0.within c w.good w.up).files file w.fresh).breaks)))
           (and_both (b.notice).ack_required (bytes_eq (file_key world c file) (b.notice).key) b.asks
           ((bytes_eq-Decides (file_key world c file) (b.notice).key).1 (sym b.key_is)));
       live = l.0;
@@ -176,21 +174,18 @@ will_meet c file lowered (reply ∷ queue) world w first met =
     (λ stays. go_on (will_meet c file lowered queue (reply_taken world c reply queue) (waits_on w first)
     (left_behind_it world c reply queue) (later_met stays later)))
     (λ parked. clash (is_live phase && is_ack_break key reply)
-    (parked_asks world c file lowered reply queue w first parked) not_now)
-    (lives w first)) met)
+    (parked_asks world c file lowered reply queue w first parked) not_now) (lives w first)) met)
   where
     one : IsTaken world (reply_taken world c reply queue) c (reply ∷ [])
     one = one_taken world c reply queue
 
     lives : IsWaitingFor world c file lowered → world.replies c ≡ reply ∷ queue
         → ((is_live ((world.clients c).entries file).phase || is_created file reply) ≡ true
-        → is_live ((taken (world.clients c) reply).client.entries file).phase ≡ true)
-        ⊎ IsParkedBreak (world.clients c) reply file
+        → is_live ((taken (world.clients c) reply).client.entries file).phase ≡ true) ⊎ IsParkedBreak (world.clients c) reply file
     lives w first = let k = known_here world w.known.0 c w.good w.up in
         any_reply (world.clients c) (TakeLives (world.clients c)) (takes_live (world.clients c) (k.ground.clients c)) reply
         (whole_of c world.past reply (named_head (subst (Each (IsNamedReply c world.past)) first k.names.replies)))
-        queue file (asked_of world c file)
-        (record {
+        queue file (asked_of world c file) (record {
           counted = subst (λ q. creates file (asked_of world c file) + answers file q ≡ asked_by (world.clients c) file) first
               (counted_of world c file (k.counted file));
           not_failed = live_not_failed world c file reply k.stands k.names.opens w.fresh
@@ -242,8 +237,7 @@ will_meet c file lowered (reply ∷ queue) world w first met =
 pub is_told : (world : World) (c file : ℕ) (lowered : State) → HasLones world → has_strayed c world.past ≡ false
     → is_up (world.links c) ≡ true → world.server.expired (machine_key world c file) ≡ false
     → (lease_of world c file).broken_to ≡ Some lowered
-    → HasMet (file_key world c file) file (is_live ((world.clients c).entries file).phase) (world.replies c)
-    → IsTold world c file
+    → HasMet (file_key world c file) file (is_live ((world.clients c).entries file).phase) (world.replies c) → IsTold world c file
 is_told world c file lowered known good up fresh breaking met =
     let m = will_meet c file lowered (world.replies c) world
     (record { known = known; good = good; up = up; fresh = fresh; breaking = breaking }) refl met in record {

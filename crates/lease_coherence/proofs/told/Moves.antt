@@ -41,8 +41,7 @@ ClosedIn world key c file = (x : Open) → Among x world.server.opens → has_ke
     → ClosedBefore file x.file_id (asked_of world c file)
 
 abbrev pub ToldBy : List ℕ → ℕ → Phase → List Request → List Reply → Type 0 → Type 0
-ToldBy key file phase requests replies closed =
-    (acks key requests ≡ 0 → ⊥) ⊎ (HasMet key file (is_live phase) replies ⊎ closed)
+ToldBy key file phase requests replies closed = (acks key requests ≡ 0 → ⊥) ⊎ (HasMet key file (is_live phase) replies ⊎ closed)
 
 abbrev pub IsToldFor : World → ℕ → ℕ → Type 0
 IsToldFor world c file = is_breaking (world.server.leases (machine_key world c file)) ≡ true
@@ -104,8 +103,7 @@ open_place world c file x own has = (by, on)
     by = client_of x.lease_key has
 
     key_of_open : is_key (machine_key world c file) x.client (Some (lease_key (world.clients c).guid x.file)) ≡ true
-    key_of_open = subst (λ bytes. is_key (machine_key world c file) x.client bytes ≡ true)
-        (own (client_of x.lease_key has)) has
+    key_of_open = subst (λ bytes. is_key (machine_key world c file) x.client bytes ≡ true) (own (client_of x.lease_key has)) has
 
     on : x.file ≡ file
     on = either (file == x.file) (λ same. sym (eqb-true file x.file same))
@@ -129,8 +127,7 @@ off_acks world off c request source key = ⊎_elim
     (λ a. subst (λ (o : World). acks key (o.requests c) ≡ acks key (world.requests c)) (sym a.is_off)
     (ap (acks key) (put_same world.requests c (rest_of (world.requests c)))
     ∙ file_acks key (world.requests c) a.oldest.queue request a.oldest.is_first))
-    (λ h. subst (λ (o : World). acks key (o.requests c) ≡ acks key (world.requests c)) (sym h.is_off) refl)
-    source.from
+    (λ h. subst (λ (o : World). acks key (o.requests c) ≡ acks key (world.requests c)) (sym h.is_off) refl) source.from
 
 -- what is known of the world after it
 pub record IsAnswered (world off new : World) (c : ℕ) (request : FileRequest) (reply : Reply) : Type 0 where
@@ -177,8 +174,7 @@ answered_told world off new c request reply source a t =
 pub plain_answered : (world off new : World) (c : ℕ) (request : FileRequest) (reply : Reply)
     → IsSource world off c request → new.clients c ≡ off.clients c → new.requests c ≡ off.requests c
     → new.server.held ≡ off.server.held → new.replies c ≡ off.replies c ++ reply ∷ []
-    → new.server.opens ≡ off.server.opens → new.server.leases ≡ off.server.leases
-    → new.server.expired ≡ off.server.expired
+    → new.server.opens ≡ off.server.opens → new.server.leases ≡ off.server.leases → new.server.expired ≡ off.server.expired
     → ((file : ℕ) (x : Open) → Among x off.server.opens → has_key (machine_key world c file) x ≡ true
     → is_breaking (off.server.leases (machine_key world c file)) ≡ true → IsNoClose x.file_id (Request.OnFile request))
     → IsAnswered world off new c request reply

@@ -60,8 +60,7 @@ unmoved_told world new c u t = kept_told world new c u.machine (λ file fresh br
     (λ closed x there has. let by = client_of file x has in
     subst (λ q. ClosedBefore file x.file_id (as_requests (held_by c (new.server.held file)) ++ q)) (sym u.requests)
     (subst (λ l. ClosedBefore file x.file_id (as_requests l ++ world.requests c)) (sym (u.held file))
-    (closed x (u.from x by there) has)))
-    (t file (sym (u.expired (machine_key world c file) refl) ∙ fresh)
+    (closed x (u.from x by there) has))) (t file (sym (u.expired (machine_key world c file) refl) ∙ fresh)
     (ap is_breaking (sym (u.leases (machine_key world c file) refl)) ∙ breaks)))
   where
     client_of : (file : ℕ) (x : Open) → has_key (machine_key world c file) x ≡ true → x.client ≡ c
@@ -76,22 +75,17 @@ connect_told world c g down file fresh breaks =
     let key = machine_key new c file in
     let same : new.server ≡ _ = stepped_server (come_back world c) c (connection_made (world.clients c)) in
     let y = breaking_open world.server key g.fine.sound (ap (λ (s : Server). is_breaking (s.leases key)) (sym same) ∙ breaks) in
-    clash (world.server.present c)
-    (subst (λ d. world.server.present d ≡ true) (sym (key_client key y.0 y.2))
-    (g.fine.orderly.opens_up y.0 y.1
-    (breaking_up world.server key y.0 g.fine.sound y.1 y.2
-    (ap (λ (s : Server). is_breaking (s.leases key)) (sym same) ∙ breaks))))
-    ((g.tied c).present ∙ ap is_up down)
+    clash (world.server.present c) (subst (λ d. world.server.present d ≡ true) (sym (key_client key y.0 y.2))
+    (g.fine.orderly.opens_up y.0 y.1 (breaking_up world.server key y.0 g.fine.sound y.1 y.2
+    (ap (λ (s : Server). is_breaking (s.leases key)) (sym same) ∙ breaks)))) ((g.tied c).present ∙ ap is_up down)
 
 -- ---- steps of the client
 
 step_told : (world before : World) (c : ℕ) (step : Step) → is_up (before.links c) ≡ true
     → step.client.guid ≡ (before.clients c).guid → before.server ≡ world.server → before.clients ≡ world.clients
-    → before.requests ≡ world.requests
-    → ((file : ℕ) → world.server.expired (machine_key world c file) ≡ false
+    → before.requests ≡ world.requests → ((file : ℕ) → world.server.expired (machine_key world c file) ≡ false
     → is_breaking (world.server.leases (machine_key world c file)) ≡ true
-    → ToldBy (file_key world c file) file (step.client.entries file).phase (world.requests c ++ step.requests)
-    (before.replies c)
+    → ToldBy (file_key world c file) file (step.client.entries file).phase (world.requests c ++ step.requests) (before.replies c)
     ((x : Open) → Among x world.server.opens → has_key (machine_key world c file) x ≡ true
     → ClosedBefore file x.file_id (asked_of world c file ++ step.requests))) → HasTold (stepped_in before c step) c
 step_told world before c step up guid server clients requests told file fresh breaks =
@@ -157,8 +151,7 @@ closing_told world c file step sound own counted h fresh breaks k x there has =
     let cover = h.covers x there place.0 up
     (subst (λ f. world.server.expired (machine_key world c f) ≡ false) (sym place.1) fresh) in
     let idle : has_asked ((world.clients c).entries file).phase ≡ false = ap has_asked k.was ∙ k.idle in
-    subst (λ f. ClosedBefore f x.file_id (asked_of world c f ++ step.requests)) place.1
-    (⊎_elim
+    subst (λ f. ClosedBefore f x.file_id (asked_of world c f ++ step.requests)) place.1 (⊎_elim
     (λ u. subst (λ f. ClosedBefore f x.file_id (asked_of world c f ++ step.requests)) (sym place.1)
     (subst (λ i. ClosedBefore file i (asked_of world c file ++ step.requests))
     (ap (λ (l : LiveEntry). l.file_id) (one_live k.live u.live
@@ -243,8 +236,7 @@ take_told world c reply queue first up k t =
     k.covered fresh breaks closing y there has))) x)
     (any_reply machine (TakeTold machine) (takes_told machine (k.ground.clients c)) reply
     (whole_of c world.past reply (named_head (subst (Each (IsNamedReply c world.past)) first k.names.replies)))
-    queue file (asked_of world c file)
-    (record {
+    queue file (asked_of world c file) (record {
       counted = subst (λ q. creates file (asked_of world c file) + answers file q ≡ asked_by machine file) first
           (counted_of world c file (k.counted file));
       not_failed = live_not_failed world c file reply k.stands k.names.opens fresh
@@ -272,8 +264,7 @@ known_here world v c good up = record {
 }
 
 off_own : (world off : World) → HasLeases world → (c : ℕ) (request : FileRequest) → has_strayed c world.past ≡ false
-    → IsSource world off c request → (x : Open) → Among x off.server.opens → x.client ≡ c
-    → IsOwnOpen (world.clients c).guid x
+    → IsSource world off c request → (x : Open) → Among x off.server.opens → x.client ≡ c → IsOwnOpen (world.clients c).guid x
 off_own world off v c request good source x there by = (v.structure.named c good).opens x
     (subst (λ (l : List Open). Among x l) (off_server world off c request source).0 there) by
 
@@ -326,11 +317,9 @@ told_moves = record {
       command_told world c (commanded machine command) was (commanded-stays machine command).guid
       (any_command machine (StepTold machine) (commands_told machine) command) (known_here world v c good was) (a was);
   take = λ world c reply queue v good first a up.
-      let was : is_up (world.links c) ≡ true =
-      was_up (reply_gone world c queue) c (taken (world.clients c) reply) up in
+      let was : is_up (world.links c) ≡ true = was_up (reply_gone world c queue) c (taken (world.clients c) reply) up in
       take_told world c reply queue first was (known_here world v c good was) (a was);
   notice = λ world c v good cut a on. absurd (true≢false (sym on
       ∙ ap (λ (l : ℕ → Link). is_up (l c)) (stepped_links (record world { links = put world.links c Link.Down }) c
-      (noticed (world.clients c)))
-      ∙ ap is_up (put_same world.links c Link.Down)));
+      (noticed (world.clients c))) ∙ ap is_up (put_same world.links c Link.Down)));
 }

@@ -63,14 +63,11 @@ replied_told world off c request reply source none t = answered_told world off (
 
 -- a request that is refused closes no open that is there
 pub refused_told : (world off : World) (c : ℕ) (request : FileRequest) (status : Status) → IsSource world off c request
-    → IsSound off.server
-    → ((x : Open) → Among x off.server.opens → x.client ≡ c → IsOwnOpen (world.clients c).guid x)
-    → MayRefuse off.server c request status → HasTold world c
-    → HasTold (told_to off c (refusal_of request status)) c
+    → IsSound off.server → ((x : Open) → Among x off.server.opens → x.client ≡ c → IsOwnOpen (world.clients c).guid x)
+    → MayRefuse off.server c request status → HasTold world c → HasTold (told_to off c (refusal_of request status)) c
 refused_told world off c request status source sound own may t =
     replied_told world off c request (refusal_of request status) source
-    (λ file x there has breaks. refusal_closes off c request status may x there
-    (open_place world c file x (own x there) has).0
+    (λ file x there has breaks. refusal_closes off c request status may x there (open_place world c file x (own x there) has).0
     (breaking_up off.server (machine_key world c file) x sound there has breaks)) t
 
 pub changed_told : (world off : World) (c file id number : ℕ) (patch : Patch)
@@ -122,8 +119,7 @@ pub fewer_told : (world new : World) (c : ℕ) → new.clients c ≡ world.clien
     → ((file : ℕ) → new.server.expired (machine_key world c file) ≡ false
     → world.server.expired (machine_key world c file) ≡ false)
     → ((file : ℕ) → is_breaking (new.server.leases (machine_key world c file)) ≡ true
-    → is_breaking (world.server.leases (machine_key world c file)) ≡ true)
-    → HasTold world c → HasTold new c
+    → is_breaking (world.server.leases (machine_key world c file)) ≡ true) → HasTold world c → HasTold new c
 fewer_told world new c machine requests replies held fewer fresh breaks t = kept_told world new c machine
     (λ file on is. subst (λ q. ToldBy (file_key world c file) file ((world.clients c).entries file).phase q (new.replies c)
     (ClosedIn new (machine_key world c file) c file)) (sym requests)
@@ -199,8 +195,7 @@ granted_told world off c file access share ask asked e named source g on t =
           (λ old. (closed x (subst (λ (l : List Open). Among x l) same.0 old) has, tt))
           (λ last. ⊎_elim (λ is. absurd (new_open_closed at breaks closed
           (subst (λ o. has_key (machine_key world c at) o ≡ true) is has)))
-          (λ none. absurd none) last)
-          (among_append x off.server.opens (one ∷ []) there);
+          (λ none. absurd none) last) (among_append x off.server.opens (one ∷ []) there);
     }) t
   where
     one : Open
@@ -279,8 +274,7 @@ reconnected_told world off c file access share ask id source t =
 -- what was told still is, with one more reply
 sent_told : (world : World) (key : Key) (lease : Lease) (reply : Reply) (file : ℕ)
     → ToldBy (file_key world key.client file) file ((world.clients key.client).entries file).phase
-    (world.requests key.client) (world.replies key.client)
-    (ClosedIn world (machine_key world key.client file) key.client file)
+    (world.requests key.client) (world.replies key.client) (ClosedIn world (machine_key world key.client file) key.client file)
     → ToldBy (file_key world key.client file) file ((world.clients key.client).entries file).phase
     (world.requests key.client) ((leased_in world key lease reply).replies key.client)
     (ClosedIn (leased_in world key lease reply) (machine_key world key.client file) key.client file)
@@ -363,8 +357,7 @@ begin_told world key lowered may heavy own h t = kept_told world new c refl
         let phase = ((world.clients key.client).entries file).phase in
         let asks : is_ack_break (file_key world key.client file) reply ≡ true =
         and_both (needs_acknowledgment (world.server.leases key).state) (bytes_eq (file_key world key.client file) key.bytes)
-        heavy
-        ((bytes_eq-Decides (file_key world key.client file) key.bytes).1 (ap (λ (k : Key). k.bytes) same)) in
+        heavy ((bytes_eq-Decides (file_key world key.client file) key.bytes).1 (ap (λ (k : Key). k.bytes) same)) in
         either (is_live phase)
         (λ live. inr (inl (subst (HasMet (file_key world key.client file) file (is_live phase)) (sym sent)
         (met_last (file_key world key.client file) file (is_live phase) (world.replies key.client) reply asks live))))
@@ -376,8 +369,7 @@ begin_told world key lowered may heavy own h t = kept_told world new c refl
         closed : (file : ℕ) → world.server.expired (machine_key world key.client file) ≡ false
             → machine_key world key.client file ≡ key → is_live ((world.clients key.client).entries file).phase ≡ false
             → is_granted file (world.replies key.client) ≡ false → (x : Open) → Among x world.server.opens
-            → has_key (machine_key world key.client file) x ≡ true
-            → ClosedBefore file x.file_id (asked_of world key.client file)
+            → has_key (machine_key world key.client file) x ≡ true → ClosedBefore file x.file_id (asked_of world key.client file)
         closed file fresh same idle none x there has =
             let place = open_place world key.client file x (own x there) has in
             let cover = h.covers x there place.0 (may.are_connected x there (subst (λ k. has_key k x ≡ true) same has))
@@ -478,8 +470,7 @@ failed_told world c given status oldest why sound w t =
         (has_any (has_key (machine_key world c file)) y.0 world.server.opens y.1 y.2)) fit.lowered
         (subst (λ k. (world.server.leases k).broken_to ≡ Some fit.lowered) same fit.breaks)))
 
-pub done_told : (world : World) (c : ℕ) (given : LeaseOf) → IsOldest world c (Request.Acknowledge (Some given))
-    → HasTold world c
+pub done_told : (world : World) (c : ℕ) (given : LeaseOf) → IsOldest world c (Request.Acknowledge (Some given)) → HasTold world c
     → HasTold (leased_in (popped world c) (key_of c given.key)
     (record { state = granted_form_of given.state; broken_to = None }) (done_reply given)) c
 unfolding key_eq
@@ -493,13 +484,11 @@ done_told world c given oldest t =
     (ClosedIn (leased_in (popped world c) key lease (done_reply given)) (machine_key world c file) c file))
     world.server.leases key lease (machine_key world c file)
     (λ same breaks. absurd (true≢false (sym breaks)))
-    (λ other breaks. sent_told (popped world c) key lease (done_reply given) file
-    (acked_told world c file (Some given) oldest
+    (λ other breaks. sent_told (popped world c) key lease (done_reply given) file (acked_told world c file (Some given) oldest
     (λ x is. not_true (bytes_eq (file_key world c file) x.key)
     (λ own. clash (key_eq (machine_key world c file) key)
     (and_both (c == c) (bytes_eq (file_key world c file) given.key) (eq-eqb c c refl)
-    (ap (λ (l : LeaseOf). bytes_eq (file_key world c file) l.key) (one_lease x is) ∙ own)) other))
-    (t file fresh breaks))))
+    (ap (λ (l : LeaseOf). bytes_eq (file_key world c file) l.key) (one_lease x is) ∙ own)) other)) (t file fresh breaks))))
   where
     one_lease : (x : LeaseOf) → Some given ≡ Some x → given ≡ x
     one_lease x e = cc
@@ -523,6 +512,4 @@ held_told world at one oldest turn g own t =
     (λ closed x there has. held_closed world at one oldest file x.file_id
     (λ ne. own_place world.server c at one.request x
     (λ a b p q e. one_id world.server.opens a b g.fine.sound.in_order p q e) there turn
-    (λ e. ne (sym (open_place world c file x (own x there) has).1 ∙ e)))
-    (closed x there has))
-    (t file fresh breaks))
+    (λ e. ne (sym (open_place world c file x (own x there) has).1 ∙ e))) (closed x there has)) (t file fresh breaks))

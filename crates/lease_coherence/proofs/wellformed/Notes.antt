@@ -28,16 +28,14 @@ abbrev pub EachNote : (Note → Type 0) → List Note → Type 0
 EachNote P [] = ⊤
 EachNote P (note ∷ notes) = P note × EachNote P notes
 
-pub notes_append : (P : Note → Type 0) (notes more : List Note) → EachNote P notes → EachNote P more
-    → EachNote P (notes ++ more)
+pub notes_append : (P : Note → Type 0) (notes more : List Note) → EachNote P notes → EachNote P more → EachNote P (notes ++ more)
 notes_append P [] more each others = others
 notes_append P (note ∷ notes) more each others = (each.0, notes_append P notes more each.1 others)
 
 -- of a step of the client that leads to `after`
 abbrev pub IsFineNote : Client → Client → Note → Type 0
 IsFineNote client after (Note.Settled number outcome) = ⊤
-IsFineNote client after (Note.Wrote file number patch buffered) =
-    (knows_file client file ≡ true) × (is_within_limit patch ≡ true)
+IsFineNote client after (Note.Wrote file number patch buffered) = (knows_file client file ≡ true) × (is_within_limit patch ≡ true)
 IsFineNote client after (Note.Believes file state) = (knows_file client file ≡ true) × (state ≡ belief after file)
 IsFineNote client after (Note.CachedRead file bytes) = knows_file client file ≡ true
 
@@ -46,14 +44,12 @@ abbrev pub IsSettling : Note → Type 0
 IsSettling (Note.Settled number outcome) = ⊤
 IsSettling note = ⊥
 
-settling_fine : (client after : Client) (notes : List Note) → EachNote IsSettling notes
-    → EachNote (IsFineNote client after) notes
+settling_fine : (client after : Client) (notes : List Note) → EachNote IsSettling notes → EachNote (IsFineNote client after) notes
 settling_fine client after [] each = tt
 settling_fine client after (Note.Settled number outcome ∷ notes) each = (tt, settling_fine client after notes each.1)
 settling_fine client after (note ∷ notes) each = absurd each.0
 
-pub settles : (outcome : Settlement) (writes : List Pending)
-    → EachNote IsSettling (settled_as outcome writes)
+pub settles : (outcome : Settlement) (writes : List Pending) → EachNote IsSettling (settled_as outcome writes)
 settles outcome [] = tt
 settles outcome (write ∷ writes) = (tt, settles outcome writes)
 
@@ -63,8 +59,7 @@ believed_fine client after file old new known is = if_cases (EachNote (IsFineNot
     (Note.Believes file new ∷ []) (λ same. tt) (λ other. ((known, is), tt))
 
 -- a turn that settles writes
-turned_fine : (client : Client) (file : ℕ) (turn : Turn) → knows_file client file ≡ true
-    → EachNote IsSettling turn.settled
+turned_fine : (client : Client) (file : ℕ) (turn : Turn) → knows_file client file ≡ true → EachNote IsSettling turn.settled
     → EachNote (IsFineNote client (turned client file turn).client) (turned client file turn).notes
 unfolding turned
 turned_fine client file turn known each =
@@ -97,8 +92,7 @@ commands_fine client = record {
 -- a file whose entry isn't closed is known
 pub known_open : (client : Client) (file : ℕ) → IsSoundClient client
     → ((client.entries file).phase ≡ Phase.Closed → ⊥) → knows_file client file ≡ true
-known_open client file s open_phase =
-    not_false (knows_file client file) (λ unknown. open_phase (s.in_files file unknown))
+known_open client file s open_phase = not_false (knows_file client file) (λ unknown. open_phase (s.in_files file unknown))
 
 pub either_settles : (b : Bool) (outcome : Settlement) (writes : List Pending)
     → EachNote IsSettling (if b then [] else settled_as outcome writes)
@@ -115,8 +109,7 @@ takes_fine client s = record {
       (found_known client (is_key_of client notice.key) file at) tt;
   opened = λ file file_id answer access share is. turned_fine client file _
       (open_known file (λ e. no_opening access share (sym is ∙ e))) tt;
-  reconnected = λ file file_id answer parted is. turned_fine client file _
-      (open_known file (λ e. no_parted parted (sym is ∙ e)))
+  reconnected = λ file file_id answer parted is. turned_fine client file _ (open_known file (λ e. no_parted parted (sym is ∙ e)))
       (either_settles (first_belief client file answer).write Settlement.Lost parted.writes);
   promoted = λ file file_id answer live asked is asks. turned_fine client file _
       (open_known file (λ e. no_live live (sym is ∙ e)))
@@ -128,8 +121,7 @@ takes_fine client s = record {
       (open_known file (λ e. no_parted parted (sym is ∙ e))) (settles Settlement.Lost parted.writes);
   not_promoted = λ file status live asked is asks. turned_fine client file _
       (open_known file (λ e. no_live live (sym is ∙ e))) tt;
-  read = λ file file_id bytes live is id some. turned_fine client file _
-      (open_known file (λ e. no_live live (sym is ∙ e))) tt;
+  read = λ file file_id bytes live is id some. turned_fine client file _ (open_known file (λ e. no_live live (sym is ∙ e))) tt;
   read_closed = λ file file_id status live is id gone. turned_fine client file _
       (open_known file (λ e. no_live live (sym is ∙ e))) (settles Settlement.Failed live.unsent);
   not_read = λ file file_id status live is id some. turned_fine client file _
@@ -195,10 +187,8 @@ connect_settles client file sent phase = tt
 pub call_fine : (client : Client) (call : ClientCall) → IsSoundClient client
     → EachNote (IsFineNote client (client_called client call).client) (client_called client call).notes
 unfolding noticed connection_made
-call_fine client (ClientCall.Commanded command) s =
-    any_command client (HasFineNotes client) (commands_fine client) command
-call_fine client (ClientCall.Taken reply) s =
-    any_reply client (λ r step. HasFineNotes client step) (takes_fine client s) reply
+call_fine client (ClientCall.Commanded command) s = any_command client (HasFineNotes client) (commands_fine client) command
+call_fine client (ClientCall.Taken reply) s = any_reply client (λ r step. HasFineNotes client step) (takes_fine client s) reply
 call_fine client ClientCall.Noticed s = all_fine client false (λ file entry. notice_turn entry.sent entry.phase)
     (λ file. any_notice (client.entries file).sent _ (notices_settle (client.entries file).sent) (client.entries file).phase)
 call_fine client ClientCall.Connected s = all_fine client true

@@ -78,8 +78,7 @@ server_well past clients links server after same w = record {
 }
 
 sent_well : (past : List Fact) (client : ℕ) (clients : ℕ → Client) (links : ℕ → Link) (server after : Server)
-    → after.files ≡ server.files → IsWellIn past clients links server
-    → IsWellIn (Fact.Sent client ∷ past) clients links after
+    → after.files ≡ server.files → IsWellIn past clients links server → IsWellIn (Fact.Sent client ∷ past) clients links after
 unfolding is_well_formed has_number
 sent_well past client clients links server after same w =
     more_well past (Fact.Sent client) clients links server after same refl (λ c n. refl) w
@@ -117,11 +116,9 @@ off_files world off client request source = from_source world off client request
 deeds_well : (world : World) → Ground world → IsWell world → HasDeeds world IsWell
 unfolding with_opens
 deeds_well world g w = record {
-  refused = λ off client request status source may.
-      sent_well off.past client off.clients off.links off.server off.server refl
+  refused = λ off client request status source may. sent_well off.past client off.clients off.links off.server off.server refl
       (off_well world off client request source w);
-  full = λ off client file access share ask source.
-      sent_well off.past client off.clients off.links off.server off.server refl
+  full = λ off client file access share ask source. sent_well off.past client off.clients off.links off.server off.server refl
       (off_well world off client _ source w);
   granted = λ off client file access share ask source none on free.
       let lease = lease_after off.server client file ask.lease in
@@ -132,8 +129,7 @@ deeds_well world g w = record {
       (off_well world off client _ source w));
   reconnected = λ off client file access share ask file_id source again on waits.
       sent_well off.past client off.clients off.links off.server _ refl (off_well world off client _ source w);
-  read = λ off client file_id one source found may.
-      sent_well off.past client off.clients off.links off.server off.server refl
+  read = λ off client file_id one source found may. sent_well off.past client off.clients off.links off.server off.server refl
       (off_well world off client _ source w);
   changed = λ off client file_id number patch one source found may.
       let same = off_files world off client (FileRequest.Write file_id number patch) source in
@@ -180,8 +176,7 @@ noted_well client machine after last new past (Note.Settled number outcome ∷ n
     fine.1 tells.1 low (refl, facts)
 noted_well client machine after last new past (Note.Wrote file number patch buffered ∷ notes) started fine tells low facts =
     noted_well client machine after number new (Fact.Wrote client file number patch buffered ∷ past) notes
-    (λ f k. (later_fact past (Fact.Wrote client file number patch buffered)).started f (started f k))
-    fine.1 tells.1 used_low (
+    (λ f k. (later_fact past (Fact.Wrote client file number patch buffered)).started f (started f k)) fine.1 tells.1 used_low (
       and_both _ _ (and_both _ _ (started file fine.0.0) fine.0.1) (not_of (has_number client number past)
           (λ used. above last number tells.0 (low number used))),
       facts,
@@ -248,20 +243,16 @@ stepped_well world client call sound same w =
           (λ ne apart. ap (λ (m : Client). m.files) (put_other world.clients client step.client c ne) ∙ w.files c);
       joined_so = λ c up. (later_noted client world.past step.notes).joined c (w.joined_so c up);
       numbers = λ c number used. by_client
-          (λ d. has_number d number new ≡ true → number ≤ (put world.clients client step.client d).last_number)
-          client c
+          (λ d. has_number d number new ≡ true → number ≤ (put world.clients client step.client d).last_number) client c
           (λ u. subst (λ (m : Client). number ≤ m.last_number) (sym (put_same world.clients client step.client))
           (noted.1 number u))
-          (λ ne apart u. subst (λ (m : Client). number ≤ m.last_number)
-          (sym (put_other world.clients client step.client c ne))
-          (w.numbers c number (sym (others_numbers client c number world.past step.notes (λ e. ne (sym e))) ∙ u)))
-          used;
+          (λ ne apart u. subst (λ (m : Client). number ≤ m.last_number) (sym (put_other world.clients client step.client c ne))
+          (w.numbers c number (sym (others_numbers client c number world.past step.notes (λ e. ne (sym e))) ∙ u))) used;
     } in
     subst (λ past. IsWellIn past next.clients next.links next.server) (sym (stepped_past world client step))
     (subst (λ (t : ℕ → Client). IsWellIn new t next.links next.server) (sym (stepped_clients world client step))
     (subst (λ (l : ℕ → Link). IsWellIn new (put world.clients client step.client) l next.server)
-    (sym (stepped_links world client step))
-    (subst (IsWellIn new (put world.clients client step.client) world.links)
+    (sym (stepped_links world client step)) (subst (IsWellIn new (put world.clients client step.client) world.links)
     (sym (stepped_server world client step)) whole)))
   where
     known : (file : ℕ) → knows_file (world.clients client) file ≡ true → has_file world.server file ≡ true
@@ -318,19 +309,16 @@ unfolding joined key_expired opens_dropped with_opens opens_disconnected client_
 well_moves world (Move.Step step) next g w = step_deed world IsWell (deeds_well world g w) step next
 well_moves world (Move.Cut client) up g w = plain_well world.past (Fact.Dropped client) world.clients world.links
     (put world.links client Link.Cut) world.server _ refl refl (λ c n. refl)
-    (λ c u. ⊎_elim (λ was. inl was) (λ now. absurd (true≢false (sym now.1)))
-    (put_up world.links client Link.Cut c u)) w
+    (λ c u. ⊎_elim (λ was. inl was) (λ now. absurd (true≢false (sym now.1))) (put_up world.links client Link.Cut c u)) w
 well_moves world (Move.Expire client file) (on, breaks) g w =
     more_well world.past (Fact.Expired client file) world.clients world.links
     world.server _ refl (w.started file on) (λ c n. refl) w
 well_moves world (Move.Scavenge file_id) may g w = server_well world.past world.clients world.links world.server _ refl w
-well_moves world (Move.Connect client) down g w =
-    stepped_well (come_back world client) client ClientCall.Connected g.clients refl
+well_moves world (Move.Connect client) down g w = stepped_well (come_back world client) client ClientCall.Connected g.clients refl
     (plain_well world.past (Fact.Joined client) world.clients world.links (put world.links client Link.Up)
     world.server _ refl refl (λ c n. refl)
     (λ c u. ⊎_elim (λ was. inl was)
-    (λ now. inr (true_or (client == c) (has_joined c world.past)
-    (eq-eqb client c (sym now.0))))
+    (λ now. inr (true_or (client == c) (has_joined c world.past) (eq-eqb client c (sym now.0))))
     (put_up world.links client Link.Up c u)) w)
 well_moves world (Move.Commanded client command) may g w = stepped_well world client (ClientCall.Commanded command) g.clients
     (commanded-stays (world.clients client) command).files w
@@ -338,8 +326,7 @@ well_moves world (Move.Take client reply queue) first g w = stepped_well (reply_
     (ClientCall.Taken reply) g.clients (taken-stays (world.clients client) reply).files
     (more_well world.past (Fact.Took client) world.clients world.links world.server world.server refl
     (took_formed world client reply queue g first w) (λ c n. refl) w)
-well_moves world (Move.Notice client) cut g w =
-    stepped_well (record world { links = put world.links client Link.Down }) client
+well_moves world (Move.Notice client) cut g w = stepped_well (record world { links = put world.links client Link.Down }) client
     ClientCall.Noticed g.clients refl (record {
       facts = w.facts;
       started = w.started;
@@ -405,8 +392,7 @@ all_starts_well first [] past h = subst (λ n. HasStarts n past) (more first) h
     more n = omega arith
 all_starts_well first (bytes ∷ files) past h =
     subst (λ n. HasStarts n (reverse_aux (starts_from (first + 1) files) (Fact.Start first bytes ∷ past)))
-    (more first (length files))
-    (all_starts_well (first + 1) files (Fact.Start first bytes ∷ past) (one_start first bytes past h))
+    (more first (length files)) (all_starts_well (first + 1) files (Fact.Start first bytes ∷ past) (one_start first bytes past h))
   where
     more : (n m : ℕ) → n + 1 + m ≡ n + suc m
     more n m = omega arith
@@ -430,8 +416,7 @@ first_well setup allowed =
     let few = (and_parts _ _ (and_parts _ _ (and_parts _ _ allowed).0).0).0 in
     let all = take_all last_file_number setup.files (few_files setup.files few) in record {
       facts = h.facts;
-      started = λ file has. h.started file (at_least file (and_parts _ _ has).0)
-          (at_most file (length setup.files)
+      started = λ file has. h.started file (at_least file (and_parts _ _ has).0) (at_most file (length setup.files)
           (ap (λ (l : List (List ℕ)). nat_le file (length l)) (sym all) ∙ (and_parts _ _ has).1));
       files = λ client. ap (λ (l : List (List ℕ)). length l) (sym all);
       joined_so = λ client up. absurd (true≢false (sym up));
@@ -449,8 +434,7 @@ first_well setup allowed =
 run_well : (setup : Setup) (events : List Event) → is_allowed_setup setup ≡ true
     → Both Ground IsWell (after (first_world setup) events)
 run_well setup events allowed = runs_have (Both Ground IsWell) (λ world both. both.0)
-    (carried_both Ground IsWell ground_carried well_moves) setup
-    (first_ground setup, first_well setup allowed) events
+    (carried_both Ground IsWell ground_carried well_moves) setup (first_ground setup, first_well setup allowed) events
 
 pub runs_are_well_formed : RunsAreWellFormed
 runs_are_well_formed setup events allowed = subst (EachFact WellFormed)

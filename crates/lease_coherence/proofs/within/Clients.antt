@@ -50,8 +50,7 @@ less_same old live next is same now e =
     subst (IsLess old) (sym (ap (λ (l : LiveEntry). l.belief) (sym (one_live now next e)) ∙ same)) (same_less old live is)
 
 -- one that isn't live
-never_live : (old : Phase) (new : Phase) → is_live new ≡ false → (now : LiveEntry) → new ≡ Phase.Live now
-    → IsLess old now.belief
+never_live : (old : Phase) (new : Phase) → is_live new ≡ false → (now : LiveEntry) → new ≡ Phase.Live now → IsLess old now.belief
 never_live old new idle now e = clash (is_live new) (ap is_live e) idle
 
 idle_stays : (machine : Client) (answer : Answer) → StaysWithin machine
@@ -110,8 +109,7 @@ commands_stay machine = record {
       (λ now e. less_same (machine.entries file).phase live _ is.is_so refl now e);
   parked = λ file live is idle done stays. turned_stays machine file _ tt
       (λ now e. less_same (machine.entries file).phase live _ is.is_so refl now e);
-  closed = λ file live is idle done goes. turned_stays machine file _
-      (writes_close_about live.file_id live.unsent [] tt)
+  closed = λ file live is idle done goes. turned_stays machine file _ (writes_close_about live.file_id live.unsent [] tt)
       (λ now e. never_live (machine.entries file).phase Phase.Closed refl now e);
   cached = λ file live base is reads has f lease asked queue w. step_within (lease_key machine.guid f) f lease
       (machine.entries f).phase (machine.entries f).phase asked [] queue
@@ -174,8 +172,7 @@ turn_takes machine reply at turn apart others here formed file lease asked queue
 
 -- the state that a promoted entry believes
 promoted_from : (key : List ℕ) (live : LiveEntry) (old : Phase) → old ≡ Phase.Live live → (given : Option LeaseGiven)
-    → (promoted_belief key live.belief given ≡ given_state key given)
-    ⊎ IsLess old (promoted_belief key live.belief given)
+    → (promoted_belief key live.belief given ≡ given_state key given) ⊎ IsLess old (promoted_belief key live.belief given)
 promoted_from key live old is None = inl refl
 promoted_from key live old is (Some given) = either given.in_progress
     (λ busy. inr (subst (λ s. IsLess old s) (sym (rw (busy) refl)) (same_less old live is)))
@@ -194,15 +191,13 @@ lowered_stays : (key : List ℕ) (file : ℕ) (notice : BreakNotice) (lease : Le
     (asked writes : List Request) (queue : List Reply) → old ≡ Phase.Live live → bytes_eq key notice.key ≡ true
     → LowersFormed (Reply.Break (Some notice)) → next.belief ≡ meet live.belief notice.lowered
     → Each IsAboutFile writes → IsBelieved key file lease old asked (Reply.Break (Some notice) ∷ queue)
-    → IsWithinFor key file lease old asked (Reply.Break (Some notice) ∷ queue)
-    → IsWithinFor key file lease (Phase.Live next)
+    → IsWithinFor key file lease old asked (Reply.Break (Some notice) ∷ queue) → IsWithinFor key file lease (Phase.Live next)
     (asked ++ (writes ++ acknowledgment notice (meet live.belief notice.lowered))) queue
 lowered_stays key file notice lease old live next asked writes queue is own formed same about b w =
     if_cases (λ q. IsWithinFor key file lease (Phase.Live next) (asked ++ (writes ++ q)) queue) notice.ack_required
     (Request.Acknowledge (Some (record { key = notice.key; state = meet live.belief notice.lowered })) ∷ []) []
     (λ required. break_within key file notice lease live next asked writes queue required own formed same
-    (file_no_acks key writes about)
-    (subst (λ p. IsBelieved key file lease p asked (Reply.Break (Some notice) ∷ queue)) is b)
+    (file_no_acks key writes about) (subst (λ p. IsBelieved key file lease p asked (Reply.Break (Some notice) ∷ queue)) is b)
     (subst (λ p. IsWithinFor key file lease p asked (Reply.Break (Some notice) ∷ queue)) is w))
     (λ plain. quiet_within key file notice lease old live next asked (writes ++ []) queue is formed same
     (file_no_acks key (writes ++ []) (each_append IsAboutFile writes [] about tt)) w)
@@ -220,11 +215,9 @@ break_apart : (machine : Client) (at : ℕ) (notice : BreakNotice) → is_key_of
 break_apart machine at notice own file ne same = clash (bytes_eq (lease_key machine.guid file) (lease_key machine.guid at))
     ((bytes_eq-Decides (lease_key machine.guid file) (lease_key machine.guid at)).1
     (key_of_break (lease_key machine.guid file) notice same
-    ∙ sym ((bytes_eq-Decides (lease_key machine.guid at) notice.key).0 own)))
-    (keys_apart machine.guid file at ne)
+    ∙ sym ((bytes_eq-Decides (lease_key machine.guid at) notice.key).0 own))) (keys_apart machine.guid file at ne)
 
-parked_takes : (machine : Client) (at : ℕ) (notice : BreakNotice) (live : LiveEntry)
-    → is_key_of machine notice.key at ≡ true
+parked_takes : (machine : Client) (at : ℕ) (notice : BreakNotice) (live : LiveEntry) → is_key_of machine notice.key at ≡ true
     → TakesWithin machine (Reply.Break (Some notice)) (turned machine at (parked_closed live (sent_of machine at)))
 unfolding parked_closed
 parked_takes machine at notice live own = turn_takes machine (Reply.Break (Some notice)) at _
@@ -251,8 +244,7 @@ lowered_takes machine at notice live own is formed =
     (writes_about live.file_id (flushed live.belief new live.unsent)))
     (ack_elsewhere machine.guid file at notice new ne own) ∙ zeros)
     (λ lease asked queue b w. lowered_stays (lease_key machine.guid at) at notice lease (machine.entries at).phase live
-    _ asked writes queue is own formed refl
-    (writes_about live.file_id (flushed live.belief new live.unsent)) b w) formed
+    _ asked writes queue is own formed refl (writes_about live.file_id (flushed live.belief new live.unsent)) b w) formed
   where
     zeros : 0 + 0 ≡ 0
     zeros = omega arith
@@ -262,8 +254,7 @@ lowered_takes machine at notice live own is formed =
 -- an entry that becomes live by a grant
 granted_takes : (machine : Client) (at file_id : ℕ) (answer : CreateAnswer) (turn : Turn) (next : LiveEntry)
     → turn.entry.phase ≡ Phase.Live next → Each IsAboutFile turn.requests
-    → (next.belief ≡ given_state (lease_key machine.guid at) answer.lease)
-    ⊎ IsLess (machine.entries at).phase next.belief
+    → (next.belief ≡ given_state (lease_key machine.guid at) answer.lease) ⊎ IsLess (machine.entries at).phase next.belief
     → TakesWithin machine (Reply.Created at file_id (Some answer)) (turned machine at turn)
 granted_takes machine at file_id answer turn next is about from =
     turn_takes machine (Reply.Created at file_id (Some answer)) at turn (λ file ne. no_grant)
@@ -310,22 +301,19 @@ takes_stay machine s = record {
   not_reconnected = λ at status parted is. turn_plain machine (Reply.CreateFailed at status) at _ (λ file live was e. cc)
       (turned_stays machine at _ tt (λ now e. never_live (machine.entries at).phase Phase.Closed refl now e));
   not_promoted = λ at status live asked is asks. turn_plain machine (Reply.CreateFailed at status) at _
-      (λ file live was e. cc)
-      (turned_stays machine at _ tt (λ now e. less_same (machine.entries at).phase live _ is refl now e));
+      (λ file live was e. cc) (turned_stays machine at _ tt (λ now e. less_same (machine.entries at).phase live _ is refl now e));
   read = λ at file_id bytes live is id some. turn_plain machine (Reply.ReadDone file_id bytes) at _ (λ file l was e. cc)
       (turned_stays machine at _ tt (λ now e. less_same (machine.entries at).phase live _ is refl now e));
   read_closed = λ at file_id status live is id gone. turn_plain machine (Reply.ReadFailed file_id status) at _
       (λ file l was e. cc) (turned_stays machine at _ tt
       (λ now e. never_live (machine.entries at).phase _ (gone_idle live.asking _) now e));
   not_read = λ at file_id status live is id some. turn_plain machine (Reply.ReadFailed file_id status) at _
-      (λ file l was e. cc)
-      (turned_stays machine at _ tt (λ now e. less_same (machine.entries at).phase live _ is refl now e));
+      (λ file l was e. cc) (turned_stays machine at _ tt (λ now e. less_same (machine.entries at).phase live _ is refl now e));
   written = λ at file_id number has known. turn_plain machine (Reply.WriteDone file_id number) at _ (λ file l was e. cc)
       (turned_stays machine at _ tt (with_same (machine.entries at).phase _ (machine.entries at).phase refl));
   write_closed = λ at file_id number status live has known is id gone.
       turn_plain machine (Reply.WriteFailed file_id number status) at _ (λ file l was e. cc) (turned_stays machine at _ tt
       (λ now e. never_live (machine.entries at).phase _ (gone_idle live.asking _) now e));
   not_written = λ at file_id number status has known. turn_plain machine (Reply.WriteFailed file_id number status) at _
-      (λ file l was e. cc)
-      (turned_stays machine at _ tt (λ now e. less_same (machine.entries at).phase now _ e refl now refl));
+      (λ file l was e. cc) (turned_stays machine at _ tt (λ now e. less_same (machine.entries at).phase now _ e refl now refl));
 }

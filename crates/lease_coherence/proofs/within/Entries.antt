@@ -56,14 +56,12 @@ more_acks : (key : List ℕ) (lease : Lease) (old new : Phase) (asked more : Lis
     → Each (AckFit key lease old) asked → Each (AckFit key lease new) (asked ++ more)
 more_acks key lease old new asked more less none each = each_append (AckFit key lease new) asked more
     (each_weaker (AckFit key lease old) (AckFit key lease new) asked
-    (λ request a. fit_less key lease old new request (less_fits lease old new less) a) each)
-    (no_acks_fit key lease new more none)
+    (λ request a. fit_less key lease old new request (less_fits lease old new less) a) each) (no_acks_fit key lease new more none)
 
 -- a step that sends no acknowledgment of the key
 pub step_within : (key : List ℕ) (file : ℕ) (lease : Lease) (old new : Phase) (asked more : List Request)
     (queue : List Reply) → ((live : LiveEntry) → new ≡ Phase.Live live → IsLess old live.belief)
-    → acks key more ≡ 0 → IsWithinFor key file lease old asked queue
-    → IsWithinFor key file lease new (asked ++ more) queue
+    → acks key more ≡ 0 → IsWithinFor key file lease old asked queue → IsWithinFor key file lease new (asked ++ more) queue
 step_within key file lease old new asked more queue less none w = record {
   own = λ live is. less_within key lease.state queue old live.belief (less live is) w.own;
   given = w.given;
@@ -133,8 +131,7 @@ created_within key file file_id answer lease old new asked more queue from none 
           within = f.within;
           formed = f.formed;
           bounds = λ live is. subst (λ (l : LiveEntry). (l.belief.read ≡ true → state.read ≡ true)
-              × (l.belief.handle ≡ true → state.handle ≡ true)) (one_live live new is)
-              (⊎_elim
+              × (l.belief.handle ≡ true → state.handle ≡ true)) (one_live live new is) (⊎_elim
               (λ given. let nothing = (a.no_grant.0) refl in
               let unread : new.belief.read ≡ false = ap (λ (s : State). s.read) given ∙ nothing.1 in (
                 λ r. clash new.belief.read r unread,
@@ -226,8 +223,7 @@ break_within key file notice lease old new asked writes queue required own_it fo
               lowered = notice.lowered;
               breaks = (w.breaks.0) refl asks;
               within = meet_within old.belief notice.lowered;
-              formed = λ h. ap (λ (s : State). s.read) (sym believes)
-                  ∙ (left.0 (ap (λ (s : State). s.handle) believes ∙ h)).0;
+              formed = λ h. ap (λ (s : State). s.read) (sym believes) ∙ (left.0 (ap (λ (s : State). s.handle) believes ∙ h)).0;
               bounds = λ next e. subst (λ (l : LiveEntry). (l.belief.read ≡ true → (meet old.belief notice.lowered).read ≡ true)
                   × (l.belief.handle ≡ true → (meet old.belief notice.lowered).handle ≡ true)) (one_live next new e)
                   (λ r. ap (λ (s : State). s.read) (sym believes) ∙ r, λ h. ap (λ (s : State). s.handle) (sym believes) ∙ h);

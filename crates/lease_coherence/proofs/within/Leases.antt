@@ -48,8 +48,7 @@ settled_more key file lease new phase asked queue settled reads handles b w = re
 
 -- a lease of reads alone is lowered, and its break is sent
 pub lone_sent : (key : List ℕ) (file : ℕ) (lease new : Lease) (phase : Phase) (asked : List Request) (queue : List Reply)
-    → is_breaking lease ≡ false → lease.state.handle ≡ false
-    → IsBelieved key file lease phase asked queue
+    → is_breaking lease ≡ false → lease.state.handle ≡ false → IsBelieved key file lease phase asked queue
     → IsWithinFor key file lease phase asked queue → IsWithinFor key file new phase asked (queue ++ lone_break key ∷ [])
 lone_sent key file lease new phase asked queue settled bare b w = record {
   own = λ live is. within_in key lease.state new.state queue (queue ++ lone_break key ∷ []) live.belief
@@ -100,8 +99,7 @@ pub ack_more : (key : List ℕ) (file : ℕ) (lease new : Lease) (phase : Phase)
     (queue : List Reply) → bytes_eq key given.key ≡ true → new.state ≡ granted_form_of given.state
     → IsBelieved key file lease phase (Request.Acknowledge (Some given) ∷ left) queue → acks key left ≡ 0
     → IsAnswering key file lease phase (Request.Acknowledge (Some given) ∷ left) queue
-    → IsWithinFor key file lease phase (Request.Acknowledge (Some given) ∷ left) queue
-    → IsWithinFor key file new phase left queue
+    → IsWithinFor key file lease phase (Request.Acknowledge (Some given) ∷ left) queue → IsWithinFor key file new phase left queue
 ack_more key file lease new phase given left queue own is b zero a w = record {
   own = λ live at. let bounds = (fit.bounds live at) in (
     λ h. (((w.own live at).0 h).0, ap (λ (s : State). s.handle) is ∙ kept_handle (bounds.1 h) (fit.formed (bounds.1 h))),

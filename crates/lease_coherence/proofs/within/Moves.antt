@@ -58,8 +58,7 @@ IsUpWithin world client = is_up (world.links client) ≡ true → HasWithin worl
 
 -- what is said of a file after it
 abbrev pub StaysAfter : World → World → ℕ → Reply → ℕ → Type 0
-StaysAfter world new c reply file =
-    IsBelieved (file_key world c file) file (world.server.leases (machine_key world c file))
+StaysAfter world new c reply file = IsBelieved (file_key world c file) file (world.server.leases (machine_key world c file))
     ((world.clients c).entries file).phase (world.requests c) (world.replies c)
     → IsWithinFor (file_key world c file) file (world.server.leases (machine_key world c file))
     ((world.clients c).entries file).phase (world.requests c) (world.replies c)
@@ -75,8 +74,7 @@ sent_within world new c reply s formed stays t w = record {
   files = λ file fresh. let was = still_fresh file fresh in
       subst (λ (m : Client). IsWithinFor (lease_key m.guid file) file
       (new.server.leases (key_of c (lease_key m.guid file))) (m.entries file).phase (new.requests c) (new.replies c))
-      (sym s.machine)
-      (subst (λ q. IsWithinFor (file_key world c file) file (new.server.leases (machine_key world c file))
+      (sym s.machine) (subst (λ q. IsWithinFor (file_key world c file) file (new.server.leases (machine_key world c file))
       ((world.clients c).entries file).phase q (new.replies c)) (sym s.requests)
       (subst (IsWithinFor (file_key world c file) file (new.server.leases (machine_key world c file))
       ((world.clients c).entries file).phase (world.requests c)) (sym s.replies)
@@ -117,8 +115,7 @@ bare_stays world new c reply file bare same b w = subst
 pub bare_within : (world new : World) (c : ℕ) (reply : Reply) → is_bare reply → IsSentTo world new c reply
     → new.server.leases ≡ world.server.leases → HasTrust world c → HasWithin world c → HasWithin new c
 bare_within world new c reply bare s leases t w = sent_within world new c reply s (bare_formed reply bare)
-    (λ file fresh. bare_stays world new c reply file bare
-    (ap (λ (l : Key → Lease). l (machine_key world c file)) leases)) t w
+    (λ file fresh. bare_stays world new c reply file bare (ap (λ (l : Key → Lease). l (machine_key world c file)) leases)) t w
 
 -- a reply, and nothing else
 pub told_within : (world : World) (c : ℕ) (reply : Reply) → is_bare reply → HasTrust world c → HasWithin world c
@@ -156,8 +153,7 @@ popped_within world c w = record {
       (less_asked (file_key world c file) file (world.server.leases (machine_key world c file))
       ((world.clients c).entries file).phase (world.requests c) (rest_of (world.requests c)) (world.replies c)
       (λ each. each_rest (AckFit (file_key world c file) (world.server.leases (machine_key world c file))
-      ((world.clients c).entries file).phase) (world.requests c) each)
-      (w.files file fresh));
+      ((world.clients c).entries file).phase) (world.requests c) each) (w.files file fresh));
 }
 
 pub left_within : (world : World) (c at : ℕ) (left : List Held) → HasWithin world c → HasWithin (with_held world at left) c
@@ -167,8 +163,7 @@ pub off_within : (world off : World) (c : ℕ) (request : FileRequest) → IsSou
     → HasWithin world c → HasWithin off c
 off_within world off c request source w = ⊎_elim
     (λ a. subst (λ o. HasWithin o c) (sym a.is_off) (popped_within world c w))
-    (λ h. subst (λ o. HasWithin o c) (sym h.is_off) (left_within world c h.file (h.before ++ h.behind) w))
-    source.from
+    (λ h. subst (λ o. HasWithin o c) (sym h.is_off) (left_within world c h.file (h.before ++ h.behind) w)) source.from
 
 -- ---- grants
 
@@ -180,8 +175,7 @@ form_handles : (want : State) → (granted_form_of want).handle ≡ true → (gr
 form_handles want = if_cases (λ (s : State). s.handle ≡ true → s.read ≡ true) want.read want nothing_cached
     (λ reads h. reads) (λ none h. absurd (true≢false (sym h)))
 
-given_within : (key : List ℕ) (asked : List ℕ) (lease : Lease)
-    → (lease.state.handle ≡ true → lease.state.read ≡ true)
+given_within : (key : List ℕ) (asked : List ℕ) (lease : Lease) → (lease.state.handle ≡ true → lease.state.read ≡ true)
     → IsWithin key lease.state []
     (given_state key (Some (record { key = asked; state = lease.state; in_progress = is_breaking lease })))
 given_within key asked lease reads = if_cases (IsWithin key lease.state []) (bytes_eq asked key && not (is_breaking lease))
@@ -215,8 +209,7 @@ grant_keeps_reads server key file want fresh r =
     let new = granted_form_of want in
     if_cases T (is_breaking (server.leases key)) _ _ (λ breaks. r)
     (λ settled. if_cases T (is_state_within old new) _ _
-    (λ within. let reads : new.read ≡ true = part_of old.read new.read
-    (and_parts _ _ (and_parts _ _ within).0).0 r in
+    (λ within. let reads : new.read ≡ true = part_of old.read new.read (and_parts _ _ (and_parts _ _ within).0).0 r in
     if_cases U (server.expired key) _ _ (λ out. clash (server.expired key) out fresh)
     (λ on. if_cases U (list_any (is_other_on (Some key) file) server.opens) _ _ (λ other. reads) (λ alone. reads)))
     (λ more. r))
@@ -261,8 +254,7 @@ lease_stays off c file asked at fresh same b w =
     (ap (λ k. off.server.leases k) same ∙ sym (grant_breaking off.server key file asked.state breaks)) w)
     (λ settled. settled_more own at (off.server.leases (machine_key off c at)) lease phase (off.requests c)
     (off.replies c) (ap (λ k. is_breaking (off.server.leases k)) same ∙ settled)
-    (λ r. grant_keeps_reads off.server key file asked.state on
-    (ap (λ k. (off.server.leases k).state.read) (sym same) ∙ r))
+    (λ r. grant_keeps_reads off.server key file asked.state on (ap (λ k. (off.server.leases k).state.read) (sym same) ∙ r))
     (λ h. grant_keeps_handles off.server key file asked.state on
     (ap (λ k. (off.server.leases k).state.handle) (sym same) ∙ h)) b w)
 
@@ -293,8 +285,7 @@ pub granted_within : (off : World) (c file : ℕ) (access : Access) (share : Sha
     → HasTrust off c → HasWithin off c
     → HasWithin (granted_in off c file access share ask (lease_after off.server c file ask.lease)) c
 granted_within off c file access share ask asked e named sound t w = subst
-    (λ o. HasWithin (granted_in off c file access share (record ask { lease = o }) (lease_after off.server c file o)) c)
-    (sym e)
+    (λ o. HasWithin (granted_in off c file access share (record ask { lease = o }) (lease_after off.server c file o)) c) (sym e)
     (let lease = lease_granted off.server (key_of c asked.key) file asked.state in
     let told : CreateAsk = record ask { lease = Some asked } in
     let reply = granted_reply off.server file told lease in
@@ -326,8 +317,7 @@ reconnected_within off c file ask file_id asked e named sound t w = subst
     ((off.clients c).entries at).phase (off.requests c) (off.replies c) reply
     (λ here. subst (λ k. IsWithin (file_key off c at) (off.server.leases k).state [] (told_state at))
     (sym (own_named off c file at asked named here))
-    (given_within (file_key off c at) asked.key lease (handles_read lease.state (sound.lawful key).is_granted_form)))
-    tt x) t w)
+    (given_within (file_key off c at) asked.key lease (handles_read lease.state (sound.lawful key).is_granted_form))) tt x) t w)
   where
     key : Key
     key = key_of c asked.key
@@ -336,13 +326,11 @@ reconnected_within off c file ask file_id asked e named sound t w = subst
     lease = off.server.leases (key_of c asked.key)
 
     told_state : ℕ → State
-    told_state at = given_state (file_key off c at)
-        (Some (record {
-          key = asked.key;
-          state = (off.server.leases (key_of c asked.key)).state;
-          in_progress =
-              is_breaking (off.server.leases (key_of c asked.key));
-        }))
+    told_state at = given_state (file_key off c at) (Some (record {
+      key = asked.key;
+      state = (off.server.leases (key_of c asked.key)).state;
+      in_progress = is_breaking (off.server.leases (key_of c asked.key));
+    }))
 
 -- ---- breaks
 
@@ -426,8 +414,7 @@ lower_within world key lowered may light t w =
     is_lone : (file : ℕ) → machine_key world key.client file ≡ key → (world.server.leases key).state ≡ reads_alone
         → lowered ≡ nothing_cached
         → break_notice key (world.server.leases key).state lowered ≡ lone_break (file_key world key.client file)
-    is_lone file same one none = ap (λ s. break_notice key s lowered) one
-        ∙ ap (λ s. break_notice key reads_alone s) none
+    is_lone file same one none = ap (λ s. break_notice key s lowered) one ∙ ap (λ s. break_notice key reads_alone s) none
         ∙ ap (λ (k : Key). break_notice k reads_alone nothing_cached) (sym same)
 
 pub begin_within : (world : World) (key : Key) (lowered : State) → MayLower world.server key lowered
@@ -470,8 +457,7 @@ own_acked key file lease phase given left queue own b = ⊎_elim
     none_left n e = omega (arith, e)
 
 pub done_within : (world : World) (c : ℕ) (given : LeaseOf) → IsOldest world c (Request.Acknowledge (Some given))
-    → HasTrust world c → HasWithin world c
-    → HasWithin (leased_in (popped world c) (key_of c given.key)
+    → HasTrust world c → HasWithin world c → HasWithin (leased_in (popped world c) (key_of c given.key)
     (record { state = granted_form_of given.state; broken_to = None }) (done_reply given)) c
 unfolding key_eq
 done_within world c given oldest t w =
@@ -481,8 +467,7 @@ done_within world c given oldest t w =
     put_same world.requests c (rest_of (world.requests c)) ∙ ap rest_of oldest.is_first in
     sent_within (popped world c) (leased_in (popped world c) key lease (done_reply given)) c (done_reply given)
     (leased_sent (popped world c) key lease (done_reply given)) tt
-    (λ file fresh b x. plain_more (file_key world c file) file
-    (put_key world.server.leases key lease (machine_key world c file))
+    (λ file fresh b x. plain_more (file_key world c file) file (put_key world.server.leases key lease (machine_key world c file))
     ((world.clients c).entries file).phase ((popped world c).requests c) (world.replies c) (done_reply given) tt tt
     (put_key-cases (λ (l : Lease). IsWithinFor (file_key world c file) file l ((world.clients c).entries file).phase
     ((popped world c).requests c) (world.replies c)) world.server.leases key lease (machine_key world c file)
@@ -492,8 +477,7 @@ done_within world c given oldest t w =
     (record { lowered = t.lowered; files = λ file fresh. acked_trusted world c file (Some given) oldest (t.files file fresh) })
     (popped_within world c w)
   where
-    served : (file : ℕ) → world.server.expired (machine_key world c file) ≡ false
-        → machine_key world c file ≡ key_of c given.key
+    served : (file : ℕ) → world.server.expired (machine_key world c file) ≡ false → machine_key world c file ≡ key_of c given.key
         → IsWithinFor (file_key world c file) file (record { state = granted_form_of given.state; broken_to = None })
         ((world.clients c).entries file).phase oldest.queue (world.replies c)
     served file fresh same =

@@ -67,8 +67,7 @@ unmoved_within world new c u w = record {
     was_fresh file fresh = sym (u.expired (machine_key world c file) refl)
         ∙ ap (λ (m : Client). new.server.expired (key_of c (lease_key m.guid file))) (sym u.machine) ∙ fresh
 
-    there : (file : ℕ)
-        → IsWithinFor (file_key world c file) file (world.server.leases (machine_key world c file))
+    there : (file : ℕ) → IsWithinFor (file_key world c file) file (world.server.leases (machine_key world c file))
         ((world.clients c).entries file).phase (world.requests c) (world.replies c)
         → IsWithinFor (file_key new c file) file (new.server.leases (machine_key new c file))
         ((new.clients c).entries file).phase (new.requests c) (new.replies c)
@@ -96,10 +95,8 @@ pub record HasFewer (world new : World) (c : ℕ) : Type 0 where
   pub none : (file : ℕ) → list_any (has_key (machine_key world c file)) new.server.opens ≡ false
       → is_breaking (new.server.leases (machine_key world c file)) ≡ false
   pub sends : (file : ℕ) (lease : Lease)
-      → IsWithinFor (file_key world c file) file lease ((world.clients c).entries file).phase (world.requests c)
-      (world.replies c)
-      → IsWithinFor (file_key world c file) file lease ((world.clients c).entries file).phase (world.requests c)
-      (new.replies c)
+      → IsWithinFor (file_key world c file) file lease ((world.clients c).entries file).phase (world.requests c) (world.replies c)
+      → IsWithinFor (file_key world c file) file lease ((world.clients c).entries file).phase (world.requests c) (new.replies c)
 
 fewer_within : (world new : World) (c : ℕ) → HasFewer world new c → IsStandingAt new c
     → ((one : Open) → Among one new.server.opens → one.client ≡ c → IsOwnOpen (new.clients c).guid one)
@@ -126,8 +123,7 @@ fewer_within world new c f s own t w = record {
     gone file fresh none =
         let same : machine_key new c file ≡ machine_key world c file =
         ap (λ (m : Client). key_of c (lease_key m.guid file)) f.machine in
-        let idle = nothing_stands new c file s own fresh
-        (ap (λ k. list_any (has_key k) new.server.opens) same ∙ none) in
+        let idle = nothing_stands new c file s own fresh (ap (λ k. list_any (has_key k) new.server.opens) same ∙ none) in
         let b = (t.files file fresh).believed in
         let zero = settled_none (file_key new c file) file (new.server.leases (machine_key new c file))
         ((new.clients c).entries file).phase (new.requests c) (new.replies c)
@@ -164,8 +160,7 @@ closed_within : (off : World) (c file_id : ℕ)
     → IsStandingAt (told_to (without_opens off (λ other. other.file_id == file_id)) c (Reply.Closed file_id)) c
     → ((one : Open) → Among one (without_opens off (λ other. other.file_id == file_id)).server.opens → one.client ≡ c
     → IsOwnOpen (off.clients c).guid one)
-    → HasTrust (told_to (without_opens off (λ other. other.file_id == file_id)) c (Reply.Closed file_id)) c
-    → HasWithin off c
+    → HasTrust (told_to (without_opens off (λ other. other.file_id == file_id)) c (Reply.Closed file_id)) c → HasWithin off c
     → HasWithin (told_to (without_opens off (λ other. other.file_id == file_id)) c (Reply.Closed file_id)) c
 unfolding with_opens
 closed_within off c file_id s own t w =
@@ -175,8 +170,7 @@ closed_within off c file_id s own t w =
     fewer_within off (told_to (without_opens off test) c reply) c (record {
       machine = refl;
       requests = refl;
-      formed = subst (Each LowersFormed) (sym sent)
-          (each_append LowersFormed (off.replies c) (reply ∷ []) w.formed (tt, tt));
+      formed = subst (Each LowersFormed) (sym sent) (each_append LowersFormed (off.replies c) (reply ∷ []) w.formed (tt, tt));
       fresh = λ file e. e;
       leases = λ file some. lease_stays off.server (without test off.server.opens) (machine_key off c file) some;
       none = λ file none. lease_goes off.server (without test off.server.opens) (machine_key off c file) none;
@@ -204,8 +198,7 @@ timer_within world c file s own t w =
       sends = λ at lease x. x;
     }) s own t w
   where
-    was_fresh : (at : ℕ)
-        → put_key world.server.expired (machine_key world c file) true (machine_key world c at) ≡ false
+    was_fresh : (at : ℕ) → put_key world.server.expired (machine_key world c file) true (machine_key world c at) ≡ false
         → world.server.expired (machine_key world c at) ≡ false
     was_fresh at = put_key-cases (λ b. b ≡ false → world.server.expired (machine_key world c at) ≡ false)
         world.server.expired (machine_key world c file) true (machine_key world c at)
@@ -232,8 +225,7 @@ step_stays world c step up guid formed stays = record {
   where
     was_fresh : (file : ℕ) → (stepped_in world c step).server.expired (machine_key (stepped_in world c step) c file) ≡ false
         → world.server.expired (machine_key world c file) ≡ false
-    was_fresh file fresh = ap (λ g. world.server.expired (key_of c (lease_key g file)))
-        (sym (step_of world c step up guid).guid)
+    was_fresh file fresh = ap (λ g. world.server.expired (key_of c (lease_key g file))) (sym (step_of world c step up guid).guid)
         ∙ ap₂ (λ (x : Server) (m : Client). x.expired (key_of c (lease_key m.guid file)))
         (sym (step_of world c step up guid).server) (sym (step_of world c step up guid).clients) ∙ fresh
 
@@ -266,8 +258,7 @@ take_within world c reply queue v good first up w =
     let left : gone.replies c ≡ queue = put_same world.replies c queue in
     let formed : Each LowersFormed (reply ∷ queue) = subst (Each LowersFormed) first w.formed in
     let t = v.beliefs c good up in
-    step_stays gone c (taken machine reply) up (taken-stays machine reply).guid
-    (subst (Each LowersFormed) (sym left) formed.1)
+    step_stays gone c (taken machine reply) up (taken-stays machine reply).guid (subst (Each LowersFormed) (sym left) formed.1)
     (λ file fresh. subst (IsWithinFor (file_key world c file) file (world.server.leases (machine_key world c file))
     ((taken machine reply).client.entries file).phase (world.requests c ++ (taken machine reply).requests)) (sym left)
     (any_reply machine (TakesWithin machine) (takes_stay machine (v.structure.ground.clients c)) reply formed.0 file
@@ -351,8 +342,7 @@ within_moves = record {
       (left_there off (λ other. other.file_id == file_id) x there) by)
       (trust_moves.closed world off c file_id one v.structure good source found (v.beliefs c good) up)
       (off_within world off c request source (a was));
-  ack_failed = λ world c given status v good oldest why a up.
-      told_within (popped world c) c (Reply.AckFailed status) tt
+  ack_failed = λ world c given status v good oldest why a up. told_within (popped world c) c (Reply.AckFailed status) tt
       (popped_trust world c given oldest (v.beliefs c good up)) (popped_within world c (a up));
   ack_done = λ world c given lowered v good oldest there breaks within a up.
       done_within world c given oldest (v.beliefs c good up) (a up);
@@ -367,8 +357,7 @@ within_moves = record {
   cut = λ world c v good up a on. absurd (true≢false (sym on ∙ ap is_up (put_same world.links c Link.Cut)));
   timer = λ world c file v good on breaks a up. timer_within world c file
       (standing_moves.timer world c file v.structure good on breaks (v.structure.opens c good) up)
-      (λ x there by. (v.structure.named c good).opens x
-      (timer_there world c file x there) by)
+      (λ x there by. (v.structure.named c good).opens x (timer_there world c file x there) by)
       (trust_moves.timer world c file v.structure good on breaks (v.beliefs c good) up) (a up);
   connect = λ world c v good down a up.
       connect_within world c (trust_moves.connect world c v.structure good down (v.beliefs c good) up)
@@ -381,11 +370,9 @@ within_moves = record {
       (λ file fresh. any_command machine (StaysWithin machine) (commands_stay machine) command file
       (world.server.leases (machine_key world c file)) (world.requests c) (world.replies c) (w.files file fresh));
   take = λ world c reply queue v good first a up.
-      let was : is_up (world.links c) ≡ true =
-      was_up (reply_gone world c queue) c (taken (world.clients c) reply) up in
+      let was : is_up (world.links c) ≡ true = was_up (reply_gone world c queue) c (taken (world.clients c) reply) up in
       take_within world c reply queue v good first was (a was);
   notice = λ world c v good cut a on. absurd (true≢false (sym on
       ∙ ap (λ (l : ℕ → Link). is_up (l c)) (stepped_links (record world { links = put world.links c Link.Down }) c
-      (noticed (world.clients c)))
-      ∙ ap is_up (put_same world.links c Link.Down)));
+      (noticed (world.clients c))) ∙ ap is_up (put_same world.links c Link.Down)));
 }

@@ -85,10 +85,8 @@ within_in key held new queue more state handles reads w = (λ h. ((w.0 h).0, han
 
 -- a last reply, and a lease that holds reads still, or a break of them is that reply
 pub given_last : (key : List ℕ) (file : ℕ) (held new : State) (queue : List Reply) (last : Reply)
-    → (held.handle ≡ true → new.handle ≡ true)
-    → (held.read ≡ true → (new.read ≡ true) ⊎ Among (lone_break key) (last ∷ []))
-    → OnGiven (IsWithin key new []) key file last → AreGiven key file held queue
-    → AreGiven key file new (queue ++ last ∷ [])
+    → (held.handle ≡ true → new.handle ≡ true) → (held.read ≡ true → (new.read ≡ true) ⊎ Among (lone_break key) (last ∷ []))
+    → OnGiven (IsWithin key new []) key file last → AreGiven key file held queue → AreGiven key file new (queue ++ last ∷ [])
 given_last key file held new [] last handles reads here g = (here, tt)
 given_last key file held new (reply ∷ queue) last handles reads here g = (
   given_all (IsWithin key held queue) (IsWithin key new (queue ++ last ∷ [])) key file
@@ -180,8 +178,7 @@ pub no_acks_fit : (key : List ℕ) (lease : Lease) (phase : Phase) (queue : List
 no_acks_fit key lease phase [] e = tt
 no_acks_fit key lease phase (Request.OnFile request ∷ queue) e = (
   tt,
-  no_acks_fit key lease phase queue
-      (right (acks key queue) e),
+  no_acks_fit key lease phase queue (right (acks key queue) e),
 )
   where
     right : (n : ℕ) → 0 + n ≡ 0 → n ≡ 0

@@ -31,8 +31,7 @@ use Rattle.lease_coherence.proofs.records.Known.{HasRecord}
 pub ground_of : (world : World) → HasRecord world → Ground world
 ground_of world v = v.leases.structure.ground
 
-pub names_of : (world : World) → HasRecord world → (c : ℕ)
-    → has_strayed c world.past ≡ false → IsNamedAt world c
+pub names_of : (world : World) → HasRecord world → (c : ℕ) → has_strayed c world.past ≡ false → IsNamedAt world c
 names_of world v c good = v.leases.structure.named c good
 
 -- a client by the record
@@ -74,8 +73,7 @@ first_off number queue rest request e =
 
 -- a request that counts nothing for the file
 pub not_counted : (world : World) (c file number : ℕ) (request : FileRequest) → CountsOf world c file number request
-    → (at : ℕ) → at ≢ file
-    → ((file_id used : ℕ) (patch : Patch) → request ≡ FileRequest.Write file_id used patch
+    → (at : ℕ) → at ≢ file → ((file_id used : ℕ) (patch : Patch) → request ≡ FileRequest.Write file_id used patch
     → has_written c at used patch world.past ≡ true) → write_of number request ≡ 0
 not_counted world c file number (FileRequest.Write file_id used patch) counts at ne written =
     ap one_if (counts at file_id used patch refl (written file_id used patch refl) ne)
@@ -88,8 +86,7 @@ source_left world off c request source s file number counts = ⊎_elim
     (λ a. subst (λ (o : World). writes_left world c file number ≡ write_of number request + writes_left o c file number)
     (sym a.is_off) (arrived_left a))
     (λ h. subst (λ (o : World). writes_left world c file number ≡ write_of number request + writes_left o c file number)
-    (sym h.is_off) (held_left_over h))
-    source.from
+    (sym h.is_off) (held_left_over h)) source.from
   where
     plus_held : (a b n h : ℕ) → a ≡ n + b → a + h ≡ n + (b + h)
     plus_held a b n h e = omega (arith, e)
@@ -114,8 +111,7 @@ source_left world off c request source s file number counts = ⊎_elim
         ∙ ap (λ (l : List Held). held_writes number (held_by c l)) h.held
         ∙ held_writes_among number c h.before h.behind (held_of c request) (eq-eqb c c refl)
         ∙ ap (λ (l : List Held). write_of number request + held_writes number (held_by c l))
-        (sym (put_same world.server.held h.file (h.before ++ h.behind)))
-        ∙ ap (λ n. write_of number request
+        (sym (put_same world.server.held h.file (h.before ++ h.behind))) ∙ ap (λ n. write_of number request
         + held_writes number (held_by c (put world.server.held h.file (h.before ++ h.behind) n))) (sym same)))
         (λ there. let ne : file ≢ h.file = λ e. clash (file == h.file) (eq-eqb file h.file e) there in
         none_here _ _ _ (not_counted world c file number request counts h.file (λ e. ne (sym e))
@@ -135,27 +131,22 @@ off_held_on world off c request source s at one a own file_id number patch is = 
     (λ h. ⊎_elim (λ old. s.held_on at one old own file_id number patch is)
     (λ left. subst (λ n. has_written c n number patch world.past ≡ true) (sym left.0)
     (s.held_on h.file one (subst (λ (l : List Held). Among one l) (sym h.held)
-    (among_more one (held_of c request) h.before h.behind left.1)) own
-    file_id number patch is))
+    (among_more one (held_of c request) h.before h.behind left.1)) own file_id number patch is))
     (among_put world.server.held h.file (h.before ++ h.behind) at one
-    (subst (λ (o : World). Among one (o.server.held at)) h.is_off a)))
-    source.from
+    (subst (λ (o : World). Among one (o.server.held at)) h.is_off a))) source.from
 
 -- the same queues, with these writes given so far
 pub same_once : (world new : World) (c : ℕ) → new.clients c ≡ world.clients c
-    → ((file number : ℕ) (patch : Patch) → has_written c file number patch new.past
-    ≡ has_written c file number patch world.past)
+    → ((file number : ℕ) (patch : Patch) → has_written c file number patch new.past ≡ has_written c file number patch world.past)
     → ((file number : ℕ) → IsOwnNumber c (world.clients c).last_number world.past file number
     → writes_under_way new c file number ≡ writes_under_way world c file number)
     → ((at : ℕ) (one : Held) → Among one (new.server.held at) → one.client ≡ c
     → (file_id number : ℕ) (patch : Patch) → one.request ≡ FileRequest.Write file_id number patch
-    → has_written c at number patch world.past ≡ true)
-    → IsSentOnce world c → IsSentOnce new c
+    → has_written c at number patch world.past ≡ true) → IsSentOnce world c → IsSentOnce new c
 same_once world new c machine written same held s = record {
   counts = λ file number known own.
       let was = own_was file number (subst (λ (m : Client). IsOwnNumber c m.last_number new.past file number) machine own) in
-      same file number was
-      ∙ s.counts file number (subst (λ (m : Client). knows_file m file ≡ true) machine known) was
+      same file number was ∙ s.counts file number (subst (λ (m : Client). knows_file m file ≡ true) machine known) was
       ∙ ap (λ (m : Client). numbered_in number (m.entries file).sent) (sym machine);
   held_on = λ at one a own file_id number patch is. written at number patch ∙ held at one a own file_id number patch is;
 }
@@ -168,8 +159,7 @@ same_once world new c machine written same held s = record {
 pub answered_once : (world off new : World) (c : ℕ) (request : FileRequest) (reply : Reply) → IsSource world off c request
     → IsKnownBy c (world.clients c) world.past → new.clients ≡ off.clients → new.requests c ≡ off.requests c
     → new.server.held ≡ off.server.held → new.replies ≡ put off.replies c (off.replies c ++ reply ∷ [])
-    → ((file number : ℕ) (patch : Patch) → has_written c file number patch new.past
-    ≡ has_written c file number patch off.past)
+    → ((file number : ℕ) (patch : Patch) → has_written c file number patch new.past ≡ has_written c file number patch off.past)
     → ((number : ℕ) → settles_of number reply ≡ write_of number request) → IsSentOnce world c → IsSentOnce new c
 answered_once world off new c request reply source k clients requests held replies written answers s =
     let rest = off_rest world off c request source in
@@ -180,8 +170,7 @@ answered_once world off new c request reply source k clients requests held repli
     (ap (λ (h : ℕ → List Held). held_writes number (held_by c (h file))) held)
     (ap (λ (q : List Reply). settling number q) (ap (λ (r : ℕ → List Reply). r c) replies
     ∙ put_same off.replies c (off.replies c ++ reply ∷ []) ∙ ap (λ (r : ℕ → List Reply). r c ++ reply ∷ []) rest.1.1)
-    ∙ settling_last number (world.replies c) reply)
-    (answers number)
+    ∙ settling_last number (world.replies c) reply) (answers number)
     (source_left world off c request source s file number (own_counts world c k file number own request)))
     (λ at one a own file_id number patch is. off_held_on world off c request source s at one
     (subst (λ (h : ℕ → List Held). Among one (h at)) held a) own file_id number patch is) s
@@ -198,8 +187,7 @@ answered_once world off new c request reply source k clients requests held repli
 pub told_once : (world new : World) (c : ℕ) (reply : Reply) → new.clients ≡ world.clients
     → ((number : ℕ) → writes number (new.requests c) ≡ writes number (world.requests c))
     → new.server.held ≡ world.server.held → new.replies ≡ put world.replies c (world.replies c ++ reply ∷ [])
-    → ((file number : ℕ) (patch : Patch) → has_written c file number patch new.past
-    ≡ has_written c file number patch world.past)
+    → ((file number : ℕ) (patch : Patch) → has_written c file number patch new.past ≡ has_written c file number patch world.past)
     → ((number : ℕ) → settles_of number reply ≡ 0) → IsSentOnce world c → IsSentOnce new c
 told_once world new c reply clients requests held replies written none s =
     same_once world new c (ap (λ (t : ℕ → Client). t c) clients) written

@@ -49,8 +49,7 @@ writes_left world client file number =
     writes number (world.requests client) + held_writes number (held_by client (world.server.held file))
 
 abbrev pub writes_under_way : World → ℕ → ℕ → ℕ → ℕ
-writes_under_way world client file number =
-    writes_left world client file number + settling number (world.replies client)
+writes_under_way world client file number = writes_left world client file number + settling number (world.replies client)
 
 -- ---- sums
 
@@ -92,8 +91,7 @@ held_writes_among number client (x ∷ before) behind one own = if_cases
     (λ l. held_writes number l ≡ write_of number one.request + held_writes number (held_by client (x ∷ before ++ behind)))
     (x.client == client) (x ∷ held_by client (before ++ one ∷ behind)) (held_by client (before ++ one ∷ behind))
     (λ mine. ap (λ n. write_of number x.request + n) (held_writes_among number client before behind one own)
-    ∙ swap (write_of number x.request) (write_of number one.request)
-    (held_writes number (held_by client (before ++ behind)))
+    ∙ swap (write_of number x.request) (write_of number one.request) (held_writes number (held_by client (before ++ behind)))
     ∙ ap (λ (l : List Held). write_of number one.request + held_writes number l)
     (sym (chosen (x.client == client) (x ∷ held_by client (before ++ behind)) (held_by client (before ++ behind)) mine)))
     (λ other. held_writes_among number client before behind one own
@@ -131,8 +129,7 @@ numbered_without number used (write ∷ pending) has = if_cases
     ∙ ap (λ n. one_if (n == number) + numbered_in number pending) (sym (eqb-true write.number used same)))
     (λ other e. sum (one_if (write.number == number)) (numbered_in number (sent_without used pending))
     (one_if (used == number)) (numbered_in number pending)
-    (numbered_without number used pending (later (write.number == used) (list_any (is_numbered used) pending) has other)))
-    refl
+    (numbered_without number used pending (later (write.number == used) (list_any (is_numbered used) pending) has other))) refl
   where
     swap : (a b : ℕ) → a + b ≡ b + a
     swap a b = omega arith

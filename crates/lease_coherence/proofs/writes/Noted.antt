@@ -42,8 +42,7 @@ noted_left c file past (Note.Settled number outcome ∷ notes) each =
     (λ w. not (w.number == number || settles_in notes w.number)) (open_writes c file past)
     (λ w a. both (w.number == number) (settles_in notes w.number))
   where
-    own : (b : Bool) → b ≡ true
-        → (if b then without (is_numbered number) (open_writes c file past) else open_writes c file past)
+    own : (b : Bool) → b ≡ true → (if b then without (is_numbered number) (open_writes c file past) else open_writes c file past)
         ≡ without (is_numbered number) (open_writes c file past)
     own true e = refl
     own false e = absurd (true≢false (sym e))
@@ -51,8 +50,7 @@ noted_left c file past (Note.Settled number outcome ∷ notes) each =
     both : (a b : Bool) → (not a && not b) ≡ not (a || b)
     both true b = refl
     both false b = refl
-noted_left c file past (Note.Believes f state ∷ notes) each =
-    noted_left c file (Fact.Believes c f state ∷ past) notes each.1
+noted_left c file past (Note.Believes f state ∷ notes) each = noted_left c file (Fact.Believes c f state ∷ past) notes each.1
 noted_left c file past (note ∷ notes) each = absurd each.0
 
 -- ---- a client's steps
@@ -66,16 +64,13 @@ pub record LeavesWrites (client : Client) (step : Step) : Type 0 where
 -- or a command adds one, or reads from the cache
 pub data TellsWrites (client : Client) (step : Step) : Type 0 where
   Leaves : (leaves : LeavesWrites client step) → TellsWrites client step
-  Adds : (at number : ℕ) (patch : Patch) (buffered : Bool)
-      → (notes : step.notes ≡ Note.Wrote at number patch buffered ∷ [])
+  Adds : (at number : ℕ) (patch : Patch) (buffered : Bool) → (notes : step.notes ≡ Note.Wrote at number patch buffered ∷ [])
       → (more : (file : ℕ) → unanswered_in (step.client.entries file) ≡ (if at == file
       then unanswered_in (client.entries file) ++ record { number = number; patch = patch; buffered = buffered } ∷ []
-      else unanswered_in (client.entries file)))
-      → TellsWrites client step
+      else unanswered_in (client.entries file))) → TellsWrites client step
   Reads : (at : ℕ) (live : LiveEntry) (base : List ℕ) → (is : IsEntry client at (Phase.Live live))
       → (has : live.base ≡ Some base) → (reads : live.belief.read ≡ true) → (same : step.client ≡ client)
-      → (notes : step.notes ≡ Note.CachedRead at (view base (sent_of client at) live.unsent) ∷ [])
-      → TellsWrites client step
+      → (notes : step.notes ≡ Note.CachedRead at (view base (sent_of client at) live.unsent) ∷ []) → TellsWrites client step
 
 -- what a turn settles
 pub record TurnLeaves (old : Entry) (turn : Turn) : Type 0 where
@@ -117,8 +112,7 @@ pub untouched_left : (client : Client) (notes : List Note) (file at : ℕ) → I
 untouched_left client notes file at s ne own =
     filter_same (λ w. not (settles_in notes w.number)) (unanswered_in (client.entries file))
     (λ w a. ap not (not_true (settles_in notes w.number) (λ settled.
-    clash (has_number w.number (unanswered_in (client.entries file)))
-    (number_there w (unanswered_in (client.entries file)) a)
+    clash (has_number w.number (unanswered_in (client.entries file))) (number_there w (unanswered_in (client.entries file)) a)
     (s.numbers.apart at file w.number (λ e. ne (sym e)) (own w.number settled)))))
 
 pub turned_leaves : (client : Client) (at : ℕ) (turn : Turn) → IsSoundClient client → TurnLeaves (client.entries at) turn

@@ -100,8 +100,7 @@ hold_once world at one oldest written k s = same_once world (held_in (popped wor
     (λ here. moved _ _ _ _ _ _ _ (first_off number (world.requests one.client) oldest.queue one.request oldest.is_first)
     (ap (λ (q : List Request). writes number q) (put_same world.requests one.client (rest_of (world.requests one.client))))
     (ap (λ n. held_writes number (held_by one.client (put world.server.held at (world.server.held at ++ one ∷ []) n)))
-    (eqb-true file at here)
-    ∙ ap (λ (l : List Held). held_writes number (held_by one.client l))
+    (eqb-true file at here) ∙ ap (λ (l : List Held). held_writes number (held_by one.client l))
     (put_same world.server.held at (world.server.held at ++ one ∷ []))
     ∙ held_writes_among number one.client (world.server.held at) [] one (eq-eqb one.client one.client refl)
     ∙ ap (λ (l : List Held). write_of number one.request + held_writes number (held_by one.client l))
@@ -120,8 +119,7 @@ hold_once world at one oldest written k s = same_once world (held_in (popped wor
     (λ new. subst (λ n. has_written one.client n number patch world.past ≡ true) (sym new.0)
     (⊎_elim (λ old. s.held_on at x old own file_id number patch is)
     (λ last. ⊎_elim (λ same. written file_id number patch (ap (λ (h : Held). h.request) (sym same) ∙ is))
-    (λ none. absurd none) last)
-    (among_append x (world.server.held at) (one ∷ []) new.1)))
+    (λ none. absurd none) last) (among_append x (world.server.held at) (one ∷ []) new.1)))
     (among_put world.server.held at (world.server.held at ++ one ∷ []) place x a)) s
   where
     moved : (q q1 r h h1 n t : ℕ) → q ≡ n + r → q1 ≡ r → h1 ≡ n + h → q1 + h1 + t ≡ q + h + t
@@ -147,17 +145,13 @@ stepped_writes world c step up file number = whole _ _ _ _ _ _ _
     whole q q1 h h1 a a1 n e f i = omega (arith, e, f, i)
 
 stepped_once : (world : World) (c : ℕ) (step : Step) (answered : ℕ → ℕ) → is_up (world.links c) ≡ true
-    → step.client.files ≡ (world.clients c).files
-    → TellNumbers (world.clients c).last_number step.notes step.client.last_number
-    → AddsUpWell c (world.clients c) world.past answered step
-    → ((file number : ℕ) → knows_file (world.clients c) file ≡ true
-    → IsOwnNumber c (world.clients c).last_number world.past file number
-    → writes_under_way world c file number + answered number
+    → step.client.files ≡ (world.clients c).files → TellNumbers (world.clients c).last_number step.notes step.client.last_number
+    → AddsUpWell c (world.clients c) world.past answered step → ((file number : ℕ) → knows_file (world.clients c) file ≡ true
+    → IsOwnNumber c (world.clients c).last_number world.past file number → writes_under_way world c file number + answered number
     ≡ numbered_in number ((world.clients c).entries file).sent)
     → ((at : ℕ) (one : Held) → Among one (world.server.held at) → one.client ≡ c
     → (file_id number : ℕ) (patch : Patch) → one.request ≡ FileRequest.Write file_id number patch
-    → has_written c at number patch world.past ≡ true)
-    → IsSentOnce (stepped_in world c step) c
+    → has_written c at number patch world.past ≡ true) → IsSentOnce (stepped_in world c step) c
 stepped_once world c step answered up files tells adds counts held = record {
   counts = λ file number known own.
       let machine = stepped_machine world c step in
@@ -169,13 +163,11 @@ stepped_once world c step answered up files tells adds counts held = record {
       let knows = sym (ap (λ n. knows_file (record (world.clients c) { files = n }) file) files)
       ∙ subst (λ (m : Client). knows_file m file ≡ true) machine known in
       whole _ _ _ _ _ _ (stepped_writes world c step up file number) (counts file number knows was)
-      (adds file number knows was after).sum
-      ∙ ap (λ (m : Client). numbered_in number (m.entries file).sent) (sym machine);
+      (adds file number knows was after).sum ∙ ap (λ (m : Client). numbered_in number (m.entries file).sent) (sym machine);
   held_on = λ at one a own file_id number patch is.
       subst (λ past. has_written c at number patch past ≡ true) (sym (stepped_past world c step))
       ((later_noted c world.past step.notes).written c at number patch
-      (held at one (subst (λ (s : Server). Among one (s.held at)) (stepped_server world c step) a) own file_id number
-      patch is));
+      (held at one (subst (λ (s : Server). Among one (s.held at)) (stepped_server world c step) a) own file_id number patch is));
 }
   where
     whole : (u u1 a s s1 w : ℕ) → u1 ≡ u + w → u + a ≡ s → s1 + a ≡ s + w → u1 ≡ s1
@@ -194,8 +186,7 @@ command_once world c command up g k s = stepped_once world c (commanded (world.c
     plus_none : (n : ℕ) → n + 0 ≡ n
     plus_none n = omega arith
 
-pub known_took : (c : ℕ) (client : Client) (past : List Fact) → IsKnownBy c client past
-    → IsKnownBy c client (Fact.Took c ∷ past)
+pub known_took : (c : ℕ) (client : Client) (past : List Fact) → IsKnownBy c client past → IsKnownBy c client (Fact.Took c ∷ past)
 unfolding has_written has_number
 known_took c client past k = record {
   once = k.once;
@@ -220,11 +211,9 @@ take_once : (world : World) (c : ℕ) (reply : Reply) (queue : List Reply) → i
 take_once world c reply queue up g first k s =
     let gone = reply_gone world c queue in
     let machine = world.clients c in
-    let sum : (file number : ℕ) → knows_file machine file ≡ true
-    → IsOwnNumber c machine.last_number gone.past file number
+    let sum : (file number : ℕ) → knows_file machine file ≡ true → IsOwnNumber c machine.last_number gone.past file number
     → writes_under_way gone c file number + settles_of number reply
-    ≡ numbered_in number (machine.entries file).sent =
-    λ file number known own. whole _ _ _ _ _ _
+    ≡ numbered_in number (machine.entries file).sent = λ file number known own. whole _ _ _ _ _ _
     (ap (λ (q : List Reply). settling number q) (put_same world.replies c queue))
     (ap (λ (q : List Reply). settling number q) first)
     (s.counts file number known (took_own c machine.last_number world.past file number own)) in
@@ -248,11 +237,9 @@ away_sent online entry off sound = by_phase entry.phase refl
   where
     by_phase : (phase : Phase) → entry.phase ≡ phase → entry.sent ≡ []
     by_phase Phase.Closed is = (subst (λ p. IsSoundPhase online entry.sent p) is sound) off
-    by_phase (Phase.Opening access share) is =
-        clash online (subst (λ p. IsSoundPhase online entry.sent p) is sound) off
+    by_phase (Phase.Opening access share) is = clash online (subst (λ p. IsSoundPhase online entry.sent p) is sound) off
     by_phase (Phase.Offline parted) is = (subst (λ p. IsSoundPhase online entry.sent p) is sound).1
-    by_phase phase is =
-        clash online (subst (λ p. IsSoundPhase online entry.sent p) is sound).0 off
+    by_phase phase is = clash online (subst (λ p. IsSoundPhase online entry.sent p) is sound).0 off
 
 connect_none : (client : Client) (number file : ℕ) (sent : List Pending) (phase : Phase)
     → writes number (connect_turn client file sent phase).requests ≡ 0
@@ -295,11 +282,9 @@ connect_once world c g down =
           (all_none number (λ f. (connect_turn machine f (machine.entries f).sent (machine.entries f).phase).requests)
           (numbers_to machine.files) (λ f. connect_none machine number f (machine.entries f).sent (machine.entries f).phase))
           ∙ sym (ap (λ (m : Client). numbered_in number (m.entries file).sent) (stepped_machine back c step)
-          ∙ ap (λ l. numbered_in number l)
-          (connect_sent machine file (machine.entries file).sent (machine.entries file).phase
+          ∙ ap (λ l. numbered_in number l) (connect_sent machine file (machine.entries file).sent (machine.entries file).phase
           ∙ away_sent machine.is_online (machine.entries file) online ((g.clients c).entries file)));
-      held_on = λ at one a own. absurd (not_there one
-          (subst (λ (l : List Held). Among one l) (none_held world c g is_off at)
+      held_on = λ at one a own. absurd (not_there one (subst (λ (l : List Held). Among one l) (none_held world c g is_off at)
           (among_filtered (λ h. h.client == c) one (world.server.held at)
           (subst (λ (s : Server). Among one (s.held at)) (stepped_server back c step) a) (eq-eqb one.client c own))));
     }
@@ -316,14 +301,11 @@ unmoved_once : (world new : World) (c : ℕ) → IsUnmoved world new c → IsSen
 unmoved_once world new c u s = same_once world new c u.machine u.spared.written
     (λ file number own.
     ap₂ (λ (q : List Request) (l : List Held). writes number q + held_writes number l + settling number (new.replies c))
-    u.requests (u.held file)
-    ∙ ap (λ (q : List Reply). writes number (world.requests c)
+    u.requests (u.held file) ∙ ap (λ (q : List Reply). writes number (world.requests c)
     + held_writes number (held_by c (world.server.held file)) + settling number q) u.replies)
-    (λ at one a own file_id number patch is. s.held_on at one
-    (among_filter (λ h. h.client == c) one (world.server.held at)
+    (λ at one a own file_id number patch is. s.held_on at one (among_filter (λ h. h.client == c) one (world.server.held at)
     (subst (λ (l : List Held). Among one l) (u.held at)
-    (among_filtered (λ h. h.client == c) one (new.server.held at) a (eq-eqb one.client c own)))).0 own file_id number
-    patch is) s
+    (among_filtered (λ h. h.client == c) one (new.server.held at) a (eq-eqb one.client c own)))).0 own file_id number patch is) s
 
 pub once_moves : IsOwnMoved HasRecord IsUpSentOnce
 unfolding with_opens key_expired opens_dropped has_written
@@ -341,10 +323,8 @@ once_moves = record {
       let lease = lease_after off.server c file ask.lease in
       answered_once world off (granted_in off c file access share ask lease) c
       (FileRequest.Create file access share (Some ask)) (granted_reply off.server file ask lease) source
-      (known_by world v c good) refl refl
-      (lease_put_rest off.server c ask.lease (lease_after off.server c file ask.lease)
-      (λ s. s.held ≡ off.server.held) (λ l. refl)) refl (λ f n p. refl) (λ n. refl)
-      (a (link_of world off c _ source up));
+      (known_by world v c good) refl refl (lease_put_rest off.server c ask.lease (lease_after off.server c file ask.lease)
+      (λ s. s.held ≡ off.server.held) (λ l. refl)) refl (λ f n p. refl) (λ n. refl) (a (link_of world off c _ source up));
   reconnected = λ world off c file access share ask file_id v good source again on waits a up.
       answered_once world off (reconnected_in off c file ask file_id) c (FileRequest.Create file access share (Some ask))
       (reconnected_reply off.server c file ask file_id) source (known_by world v c good) refl refl refl refl
@@ -393,11 +373,9 @@ once_moves = record {
       let was = was_up world c (commanded (world.clients c) command) up in
       command_once world c command was (ground_of world v) (known_by world v c good) (a was);
   take = λ world c reply queue v good first a up.
-      let was : is_up (world.links c) ≡ true =
-      was_up (reply_gone world c queue) c (taken (world.clients c) reply) up in
+      let was : is_up (world.links c) ≡ true = was_up (reply_gone world c queue) c (taken (world.clients c) reply) up in
       take_once world c reply queue was (ground_of world v) first (known_by world v c good) (a was);
   notice = λ world c v good cut a on. absurd (true≢false (sym on
       ∙ ap (λ (l : ℕ → Link). is_up (l c)) (stepped_links (record world { links = put world.links c Link.Down }) c
-      (noticed (world.clients c)))
-      ∙ ap is_up (put_same world.links c Link.Down)));
+      (noticed (world.clients c))) ∙ ap is_up (put_same world.links c Link.Down)));
 }

@@ -30,8 +30,7 @@ pub neither : (a b : Bool) → (a || b) ≡ false → (a ≡ false) × (b ≡ fa
 neither true b e = absurd (true≢false e)
 neither false b e = (refl, e)
 
-pub filter_alike : {X : Type 0} (p q : X → Bool) (xs : List X) → ((x : X) → Among x xs → p x ≡ q x)
-    → filter p xs ≡ filter q xs
+pub filter_alike : {X : Type 0} (p q : X → Bool) (xs : List X) → ((x : X) → Among x xs → p x ≡ q x) → filter p xs ≡ filter q xs
 filter_alike p q [] same = refl
 filter_alike p q (x ∷ xs) same = let rest = filter_alike p q xs (λ y a. same y (inr a)) in
     either (q x) (λ e. rw (same x (inl refl), e) (ap (λ l. x ∷ l) rest)) (λ e. rw (same x (inl refl), e) rest)
@@ -110,8 +109,7 @@ pub parts_apart : (write : Pending) (low last : ℕ) (keep gone : List Pending) 
 parts_apart write low last [] gone e a = absurd a
 parts_apart write low last (x ∷ keep) gone e a = let r = rising_rest x low last (keep ++ gone) e in
     ⊎_elim
-    (λ same. (neither (has_number write.number keep) (has_number write.number gone)
-    (sym (number_append write.number keep gone)
+    (λ same. (neither (has_number write.number keep) (has_number write.number gone) (sym (number_append write.number keep gone)
     ∙ ap (λ (w : Pending). has_number w.number (keep ++ gone)) same ∙ r.0)).1)
     (λ later. parts_apart write x.number last keep gone r.1 later) a
 
@@ -152,14 +150,11 @@ left_all pending = filter_all pending
 
 pub left_front : (outcome : Settlement) (last : ℕ) (keep gone : List Pending) → are_rising 0 last (keep ++ gone) ≡ true
     → left_of (settled_as outcome gone) (keep ++ gone) ≡ keep
-left_front outcome last keep gone e =
-    filter_append (λ w. not (settles_in (settled_as outcome gone) w.number)) keep gone
-    ∙ ap₂ (λ a b. a ++ b)
-    (filter_same (λ w. not (settles_in (settled_as outcome gone) w.number)) keep
+left_front outcome last keep gone e = filter_append (λ w. not (settles_in (settled_as outcome gone) w.number)) keep gone
+    ∙ ap₂ (λ a b. a ++ b) (filter_same (λ w. not (settles_in (settled_as outcome gone) w.number)) keep
     (λ w a. ap not (settles_these outcome gone w.number ∙ parts_apart w 0 last keep gone e a)))
     (filter_none (λ w. not (settles_in (settled_as outcome gone) w.number)) gone
-    (λ w a. ap not (settles_these outcome gone w.number ∙ number_there w gone a)))
-    ∙ append_nothing keep
+    (λ w a. ap not (settles_these outcome gone w.number ∙ number_there w gone a))) ∙ append_nothing keep
   where
     append_nothing : {X : Type 0} (xs : List X) → xs ++ [] ≡ xs
     append_nothing [] = refl
@@ -179,8 +174,7 @@ without_one number low last (x ∷ sent) more e has =
     (λ w a. ap not (both (w.number == number) (has_number w.number more)
     (not_true (w.number == number) (λ s. clash (has_number x.number sent)
     (ap (λ n. has_number n sent) (eqb-true x.number number same ∙ sym (eqb-true w.number number s))
-    ∙ number_there w sent a) none.0))
-    (parts_apart w x.number last sent more r.1 a)))))
+    ∙ number_there w sent a) none.0)) (parts_apart w x.number last sent more r.1 a)))))
     (λ other. rw (other, none.1) (ap (λ l. x ∷ l) (without_one number x.number last sent more r.1
     (later (x.number == number) _ has other))))
   where
@@ -198,19 +192,16 @@ number_behind number low last [] more e has = absurd (true≢false (sym has))
 number_behind number low last (x ∷ sent) more e has = let r = rising_rest x low last (sent ++ more) e in ⊎_elim
     (λ here. (neither (has_number number sent) (has_number number more) (sym (number_append number sent more)
     ∙ ap (λ n. has_number n (sent ++ more)) (sym (eqb-true x.number number here)) ∙ r.0)).1)
-    (λ later. number_behind number x.number last sent more r.1 later)
-    (or_true (x.number == number) (has_number number sent) has)
+    (λ later. number_behind number x.number last sent more r.1 later) (or_true (x.number == number) (has_number number sent) has)
 
 pub left_one : (outcome : Settlement) (number last : ℕ) (sent unsent : List Pending)
     → are_rising 0 last (sent ++ unsent) ≡ true → has_number number sent ≡ true
     → left_of (Note.Settled number outcome ∷ []) (sent ++ unsent) ≡ sent_without number sent ++ unsent
-left_one outcome number last sent unsent e has =
-    filter_append (λ w. not (w.number == number || false)) sent unsent
+left_one outcome number last sent unsent e has = filter_append (λ w. not (w.number == number || false)) sent unsent
     ∙ ap₂ (λ a b. a ++ b)
     (filter_alike (λ w. not (w.number == number || false)) (λ w. not (w.number == number || has_number w.number unsent)) sent
     (λ w a. ap (λ b. not (w.number == number || b)) (sym (parts_apart w 0 last sent unsent e a)))
-    ∙ without_one number 0 last sent unsent e has)
-    (filter_same (λ w. not (w.number == number || false)) unsent
+    ∙ without_one number 0 last sent unsent e has) (filter_same (λ w. not (w.number == number || false)) unsent
     (λ w a. ap not (none (w.number == number) (not_true (w.number == number)
     (λ same. clash (has_number number unsent)
     (ap (λ n. has_number n unsent) (sym (eqb-true w.number number same)) ∙ number_there w unsent a)
@@ -250,8 +241,7 @@ kept_buffered write low last (x ∷ pending) e a = let r = rising_rest x low las
     fewer n (w ∷ ws) e = let p = neither (w.number == n) (has_number n ws) e in
         either w.buffered (λ b. rw (b) (fewer n ws p.1)) (λ b. rw (b, p.0) (fewer n ws p.1))
 
-    first : has_number x.number pending ≡ false
-        → has_number x.number (without (λ y. y.buffered) (x ∷ pending)) ≡ not x.buffered
+    first : has_number x.number pending ≡ false → has_number x.number (without (λ y. y.buffered) (x ∷ pending)) ≡ not x.buffered
     first none = either x.buffered (λ b. rw (b) (fewer x.number pending none))
         (λ b. rw (b, eq-eqb x.number x.number refl) refl)
 

@@ -43,8 +43,7 @@ pub record IsKnownBy (c : ℕ) (client : Client) (past : List Fact) : Type 0 whe
 
 -- a number of a write on the file, or one that wasn't given yet
 abbrev pub IsOwnNumber : ℕ → ℕ → List Fact → ℕ → ℕ → Type 0
-IsOwnNumber c last past file number =
-    ((patch : Patch) × (has_written c file number patch past ≡ true)) ⊎ (last < number)
+IsOwnNumber c last past file number = ((patch : Patch) × (has_written c file number patch past ≡ true)) ⊎ (last < number)
 
 -- ---- notes
 
@@ -59,8 +58,7 @@ noted_before c file number patch last new past (Note.Settled n outcome ∷ notes
 noted_before c file number patch last new past (Note.Wrote f n p buffered ∷ notes) tells low e = ⊎_elim
     (λ now. absurd (apart n number last tells.0 low (eqb-true n number
     (and_parts (c == c && f == file) (n == number) (and_parts (c == c && f == file && n == number) _ now).0).1)))
-    (λ before. before)
-    (or_true _ (has_written c file number patch past)
+    (λ before. before) (or_true _ (has_written c file number patch past)
     (noted_before c file number patch n new (fact_of c (Note.Wrote f n p buffered) ∷ past) notes tells.1
     (up_to number last n low tells.0) e))
   where
@@ -82,8 +80,7 @@ told_up last new (Note.Wrote f n p buffered ∷ notes) tells =
 told_up last new (note ∷ notes) tells = told_up last new notes tells
 
 pub own_before : (c last new : ℕ) (past : List Fact) (notes : List Note) → TellNumbers last notes new
-    → (file number : ℕ) → IsOwnNumber c new (past_noted c past notes) file number
-    → IsOwnNumber c last past file number
+    → (file number : ℕ) → IsOwnNumber c new (past_noted c past notes) file number → IsOwnNumber c last past file number
 own_before c last new past notes tells file number own = ⊎_elim
     (λ w. either (nat_le number last)
     (λ low. inl (w.0, noted_before c file number w.0 last new past notes tells (is_low number last low) w.1))
@@ -130,20 +127,17 @@ pub record AddsUp (client : Client) (answered : ℕ → ℕ) (step : Step) (file
 abbrev pub AddsUpWell : ℕ → Client → List Fact → (ℕ → ℕ) → Step → Type 0
 AddsUpWell c client past answered step = (file number : ℕ) → knows_file client file ≡ true
     → IsOwnNumber c client.last_number past file number
-    → IsOwnNumber c step.client.last_number (past_noted c past step.notes) file number
-    → AddsUp client answered step file number
+    → IsOwnNumber c step.client.last_number (past_noted c past step.notes) file number → AddsUp client answered step file number
 
 abbrev pub no_answers : ℕ → ℕ
 no_answers number = 0
 
 -- a turn
 turned_adds : (c : ℕ) (client : Client) (past : List Fact) (answered : ℕ → ℕ) (file : ℕ) (turn : Turn)
-    → ((number : ℕ) → IsOwnNumber c client.last_number past file number
-    → numbered_in number turn.entry.sent + answered number
+    → ((number : ℕ) → IsOwnNumber c client.last_number past file number → numbered_in number turn.entry.sent + answered number
     ≡ numbered_in number (sent_of client file) + writes number turn.requests)
     → ((other number : ℕ) → other ≢ file → IsOwnNumber c client.last_number past other number
-    → answered number ≡ writes number turn.requests)
-    → AddsUpWell c client past answered (turned client file turn)
+    → answered number ≡ writes number turn.requests) → AddsUpWell c client past answered (turned client file turn)
 unfolding turned
 turned_adds c client past answered file turn here others other number known own after = record {
   sum = by_client (λ f. IsOwnNumber c client.last_number past f number
@@ -157,8 +151,7 @@ turned_adds c client past answered file turn here others other number known own 
 
 -- one that sends these writes, which were unsent
 sends_adds : (c : ℕ) (client : Client) (past : List Fact) → IsKnownBy c client past → (file : ℕ) (turn : Turn)
-    (pending : List Pending) → Each (WasWritten c file past) pending
-    → turn.entry.sent ≡ sent_of client file ++ pending
+    (pending : List Pending) → Each (WasWritten c file past) pending → turn.entry.sent ≡ sent_of client file ++ pending
     → ((number : ℕ) → writes number turn.requests ≡ numbered_in number pending)
     → AddsUpWell c client past no_answers (turned client file turn)
 sends_adds c client past k file turn pending named sent asks = turned_adds c client past no_answers file turn
@@ -188,8 +181,7 @@ unsent_named c client past k file live is =
 
 -- writes, and behind them a Close
 then_close : (number file_id id : ℕ) (pending : List Pending) (more : List Request) → writes number more ≡ 0
-    → writes number (write_requests file_id pending ++ Request.OnFile (FileRequest.Close id) ∷ more)
-    ≡ numbered_in number pending
+    → writes number (write_requests file_id pending ++ Request.OnFile (FileRequest.Close id) ∷ more) ≡ numbered_in number pending
 then_close number file_id id pending more none =
     writes_append number (write_requests file_id pending) _ ∙ whole _ _ _ (writes_asked number file_id pending) none
   where
@@ -211,8 +203,7 @@ wrote_adds c client past k file entry answer requests write patch more new sent 
           → numbered_in number (put client.entries file entry f).sent + 0
           ≡ numbered_in number (client.entries f).sent + writes number requests) file other
           (λ a. ap (λ (e : Entry). numbered_in number e.sent + 0) (put_same client.entries file entry)
-          ∙ plus_none _ _ _ _ (ap (numbered_in number) sent ∙ numbered_append number (sent_of client file) more)
-          (asks number))
+          ∙ plus_none _ _ _ _ (ap (numbered_in number) sent ∙ numbered_append number (sent_of client file) more) (asks number))
           (λ ne apart a. ap (λ (e : Entry). numbered_in number e.sent + 0) (put_other client.entries file entry other ne)
           ∙ ap (λ n. numbered_in number (client.entries other).sent + n)
           (sym (asks number ∙ only number (λ same. not_own apart same a)))) after;
@@ -229,8 +220,7 @@ wrote_adds c client past k file entry answer requests write patch more new sent 
         (and_parts (c == c) (file == other) (and_parts (c == c && file == other) (write.number == number)
         (and_parts (c == c && file == other && write.number == number) _ now).0).0).1 apart)
         (λ before. used number client.last_number write.number same new
-        (k.low number (written_number c other number w.0 past before)))
-        (or_true _ (has_written c other number w.0 past) w.1))
+        (k.low number (written_number c other number w.0 past before))) (or_true _ (has_written c other number w.0 past) w.1))
         (λ above. more_than number client.last_number write.number same new above) own
       where
         used : (n l w : ℕ) → n ≡ w → w ≡ l + 1 → n ≤ l → ⊥
@@ -313,19 +303,15 @@ found_adds c client past k file used turn at sent none = turned_adds c client pa
         less : (a n : ℕ) → a + n ≡ 0 → n ≡ 0
         less a n e = omega (arith, e)
 
-    ne_used : (number : ℕ) → used ≡ number → (other : ℕ) → other ≢ file
-        → IsOwnNumber c client.last_number past other number → ⊥
-    ne_used number same other ne own = some (sent_of client file) at
-        (others_none c client past k file other used ne
-        (subst (λ n. IsOwnNumber c client.last_number past other n) (sym same) own)
-        (sent_of client file) (k.names file).sent)
+    ne_used : (number : ℕ) → used ≡ number → (other : ℕ) → other ≢ file → IsOwnNumber c client.last_number past other number → ⊥
+    ne_used number same other ne own = some (sent_of client file) at (others_none c client past k file other used ne
+        (subst (λ n. IsOwnNumber c client.last_number past other n) (sym same) own) (sent_of client file) (k.names file).sent)
 
 -- a reply that is passed over answers no write that was sent
 passed_adds : (c : ℕ) (client : Client) (past : List Fact) (reply : Reply) → PassesOver client reply
     → AddsUpTaken c client past reply (quiet_step client)
 passed_adds c client past reply why low file number known own after = record {
-  sum = ap (λ n. numbered_in number (client.entries file).sent + n)
-      (none reply why (low file number known own));
+  sum = ap (λ n. numbered_in number (client.entries file).sent + n) (none reply why (low file number known own));
 }
   where
     low_zero : (a n : ℕ) → n ≡ 0 → a ≤ n → a ≡ 0
@@ -354,8 +340,7 @@ lowered_adds : (c : ℕ) (client : Client) (past : List Fact) → IsKnownBy c cl
     (live : LiveEntry) (new : State) → (client.entries file).phase ≡ Phase.Live live
     → AddsUpWell c client past no_answers (turned client file (belief_lowered live (sent_of client file) notice new))
 unfolding belief_lowered
-lowered_adds c client past k file notice live new is =
-    sends_adds c client past k file _ (flushed live.belief new live.unsent)
+lowered_adds c client past k file notice live new is = sends_adds c client past k file _ (flushed live.belief new live.unsent)
     (some_named (gives_up live.belief new)) refl
     (λ n. writes_append n (write_requests live.file_id (flushed live.belief new live.unsent)) _
     ∙ whole _ _ _ (writes_asked n live.file_id (flushed live.belief new live.unsent)) (ack_none n notice.ack_required))

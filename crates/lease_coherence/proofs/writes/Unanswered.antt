@@ -67,8 +67,7 @@ wrote_tells client at entry answer requests write more = TellsWrites.Adds at wri
 
 sound_live : (client : Client) (file : ℕ) (live : LiveEntry) → IsSoundClient client
     → (client.entries file).phase ≡ Phase.Live live → IsSoundLive live
-sound_live client file live s is =
-    (subst (IsSoundPhase client.is_online (client.entries file).sent) is (s.entries file)).1
+sound_live client file live s is = (subst (IsSoundPhase client.is_online (client.entries file).sent) is (s.entries file)).1
 
 commands_tell : (client : Client) → IsSoundClient client → HasCommands client (TellsWrites client)
 unfolding cached_read opened_anew write_buffered write_sent flush_on_live
@@ -134,8 +133,7 @@ lowered_same false sent unsent = ap (λ l. l ++ unsent) (sym (append_none sent))
 
 -- one that was sent is settled
 one_leaves : (client : Client) (file number : ℕ) (turn : Turn) (outcome : Settlement) (phase : Phase)
-    → IsSoundClient client → (client.entries file).phase ≡ phase
-    → has_number number (sent_of client file) ≡ true
+    → IsSoundClient client → (client.entries file).phase ≡ phase → has_number number (sent_of client file) ≡ true
     → turn.settled ≡ Note.Settled number outcome ∷ []
     → unanswered_in turn.entry ≡ sent_without number (sent_of client file) ++ unsent_in phase
     → TurnLeaves (client.entries file) turn
@@ -156,8 +154,7 @@ one_leaves client file number turn outcome phase s is has settled same =
     first false e = e
 
 front_one_leaves : (client : Client) (file number : ℕ) (turn : Turn) (outcome : Settlement) (live : LiveEntry)
-    → IsSoundClient client → (client.entries file).phase ≡ Phase.Live live
-    → has_number number (sent_of client file) ≡ true
+    → IsSoundClient client → (client.entries file).phase ≡ Phase.Live live → has_number number (sent_of client file) ≡ true
     → turn.settled ≡ Note.Settled number outcome ∷ settled_as outcome live.unsent
     → unanswered_in turn.entry ≡ sent_without number (sent_of client file) → TurnLeaves (client.entries file) turn
 front_one_leaves client file number turn outcome live s is has settled same =
@@ -166,14 +163,12 @@ front_one_leaves client file number turn outcome live s is has settled same =
       left = ap₂ (λ l ws. left_of l ws) settled are
           ∙ left_one_front outcome number client.last_number (sent_of client file) live.unsent
           (ap (are_rising 0 client.last_number) (sym are) ∙ rises_in client file s) has ∙ sym same;
-      own = λ n e. ap (has_number n) are ∙ number_append n (sent_of client file) live.unsent
-          ∙ ⊎_elim
+      own = λ n e. ap (has_number n) are ∙ number_append n (sent_of client file) live.unsent ∙ ⊎_elim
           (λ now. true_or (has_number n (sent_of client file)) (has_number n live.unsent)
           (ap (λ x. has_number x (sent_of client file)) (eqb-true n number now) ∙ has))
           (λ rest. or_later (has_number n (sent_of client file)) (has_number n live.unsent)
           (sym (settles_these outcome live.unsent n) ∙ rest))
-          (or_true (n == number) (settles_in (settled_as outcome live.unsent) n)
-          (sym (ap (λ l. settles_in l n) settled) ∙ e));
+          (or_true (n == number) (settles_in (settled_as outcome live.unsent) n) (sym (ap (λ l. settles_in l n) settled) ∙ e));
     }
 
 with_unsent : (write : Option Pending) (phase : Phase) → unsent_in (phase_with write phase) ≡ unsent_in phase
@@ -209,8 +204,7 @@ takes_tell client s = record {
       (quiet_leaves (client.entries file) _ refl (live_unanswered client file live is));
   read_closed = λ file file_id status live is id gone. turned_leaves client file _ s
       (front_leaves client.last_number (client.entries file) _ Settlement.Failed (sent_of client file) live.unsent
-      (rises_in client file s) (live_unanswered client file live is) refl
-      (gone_unanswered live.asking (sent_of client file)));
+      (rises_in client file s) (live_unanswered client file live is) refl (gone_unanswered live.asking (sent_of client file)));
   not_read = λ file file_id status live is id some. turned_leaves client file _ s
       (quiet_leaves (client.entries file) _ refl (live_unanswered client file live is));
   written = λ file file_id number at known. turned_leaves client file _ s
@@ -234,8 +228,7 @@ parted_leaves client file phase keep s is are none turn settled same =
     (phase_unanswered client file phase is ∙ ap₂ (λ a b. a ++ b) none are ∙ sym same)
 
 all_leaves : (client : Client) (file : ℕ) (phase : Phase) (turn : Turn) → IsSoundClient client
-    → (client.entries file).phase ≡ phase
-    → turn.settled ≡ settled_as Settlement.Unknown (sent_of client file ++ unsent_in phase)
+    → (client.entries file).phase ≡ phase → turn.settled ≡ settled_as Settlement.Unknown (sent_of client file ++ unsent_in phase)
     → unanswered_in turn.entry ≡ [] → TurnLeaves (client.entries file) turn
 all_leaves client file phase turn s is settled none = front_leaves client.last_number (client.entries file) turn
     Settlement.Unknown [] (sent_of client file ++ unsent_in phase) (rises_in client file s)
@@ -243,8 +236,7 @@ all_leaves client file phase turn s is settled none = front_leaves client.last_n
 
 -- a durable entry keeps its buffered writes under W
 kept_leaves : (client : Client) (file : ℕ) (live : LiveEntry) → IsSoundClient client
-    → (client.entries file).phase ≡ Phase.Live live
-    → TurnLeaves (client.entries file)
+    → (client.entries file).phase ≡ Phase.Live live → TurnLeaves (client.entries file)
     (offline_turn (parted_from live (filter (λ w. w.buffered) (sent_of client file ++ live.unsent)))
     (without (λ w. w.buffered) (sent_of client file ++ live.unsent)))
 kept_leaves client file live s is = record {
@@ -280,16 +272,14 @@ notices_leave client file s = record {
       (sound_as client s.entries file (Phase.Reconnecting parted) is).1 _ refl refl;
 }
   where
-    none_unsent : settled_as Settlement.Unknown (sent_of client file)
-        ≡ settled_as Settlement.Unknown (sent_of client file ++ [])
+    none_unsent : settled_as Settlement.Unknown (sent_of client file) ≡ settled_as Settlement.Unknown (sent_of client file ++ [])
     none_unsent = ap (settled_as Settlement.Unknown) (sym (append_none (sent_of client file)))
 
 connect_leaves : (client : Client) (file : ℕ) (phase : Phase) → (client.entries file).phase ≡ phase
     → TurnLeaves (client.entries file) (connect_turn client file (sent_of client file) phase)
 connect_leaves client file Phase.Closed is =
     quiet_leaves (client.entries file) _ refl (phase_unanswered client file Phase.Closed is)
-connect_leaves client file phase is =
-    quiet_leaves (client.entries file) _ refl (phase_unanswered client file phase is)
+connect_leaves client file phase is = quiet_leaves (client.entries file) _ refl (phase_unanswered client file phase is)
 
 -- every entry has a turn
 flat_none : (notes : ℕ → List Note) (files : List ℕ) → ((file : ℕ) → EachNote IsPlainNote (notes file))
@@ -311,10 +301,8 @@ flat_settles notes file number files others there = same_bool (settles_in (flat_
     from [] e = absurd (none_settled number e)
     from (f ∷ list) e = ⊎_elim
         (λ now. either (f == file) (λ same. ap (λ n. settles_in (notes n) number) (sym (eqb-true f file same)) ∙ now)
-        (λ apart. clash (settles_in (notes f) number) now
-        (others f (λ x. clash (f == file) (eq-eqb f file x) apart))))
-        (λ later. from list later)
-        (or_true (settles_in (notes f) number) (settles_in (flat_map notes list) number)
+        (λ apart. clash (settles_in (notes f) number) now (others f (λ x. clash (f == file) (eq-eqb f file x) apart))))
+        (λ later. from list later) (or_true (settles_in (notes f) number) (settles_in (flat_map notes list) number)
         (sym (settles_append (notes f) (flat_map notes list) number) ∙ e))
 
     into : (list : List ℕ) → Among file list → settles_in (notes file) number ≡ true
@@ -345,8 +333,7 @@ all_tell client online turn s each =
           (s.numbers.apart other file w.number ne ((each other).own w.number
           (sym (turn_settles other (client.entries other) (turn other (client.entries other)) w.number) ∙ settled)))))
           (among_numbers client.files file known)
-          ∙ turn_settles file (client.entries file) (turn file (client.entries file)) w.number))
-          ∙ (each file).left);
+          ∙ turn_settles file (client.entries file) (turn file (client.entries file)) w.number)) ∙ (each file).left);
     }
 
 -- ---- calls
@@ -410,20 +397,17 @@ own_writes c client step past (TellsWrites.Adds at number patch buffered notes m
         ++ record { number = number; patch = patch; buffered = buffered } ∷ [] else open_writes c file past)
         ≡ (if b then unanswered_in (client.entries file)
         ++ record { number = number; patch = patch; buffered = buffered } ∷ [] else unanswered_in (client.entries file))
-    mine true = rw (eq-eqb c c refl)
-        (ap (λ ws. ws ++ record { number = number; patch = patch; buffered = buffered } ∷ []) is)
+    mine true = rw (eq-eqb c c refl) (ap (λ ws. ws ++ record { number = number; patch = patch; buffered = buffered } ∷ []) is)
     mine false = rw (eq-eqb c c refl) is
 own_writes c client step past (TellsWrites.Reads at live base at_it has reads same notes) file known is =
-    ap (λ l. open_writes c file (past_noted c past l)) notes ∙ is
-    ∙ ap (λ (m : Client). unanswered_in (m.entries file)) (sym same)
+    ap (λ l. open_writes c file (past_noted c past l)) notes ∙ is ∙ ap (λ (m : Client). unanswered_in (m.entries file)) (sym same)
 
 stepped_writes : (world : World) (c : ℕ) (call : ClientCall) → IsSoundClient (world.clients c)
     → (client_called (world.clients c) call).client.files ≡ (world.clients c).files → HasWrites world
     → HasWrites (stepped_in world c (client_called (world.clients c) call))
 stepped_writes world c call s files h d file known =
     let step = client_called (world.clients c) call in
-    ap (open_writes d file) (stepped_past world c step)
-    ∙ subst (λ (t : ℕ → Client). knows_file (t d) file ≡ true
+    ap (open_writes d file) (stepped_past world c step) ∙ subst (λ (t : ℕ → Client). knows_file (t d) file ≡ true
     → open_writes d file (past_noted c world.past step.notes) ≡ unanswered_in ((t d).entries file))
     (sym (stepped_clients world c step))
     (λ k. by_client (λ x. knows_file (put world.clients c step.client x) file ≡ true
@@ -454,6 +438,5 @@ writes_moves world (Move.Commanded client command) may g h =
 writes_moves world (Move.Take client reply queue) first g h = stepped_writes (reply_gone world client queue) client
     (ClientCall.Taken reply) (g.clients client) (taken-stays (world.clients client) reply).files h
 writes_moves world (Move.Notice client) cut g h =
-    stepped_writes (record world { links = put world.links client Link.Down }) client
-    ClientCall.Noticed (g.clients client) refl h
+    stepped_writes (record world { links = put world.links client Link.Down }) client ClientCall.Noticed (g.clients client) refl h
 writes_moves world move up g h = h

@@ -20,8 +20,7 @@ use Rattle.lease_laws.proofs.server.Lists.{either, clash}
 after_append : (file : ℕ) (old : State) (notes more : List Note)
     → believed_after file old (notes ++ more) ≡ believed_after file (believed_after file old notes) more
 after_append file old [] more = refl
-after_append file old (Note.Believes f state ∷ notes) more =
-    after_append file (if f == file then state else old) notes more
+after_append file old (Note.Believes f state ∷ notes) more = after_append file (if f == file then state else old) notes more
 after_append file old (note ∷ notes) more = after_append file old notes more
 
 -- each file's notes: writes settled, and its belief where it changed
@@ -40,24 +39,20 @@ one_more : (settled : ℕ → List Note) (old new : ℕ → State) (file n : ℕ
     → believed_after file (old file) (flat_map (notes_of settled old new) (numbers_to (suc n)))
     ≡ believed_after file (believed_after file (old file) (flat_map (notes_of settled old new) (numbers_to n)))
     (notes_of settled old new (suc n) ++ [])
-one_more settled old new file n =
-    ap (λ notes. believed_after file (old file) notes)
+one_more settled old new file n = ap (λ notes. believed_after file (old file) notes)
     (flat_map-append (notes_of settled old new) (numbers_to n) (suc n ∷ []))
-    ∙ after_append file (old file) (flat_map (notes_of settled old new) (numbers_to n))
-    (notes_of settled old new (suc n) ++ [])
+    ∙ after_append file (old file) (flat_map (notes_of settled old new) (numbers_to n)) (notes_of settled old new (suc n) ++ [])
 
 -- its own
 last_own : (settled : ℕ → List Note) (old new : ℕ → State) (file : ℕ) → AreSettlements (settled file)
     → believed_after file (old file) (notes_of settled old new file ++ []) ≡ new file
-last_own settled old new file s = ap (λ notes. believed_after file (old file) notes)
-    (append-nil (notes_of settled old new file))
+last_own settled old new file s = ap (λ notes. believed_after file (old file) notes) (append-nil (notes_of settled old new file))
     ∙ settle_pass file (old file) (settled file) (believes_noted file (old file) (new file)) s
     ∙ noted_own file (old file) (new file)
 
 -- another's
 last_other : (settled : ℕ → List Note) (old new : ℕ → State) (file other : ℕ) (state : State) → file ≢ other
-    → AreSettlements (settled other)
-    → believed_after file state (notes_of settled old new other ++ []) ≡ state
+    → AreSettlements (settled other) → believed_after file state (notes_of settled old new other ++ []) ≡ state
 last_other settled old new file other state apart s = ap (λ notes. believed_after file state notes)
     (append-nil (notes_of settled old new other))
     ∙ settle_pass file state (settled other) (believes_noted other (old other) (new other)) s
@@ -78,10 +73,8 @@ tell_to settled old new file (suc n) s =
     either (file == suc n)
     (λ e. let same : file ≡ suc n = (Decides-eqb file (suc n)).0 e in
     let own : believed_after file (old file) (flat_map (notes_of settled old new) (numbers_to (suc n))) ≡ new file =
-    one_more settled old new file n
-    ∙ ap (λ state. believed_after file state (notes_of settled old new (suc n) ++ []))
-    (before.beyond (above file n same))
-    ∙ ap (λ f. believed_after file (old file) (notes_of settled old new f ++ [])) (sym same)
+    one_more settled old new file n ∙ ap (λ state. believed_after file state (notes_of settled old new (suc n) ++ []))
+    (before.beyond (above file n same)) ∙ ap (λ f. believed_after file (old file) (notes_of settled old new f ++ [])) (sym same)
     ∙ last_own settled old new file (s file) in
     record {
       among = λ a. own;
@@ -106,14 +99,12 @@ tell_to settled old new file (suc n) s =
     lower_true : (f m : ℕ) → f ≢ suc m → (nat_le 1 f && nat_le f (suc m)) ≡ true → (nat_le 1 f && nat_le f m) ≡ true
     lower_true f m apart e = grind arith
 
-    lower_false : (f m : ℕ) → f ≢ suc m → (nat_le 1 f && nat_le f (suc m)) ≡ false
-        → (nat_le 1 f && nat_le f m) ≡ false
+    lower_false : (f m : ℕ) → f ≢ suc m → (nat_le 1 f && nat_le f (suc m)) ≡ false → (nat_le 1 f && nat_le f m) ≡ false
     lower_false f m apart e = grind arith
 
 -- every entry has its turn; those of files that aren't known keep their belief
 all_tell : (client : Client) (online : Bool) (turn : ℕ → Entry → Turn)
-    → ((file : ℕ) → AreSettlements (turn file (client.entries file)).settled)
-    → ((file : ℕ) → knows_file client file ≡ false
+    → ((file : ℕ) → AreSettlements (turn file (client.entries file)).settled) → ((file : ℕ) → knows_file client file ≡ false
     → belief client file ≡ belief_of (turn file (client.entries file)).entry)
     → (file : ℕ) → believed_after file (belief client file) (all_turned client online turn).notes
     ≡ belief (all_turned client online turn).client file
@@ -130,8 +121,7 @@ notices_settle sent = record {
   closed = settled_settle Settlement.Unknown sent;
   opening = λ access share. settled_settle Settlement.Unknown sent;
   ended = λ live. settled_settle Settlement.Unknown (sent ++ live.unsent);
-  kept = λ live writes.
-      settled_settle Settlement.Unknown (without (λ write. write.buffered) (sent ++ live.unsent));
+  kept = λ live writes. settled_settle Settlement.Unknown (without (λ write. write.buffered) (sent ++ live.unsent));
   bare = λ live none. settled_settle Settlement.Unknown (sent ++ live.unsent);
   offline = λ parted. settled_settle Settlement.Unknown sent;
   reconnecting = λ parted. settled_settle Settlement.Unknown sent;
@@ -155,8 +145,7 @@ connect_closed client file sent phase e =
 -- ---- any call
 
 pub called-beliefs : (client : Client) (call : ClientCall) → InFiles client → (file : ℕ)
-    → believed_after file (belief client file) (client_called client call).notes
-    ≡ belief (client_called client call).client file
+    → believed_after file (belief client file) (client_called client call).notes ≡ belief (client_called client call).client file
 unfolding noticed connection_made
 called-beliefs client (ClientCall.Commanded command) closed = (commanded_behaves client command).told.tells
 called-beliefs client (ClientCall.Taken reply) closed = (taken_tells client reply).tells
@@ -167,5 +156,4 @@ called-beliefs client ClientCall.Noticed closed = all_tell client false
 called-beliefs client ClientCall.Connected closed = all_tell client true
     (λ file entry. connect_turn client file entry.sent entry.phase)
     (λ file. connect_settles client file (client.entries file).sent (client.entries file).phase)
-    (λ file unknown. connect_closed client file (client.entries file).sent (client.entries file).phase
-    (closed file unknown))
+    (λ file unknown. connect_closed client file (client.entries file).sent (client.entries file).phase (closed file unknown))

@@ -36,8 +36,7 @@ settled_settle outcome (write ∷ writes) = settled_settle outcome writes
 -- writes that are given up without W
 settle_either : (writes : Bool) (outcome : Settlement) (kept : List Pending)
     → AreSettlements (if writes then [] else settled_as outcome kept)
-settle_either writes outcome kept =
-    if_either AreSettlements writes [] (settled_as outcome kept) tt (settled_settle outcome kept)
+settle_either writes outcome kept = if_either AreSettlements writes [] (settled_as outcome kept) tt (settled_settle outcome kept)
 
 -- they say nothing of beliefs
 pub settle_pass : (file : ℕ) (old : State) (notes more : List Note) → AreSettlements notes
@@ -100,16 +99,14 @@ by_place P table place x here there n = either (n == place)
     subst (P n) (sym (put_other table place x n apart)) (there n apart))
 
 -- a turn that settles writes
-turned_tells : (client : Client) (file : ℕ) (turn : Turn) → AreSettlements turn.settled
-    → Tells client (turned client file turn)
+turned_tells : (client : Client) (file : ℕ) (turn : Turn) → AreSettlements turn.settled → Tells client (turned client file turn)
 unfolding turned
 turned_tells client file turn settles =
     let old : State = belief_of (client.entries file) in
     let new : State = belief_of turn.entry in
     let notes : List Note = turn.settled ++ believes_noted file old new in
     record {
-      tells = by_place (λ n entry. believed_after n (belief client n) notes ≡ belief_of entry) client.entries file
-          turn.entry
+      tells = by_place (λ n entry. believed_after n (belief client n) notes ≡ belief_of entry) client.entries file turn.entry
           (settle_pass file old turn.settled (believes_noted file old new) settles ∙ noted_own file old new)
           (λ n apart. settle_pass n (belief client n) turn.settled (believes_noted file old new) settles
           ∙ noted_other n file (belief client n) old new apart);
@@ -134,8 +131,7 @@ plain_behaves client file turn settles never = record {
 -- a write that is given leaves the belief
 given_behaves : (client : Client) (file : ℕ) (live new : LiveEntry) (sent : List Pending) (answer : Answer)
     (requests : List Request) (write : Pending) → (client.entries file).phase ≡ Phase.Live live
-    → new.belief ≡ live.belief → ((refusal : Refusal) → answer ≢ Answer.Refused refusal)
-    → Behaves client
+    → new.belief ≡ live.belief → ((refusal : Refusal) → answer ≢ Answer.Refused refusal) → Behaves client
     (wrote_step client file (record { phase = Phase.Live new; sent = sent }) answer requests write)
 given_behaves client file live new sent answer requests write is same never = record {
   told = record {
@@ -185,8 +181,7 @@ pub commanded_behaves : (client : Client) (command : Command) → Behaves client
 commanded_behaves client = any_command client (Behaves client) (commands_behave client)
 
 pub refused-nothing : (client : Client) (command : Command) (refusal : Refusal)
-    → (commanded client command).answer ≡ Answer.Refused refusal
-    → commanded client command ≡ refused_step client refusal
+    → (commanded client command).answer ≡ Answer.Refused refusal → commanded client command ≡ refused_step client refusal
 refused-nothing client command = (commanded_behaves client command).refused
 
 -- ---- messages
@@ -206,8 +201,7 @@ takes_tell client = record {
   not_reconnected = λ file status parted is. turned_tells client file _ (settled_settle Settlement.Lost parted.writes);
   not_promoted = λ file status live asked is asks. turned_tells client file _ tt;
   read = λ file file_id bytes live is id some. turned_tells client file _ tt;
-  read_closed = λ file file_id status live is id gone. turned_tells client file _
-      (settled_settle Settlement.Failed live.unsent);
+  read_closed = λ file file_id status live is id gone. turned_tells client file _ (settled_settle Settlement.Failed live.unsent);
   not_read = λ file file_id status live is id some. turned_tells client file _ tt;
   written = λ file file_id number at known. turned_tells client file _ tt;
   write_closed = λ file file_id number status live at known is id gone. turned_tells client file _

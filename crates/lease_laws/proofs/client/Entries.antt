@@ -22,8 +22,7 @@ Sound step = HasSoundEntries step.client
 turned_sound : (client : Client) (file : ℕ) (turn : Turn) → HasSoundEntries client
     → IsSoundEntry client.is_online turn.entry → Sound (turned client file turn)
 unfolding turned
-turned_sound client file turn sound entry =
-    put_each (IsSoundEntry client.is_online) client.entries file turn.entry entry sound
+turned_sound client file turn sound entry = put_each (IsSoundEntry client.is_online) client.entries file turn.entry entry sound
 
 -- only handles, unanswered Reads and what is asked for change
 counted : (live : LiveEntry) (handles reads : ℕ) (asking : Option Asked) → IsSoundLive live
@@ -44,8 +43,7 @@ commands_sound client sound = record {
   refused = λ refusal. sound;
   opening = λ file terms is on. turned_sound client file _ sound on;
   added = λ file live is. let s = sound_as client sound file (Phase.Live live) is.is_so in
-      turned_sound client file _ sound
-      (s.0, counted live (live.handles + 1) live.reads live.asking s.1 (λ asks. omega arith));
+      turned_sound client file _ sound (s.0, counted live (live.handles + 1) live.reads live.asking s.1 (λ asks. omega arith));
   asked = λ file live terms is idle some. let s = sound_as client sound file (Phase.Live live) is.is_so in
       turned_sound client file _ sound
       (s.0, counted live live.handles live.reads (Some _) s.1 (λ asks. some_handle live.handles some));
@@ -64,8 +62,7 @@ commands_sound client sound = record {
       turned_sound client file _ sound (λ away. clash client.is_online s.0 away);
   cached = λ file live base is reads has. sound;
   read = λ file live is idle. let s = sound_as client sound file (Phase.Live live) is.is_so in
-      turned_sound client file _ sound
-      (s.0, counted live live.handles (live.reads + 1) live.asking s.1 s.1.asking_with_handles);
+      turned_sound client file _ sound (s.0, counted live live.handles (live.reads + 1) live.asking s.1 s.1.asking_with_handles);
   buffered = λ file live patch is fits caches. let s = sound_as client sound file (Phase.Live live) is.is_so in
       put_each (IsSoundEntry client.is_online) client.entries file _ (
         s.0,
@@ -167,8 +164,7 @@ takes_sound client sound = record {
   not_reconnected = λ file status parted is. turned_sound client file _ sound
       (λ away. clash client.is_online (sound_as client sound file (Phase.Reconnecting parted) is).0 away);
   not_promoted = λ file status live asked is asks. let s = sound_as client sound file (Phase.Live live) is in
-      turned_sound client file _ sound
-      (s.0, counted live live.handles live.reads None s.1 (λ asks. clash false asks refl));
+      turned_sound client file _ sound (s.0, counted live live.handles live.reads None s.1 (λ asks. clash false asks refl));
   read = λ file file_id bytes live is id some. let s = sound_as client sound file (Phase.Live live) is in
       turned_sound client file _ sound (
         s.0,
@@ -225,8 +221,7 @@ first_entries guid files file = λ away. refl
 pub called_entries : (client : Client) (call : ClientCall) → HasSoundEntries client
     → HasSoundEntries (client_called client call).client
 unfolding noticed connection_made all_turned
-called_entries client (ClientCall.Commanded command) sound =
-    any_command client Sound (commands_sound client sound) command
+called_entries client (ClientCall.Commanded command) sound = any_command client Sound (commands_sound client sound) command
 called_entries client (ClientCall.Taken reply) sound = any_reply client _ (takes_sound client sound) reply
 called_entries client ClientCall.Noticed sound = λ file. any_notice (client.entries file).sent _
     (notices_sound client.is_online (client.entries file).sent) (client.entries file).phase (sound file)

@@ -60,8 +60,7 @@ takes_in client c = record {
   passed = λ reply why. c;
   parked_closes = λ file notice live at is parked. turned_in client file _ c
       (found_known client (is_key_of client notice.key) file at);
-  lowered = λ file notice live at is stays. turned_in client file _ c
-      (found_known client (is_key_of client notice.key) file at);
+  lowered = λ file notice live at is stays. turned_in client file _ c (found_known client (is_key_of client notice.key) file at);
   opened = λ file file_id answer access share is. turned_in client file _ c
       (phase_known client file (Phase.Opening access share) c is (λ e. cc));
   reconnected = λ file file_id answer parted is. turned_in client file _ c
@@ -91,8 +90,7 @@ pub first_in_files : (guid : List ℕ) (files : ℕ) → InFiles (new_client gui
 unfolding new_client
 first_in_files guid files file unknown = refl
 
-pub called_in_files : (client : Client) (call : ClientCall) → InFiles client
-    → InFiles (client_called client call).client
+pub called_in_files : (client : Client) (call : ClientCall) → InFiles client → InFiles (client_called client call).client
 unfolding noticed connection_made all_turned
 called_in_files client (ClientCall.Commanded command) c = any_command client Keeps (commands_in client c) command
 called_in_files client (ClientCall.Taken reply) c = any_reply client _ (takes_in client c) reply

@@ -91,13 +91,11 @@ turned_tells : (client : Client) (file : ℕ) (turn : Turn) → AreOld client.la
 unfolding turned
 turned_tells client file turn old = old_tells client.last_number
     (turn.settled ++ believes_noted file (belief_of (client.entries file)) (belief_of turn.entry))
-    (old_joined client.last_number turn.settled
-    (believes_noted file (belief_of (client.entries file)) (belief_of turn.entry)) old
+    (old_joined client.last_number turn.settled (believes_noted file (belief_of (client.entries file)) (belief_of turn.entry)) old
     (old_belief client.last_number file (belief_of (client.entries file)) (belief_of turn.entry)))
 
 -- a write that is given
-wrote_tells : (last : ℕ) (write : Pending) → write.number ≡ last + 1
-    → (last < write.number) × (write.number ≡ last + 1)
+wrote_tells : (last : ℕ) (write : Pending) → write.number ≡ last + 1 → (last < write.number) × (write.number ≡ last + 1)
 wrote_tells last write is = (omega (arith, is), is)
 
 -- ---- commands
@@ -143,8 +141,7 @@ lost_old client own file phase is writes outcome = if_either (AreOld client.last
     (settled_as outcome (unsent_in phase)) tt (unsent_old client own file phase is outcome)
 
 -- a sent write was given before
-sent_old : (client : Client) (number file : ℕ) → Numbers client → has_sent client number file ≡ true
-    → number ≤ client.last_number
+sent_old : (client : Client) (number file : ℕ) → Numbers client → has_sent client number file ≡ true → number ≤ client.last_number
 sent_old client number file own passes = old_number client.last_number number (sent_of client file)
     ((thin_front (sent_of client file) (unsent_in (client.entries file).phase)).rising 0 client.last_number
     (own.rising file)) passes
@@ -158,8 +155,7 @@ takes_tell client own = record {
   opened = λ file file_id answer access share is. turned_tells client file _ tt;
   reconnected = λ file file_id answer parted is. turned_tells client file _
       (lost_old client own file (Phase.Reconnecting parted) is (first_belief client file answer).write Settlement.Lost);
-  promoted = λ file file_id answer live asked is asks. turned_tells client file _
-      (lost_old client own file (Phase.Live live) is
+  promoted = λ file file_id answer live asked is asks. turned_tells client file _ (lost_old client own file (Phase.Live live) is
       (promoted_belief (lease_key client.guid file) live.belief answer.lease).write Settlement.Failed);
   not_opened = λ file status access share is. turned_tells client file _ tt;
   not_reconnected = λ file status parted is. turned_tells client file _
@@ -172,15 +168,13 @@ takes_tell client own = record {
   written = λ file file_id number at known. turned_tells client file _ (sent_old client number file own at, tt);
   write_closed = λ file file_id number status live at known is id gone. turned_tells client file _
       (sent_old client number file own at, unsent_old client own file (Phase.Live live) is Settlement.Failed);
-  not_written = λ file file_id number status at known. turned_tells client file _
-      (sent_old client number file own at, tt);
+  not_written = λ file file_id number status at known. turned_tells client file _ (sent_old client number file own at, tt);
 }
 
 -- ---- connections
 
 -- an entry whose connection is lost
-notices_old : (last : ℕ) (sent : List Pending)
-    → HasNotices sent (λ phase turn. are_rising 0 last (sent ++ unsent_in phase) ≡ true
+notices_old : (last : ℕ) (sent : List Pending) → HasNotices sent (λ phase turn. are_rising 0 last (sent ++ unsent_in phase) ≡ true
     → AreOld last turn.settled)
 notices_old last sent = record {
   closed = λ e. old_some last Settlement.Unknown sent (sent ++ []) (thin_front sent []) e;
@@ -204,8 +198,7 @@ all_tell client online turn old =
     old_tells client.last_number (flat_map notes (numbers_to client.files))
     (old_each client.last_number notes (numbers_to client.files)
     (λ file. old_joined client.last_number (turn file (client.entries file)).settled _ (old file)
-    (old_belief client.last_number file (belief_of (client.entries file))
-    (belief_of (turn file (client.entries file)).entry))))
+    (old_belief client.last_number file (belief_of (client.entries file)) (belief_of (turn file (client.entries file)).entry))))
 
 -- an entry, in any phase, of a client that connects
 connect_old : (last : ℕ) (client : Client) (file : ℕ) (sent : List Pending) (phase : Phase)

@@ -32,8 +32,7 @@ turned_own client file phase turn own is thin = thin_table client.last_number (�
     (λ f. unanswered_in (put client.entries file turn.entry f))
     (put_at (λ f e. IsThinner (unanswered_in e) (unanswered_in (client.entries f))) client.entries file turn.entry
     (subst (λ p. IsThinner (unanswered_in turn.entry) (sent_of client file ++ unsent_in p)) (sym is) thin)
-    (λ f. thin_same (unanswered_in (client.entries f))))
-    own
+    (λ f. thin_same (unanswered_in (client.entries f)))) own
 
 -- one after which they are what they were
 same_own : (client : Client) (file : ℕ) (phase : Phase) (turn : Turn) → Numbers client
@@ -52,8 +51,7 @@ wrote_own client file live entry write own at is more =
     (λ f. unanswered_in (put client.entries file entry f)) is
     (ap (λ (e : Entry). unanswered_in e) (put_same client.entries file entry) ∙ more
     ∙ ap (λ p. (sent_of client file ++ unsent_in p) ++ write ∷ []) (sym at))
-    (λ f ne. ap (λ (e : Entry). unanswered_in e) (put_other client.entries file entry f ne))
-    own
+    (λ f ne. ap (λ (e : Entry). unanswered_in e) (put_other client.entries file entry f ne)) own
 
 -- the unsent writes are given up
 sent_left : (sent unsent : List Pending) → IsThinner (sent ++ []) (sent ++ unsent)
@@ -61,8 +59,7 @@ sent_left sent unsent = thin_after sent [] unsent (thin_none unsent)
 
 -- ---- commands
 
-commands_own : (client : Client) → HasSoundEntries client → Numbers client
-    → HasCommands client (λ step. Numbers step.client)
+commands_own : (client : Client) → HasSoundEntries client → Numbers client → HasCommands client (λ step. Numbers step.client)
 unfolding cached_read opened_anew write_buffered write_sent flush_on_live
 commands_own client sound own = record {
   refused = λ refusal. own;
@@ -99,8 +96,7 @@ lowered_same true sent unsent = append-nil (sent ++ unsent)
 lowered_same false sent unsent = ap (λ (l : List Pending). l ++ unsent) (append-nil sent)
 
 -- what was kept is unsent again, or given up
-again_thin : (writes : Bool) (sent kept : List Pending)
-    → IsThinner (sent ++ (if writes then kept else [])) (sent ++ kept)
+again_thin : (writes : Bool) (sent kept : List Pending) → IsThinner (sent ++ (if writes then kept else [])) (sent ++ kept)
 again_thin true sent kept = thin_same (sent ++ kept)
 again_thin false sent kept = sent_left sent kept
 
@@ -179,8 +175,7 @@ first_numbers guid files = record { rising = λ file. refl; apart = λ file othe
 pub called_numbers : (client : Client) (call : ClientCall) → HasSoundEntries client → Numbers client
     → Numbers (client_called client call).client
 unfolding noticed connection_made all_turned
-called_numbers client (ClientCall.Commanded command) sound own =
-    any_command client _ (commands_own client sound own) command
+called_numbers client (ClientCall.Commanded command) sound own = any_command client _ (commands_own client sound own) command
 called_numbers client (ClientCall.Taken reply) sound own = any_reply client _ (takes_own client own) reply
 called_numbers client ClientCall.Noticed sound own = thin_table client.last_number
     (λ f. unanswered_in (client.entries f))

@@ -80,8 +80,7 @@ one_more low last [] write le is e = only low last write.number le is
 one_more low last (x ∷ xs) write le is e =
     let parts = and_parts (nat_lt low x.number && nat_le x.number last) (are_rising x.number last xs) e in
     and_both (nat_lt low x.number && nat_le x.number (last + 1)) (are_rising x.number (last + 1) (xs ++ write ∷ []))
-    (higher_last low x.number last parts.0)
-    (one_more x.number last xs write (at_most low x.number last parts.0) is parts.1)
+    (higher_last low x.number last parts.0) (one_more x.number last xs write (at_most low x.number last parts.0) is parts.1)
   where
     higher_last : (a b c : ℕ) → (nat_lt a b && nat_le b c) ≡ true → (nat_lt a b && nat_le b (c + 1)) ≡ true
     higher_last a b c e = grind arith
@@ -106,8 +105,7 @@ number_of : (number : ℕ) (xs : List Pending) (write : Pending) → has_number 
     → (has_number number xs ≡ true) ⊎ (write.number ≡ number)
 number_of number xs write e = ⊎_elim (λ before. inl before)
     (λ last. ⊎_elim (λ same. inr (eqb-true write.number number same)) (λ never. clash false never refl)
-    (or_true (write.number == number) false last))
-    (or_true (has_number number xs) (has_number number (write ∷ []))
+    (or_true (write.number == number) false last)) (or_true (has_number number xs) (has_number number (write ∷ []))
     (sym (list_any-append (is_numbered number) xs (write ∷ [])) ∙ e))
 
 -- a number that neither the list nor the new write has
@@ -193,8 +191,7 @@ thin_without number (x ∷ xs) ys =
 -- those that fail a test are gone
 pub thin_filter : (test : Pending → Bool) (xs : List Pending) → IsThinner (filter test xs) xs
 thin_filter test [] = thin_same []
-thin_filter test (x ∷ xs) =
-    if_cases (λ (l : List Pending). IsThinner l (x ∷ xs)) (test x) (x ∷ filter test xs) (filter test xs)
+thin_filter test (x ∷ xs) = if_cases (λ (l : List Pending). IsThinner l (x ∷ xs)) (test x) (x ∷ filter test xs) (filter test xs)
     (λ e. thin_cons x (filter test xs) xs (thin_filter test xs))
     (λ e. thin_skip x (filter test xs) xs (thin_filter test xs))
 
@@ -205,8 +202,7 @@ pub thin_table : (last : ℕ) (old new : ℕ → List Pending) → ((file : ℕ)
     → HaveOwnNumbers last old → HaveOwnNumbers last new
 thin_table last old new thin own = record {
   rising = λ file. (thin file).rising 0 last (own.rising file);
-  apart = λ file other number ne h. (thin other).none number (own.apart file other number ne
-      (was file number h));
+  apart = λ file other number ne h. (thin other).none number (own.apart file other number ne (was file number h));
 }
   where
     was : (file number : ℕ) → has_number number (new file) ≡ true → has_number number (old file) ≡ true
@@ -227,8 +223,7 @@ grown_table last place write old new is here there own = record {
   apart = λ file other number ne h. either (file == place)
       (λ e. let same : file ≡ place = eqb-true file place e in
       let others : other ≢ place = λ o. ne (same ∙ sym o) in
-      subst (λ (l : List Pending). has_number number l ≡ false) (sym (there other others))
-      (new_and_other other number others
+      subst (λ (l : List Pending). has_number number l ≡ false) (sym (there other others)) (new_and_other other number others
       (subst (λ (l : List Pending). has_number number l ≡ true) here
       (subst (λ (n : ℕ). has_number number (new n) ≡ true) same h))))
       (λ e. let elsewhere : file ≢ place = apart_test file place e in
@@ -253,5 +248,4 @@ grown_table last place write old new is here there own = record {
         → has_number number (old other) ≡ false
     new_and_other other number ne h = ⊎_elim
         (λ before. own.apart place other number (λ e. ne (sym e)) before)
-        (λ e. none_past other number e)
-        (number_of number (old place) write h)
+        (λ e. none_past other number e) (number_of number (old place) write h)

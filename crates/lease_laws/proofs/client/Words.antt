@@ -25,8 +25,7 @@ put_each P table place x new old n = if_either P (n == place) x (table n) new (o
 -- writes joined from buffered ones are buffered
 pub joined_buffered : (xs ys : List Pending) → are_buffered xs ≡ true → are_buffered ys ≡ true → are_buffered (xs ++ ys) ≡ true
 joined_buffered [] ys x y = y
-joined_buffered (w ∷ xs) ys x y =
-    and_both _ _ (and_parts _ _ x).0 (joined_buffered xs ys (and_parts _ _ x).1 y)
+joined_buffered (w ∷ xs) ys x y = and_both _ _ (and_parts _ _ x).0 (joined_buffered xs ys (and_parts _ _ x).1 y)
 
 -- the buffered ones of some writes are buffered
 pub filter_buffered : (xs : List Pending) → are_buffered (filter (λ write. write.buffered) xs) ≡ true

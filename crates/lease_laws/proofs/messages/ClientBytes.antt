@@ -93,8 +93,7 @@ commands_write client w = record {
       (each_joined (write_requests live.file_id live.unsent) _ (writes_have live.file_id live.unsent)
       (tt, (create_has client file terms w, tt))) tt;
   fewer = λ file live is more. turned_writes client file _ w tt (fits_as client w file (Phase.Live live) is.is_so);
-  parked = λ file live is idle done stays. turned_writes client file _ w tt
-      (fits_as client w file (Phase.Live live) is.is_so);
+  parked = λ file live is idle done stays. turned_writes client file _ w tt (fits_as client w file (Phase.Live live) is.is_so);
   closed = λ file live is idle done goes. turned_writes client file _ w (close_has live.file_id live.unsent) tt;
   cached = λ file live base is reads has. record { requests = tt; writing = w };
   read = λ file live is idle. turned_writes client file _ w (tt, tt) (fits_as client w file (Phase.Live live) is.is_so);
@@ -137,8 +136,7 @@ takes_write : (client : Client) → IsWriting client
 unfolding belief_lowered parked_closed opened_turn reconnected_turn promoted_turn read_turn closed_by_server write_done_turn
 takes_write client w = record {
   passed = λ reply why new. record { requests = tt; writing = w };
-  parked_closes = λ file notice live at is parked new.
-      turned_writes client file _ w (close_has live.file_id live.unsent) tt;
+  parked_closes = λ file notice live at is parked new. turned_writes client file _ w (close_has live.file_id live.unsent) tt;
   lowered = λ file notice live at is stays new. let belief = meet live.belief notice.lowered in
       turned_writes client file _ w
       (each_joined (write_requests live.file_id (flushed live.belief belief live.unsent)) (acknowledgment notice belief)
@@ -153,8 +151,7 @@ takes_write client w = record {
   not_reconnected = λ file status parted is new. turned_writes client file _ w tt tt;
   not_promoted = λ file status live asked is asks new. turned_writes client file _ w tt
       (fits_as client w file (Phase.Live live) is);
-  read = λ file file_id bytes live is id some new. turned_writes client file _ w tt
-      (fits_as client w file (Phase.Live live) is);
+  read = λ file file_id bytes live is id some new. turned_writes client file _ w tt (fits_as client w file (Phase.Live live) is);
   read_closed = λ file file_id status live is id gone new. turned_writes client file _ w tt (gone_fits live.asking _);
   not_read = λ file file_id status live is id some new. turned_writes client file _ w tt
       (fits_as client w file (Phase.Live live) is);
@@ -166,8 +163,7 @@ takes_write client w = record {
 }
   where
     own_key : (file : ℕ) (notice : BreakNotice) → is_key_of client notice.key file ≡ true → length notice.key ≡ 16
-    own_key file notice own =
-        ap (λ k. length k) (sym ((bytes_eq-Decides (lease_key client.guid file) notice.key).0 own))
+    own_key file notice own = ap (λ k. length k) (sym ((bytes_eq-Decides (lease_key client.guid file) notice.key).0 own))
         ∙ key_long client.guid file w.guid
 
 -- ---- connections
@@ -180,8 +176,7 @@ each_file requests (file ∷ files) each = each_joined (requests file) (flat_map
 
 all_writes : (client : Client) (online : Bool) (turn : ℕ → Entry → Turn) → IsWriting client
     → ((file : ℕ) → EachRequest HasRequestBytes (turn file (client.entries file)).requests)
-    → ((file : ℕ) → HasFileId (turn file (client.entries file)).entry.phase)
-    → Writes client (all_turned client online turn)
+    → ((file : ℕ) → HasFileId (turn file (client.entries file)).entry.phase) → Writes client (all_turned client online turn)
 unfolding all_turned
 all_writes client online turn w each fits = record {
   requests = each_file (λ file. (turn file (client.entries file)).requests) (numbers_to client.files) each;
@@ -217,13 +212,11 @@ connect_fits client file sent phase fits = fits
 called_writes : (client : Client) (call : ClientCall) → IsWriting client → CallHasFileId call
     → Writes client (client_called client call)
 unfolding noticed connection_made
-called_writes client (ClientCall.Commanded command) w fits =
-    any_command client (Writes client) (commands_write client w) command
+called_writes client (ClientCall.Commanded command) w fits = any_command client (Writes client) (commands_write client w) command
 called_writes client (ClientCall.Taken reply) w fits = any_reply client _ (takes_write client w) reply fits
 called_writes client ClientCall.Noticed w fits =
     let each : (file : ℕ) → _ = λ file. any_notice (client.entries file).sent _ (notices_have (client.entries file).sent)
-    (client.entries file).phase
-    (w.file_ids file) in
+    (client.entries file).phase (w.file_ids file) in
     all_writes client false (λ file entry. notice_turn entry.sent entry.phase) w (λ file. (each file).0)
     (λ file. (each file).1)
 called_writes client ClientCall.Connected w fits = all_writes client true

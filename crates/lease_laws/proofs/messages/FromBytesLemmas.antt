@@ -40,8 +40,7 @@ acknowledgment_found bytes v is =
       within 36 (length bytes) long,
       size,
       bytes_at-taken 8 16 36 bytes (omega arith) long,
-      number_at-taken 24 4 36 bytes
-          (omega arith) long,
+      number_at-taken 24 4 36 bytes (omega arith) long,
       ← is.lease_key,
       ← is.lease_state,
     ) refl

@@ -25,8 +25,7 @@ ask_writable None durable again h = record { key = tt; file_id = h.file_id; dire
 ask_writable (Some l) durable again h = record { key = h.key; file_id = h.file_id; directed = refl }
 
 -- so it is read back
-ask_back : (ask : CreateAsk) → HasAskBytes ask
-    → ask_found (value_of Direction.Request (ask_bytes (Some ask))) ≡ Some ask
+ask_back : (ask : CreateAsk) → HasAskBytes ask → ask_found (value_of Direction.Request (ask_bytes (Some ask))) ≡ Some ask
 ask_back ask h = written_contexts_found.0 (view_of_ask ask) (ask_writable ask.lease ask.durable ask.reconnect h)
     ∙ ask_lease ask.lease ask.durable ask.reconnect
 
@@ -63,6 +62,5 @@ replies_back (Reply.Created file file_id (Some answer)) h =
 replies_back (Reply.Break None) h = absurd h
 replies_back (Reply.Break (Some notice)) h = ap (λ n. Reply.Break n) (written_messages_found.1 (notice_view notice) h)
 replies_back (Reply.AckDone None) h = absurd h
-replies_back (Reply.AckDone (Some lease)) h =
-    ap (λ l. Reply.AckDone l) (written_messages_found.0 (key_and_state lease) h)
+replies_back (Reply.AckDone (Some lease)) h = ap (λ l. Reply.AckDone l) (written_messages_found.0 (key_and_state lease) h)
 replies_back reply h = refl

@@ -46,8 +46,7 @@ full_key server key full there =
     own : (client : ℕ) (bytes : Option (List ℕ)) → is_key key client bytes ≡ true
         → ((b : List ℕ) → bytes ≡ Some b → length b ≡ 16) → length key.bytes ≡ 16
     own client None k each = clash false k refl
-    own client (Some bytes) k each =
-        ap (λ b. length b) ((bytes_eq-Decides key.bytes bytes).0
+    own client (Some bytes) k each = ap (λ b. length b) ((bytes_eq-Decides key.bytes bytes).0
         (and_parts (key.client == client) (bytes_eq key.bytes bytes) k).1) ∙ each bytes refl
 
 -- one reply that has bytes, where nothing changes
@@ -68,8 +67,7 @@ dropped_full : (test : Open → Bool) (progress : Progress) → HaveFullKeys pro
     → HaveFullKeys (opens_dropped test progress).server
 unfolding opens_dropped with_opens
 dropped_full test progress full = record {
-  opens = λ one bytes a e. full.opens one bytes
-      (among_filter (λ x. not (test x)) one progress.server.opens a).0 e;
+  opens = λ one bytes a e. full.opens one bytes (among_filter (λ x. not (test x)) one progress.server.opens a).0 e;
   held = full.held;
 }
 
@@ -97,8 +95,7 @@ put_opens server client None lease = refl
 put_opens server client (Some l) lease = refl
 
 granted_full : (client file : ℕ) (access : Access) (share : Share) (asked : Option LeaseOf) (durable : Bool)
-    (progress : Progress) → IfSome asked (λ l. length l.key ≡ 16) → HaveFullKeys progress.server
-    → IsFull progress
+    (progress : Progress) → IfSome asked (λ l. length l.key ≡ 16) → HaveFullKeys progress.server → IsFull progress
     (granted_with client file access share asked durable (lease_after progress.server client file asked) progress)
 unfolding granted_with
 granted_full client file access share asked durable progress h full =
@@ -109,8 +106,7 @@ granted_full client file access share asked durable progress h full =
         opens = λ one bytes a e. ⊎_elim (λ old. full.opens one bytes old e)
             (λ last. ⊎_elim (λ same. new_key asked bytes h (ap (λ o. o.lease_key) (sym same) ∙ e)) (λ never. absurd never) last)
             (among_append one progress.server.opens _ a);
-        held = λ f one a. full.held f one
-            (subst (λ held. Among one (held f)) (put_opens progress.server client asked lease) a);
+        held = λ f one a. full.held f one (subst (λ held. Among one (held f)) (put_opens progress.server client asked lease) a);
       };
     }
 
@@ -125,12 +121,10 @@ ends_full : (client : ℕ) (progress : Progress) → HaveFullKeys progress.serve
     → HasEnds client progress (λ request outcome after. HasFullKey request → IsFull progress after)
 unfolding reconnected changed
 ends_full client progress full = record {
-  refused = λ request status h.
-      replied_full client (refusal_of request status) progress (refusal_bytes request status) full;
+  refused = λ request status h. replied_full client (refusal_of request status) progress (refusal_bytes request status) full;
   left = λ request outcome h. record { outs = go_on-same OutHasBytes progress.outs; keys = full };
   full = λ file access share ask none h. replied_full client _ progress tt full;
-  granted = λ file access share ask none h.
-      granted_full client file access share ask.lease ask.durable progress h full;
+  granted = λ file access share ask none h. granted_full client file access share ask.lease ask.durable progress h full;
   again = λ file access share ask file_id some h. record {
     outs = record {
       more = _;
@@ -158,8 +152,7 @@ ends_full client progress full = record {
 }
 
 concluded_full : (client : ℕ) (request : FileRequest) (progress : Progress) (outcome : Outcome)
-    → HasFullKey request → HaveFullKeys progress.server
-    → IsFull progress (concluded client request progress outcome)
+    → HasFullKey request → HaveFullKeys progress.server → IsFull progress (concluded client request progress outcome)
 concluded_full client request progress outcome h full =
     any_end client progress _ (ends_full client progress full) request outcome h
 
@@ -229,8 +222,7 @@ held_full file one progress h full = record {
 step_full : (step : SmallStep) (progress : Progress) → IsGuarded step progress.server → StepHasFullKey step
     → HaveFullKeys progress.server → IsFull progress (step_taken step progress)
 unfolding lease_lowered break_begun
-step_full (SmallStep.Answer client request outcome) progress may h full =
-    concluded_full client request progress outcome h full
+step_full (SmallStep.Answer client request outcome) progress may h full = concluded_full client request progress outcome h full
 step_full (SmallStep.AnswerHeld file before one behind outcome) progress may h full =
     let left = held_left file (before ++ behind) progress in
     let done = concluded_full one.client one.request left outcome
@@ -262,14 +254,12 @@ step_full (SmallStep.Begin key lowered) progress may h full = record {
 }
 
 steps_full : (call : Call) (steps : List SmallStep) (progress : Progress) → CallHasFullKey call
-    → AreGuarded steps progress → AreOf call steps → HaveFullKeys progress.server
-    → EachOut OutHasBytes progress.outs
+    → AreGuarded steps progress → AreOf call steps → HaveFullKeys progress.server → EachOut OutHasBytes progress.outs
     → EachOut OutHasBytes (steps_taken steps progress).outs × HaveFullKeys (steps_taken steps progress).server
 steps_full call [] progress h g of full each = (each, full)
 steps_full call (step ∷ steps) progress h g of full each =
     let one = step_full step progress g.0 (of_call call step of.0 h) full in
-    steps_full call steps (step_taken step progress) h g.1 of.1 one.keys
-    (subst (EachOut OutHasBytes) (sym (one.outs).are_more)
+    steps_full call steps (step_taken step progress) h g.1 of.1 one.keys (subst (EachOut OutHasBytes) (sym (one.outs).are_more)
     (each_append OutHasBytes progress.outs (one.outs).more each (one.outs).each))
 
 -- ---- calls
@@ -285,17 +275,14 @@ unfolding client_forgotten opens_disconnected
 lost_full client progress full = record {
   opens = λ one bytes a e. let x = among_map (disconnected client) one progress.server.opens a in
       full.opens x.0 bytes x.1 (sym (cut_key client x.0) ∙ ap (λ o. o.lease_key) (sym x.2) ∙ e);
-  held = λ file one a. full.held file one
-      (among_filter (λ x. not (x.client == client)) one (progress.server.held file) a).0;
+  held = λ file one a. full.held file one (among_filter (λ x. not (x.client == client)) one (progress.server.held file) a).0;
 }
 
-timer_full : (key : Key) (progress : Progress) → HaveFullKeys progress.server
-    → HaveFullKeys (key_expired key progress).server
+timer_full : (key : Key) (progress : Progress) → HaveFullKeys progress.server → HaveFullKeys (key_expired key progress).server
 unfolding key_expired
 timer_full key progress full = record { opens = full.opens; held = full.held }
 
-joined_full : (client : ℕ) (progress : Progress) → HaveFullKeys progress.server
-    → HaveFullKeys (joined client progress).server
+joined_full : (client : ℕ) (progress : Progress) → HaveFullKeys progress.server → HaveFullKeys (joined client progress).server
 unfolding joined
 joined_full client progress full = record { opens = full.opens; held = full.held }
 
@@ -306,8 +293,7 @@ either_full false x y f g = g
 
 begun_full : (server : Server) (call : Call) → HaveFullKeys server → HaveFullKeys (call_begun server call).server
 unfolding join
-begun_full server (Call.Join client) full =
-    either_full (server.present client) (begun server) (joined client (begun server)) full
+begun_full server (Call.Join client) full = either_full (server.present client) (begun server) (joined client (begun server)) full
     (joined_full client (begun server) full)
 begun_full server (Call.Receive client request) full = full
 begun_full server (Call.Cut client) full = either_full (server.present client) _ (begun server)
@@ -319,8 +305,7 @@ begun_full server (Call.Scavenge file_id) full = either_full (list_any (is_left_
     (begun server) (dropped_full (is_left_behind file_id) (begun server) full) full
 
 pub replies_have_bytes : (server : Server) (call : Call) → IsSound server → WaitsWell server → HaveFullKeys server
-    → CallHasFullKey call
-    → EachOut OutHasBytes (called server call).outs × HaveFullKeys (called server call).server
+    → CallHasFullKey call → EachOut OutHasBytes (called server call).outs × HaveFullKeys (called server call).server
 replies_have_bytes server call s w full h =
     let go = called-steps server call s w in
     subst (λ p. EachOut OutHasBytes p.outs × HaveFullKeys p.server) (sym go.lead)

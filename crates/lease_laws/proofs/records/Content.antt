@@ -41,12 +41,10 @@ all_unsent client (_ ∷ past) all = clash false all refl
 pub content_now : ContentNow
 unfolding content_at content_of start_of changes_of starts_first
 content_now file [] first = refl
-content_now file (Fact.Start other bytes ∷ past) first =
-    either (other == file)
+content_now file (Fact.Start other bytes ∷ past) first = either (other == file)
     (λ e. rw (e, all_unchanged file past first) refl)
     (λ e. rw e (content_now file past (all_first past first)))
-content_now file (Fact.Changed other client number patch ∷ past) first =
-    either (other == file)
+content_now file (Fact.Changed other client number patch ∷ past) first = either (other == file)
     (λ e. rw e (patches_more (start_of file past) (changes_of file past) patch
     ∙ ap (λ (content : List ℕ). patched content patch) (content_now file past first)))
     (λ e. rw e (content_now file past first))
@@ -69,7 +67,6 @@ content_when_sent client file (Fact.Sent other ∷ past) place first a =
     (λ before. content_when_sent client file past place first before)
     (λ last. ⊎_elim
     (λ same. subst (λ (p : List Fact). content_at file past p ≡ content_of file p) (sym same) (content_now file past first))
-    (λ never. absurd never) last)
-    (among_append place (sendings client past) (past ∷ []) b))
+    (λ never. absurd never) last) (among_append place (sendings client past) (past ∷ []) b))
     (λ e b. content_when_sent client file past place first b) a
 content_when_sent client file (_ ∷ past) place first a = content_when_sent client file past place first a

@@ -41,8 +41,7 @@ new_sound guid files = record {
 }
 
 -- and every call keeps it so
-called_sound : (client : Client) (call : ClientCall) → IsSoundClient client
-    → IsSoundClient (client_called client call).client
+called_sound : (client : Client) (call : ClientCall) → IsSoundClient client → IsSoundClient (client_called client call).client
 called_sound client call sound = record {
   entries = called_entries client call sound.entries;
   in_files = called_in_files client call sound.in_files;
@@ -80,8 +79,7 @@ settled_numbered client last other number outcome past given n = record {
   old = λ k e. ⊎_elim
       (λ here. let both : (other == client ≡ true) × (number == k ≡ true) = and_parts (other == client) (number == k) here in
       subst (λ (m : ℕ). m ≤ last) (eqb-true number k both.1) (given (eqb-true other client both.0)))
-      (λ before. n.old k before)
-      (or_true (other == client && number == k) (is_settled client k past) e);
+      (λ before. n.old k before) (or_true (other == client && number == k) (is_settled client k past) e);
 }
 
 -- a write of the client is given, with a new number
@@ -91,8 +89,7 @@ unfolding gives_first is_settled
 given_numbered client last file number patch buffered past lt n = record {
   gives = and_both (not (client == client && is_settled client number past)) (gives_first client past)
       (never (client == client) (is_settled client number past)
-      (not_true (is_settled client number past) (λ e. let le : number ≤ last = n.old number e in omega (arith, le, lt))))
-      n.gives;
+      (not_true (is_settled client number past) (λ e. let le : number ≤ last = n.old number e in omega (arith, le, lt)))) n.gives;
   old = λ k e. let le : k ≤ last = n.old k e in omega (arith, le, lt);
 }
   where
@@ -106,8 +103,7 @@ unfolding gives_first is_settled
 other_numbered client last other file number patch buffered past ne n = record {
   gives = and_both (not (other == client && is_settled client number past)) (gives_first client past)
       (never (other == client) (is_settled client number past)
-      (not_true (other == client) (λ e. absurd (ne (eqb-true other client e)))))
-      n.gives;
+      (not_true (other == client) (λ e. absurd (ne (eqb-true other client e))))) n.gives;
   old = n.old;
 }
   where
@@ -215,8 +211,7 @@ served_clients world progress = all_delivered_clients (record world { server = p
 
 -- a step of a client
 stepped_given : (world : World) (client : ℕ) (step : Step) → Given world → IsSoundClient step.client
-    → TellNumbers (world.clients client).last_number step.notes step.client.last_number
-    → Given (stepped_in world client step)
+    → TellNumbers (world.clients client).last_number step.notes step.client.last_number → Given (stepped_in world client step)
 unfolding stepped_in requests_sent
 stepped_given world client step g sound tells =
     let middle : World = requests_sent (record world { clients = put world.clients client step.client }) client step.requests in
@@ -239,19 +234,16 @@ stepped_given world client step g sound tells =
 call_given : (world : World) (client : ℕ) (call : ClientCall) → Given world
     → Given (stepped_in world client (client_called (world.clients client) call))
 call_given world client call g = stepped_given world client (client_called (world.clients client) call) g
-    (called_sound (world.clients client) call (g.sound client))
-    (called_tells (world.clients client) call (g.sound client))
+    (called_sound (world.clients client) call (g.sound client)) (called_tells (world.clients client) call (g.sound client))
 
 -- the server takes a request
-server_takes_given : (world : World) (client : ℕ) (queue : List Request) → Given world
-    → Given (server_takes world client queue)
+server_takes_given : (world : World) (client : ℕ) (queue : List Request) → Given world → Given (server_takes world client queue)
 server_takes_given world client [] g = g
 server_takes_given world client (request ∷ queue) g =
     served_given (record world { requests = put world.requests client queue }) (receive world.server client request) g
 
 -- a client takes a reply
-client_takes_given : (world : World) (client : ℕ) (queue : List Reply) → Given world
-    → Given (client_takes world client queue)
+client_takes_given : (world : World) (client : ℕ) (queue : List Reply) → Given world → Given (client_takes world client queue)
 client_takes_given world client [] g = g
 client_takes_given world client (reply ∷ queue) g =
     call_given (happened (record world { replies = put world.replies client queue }) (Fact.Took client)) client
@@ -281,8 +273,7 @@ connect_given world client Link.Down g =
     (served_given up (join world.server client) (happened_given world.clients world.past (Fact.Joined client) refl g))
     (called_sound (world.clients client) ClientCall.Connected (g.sound client))
     (subst (λ (c : ℕ → Client). TellNumbers (c client).last_number (connection_made (world.clients client)).notes
-    (connection_made (world.clients client)).client.last_number)
-    (sym (served_clients up (join world.server client)))
+    (connection_made (world.clients client)).client.last_number) (sym (served_clients up (join world.server client)))
     (called_tells (world.clients client) ClientCall.Connected (g.sound client)))
 connect_given world client link g = g
 
@@ -313,12 +304,10 @@ applied_given world (Event.ClientTakes client) g = client_takes_given world clie
 applied_given world (Event.Cut client) g = cut_given world client (world.links client) g
 applied_given world (Event.Notice client) g = notice_given world client (world.links client) g
 applied_given world (Event.Connect client) g = connect_given world client (world.links client) g
-applied_given world (Event.Expire client file) g =
-    if_either Given (has_file world.server file)
+applied_given world (Event.Expire client file) g = if_either Given (has_file world.server file)
     (if breaking world.server (machine_key world client file) then timer_expired world client file else world) world
     (if_either Given (breaking world.server (machine_key world client file))
-    (timer_expired world client file) world (timer_given world client file g) g)
-    g
+    (timer_expired world client file) world (timer_given world client file g) g) g
 applied_given world (Event.Scavenge client file) g = scavenged_given world (kept world.server client file) g
 applied_given world (Event.Raw client request) g = strayed_given world client request (world.links client) g
 

@@ -75,8 +75,7 @@ server_takes_begun world client (request ∷ queue) b = served_begun _ (receive 
     (record { first = b.first })
 
 -- a client takes a reply
-client_takes_begun : (world : World) (client : ℕ) (queue : List Reply) → IsBegun world
-    → IsBegun (client_takes world client queue)
+client_takes_begun : (world : World) (client : ℕ) (queue : List Reply) → IsBegun world → IsBegun (client_takes world client queue)
 unfolding starts_first
 client_takes_begun world client [] b = b
 client_takes_begun world client (reply ∷ queue) b =
@@ -128,12 +127,10 @@ applied_begun world (Event.ClientTakes client) b = client_takes_begun world clie
 applied_begun world (Event.Cut client) b = cut_begun world client (world.links client) b
 applied_begun world (Event.Notice client) b = notice_begun world client (world.links client) b
 applied_begun world (Event.Connect client) b = connect_begun world client (world.links client) b
-applied_begun world (Event.Expire client file) b =
-    if_either IsBegun (has_file world.server file)
+applied_begun world (Event.Expire client file) b = if_either IsBegun (has_file world.server file)
     (if breaking world.server (machine_key world client file) then timer_expired world client file else world) world
     (if_either IsBegun (breaking world.server (machine_key world client file))
-    (timer_expired world client file) world (timer_begun world client file b) b)
-    b
+    (timer_expired world client file) world (timer_begun world client file b) b) b
 applied_begun world (Event.Scavenge client file) b = scavenged_begun world (kept world.server client file) b
 applied_begun world (Event.Raw client request) b = strayed_begun world client request (world.links client) b
 

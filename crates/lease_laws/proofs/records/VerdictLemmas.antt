@@ -67,11 +67,9 @@ rival_seen : (past : List Fact) (file client other : ℕ) → other ≢ client �
     → holds_any (believed other file past) ≡ true → has_two_caches past ≡ true
 unfolding has_two_caches
 rival_seen past file client other ne good writes good_too holds =
-    any_believer _ client file past (holds_any-write (believed client file past) writes)
-    (and_from _ _ (and_from _ _ good writes)
+    any_believer _ client file past (holds_any-write (believed client file past) writes) (and_from _ _ (and_from _ _ good writes)
     (any_believer (is_rival past (believer client file)) other file past holds
-    (and_from _ _ (and_from _ _ (eq-eqb file file refl) (other_one other client ne))
-    (and_from _ _ good_too holds))))
+    (and_from _ _ (and_from _ _ (eq-eqb file file refl) (other_one other client ne)) (and_from _ _ good_too holds))))
   where
     other_one : (a b : ℕ) → a ≢ b → not (a == b) ≡ true
     other_one a b n = grind arith
@@ -108,8 +106,7 @@ two_caches-test past one = elim (cases_Bool (has_two_caches past)) [ inl two ↦
 -- ---- fresh cached reads
 
 is_fresh-gives : (client file : ℕ) (bytes : List ℕ) (past : List Fact) (taken : Option (List Fact))
-    → is_fresh client file bytes past taken ≡ true
-    → (place : List Fact) × (taken ≡ Some place)
+    → is_fresh client file bytes past taken ≡ true → (place : List Fact) × (taken ≡ Some place)
     × (bytes ≡ patches (content_at file past place) (unanswered client file past))
 is_fresh-gives client file bytes past None e = absurd (both_ways _ refl e)
 is_fresh-gives client file bytes past (Some place) e = (place, refl, (bytes_decides _ _).0 e)
@@ -117,8 +114,7 @@ is_fresh-gives client file bytes past (Some place) e = (place, refl, (bytes_deci
 is_fresh-from : (client file : ℕ) (bytes : List ℕ) (past : List Fact) (taken : Option (List Fact)) (place : List Fact)
     → taken ≡ Some place → bytes ≡ patches (content_at file past place) (unanswered client file past)
     → is_fresh client file bytes past taken ≡ true
-is_fresh-from client file bytes past taken place at_place same =
-    rw at_place ((bytes_decides _ _).1 same)
+is_fresh-from client file bytes past taken place at_place same = rw at_place ((bytes_decides _ _).1 same)
 
 -- two tests, both of which must pass for a flaw
 not_both : (a b : Bool) → (a && not b) ≡ false → a ≡ true → b ≡ true
@@ -188,12 +184,8 @@ record Sound (fact : Fact) (past : List Fact) : Type 0 where
   no_false_done : NoFalseDone fact past
 
 flaw : ℕ → Bool → Bool → Bool → Bool → Bool → Verdict
-flaw place well two stale late done =
-    if not well then Verdict.Malformed place
-    else (if two then Verdict.Unsafe place 1
-    else (if stale then Verdict.Unsafe place 2
-    else (if late then Verdict.Unsafe place 3
-    else (if done then Verdict.Unsafe place 4
+flaw place well two stale late done = if not well then Verdict.Malformed place else (if two then Verdict.Unsafe place 1
+    else (if stale then Verdict.Unsafe place 2 else (if late then Verdict.Unsafe place 3 else (if done then Verdict.Unsafe place 4
     else Verdict.Safe))))
 
 none_of : (place : ℕ) (well two stale late done : Bool) → flaw place well two stale late done ≡ Verdict.Safe
@@ -255,8 +247,7 @@ sound-verdict : (place : ℕ) (past facts : List Fact) → EachFact Sound (rever
     → verdict_from place past facts ≡ Verdict.Safe
 unfolding verdict_from
 sound-verdict place past [] sound = refl
-sound-verdict place past (fact ∷ facts) sound =
-    rw (sound-flaw place fact past (later-sound (fact ∷ past) facts sound).0)
+sound-verdict place past (fact ∷ facts) sound = rw (sound-flaw place fact past (later-sound (fact ∷ past) facts sound).0)
     (sound-verdict (place + 1) (fact ∷ past) facts sound)
 
 each : {P Q : Fact → List Fact → Type 0} (past : List Fact) → ((fact : Fact) (before : List Fact) → P fact before → Q fact before)
@@ -305,13 +296,11 @@ safe-verdict facts safe = sound-verdict 1 [] facts
 -- ---- the first bad place
 
 safe_before : (past : List Fact) → EachFact Sound past → Safe (reverse past)
-safe_before past sound =
-    verdict-safe (reverse past) (sound-verdict 1 [] (reverse past)
+safe_before past sound = verdict-safe (reverse past) (sound-verdict 1 [] (reverse past)
     (subst (λ (l : List Fact). EachFact Sound l) (sym (reverse-reverse past)) sound))
 
 bad_here : (wrong : Fact → List Fact → Type 0) (place : ℕ) (fact : Fact) (past facts : List Fact)
-    → place ≡ length past + 1 → EachFact Sound past → wrong fact past
-    → IsFirstBad wrong (reverse_aux past (fact ∷ facts)) place
+    → place ≡ length past + 1 → EachFact Sound past → wrong fact past → IsFirstBad wrong (reverse_aux past (fact ∷ facts)) place
 bad_here wrong place fact past facts at_place sound is_so = record {
   before = reverse past;
   fact = fact;
@@ -322,45 +311,38 @@ bad_here wrong place fact past facts at_place sound is_so = record {
   is_wrong = subst (λ (l : List Fact). wrong fact l) (sym (reverse-reverse past)) is_so;
 }
 
-tells : (place : ℕ) (fact : Fact) (past facts : List Fact) (rest : Verdict)
-    → place ≡ length past + 1 → EachFact Sound past
-    → (Sound fact past → Says (reverse_aux past (fact ∷ facts)) rest)
-    → (well two stale late done : Bool)
+tells : (place : ℕ) (fact : Fact) (past facts : List Fact) (rest : Verdict) → place ≡ length past + 1 → EachFact Sound past
+    → (Sound fact past → Says (reverse_aux past (fact ∷ facts)) rest) → (well two stale late done : Bool)
     → is_well_formed fact past ≡ well → has_two_caches (fact ∷ past) ≡ two → is_stale_read fact past ≡ stale
     → is_late_write fact past ≡ late → is_false_done fact past ≡ done
     → Says (reverse_aux past (fact ∷ facts)) (or_else (flaw place well two stale late done) rest)
 unfolding flaw
 tells place fact past facts rest at_place sound goes_on false two stale late done w t s l d =
     bad_here IsMalformed place fact past facts at_place sound (both_ways _ w)
-tells place fact past facts rest at_place sound goes_on true true stale late done w t s l d =
-    inl (
-      refl,
-      bad_here MakesTwoCaches place fact past facts at_place sound
-          (w, λ one. both_ways _ (two_caches-test (fact ∷ past) one) t),
-    )
-tells place fact past facts rest at_place sound goes_on true false true late done w t s l d =
-    inr (inl (
-      refl,
-      bad_here IsStaleRead place fact past facts at_place sound
-          (w, one_cache-test (fact ∷ past) t, λ fresh. both_ways _ (stale-test fact past fresh) s),
-    ))
-tells place fact past facts rest at_place sound goes_on true false false true done w t s l d =
-    inr (inr (inl (
-      refl,
-      bad_here IsLateWrite place fact past facts at_place sound
-          (w, one_cache-test (fact ∷ past) t, fresh-test fact past s, λ timely. both_ways _ (late-test fact past timely) l),
-    )))
-tells place fact past facts rest at_place sound goes_on true false false false true w t s l d =
-    inr (inr (inr (
-      refl,
-      bad_here IsFalseDone place fact past facts at_place sound (
-        w,
-        one_cache-test (fact ∷ past) t,
-        fresh-test fact past s,
-        timely-test fact past l,
-        λ true_done. both_ways _ (false_done-test fact past true_done) d,
-      ),
-    )))
+tells place fact past facts rest at_place sound goes_on true true stale late done w t s l d = inl (
+  refl,
+  bad_here MakesTwoCaches place fact past facts at_place sound (w, λ one. both_ways _ (two_caches-test (fact ∷ past) one) t),
+)
+tells place fact past facts rest at_place sound goes_on true false true late done w t s l d = inr (inl (
+  refl,
+  bad_here IsStaleRead place fact past facts at_place sound
+      (w, one_cache-test (fact ∷ past) t, λ fresh. both_ways _ (stale-test fact past fresh) s),
+))
+tells place fact past facts rest at_place sound goes_on true false false true done w t s l d = inr (inr (inl (
+  refl,
+  bad_here IsLateWrite place fact past facts at_place sound
+      (w, one_cache-test (fact ∷ past) t, fresh-test fact past s, λ timely. both_ways _ (late-test fact past timely) l),
+)))
+tells place fact past facts rest at_place sound goes_on true false false false true w t s l d = inr (inr (inr (
+  refl,
+  bad_here IsFalseDone place fact past facts at_place sound (
+    w,
+    one_cache-test (fact ∷ past) t,
+    fresh-test fact past s,
+    timely-test fact past l,
+    λ true_done. both_ways _ (false_done-test fact past true_done) d,
+  ),
+)))
 tells place fact past facts rest at_place sound goes_on true false false false false w t s l d = goes_on (record {
   well_formed = w;
   one_write_cache = one_cache-test (fact ∷ past) t;

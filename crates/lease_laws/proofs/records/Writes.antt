@@ -20,8 +20,7 @@ filter_in test (y ∷ xs) x e =
     either (test y) (λ t. rw t (ap (λ l. y ∷ l) (filter_in test xs x e))) (λ t. rw t (filter_in test xs x e))
 
 -- a last element that fails is left out
-filter_out : {X : Type 0} (test : X → Bool) (xs : List X) (x : X) → test x ≡ false
-    → filter test (xs ++ x ∷ []) ≡ filter test xs
+filter_out : {X : Type 0} (test : X → Bool) (xs : List X) (x : X) → test x ≡ false → filter test (xs ++ x ∷ []) ≡ filter test xs
 filter_out test [] x e = rw e refl
 filter_out test (y ∷ xs) x e =
     either (test y) (λ t. rw t (ap (λ l. y ∷ l) (filter_out test xs x e))) (λ t. rw t (filter_out test xs x e))
@@ -39,8 +38,7 @@ second_fails false b e = refl
 filter_twice : {X : Type 0} (first second both : X → Bool) → ((x : X) → both x ≡ (first x && second x)) → (xs : List X)
     → filter second (filter first xs) ≡ filter both xs
 filter_twice first second both is [] = refl
-filter_twice first second both is (y ∷ xs) =
-    either (first y)
+filter_twice first second both is (y ∷ xs) = either (first y)
     (λ f. either (second y)
     (λ s. let b : both y ≡ true = is y ∙ and_both (first y) (second y) f s in
     rw (f, s, b) (ap (λ l. y ∷ l) (filter_twice first second both is xs)))
@@ -50,8 +48,7 @@ filter_twice first second both is (y ∷ xs) =
     rw (f, b) (filter_twice first second both is xs))
 
 -- tests that agree leave the same
-filter_same : {X : Type 0} (one other : X → Bool) → ((x : X) → one x ≡ other x) → (xs : List X)
-    → filter one xs ≡ filter other xs
+filter_same : {X : Type 0} (one other : X → Bool) → ((x : X) → one x ≡ other x) → (xs : List X) → filter one xs ≡ filter other xs
 filter_same one other is [] = refl
 filter_same one other is (y ∷ xs) = either (other y)
     (λ o. rw (is y, o) (ap (λ l. y ∷ l) (filter_same one other is xs)))
@@ -68,8 +65,7 @@ patches_last (first ∷ writes) write = ap (λ (l : List Patch). first.patch ∷
 -- all writes of a client on a file
 writes_of : ℕ → ℕ → List Fact → List Pending
 writes_of client file [] = []
-writes_of client file (Fact.Wrote writer other number patch buffered ∷ past) =
-    if writer == client && other == file
+writes_of client file (Fact.Wrote writer other number patch buffered ∷ past) = if writer == client && other == file
     then writes_of client file past ++ record { number = number; patch = patch; buffered = buffered } ∷ []
     else writes_of client file past
 writes_of client file (_ ∷ past) = writes_of client file past

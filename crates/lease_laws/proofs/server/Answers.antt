@@ -37,22 +37,18 @@ choose_connection false up one = refl
 
 -- an open connected again, as an open with another connection
 again_connection : (file_id : ℕ) (one : Open)
-    → connected_again file_id one ≡ with_connection (λ x. if x.file_id == file_id then true else x.connected)
-    one
+    → connected_again file_id one ≡ with_connection (λ x. if x.file_id == file_id then true else x.connected) one
 again_connection file_id one = choose_connection (one.file_id == file_id) true one
 
 -- a reconnect keeps the laws
-reconnected-sound : (client file : ℕ) (asked : Option LeaseOf) (file_id : ℕ) (progress : Progress)
-    → IsSound progress.server
+reconnected-sound : (client file : ℕ) (asked : Option LeaseOf) (file_id : ℕ) (progress : Progress) → IsSound progress.server
     → IsSound (reconnected client file asked file_id progress).server
 unfolding reconnected
 reconnected-sound client file asked file_id progress s =
     let up : Open → Bool = λ x. if x.file_id == file_id then true else x.connected in
     subst (λ opens. AreSound opens progress.server.leases progress.server.expired progress.server.last_id)
-    (sym (map_same (connected_again file_id) (with_connection up) progress.server.opens
-    (again_connection file_id)))
-    (connection_sound up progress.server.opens progress.server.leases progress.server.expired
-    progress.server.last_id s
+    (sym (map_same (connected_again file_id) (with_connection up) progress.server.opens (again_connection file_id)))
+    (connection_sound up progress.server.opens progress.server.leases progress.server.expired progress.server.last_id s
     (λ one a d. s.disconnected one a
     (if_cases (λ b. b ≡ false → one.connected ≡ false) (one.file_id == file_id) true one.connected
     (λ e never. absurd (true≢false never)) (λ e same. same) d)))
@@ -83,12 +79,10 @@ ends_sound client progress s = record {
 pub concluded-sound : (client : ℕ) (request : FileRequest) (progress : Progress) (outcome : Outcome)
     → IsSound progress.server → (outcome ≡ Outcome.Ready → RequestFree progress.server client request)
     → IsSound (concluded client request progress outcome).server
-concluded-sound client request progress outcome s =
-    any_end client progress _ (ends_sound client progress s) request outcome
+concluded-sound client request progress outcome s = any_end client progress _ (ends_sound client progress s) request outcome
 
 -- no open of a breaking lease is without its connection
-pub breaking_present : (opens : List Open) (leases : Key → Lease) (expired : Key → Bool) (last_id : ℕ)
-    (key : Key) (one : Open)
+pub breaking_present : (opens : List Open) (leases : Key → Lease) (expired : Key → Bool) (last_id : ℕ) (key : Key) (one : Open)
     → AreSound opens leases expired last_id → is_breaking (leases key) ≡ true → Among one opens
     → has_key key one ≡ true → one.connected ≡ true
 breaking_present opens leases expired last_id key one s b a k = not_false one.connected (λ d.
@@ -106,20 +100,17 @@ part_form_write state lowered part w = write_of_part state lowered part
 -- an acknowledgment of a part of the state broken to
 break_ended-sound : (key : Key) (state lowered : State) (progress : Progress) → IsSound progress.server
     → has_lease progress.server key ≡ true → (progress.server.leases key).broken_to ≡ Some lowered
-    → is_state_within state lowered ≡ true
-    → IsSound (break_ended key state progress).server
+    → is_state_within state lowered ≡ true → IsSound (break_ended key state progress).server
 unfolding break_ended
 break_ended-sound key state lowered progress s there broken part =
     let breaking : is_breaking (progress.server.leases key) ≡ true = ap is_some broken in
     let so = (s.lawful key).is_broken_so lowered broken in
     put_sound progress.server.opens progress.server.leases progress.server.expired progress.server.last_id key
     (record { state = granted_form_of state; broken_to = None }) s there
-    (λ out. clash (is_breaking (progress.server.leases key)) breaking (ap is_breaking (s.timed_out key out)))
-    (record {
+    (λ out. clash (is_breaking (progress.server.leases key)) breaking (ap is_breaking (s.timed_out key out))) (record {
       is_lawful = settled-lawful (granted_form_of state) (granted_form_of-again state);
       is_alone = λ one other w a k b f. s.one_writer key one other
-          (write_of_part lowered (progress.server.leases key).state so.is_part
-          (part_form_write state lowered part w)) a k b f;
+          (write_of_part lowered (progress.server.leases key).state so.is_part (part_form_write state lowered part w)) a k b f;
       lasts = λ one a k d. clash one.connected
           (breaking_present progress.server.opens progress.server.leases progress.server.expired
           progress.server.last_id key one s breaking a k) d;
@@ -130,6 +121,5 @@ pub acknowledged-sound : (client : ℕ) (given : Option LeaseOf) (progress : Pro
     → IsSound (acknowledged client given progress).server
 acknowledged-sound client given progress s = any_judgement client progress (λ after. IsSound after.server) (record {
   failed = λ status. s;
-  ended = λ g lowered there breaks within.
-      break_ended-sound (key_of client g.key) g.state lowered progress s there breaks within;
+  ended = λ g lowered there breaks within. break_ended-sound (key_of client g.key) g.state lowered progress s there breaks within;
 }) given

@@ -59,8 +59,7 @@ ok_same : (a b : ℕ) → file_of_open_ok a ≡ file_of_open_ok b → a ≡ b
 ok_same a b e = cc
 
 -- the file of a request that isn't refused as it comes is one that it is about, and one of the server
-open_file : (server : Server) (client file_id file : ℕ) (one : Option Open) → IsSound server
-    → IsOrderly server
+open_file : (server : Server) (client file_id file : ℕ) (one : Option Open) → IsSound server → IsOrderly server
     → connected_open server client file_id ≡ one → file_of_open one ≡ Ok file
     → (has_file server file ≡ true) × IsOpenOn server file file_id
 open_file server client file_id file None s o e never = absurd (cc)
@@ -70,29 +69,24 @@ open_file server client file_id file (Some one) s o e same =
       ap (λ f. has_file server f) (sym at) ∙ o.open_files one there.0,
       record {
         was_given = subst (λ n. n ≤ server.last_id) there.1 (s.numbered one there.0).1;
-        is_on_file = λ other a id. ap (λ x. x.file)
-            (one_id server.opens other one s.in_order a there.0 (id ∙ sym there.1)) ∙ at;
+        is_on_file = λ other a id. ap (λ x. x.file) (one_id server.opens other one s.in_order a there.0 (id ∙ sym there.1)) ∙ at;
       },
     )
 
 -- the file of a create is one of the server
-create_file : (server : Server) (at file : ℕ) (contexts : Option CreateAsk)
-    → file_of_create server at contexts ≡ Ok file
+create_file : (server : Server) (at file : ℕ) (contexts : Option CreateAsk) → file_of_create server at contexts ≡ Ok file
     → (has_file server file ≡ true) × (at ≡ file)
 create_file server at file None never = absurd (cc)
 create_file server at file (Some ask) e = if_cases
-    (λ r. r ≡ Ok file → (has_file server file ≡ true) × (at ≡ file)) (has_file server at) (Ok at)
-    (Err Status.ObjectNameNotFound)
+    (λ r. r ≡ Ok file → (has_file server file ≡ true) × (at ≡ file)) (has_file server at) (Ok at) (Err Status.ObjectNameNotFound)
     (λ t same. let here = ok_same at file same in (ap (λ f. has_file server f) (sym here) ∙ t, here))
     (λ t never. absurd (cc)) e
 
 -- the file of a request is one of the server, and the request is about it
 asked_file : (server : Server) (client file : ℕ) (request : FileRequest) → IsSound server → IsOrderly server
-    → file_asked server client request ≡ Ok file
-    → (has_file server file ≡ true) × IsAbout server file request
+    → file_asked server client request ≡ Ok file → (has_file server file ≡ true) × IsAbout server file request
 unfolding file_asked
-asked_file server client file (FileRequest.Create at access share contexts) s o e = create_file server at file
-    contexts e
+asked_file server client file (FileRequest.Create at access share contexts) s o e = create_file server at file contexts e
 asked_file server client file (FileRequest.Read file_id) s o e = open_file server client file_id file
     (connected_open server client file_id) s o refl e
 asked_file server client file (FileRequest.Write file_id number patch) s o e = open_file server client file_id
@@ -101,20 +95,17 @@ asked_file server client file (FileRequest.Close file_id) s o e = open_file serv
     (connected_open server client file_id) s o refl e
 
 -- to hold a request lets opens go on
-pub request_held-goes : (file : ℕ) (one : Held) (progress : Progress)
-    → Goes progress (request_held file one progress)
+pub request_held-goes : (file : ℕ) (one : Held) (progress : Progress) → Goes progress (request_held file one progress)
 unfolding request_held
 request_held-goes file one progress = record {
   files = refl;
   ups = λ c. refl;
   ids = omega arith;
-  from = λ x a.
-      inl (still_there progress.server x a);
+  from = λ x a. inl (still_there progress.server x a);
 }
 
 -- to hold a request lets wait what has to wait
-request_held-kept : (file : ℕ) (one : Held) (progress : Progress)
-    → Kept Anywhere progress (request_held file one progress)
+request_held-kept : (file : ℕ) (one : Held) (progress : Progress) → Kept Anywhere progress (request_held file one progress)
 unfolding request_held
 request_held-kept file one progress = record { stands = λ key x a k up b g. (a, refl); finds = λ c id x e g. e }
 
@@ -128,33 +119,26 @@ request_held-cases P file one progress other here there =
     (λ e. here ((Decides-eqb other file).0 e)) (λ e. there)
 
 -- a request of a connected client is held on the file that it is about
-request_held-fine : (file : ℕ) (one : Held) (progress : Progress) → IsFine progress.server
-    → IsHeldWell progress.server file one
+request_held-fine : (file : ℕ) (one : Held) (progress : Progress) → IsFine progress.server → IsHeldWell progress.server file one
     → IsFine (request_held file one progress).server
 request_held-fine file one progress f well = record {
   sound = request_held-sound file one progress f.sound;
-  orderly = orderly_goes progress.server (request_held file one progress).server f.orderly
-      (request_held-goes file one progress)
-      (λ other x. request_held-cases (λ list. Among x list → IsHeldWell progress.server other x) file one
-      progress other
+  orderly = orderly_goes progress.server (request_held file one progress).server f.orderly (request_held-goes file one progress)
+      (λ other x. request_held-cases (λ list. Among x list → IsHeldWell progress.server other x) file one progress other
       (λ same a. subst (λ n. IsHeldWell progress.server n x) (sym same)
       (⊎_elim (λ h. held_well progress.server file x f.orderly h)
-      (λ h. ⊎_elim (λ e. subst (λ y. IsHeldWell progress.server file y) (sym e) well) (λ never. absurd never)
-      h)
+      (λ h. ⊎_elim (λ e. subst (λ y. IsHeldWell progress.server file y) (sym e) well) (λ never. absurd never) h)
       (among_append x (progress.server.held file) (one ∷ []) a)))
       (λ a. held_well progress.server other x f.orderly a));
 }
 
 -- and then it waits behind another of its client, or has to wait itself
 request_held-waits : (file : ℕ) (one : Held) (progress : Progress) → EveryoneWaits progress.server
-    → IsHeldWell progress.server file one
-    → (list_any (λ other. other.client == one.client) (progress.server.held file) ≡ false
-    → HasToWait progress.server one.client one.request)
-    → EveryoneWaits (request_held file one progress).server
+    → IsHeldWell progress.server file one → (list_any (λ other. other.client == one.client) (progress.server.held file) ≡ false
+    → HasToWait progress.server one.client one.request) → EveryoneWaits (request_held file one progress).server
 request_held-waits file one progress e well new =
     let keeps = request_held-kept file one progress in
-    let go : (other client : ℕ) (x : Held) → IsAbout progress.server other x.request
-    → HasToWait progress.server client x.request
+    let go : (other client : ℕ) (x : Held) → IsAbout progress.server other x.request → HasToWait progress.server client x.request
     → HasToWait (request_held file one progress).server client x.request =
     λ other client x about w. waits_keep Anywhere progress.server (request_held file one progress).server
     client other x.request keeps e.fine.sound about tt w in
@@ -165,18 +149,15 @@ request_held-waits file one progress e well new =
           → HasToWait (request_held file one progress).server client x.request) file one progress other
           (λ same first. ⊎_elim
           (λ old. go file client x (e.fine.orderly.held_about file x
-          (find_has (λ h. h.client == client) x (progress.server.held file) old).0)
-          (e.wait file client x old))
+          (find_has (λ h. h.client == client) x (progress.server.held file) old).0) (e.wait file client x old))
           (λ last. let same_client : one.client ≡ client = (Decides-eqb one.client client).0 last.1 in
           go file client x (subst (λ h. IsAbout progress.server file h.request) (sym last.2) well.about)
           (subst (λ h. HasToWait progress.server client h.request) (sym last.2)
           (subst (λ c. HasToWait progress.server c one.request) same_client
-          (new (subst (λ c. list_any (λ h. h.client == c) (progress.server.held file) ≡ false)
-          (sym same_client) last.0)))))
+          (new (subst (λ c. list_any (λ h. h.client == c) (progress.server.held file) ≡ false) (sym same_client) last.0)))))
           (find_more (λ h. h.client == client) (progress.server.held file) one x first))
           (λ first. go other client x (e.fine.orderly.held_about other x
-          (find_has (λ h. h.client == client) x (progress.server.held other) first).0)
-          (e.wait other client x first));
+          (find_has (λ h. h.client == client) x (progress.server.held other) first).0) (e.wait other client x first));
     }
 
 -- a refusal leaves each first held request waiting
@@ -199,22 +180,19 @@ concluded_fine : (client : ℕ) (request : FileRequest) (before : Progress) (don
     → before.server.present client ≡ true
     → IsTry client request before done → IsFine (concluded client request done.progress done.outcome).server
 concluded_fine client request before done f up t =
-    fine_concluded client request done.progress done.outcome (fine_try client request before done f t)
-    (t.goes.ups client ∙ up)
+    fine_concluded client request done.progress done.outcome (fine_try client request before done f t) (t.goes.ups client ∙ up)
     (λ ready. ready-free client request done.progress (t.good.found_ready ready))
     (λ ready. ready-file client request done.progress (t.good.found_ready ready))
 
 -- a try leaves each first held request waiting
 try_waits : (client : ℕ) (request : FileRequest) (before : Progress) (done : Tried) → EveryoneWaits before.server
-    → IsTry client request before done
-    → EveryoneWaits done.progress.server
+    → IsTry client request before done → EveryoneWaits done.progress.server
 try_waits client request before done e t = everyone_keeps before done.progress e
     (fine_try client request before done e.fine t) t.keeps t.held
 
 -- so does its end, where it closes nothing
 concluded_waits : (client : ℕ) (request : FileRequest) (before : Progress) (done : Tried)
-    → EveryoneWaits before.server → before.server.present client ≡ true
-    → IsAlone request → IsTry client request before done
+    → EveryoneWaits before.server → before.server.present client ≡ true → IsAlone request → IsTry client request before done
     → EveryoneWaits (concluded client request done.progress done.outcome).server
 concluded_waits client request before done e up alone t =
     let after = try_waits client request before done e t in
@@ -234,8 +212,7 @@ well_goes before after file one g well = record {
 
 -- what follows a first try keeps the laws and the order
 first_try-fine : (client file : ℕ) (request : FileRequest) (before : Progress) (progress : Progress)
-    (outcome : Outcome) → IsFine before.server
-    → IsHeldWell before.server file (held_of client request)
+    (outcome : Outcome) → IsFine before.server → IsHeldWell before.server file (held_of client request)
     → IsTry client request before (record { progress = progress; outcome = outcome })
     → IsFine (after_first_try client file request progress outcome).server
 first_try-fine client file request before progress Outcome.Waits f well t =
@@ -243,15 +220,13 @@ first_try-fine client file request before progress Outcome.Waits f well t =
     (fine_try client request before (record { progress = progress; outcome = Outcome.Waits }) f t)
     (well_goes before.server progress.server file (held_of client request) t.goes well)
 first_try-fine client file request before progress (Outcome.Refused status) f well t =
-    concluded_fine client request before (record { progress = progress; outcome = Outcome.Refused status }) f
-    well.up t
+    concluded_fine client request before (record { progress = progress; outcome = Outcome.Refused status }) f well.up t
 first_try-fine client file request before progress Outcome.Ready f well t =
     concluded_fine client request before (record { progress = progress; outcome = Outcome.Ready }) f well.up t
 
 -- what follows a first try leaves each first held request waiting
 first_try-waits : (client file : ℕ) (request : FileRequest) (before : Progress) (progress : Progress)
-    (outcome : Outcome) → EveryoneWaits before.server
-    → IsHeldWell before.server file (held_of client request) → IsAlone request
+    (outcome : Outcome) → EveryoneWaits before.server → IsHeldWell before.server file (held_of client request) → IsAlone request
     → IsTry client request before (record { progress = progress; outcome = outcome })
     → EveryoneWaits (after_first_try client file request progress outcome).server
 first_try-waits client file request before progress Outcome.Waits e well alone t =
@@ -260,11 +235,9 @@ first_try-waits client file request before progress Outcome.Waits e well alone t
     (well_goes before.server progress.server file (held_of client request) t.goes well)
     (λ first. t.waits refl)
 first_try-waits client file request before progress (Outcome.Refused status) e well alone t =
-    concluded_waits client request before (record { progress = progress; outcome = Outcome.Refused status }) e
-    well.up alone t
+    concluded_waits client request before (record { progress = progress; outcome = Outcome.Refused status }) e well.up alone t
 first_try-waits client file request before progress Outcome.Ready e well alone t =
-    concluded_waits client request before (record { progress = progress; outcome = Outcome.Ready }) e well.up
-    alone t
+    concluded_waits client request before (record { progress = progress; outcome = Outcome.Ready }) e well.up alone t
 
 -- a refusal keeps the laws and the order
 refused-fine : (client : ℕ) (request : FileRequest) (status : Status) (progress : Progress)
@@ -274,50 +247,42 @@ refused-fine client request status progress f = f
 
 -- a request on a file keeps the laws and the order
 pub arrived_on-fine : (client : ℕ) (request : FileRequest) (progress : Progress) (asked : Result ℕ Status)
-    → IsFine progress.server
-    → ((file : ℕ) → asked ≡ Ok file → IsHeldWell progress.server file (held_of client request))
+    → IsFine progress.server → ((file : ℕ) → asked ≡ Ok file → IsHeldWell progress.server file (held_of client request))
     → IsFine (arrived_on client request progress asked).server
 arrived_on-fine client request progress (Err status) f well = refused-fine client request status progress f
 arrived_on-fine client request progress (Ok file) f well =
     if_cases (λ p. IsFine p.server) (is_behind client (progress.server.held file))
     (request_held file (held_of client request) progress)
-    (after_first_try client file request (tried client request progress).progress
-    (tried client request progress).outcome)
+    (after_first_try client file request (tried client request progress).progress (tried client request progress).outcome)
     (λ e. request_held-fine file (held_of client request) progress f (well file refl))
     (λ e. first_try-fine client file request progress (tried client request progress).progress
-    (tried client request progress).outcome f (well file refl)
-    (any_try client request progress f.sound))
+    (tried client request progress).outcome f (well file refl) (any_try client request progress f.sound))
 
 -- a request on a file leaves each first held request waiting
 arrived_on-waits : (client : ℕ) (request : FileRequest) (progress : Progress) (asked : Result ℕ Status)
     → EveryoneWaits progress.server → IsAlone request
     → ((file : ℕ) → asked ≡ Ok file → IsHeldWell progress.server file (held_of client request))
     → EveryoneWaits (arrived_on client request progress asked).server
-arrived_on-waits client request progress (Err status) e alone well = refused_waits client request status
-    progress e
+arrived_on-waits client request progress (Err status) e alone well = refused_waits client request status progress e
 arrived_on-waits client request progress (Ok file) e alone well =
     if_cases (λ p. EveryoneWaits p.server) (is_behind client (progress.server.held file))
     (request_held file (held_of client request) progress)
-    (after_first_try client file request (tried client request progress).progress
-    (tried client request progress).outcome)
+    (after_first_try client file request (tried client request progress).progress (tried client request progress).outcome)
     (λ behind. request_held-waits file (held_of client request) progress e (well file refl)
     (λ first. clash (is_behind client (progress.server.held file)) behind first))
     (λ first. first_try-waits client file request progress (tried client request progress).progress
-    (tried client request progress).outcome e (well file refl) alone
-    (any_try client request progress e.fine.sound))
+    (tried client request progress).outcome e (well file refl) alone (any_try client request progress e.fine.sound))
 
 -- a request that comes may be held on its file
 pub asked_well : (client : ℕ) (request : FileRequest) (progress : Progress) → IsFine progress.server
-    → progress.server.present client ≡ true
-    → (file : ℕ) → file_asked progress.server client request ≡ Ok file
+    → progress.server.present client ≡ true → (file : ℕ) → file_asked progress.server client request ≡ Ok file
     → IsHeldWell progress.server file (held_of client request)
 asked_well client request progress f up file e =
     let x = asked_file progress.server client file request f.sound f.orderly e in
     record { up = up; on_file = x.0; about = x.1 }
 
 -- to end a break leaves the held requests as they are
-ended-held : (key : Key) (state : State) (progress : Progress)
-    → SameHeld progress (break_ended key state progress)
+ended-held : (key : Key) (state : State) (progress : Progress) → SameHeld progress (break_ended key state progress)
 unfolding break_ended
 ended-held key state progress = refl
 
@@ -326,8 +291,7 @@ judged-held : (key : Key) (state : State) (broken : Option State) (progress : Pr
     → SameHeld progress (judged key state broken progress)
 judged-held key state None progress = refl
 judged-held key state (Some lowered) progress = if_cases (SameHeld progress) (is_state_within state lowered)
-    (break_ended key state progress)
-    (replied key.client (Reply.AckFailed Status.RequestNotAccepted) progress)
+    (break_ended key state progress) (replied key.client (Reply.AckFailed Status.RequestNotAccepted) progress)
     (λ e. ended-held key state progress) (λ e. refl)
 
 -- an acknowledgment leaves the held requests as they are
@@ -337,11 +301,9 @@ unfolding acknowledged
 acknowledged-held client None progress = refl
 acknowledged-held client (Some given) progress = if_cases (SameHeld progress)
     (has_lease progress.server (key_of client given.key))
-    (judged (key_of client given.key) given.state (progress.server.leases (key_of client given.key)).broken_to
-    progress)
+    (judged (key_of client given.key) given.state (progress.server.leases (key_of client given.key)).broken_to progress)
     (replied client (Reply.AckFailed Status.ObjectNameNotFound) progress)
-    (λ e. judged-held (key_of client given.key) given.state
-    (progress.server.leases (key_of client given.key)).broken_to progress)
+    (λ e. judged-held (key_of client given.key) given.state (progress.server.leases (key_of client given.key)).broken_to progress)
     (λ e. refl)
 
 -- opens that go on keep the laws and the order
@@ -350,34 +312,26 @@ pub fine_goes : (before after : Progress) → IsFine before.server → IsSound a
 fine_goes before after f s g same = record {
   sound = s;
   orderly = orderly_goes before.server after.server f.orderly g
-      (λ file one a. held_well before.server file one f.orderly
-      (subst (λ held. Among one (held file)) same a));
+      (λ file one a. held_well before.server file one f.orderly (subst (λ held. Among one (held file)) same a));
 }
 
 -- a request about a file leaves each first held request waiting
 file_request-waits : (client : ℕ) (request : FileRequest) (progress : Progress) → EveryoneWaits progress.server
-    → progress.server.present client ≡ true
-    → EveryoneWaits (file_request_arrived client request progress).server
+    → progress.server.present client ≡ true → EveryoneWaits (file_request_arrived client request progress).server
 file_request-waits client (FileRequest.Close file_id) progress e up = all_passes-wait
-    (arrived_on client (FileRequest.Close file_id) progress
-    (file_asked progress.server client (FileRequest.Close file_id)))
+    (arrived_on client (FileRequest.Close file_id) progress (file_asked progress.server client (FileRequest.Close file_id)))
     (arrived_on-fine client (FileRequest.Close file_id) progress
     (file_asked progress.server client (FileRequest.Close file_id)) e.fine
     (asked_well client (FileRequest.Close file_id) progress e.fine up))
-file_request-waits client request progress e up =
-    arrived_on-waits client request progress
-    (file_asked progress.server client request) e tt
-    (asked_well client request progress e.fine up)
+file_request-waits client request progress e up = arrived_on-waits client request progress
+    (file_asked progress.server client request) e tt (asked_well client request progress e.fine up)
 
 -- a request that comes leaves each first held request waiting
 arrived-waits : (client : ℕ) (request : Request) (progress : Progress) → EveryoneWaits progress.server
-    → progress.server.present client ≡ true
-    → EveryoneWaits (arrived client request progress).server
+    → progress.server.present client ≡ true → EveryoneWaits (arrived client request progress).server
 unfolding arrived
-arrived-waits client (Request.Acknowledge given) progress e up = all_passes-wait
-    (acknowledged client given progress)
-    (fine_goes progress (acknowledged client given progress) e.fine
-    (acknowledged-sound client given progress e.fine.sound)
+arrived-waits client (Request.Acknowledge given) progress e up = all_passes-wait (acknowledged client given progress)
+    (fine_goes progress (acknowledged client given progress) e.fine (acknowledged-sound client given progress e.fine.sound)
     (acknowledged-goes client given progress) (acknowledged-held client given progress))
 arrived-waits client (Request.OnFile request) progress e up = file_request-waits client request progress e up
 

@@ -66,23 +66,19 @@ handles_other : (server : Server) (own : Option Key) (file : ℕ) (access : Acce
     → AreOtherKeys server own file (handle_wants server own file access share)
 unfolding handle_wants
 handles_other server own file access share = where_other server own file
-    (λ one. conflicts_on file access share one && is_other_on own file one &&
-    (lease_of server one).state.handle) without_handle
+    (λ one. conflicts_on file access share one && is_other_on own file one && (lease_of server one).state.handle) without_handle
     (λ one t. (and_parts (conflicts_on file access share one) (is_other_on own file one)
-    (and_parts (conflicts_on file access share one && is_other_on own file one)
-    (lease_of server one).state.handle t).0).1)
+    (and_parts (conflicts_on file access share one && is_other_on own file one) (lease_of server one).state.handle t).0).1)
 
 -- a create wants other keys
-writes_other : (server : Server) (own : Option Key) (file : ℕ)
-    → AreOtherKeys server own file (write_wants server own file)
+writes_other : (server : Server) (own : Option Key) (file : ℕ) → AreOtherKeys server own file (write_wants server own file)
 unfolding write_wants
 writes_other server own file = where_other server own file
     (λ one. is_other_on own file one && (lease_of server one).state.write) without_write
     (λ one t. (and_parts (is_other_on own file one) (lease_of server one).state.write t).0)
 
 -- a write wants other keys
-all_other : (server : Server) (own : Option Key) (file : ℕ)
-    → AreOtherKeys server own file (all_wants server own file)
+all_other : (server : Server) (own : Option Key) (file : ℕ) → AreOtherKeys server own file (all_wants server own file)
 unfolding all_wants
 all_other server own file = where_other server own file
     (λ one. is_other_on own file one && holds_any (lease_of server one).state) (λ state. nothing_cached)
@@ -95,18 +91,15 @@ breaking_open server key s b = not_false (has_lease server key) (λ none.
     clash (is_breaking (server.leases key)) b (ap (λ l. is_breaking l) (s.no_open key none)))
 
 -- an open with the key of another that isn't the one's isn't the one's either
-other_alike : (own : Option Key) (key : Key) (one other : Open) → has_key key one ≡ true
-    → has_key key other ≡ true
+other_alike : (own : Option Key) (key : Key) (one other : Open) → has_key key one ≡ true → has_key key other ≡ true
     → has_own_key own one ≡ false → has_own_key own other ≡ false
 other_alike None key one other k j e = refl
 other_alike (Some mine) key one other k j e = not_true (has_key mine other) (λ t.
-    clash (has_key mine one) (ap (λ x. has_key x one) (is_key-one mine key other.client other.lease_key t j)
-    ∙ k) e)
+    clash (has_key mine one) (ap (λ x. has_key x one) (is_key-one mine key other.client other.lease_key t j) ∙ k) e)
 
 -- a round that leaves such a lease leaves the file blocked by it
 wait_blocked : (test : Lease → Bool) (own : Option Key) (file : ℕ) (wants : List Want) (progress : Progress)
-    → ((lease : Lease) → test lease ≡ true → is_breaking lease ≡ true)
-    → IsSound progress.server
+    → ((lease : Lease) → test lease ≡ true → is_breaking lease ≡ true) → IsSound progress.server
     → IsSound (wants_met wants progress).server → AreOtherKeys progress.server own file wants
     → list_any (λ want. test ((wants_met wants progress).server.leases want.key)) wants ≡ true
     → IsBlockedBy test (wants_met wants progress).server own file
@@ -136,8 +129,7 @@ WantsOther server own file (Finding.Needs wants) = AreOtherKeys server own file 
 create_other : (server : Server) (own : Option Key) (file : ℕ) (access : Access) (share : Share)
     → WantsOther server own file (create_finding server own file access share)
 unfolding create_finding
-create_other server own file access share =
-    if_cases (WantsOther server own file) (is_leased_elsewhere server own file) _ _
+create_other server own file access share = if_cases (WantsOther server own file) (is_leased_elsewhere server own file) _ _
     (λ e. tt)
     (λ e. if_cases (WantsOther server own file) (list_any (conflicts_on file access share) server.opens) _ _
     (λ c. if_cases (WantsOther server own file) (is_empty (handle_wants server own file access share)) _ _
@@ -154,12 +146,9 @@ reconnect_other server client file own file_id =
     (λ e want a. absurd a) (λ e. tt)
 
 -- what a create finds, with a reconnect or without
-asked_other : (server : Server) (client file : ℕ) (access : Access) (share : Share) (lease : Option LeaseOf)
-    (again : Option ℕ)
-    → WantsOther server (own_key client lease) file
-    (asked_finding server client file access share lease again)
-asked_other server client file access share lease None = create_other server (own_key client lease) file
-    access share
+asked_other : (server : Server) (client file : ℕ) (access : Access) (share : Share) (lease : Option LeaseOf) (again : Option ℕ)
+    → WantsOther server (own_key client lease) file (asked_finding server client file access share lease again)
+asked_other server client file access share lease None = create_other server (own_key client lease) file access share
 asked_other server client file access share lease (Some file_id) = reconnect_other server client file
     (own_key client lease) file_id
 
@@ -167,16 +156,14 @@ asked_other server client file access share lease (Some file_id) = reconnect_oth
 write_other : (server : Server) (one : Open) (patch : Patch)
     → WantsOther server (key_of_open one) one.file (write_finding server one patch)
 unfolding write_finding
-write_other server one patch =
-    if_cases (WantsOther server (key_of_open one) one.file) (may_write one.access) _ _
+write_other server one patch = if_cases (WantsOther server (key_of_open one) one.file) (may_write one.access) _ _
     (λ e. if_cases (WantsOther server (key_of_open one) one.file) (is_within_limit patch) _ _
     (λ i. all_other server (key_of_open one) one.file) (λ i. tt))
     (λ e. tt)
 
 -- what is found wants other keys
 found_other : (server : Server) (own : Option Key) (file : ℕ) (found : Finding) (wants : List Want)
-    → WantsOther server own file found
-    → found ≡ Finding.Needs wants → AreOtherKeys server own file wants
+    → WantsOther server own file found → found ≡ Finding.Needs wants → AreOtherKeys server own file wants
 found_other server own file found wants other e = subst (WantsOther server own file) e other
 
 -- nothing wanted is nothing to wait for
@@ -187,8 +174,7 @@ nobody_waits request wants progress e wait = absurd
 
 -- a create that has to wait is blocked
 create_waits : (client file : ℕ) (access : Access) (share : Share) (contexts : Option CreateAsk)
-    (progress : Progress) (wants : List Want)
-    → IsSound progress.server → IsSound (wants_met wants progress).server
+    (progress : Progress) (wants : List Want) → IsSound progress.server → IsSound (wants_met wants progress).server
     → finding progress.server client (FileRequest.Create file access share contexts) ≡ Finding.Needs wants
     → must_wait (FileRequest.Create file access share contexts) (wants_met wants progress) wants ≡ true
     → HasToWait (wants_met wants progress).server client (FileRequest.Create file access share contexts)
@@ -197,20 +183,15 @@ create_waits client file access share None progress wants s next never wait = ab
 create_waits client file access share (Some ask) progress wants s next found wait =
     wait_blocked (λ lease. is_breaking lease) (own_key client ask.lease) file wants progress (λ lease b. b) s next
     (found_other progress.server (own_key client ask.lease) file
-    (if has_file progress.server file then asked_finding progress.server client file access share ask.lease
-    ask.reconnect
+    (if has_file progress.server file then asked_finding progress.server client file access share ask.lease ask.reconnect
     else Finding.Fails Status.ObjectNameNotFound) wants
     (if_cases (WantsOther progress.server (own_key client ask.lease) file) (has_file progress.server file)
-    (asked_finding progress.server client file access share ask.lease ask.reconnect)
-    (Finding.Fails Status.ObjectNameNotFound)
-    (λ e. asked_other progress.server client file access share ask.lease ask.reconnect) (λ e. tt))
-    found) wait
+    (asked_finding progress.server client file access share ask.lease ask.reconnect) (Finding.Fails Status.ObjectNameNotFound)
+    (λ e. asked_other progress.server client file access share ask.lease ask.reconnect) (λ e. tt)) found) wait
 
 -- a write by this open that has to wait is blocked
-write_waits_at : (client file_id number : ℕ) (patch : Patch) (progress : Progress) (wants : List Want)
-    (one : Option Open)
-    → IsSound progress.server → IsSound (wants_met wants progress).server
-    → connected_open progress.server client file_id ≡ one
+write_waits_at : (client file_id number : ℕ) (patch : Patch) (progress : Progress) (wants : List Want) (one : Option Open)
+    → IsSound progress.server → IsSound (wants_met wants progress).server → connected_open progress.server client file_id ≡ one
     → by_open one (λ x. write_finding progress.server x patch) ≡ Finding.Needs wants
     → must_wait (FileRequest.Write file_id number patch) (wants_met wants progress) wants ≡ true
     → IsOpenBlocked (wants_met wants progress).server client file_id
@@ -242,8 +223,7 @@ Idle (Finding.Fails status) = Unit {0}
 Idle (Finding.Needs wants) = [] ≡ wants
 
 -- what is idle by every open
-by_open-idle : (one : Option Open) (found : Open → Finding) → ((x : Open) → Idle (found x))
-    → Idle (by_open one found)
+by_open-idle : (one : Option Open) (found : Open → Finding) → ((x : Open) → Idle (found x)) → Idle (by_open one found)
 by_open-idle None found each = tt
 by_open-idle (Some one) found each = each one
 
@@ -253,11 +233,9 @@ read-idle one = if_cases Idle (may_read one.access) (Finding.Needs []) (Finding.
     (λ e. refl) (λ e. tt)
 
 -- what is idle never waits
-idle_waits : {X : Type 0} (request : FileRequest) (progress : Progress) (wants : List Want) (found : Finding)
-    → Idle found
+idle_waits : {X : Type 0} (request : FileRequest) (progress : Progress) (wants : List Want) (found : Finding) → Idle found
     → found ≡ Finding.Needs wants → must_wait request (wants_met wants progress) wants ≡ true → X
-idle_waits request progress wants found idle e wait = nobody_waits request wants progress (subst Idle e idle)
-    wait
+idle_waits request progress wants found idle e wait = nobody_waits request wants progress (subst Idle e idle) wait
 
 -- a read never waits
 read_waits : {X : Type 0} (client file_id : ℕ) (progress : Progress) (wants : List Want)
@@ -275,14 +253,12 @@ close_waits : {X : Type 0} (client file_id : ℕ) (progress : Progress) (wants :
 unfolding finding
 close_waits client file_id progress wants found wait = idle_waits (FileRequest.Close file_id) progress wants
     (by_open (connected_open progress.server client file_id) (λ one. Finding.Needs []))
-    (by_open-idle (connected_open progress.server client file_id) (λ one. Finding.Needs []) (λ one. refl))
-    found wait
+    (by_open-idle (connected_open progress.server client file_id) (λ one. Finding.Needs []) (λ one. refl)) found wait
 
 -- where a round of a try has to wait, so has the request
 pub round_waits : (client : ℕ) (request : FileRequest) (progress : Progress) (wants : List Want)
     → IsSound progress.server → IsSound (wants_met wants progress).server
-    → finding progress.server client request ≡ Finding.Needs wants
-    → must_wait request (wants_met wants progress) wants ≡ true
+    → finding progress.server client request ≡ Finding.Needs wants → must_wait request (wants_met wants progress) wants ≡ true
     → HasToWait (wants_met wants progress).server client request
 round_waits client (FileRequest.Create file access share contexts) progress wants s next found wait = create_waits
     client file access share contexts progress wants s next found wait

@@ -37,8 +37,7 @@ under-itself server = record {
 }
 
 -- to drop opens goes on under it
-pub opens_dropped-under : (base : Server) (test : Open → Bool) (progress : Progress)
-    → IsUnder base progress.server
+pub opens_dropped-under : (base : Server) (test : Open → Bool) (progress : Progress) → IsUnder base progress.server
     → IsUnder base (opens_dropped test progress).server
 unfolding opens_dropped with_opens
 opens_dropped-under base test progress u =
@@ -46,8 +45,7 @@ opens_dropped-under base test progress u =
     let was : (key : Key) → list_any (has_key key) kept ≡ true
     → list_any (has_key key) progress.server.opens ≡ true =
     λ key e. let x = any_has (has_key key) kept e in
-    has_any (has_key key) x.0 progress.server.opens
-    (among_filter (λ one. not (test one)) x.0 progress.server.opens x.1).0 x.2 in
+    has_any (has_key key) x.0 progress.server.opens (among_filter (λ one. not (test one)) x.0 progress.server.opens x.1).0 x.2 in
     record {
       tracked = λ key. if_cases (λ l. IsTracked base kept key l) (list_any (has_key key) kept)
           (progress.server.leases key) no_lease
@@ -63,8 +61,7 @@ opens_dropped-under base test progress u =
     }
 
 -- to begin a break stays on the way by breaks alone
-break_begun-under : (base : Server) (key : Key) (lowered : State) (progress : Progress)
-    → IsUnder base progress.server
+break_begun-under : (base : Server) (key : Key) (lowered : State) (progress : Progress) → IsUnder base progress.server
     → IsUnder base (break_begun key lowered progress).server
 unfolding break_begun
 break_begun-under base key lowered progress u = record {
@@ -76,8 +73,7 @@ break_begun-under base key lowered progress u = record {
 }
 
 -- to lower a lease at once stays on the way by breaks alone
-lease_lowered-under : (base : Server) (key : Key) (lowered : State) (progress : Progress)
-    → IsUnder base progress.server
+lease_lowered-under : (base : Server) (key : Key) (lowered : State) (progress : Progress) → IsUnder base progress.server
     → needs_acknowledgment lowered ≡ false → needs_acknowledgment (base.leases key).state ≡ false
     → IsUnder base (lease_lowered key lowered progress).server
 unfolding lease_lowered
@@ -96,10 +92,8 @@ lease_lowered-under base key lowered progress u light was = record {
 pub light_part : (part state : State) → is_state_within part state ≡ true → needs_acknowledgment state ≡ false
     → needs_acknowledgment part ≡ false
 light_part part state p light = not_true (needs_acknowledgment part) (λ needs. ⊎_elim
-    (λ w. clash (needs_acknowledgment state) (true_or state.write state.handle (write_of_part part state p w))
-    light)
-    (λ h. clash (needs_acknowledgment state)
-    (or_of_true state.write state.handle (handle_of_part part state p h)) light)
+    (λ w. clash (needs_acknowledgment state) (true_or state.write state.handle (write_of_part part state p w)) light)
+    (λ h. clash (needs_acknowledgment state) (or_of_true state.write state.handle (handle_of_part part state p h)) light)
     (or_true part.write part.handle needs))
 
 -- what needs no acknowledgment doesn't write
@@ -113,19 +107,14 @@ pub record IsAlong (base : Server) (progress : Progress) : Type 0 where
   pub under : IsUnder base progress.server
 
 -- a lease is broken to what fits, once its disconnected opens are gone
-lease_broken-along : (base : Server) (want : Want) (progress : Progress) → IsAlong base progress
-    → Fits base want
+lease_broken-along : (base : Server) (want : Want) (progress : Progress) → IsAlong base progress → Fits base want
     → ((one : Open) → Among one progress.server.opens → has_key want.key one ≡ true → one.connected ≡ true)
     → IsAlong base (lease_broken want.key want.lowered progress)
 unfolding lease_broken
-lease_broken-along base want progress i fits present =
-    if_cases (IsAlong base) (has_lease progress.server want.key && not
-    (is_breaking (progress.server.leases want.key)))
-    (if needs_acknowledgment (progress.server.leases want.key).state
-    then break_begun want.key want.lowered progress
-    else lease_lowered want.key want.lowered progress) progress
-    (λ t. let parts = and_parts (has_lease progress.server want.key)
-    (not (is_breaking (progress.server.leases want.key))) t in
+lease_broken-along base want progress i fits present = if_cases (IsAlong base) (has_lease progress.server want.key && not
+    (is_breaking (progress.server.leases want.key))) (if needs_acknowledgment (progress.server.leases want.key).state
+    then break_begun want.key want.lowered progress else lease_lowered want.key want.lowered progress) progress
+    (λ t. let parts = and_parts (has_lease progress.server want.key) (not (is_breaking (progress.server.leases want.key))) t in
     let settled = not_parts (is_breaking (progress.server.leases want.key)) parts.1 in
     let may : MayBreak progress.server want.key = record {
       has_open = parts.0;
@@ -137,8 +126,7 @@ lease_broken-along base want progress i fits present =
     (break_begun want.key want.lowered progress) (lease_lowered want.key want.lowered progress)
     (λ needs. record {
       sound = break_begun-sound want.key want.lowered progress i.sound may needs
-          (subst (λ l. IsLowered l.state want.lowered) (sym (track.is_same parts.0 settled needs))
-          fits.can_lower);
+          (subst (λ l. IsLowered l.state want.lowered) (sym (track.is_same parts.0 settled needs)) fits.can_lower);
       under = break_begun-under base want.key want.lowered progress i.under;
     })
     (λ light. let was = track.is_light parts.0 settled light in
@@ -151,39 +139,32 @@ lease_broken-along base want progress i fits present =
 
 -- once a key's disconnected opens are dropped, those that it has are connected
 pub left_present : (key : Key) (progress : Progress) (one : Open)
-    → Among one (opens_dropped (is_left_open key) progress).server.opens → has_key key one ≡ true
-    → one.connected ≡ true
+    → Among one (opens_dropped (is_left_open key) progress).server.opens → has_key key one ≡ true → one.connected ≡ true
 unfolding opens_dropped with_opens
 left_present key progress one a k = not_false one.connected (λ d.
     clash (is_left_open key one) (and_both (has_key key one) (not one.connected) k (ap not d))
-    (not_parts (is_left_open key one) (among_filter (λ x. not (is_left_open key x)) one progress.server.opens
-    a).1))
+    (not_parts (is_left_open key one) (among_filter (λ x. not (is_left_open key x)) one progress.server.opens a).1))
 
 -- to meet a want keeps the laws, on the way by breaks alone
 pub want_met-along : (base : Server) (want : Want) (progress : Progress) → IsAlong base progress
     → Fits base want → IsAlong base (want_met want progress)
 unfolding want_met
-want_met-along base want progress i fits = lease_broken-along base want
-    (opens_dropped (is_left_open want.key) progress)
-    (record {
-      sound = opens_dropped-sound (is_left_open want.key) progress i.sound;
-      under = opens_dropped-under base (is_left_open want.key) progress i.under;
-    }) fits (left_present want.key progress)
+want_met-along base want progress i fits = lease_broken-along base want (opens_dropped (is_left_open want.key) progress) (record {
+  sound = opens_dropped-sound (is_left_open want.key) progress i.sound;
+  under = opens_dropped-under base (is_left_open want.key) progress i.under;
+}) fits (left_present want.key progress)
 
 -- to meet wants keeps the laws, on the way by breaks alone
 pub wants_met-along : (base : Server) (wants : List Want) (progress : Progress) → IsAlong base progress
     → AllFit base wants → IsAlong base (wants_met wants progress)
 unfolding wants_met
 wants_met-along base [] progress i fit = i
-wants_met-along base (want ∷ wants) progress i fit =
-    wants_met-along base wants (want_met want progress)
+wants_met-along base (want ∷ wants) progress i fit = wants_met-along base wants (want_met want progress)
     (want_met-along base want progress i (fit want (inl refl)))
     (λ other a. fit other (inr a))
 
 -- to meet wants that fit keeps the laws
-pub wants_met-sound : (wants : List Want) (progress : Progress) → IsSound progress.server
-    → AllFit progress.server wants
+pub wants_met-sound : (wants : List Want) (progress : Progress) → IsSound progress.server → AllFit progress.server wants
     → IsSound (wants_met wants progress).server
-wants_met-sound wants progress s fit =
-    (wants_met-along progress.server wants progress
+wants_met-sound wants progress s fit = (wants_met-along progress.server wants progress
     (record { sound = s; under = under-itself progress.server }) fit).sound

@@ -43,8 +43,7 @@ new_server-sound contents = record {
 
 -- fewer keys are marked as timed out
 fewer_timers : (server : Server) (expired : Key → Bool) → IsSound server
-    → ((key : Key) → expired key ≡ true → server.expired key ≡ true)
-    → AreSound server.opens server.leases expired server.last_id
+    → ((key : Key) → expired key ≡ true → server.expired key ≡ true) → AreSound server.opens server.leases expired server.last_id
 fewer_timers server expired s fewer = record {
   one_writer = s.one_writer;
   no_conflict = s.no_conflict;
@@ -74,8 +73,7 @@ one_timer server key s none = record {
 }
 
 -- a join that applies keeps the laws
-pub joined-sound : (client : ℕ) (progress : Progress) → IsSound progress.server
-    → IsSound (joined client progress).server
+pub joined-sound : (client : ℕ) (progress : Progress) → IsSound progress.server → IsSound (joined client progress).server
 unfolding joined
 joined-sound client progress s = fewer_timers progress.server
     (λ key. if key.client == client then false else progress.server.expired key) s
@@ -91,8 +89,7 @@ sound_cases b x y at_true at_false = if_cases (λ p. IsSound p.server) b x y at_
 -- a join keeps the laws
 pub join-sound : (server : Server) (client : ℕ) → IsSound server → IsSound (join server client).server
 unfolding join
-join-sound server client s = sound_cases (server.present client) (begun server)
-    (joined client (begun server))
+join-sound server client s = sound_cases (server.present client) (begun server) (joined client (begun server))
     (λ e. s) (λ e. joined-sound client (begun server) s)
 
 -- what follows a first try keeps the laws
@@ -110,29 +107,23 @@ after_first_try-sound client file request progress Outcome.Ready good = conclude
 
 -- a request on a file keeps the laws
 pub arrived_on-sound : (client : ℕ) (request : FileRequest) (progress : Progress) (asked : Result ℕ Status)
-    → IsSound progress.server
-    → IsSound (arrived_on client request progress asked).server
+    → IsSound progress.server → IsSound (arrived_on client request progress asked).server
 arrived_on-sound client request progress (Err status) s = refused-sound client request status progress s
-arrived_on-sound client request progress (Ok file) s = sound_cases
-    (is_behind client (progress.server.held file))
+arrived_on-sound client request progress (Ok file) s = sound_cases (is_behind client (progress.server.held file))
     (request_held file (held_of client request) progress)
-    (after_first_try client file request (tried client request progress).progress
-    (tried client request progress).outcome)
+    (after_first_try client file request (tried client request progress).progress (tried client request progress).outcome)
     (λ e. request_held-sound file (held_of client request) progress s)
     (λ e. after_first_try-sound client file request (tried client request progress).progress
-    (tried client request progress).outcome
-    (tried_for-good 3 client request progress s))
+    (tried client request progress).outcome (tried_for-good 3 client request progress s))
 
 -- a request about a file keeps the laws
 file_request-sound : (client : ℕ) (request : FileRequest) (progress : Progress) → IsSound progress.server
     → IsSound (file_request_arrived client request progress).server
 file_request-sound client (FileRequest.Close file_id) progress s = all_passes-sound
-    (arrived_on client (FileRequest.Close file_id) progress
-    (file_asked progress.server client (FileRequest.Close file_id)))
+    (arrived_on client (FileRequest.Close file_id) progress (file_asked progress.server client (FileRequest.Close file_id)))
     (arrived_on-sound client (FileRequest.Close file_id) progress
     (file_asked progress.server client (FileRequest.Close file_id)) s)
-file_request-sound client request progress s =
-    arrived_on-sound client request progress
+file_request-sound client request progress s = arrived_on-sound client request progress
     (file_asked progress.server client request) s
 
 -- a request that comes keeps the laws
@@ -147,13 +138,11 @@ arrived-sound client (Request.OnFile request) progress s = file_request-sound cl
 pub receive-sound : (server : Server) (client : ℕ) (request : Request) → IsSound server
     → IsSound (receive server client request).server
 unfolding receive
-receive-sound server client request s = sound_cases (server.present client)
-    (arrived client request (begun server)) (begun server)
+receive-sound server client request s = sound_cases (server.present client) (arrived client request (begun server)) (begun server)
     (λ e. arrived-sound client request (begun server) s) (λ e. s)
 
 -- the key of an open whose lease holds H
-handle_key : (server : Server) (client : ℕ) (bytes : Option (List ℕ))
-    → (lease_by server client bytes).state.handle ≡ true
+handle_key : (server : Server) (client : ℕ) (bytes : Option (List ℕ)) → (lease_by server client bytes).state.handle ≡ true
     → (key : Key) × (is_key key client bytes ≡ true)
 handle_key server client None h = absurd (true≢false (sym h))
 handle_key server client (Some bytes) h = (key_of client bytes, is_key-refl client bytes)
@@ -162,12 +151,10 @@ handle_key server client (Some bytes) h = (key_of client bytes, is_key-refl clie
 pub kept_lasting : (server : Server) (one : Open) → outlives_connection server one ≡ true → IsLasting server.leases one
 unfolding outlives_connection
 kept_lasting server one kept =
-    let outer = and_parts (one.durable && (lease_of server one).state.handle)
-    (not (is_breaking (lease_of server one))) kept in
+    let outer = and_parts (one.durable && (lease_of server one).state.handle) (not (is_breaking (lease_of server one))) kept in
     let inner = and_parts one.durable (lease_of server one).state.handle outer.0 in
     let k = handle_key server one.client one.lease_key inner.1 in
-    let same : lease_of server one ≡ server.leases k.0 = lease_by-key server k.0 one.client one.lease_key
-    k.1 in
+    let same : lease_of server one ≡ server.leases k.0 = lease_by-key server k.0 one.client one.lease_key k.1 in
     record {
       is_durable = inner.0;
       key = k.0;
@@ -177,13 +164,11 @@ kept_lasting server one kept =
     }
 
 -- an open that outlives its connection does so among fewer opens, if it is there
-pub lasting_left : (test : Open → Bool) (progress : Progress) (one : Open)
-    → Among one (opens_dropped test progress).server.opens
+pub lasting_left : (test : Open → Bool) (progress : Progress) (one : Open) → Among one (opens_dropped test progress).server.opens
     → IsLasting progress.server.leases one → IsLasting (opens_dropped test progress).server.leases one
 unfolding opens_dropped with_opens
 lasting_left test progress one a l =
-    let same = left_here progress.server.leases (without test progress.server.opens) l.key one a
-    l.has_the_key in
+    let same = left_here progress.server.leases (without test progress.server.opens) l.key one a l.has_the_key in
     record {
       is_durable = l.is_durable;
       key = l.key;
@@ -200,8 +185,7 @@ unfolding opens_dropped with_opens
 left_lasting client server one s a c =
     let was = among_filter (λ x. not (is_lost server client x)) one server.opens a in
     either one.connected
-    (λ up. kept_lasting server one (not_false (outlives_connection server one) (λ gone.
-    clash (is_lost server client one)
+    (λ up. kept_lasting server one (not_false (outlives_connection server one) (λ gone. clash (is_lost server client one)
     (and_both (one.client == client && one.connected) (not (outlives_connection server one))
     (and_both (one.client == client) one.connected ((Decides-eqb one.client client).1 c) up) (ap not gone))
     (not_parts (is_lost server client one) was.1))))
@@ -209,8 +193,7 @@ left_lasting client server one s a c =
 
 -- to disconnect opens keeps the laws
 pub opens_disconnected-sound : (client : ℕ) (progress : Progress) → IsSound progress.server
-    → ((one : Open) → Among one progress.server.opens → one.client ≡ client
-    → IsLasting progress.server.leases one)
+    → ((one : Open) → Among one progress.server.opens → one.client ≡ client → IsLasting progress.server.leases one)
     → IsSound (opens_disconnected client progress).server
 unfolding opens_disconnected
 opens_disconnected-sound client progress s lasting =
@@ -218,12 +201,10 @@ opens_disconnected-sound client progress s lasting =
     subst (λ opens. AreSound opens progress.server.leases progress.server.expired progress.server.last_id)
     (sym (map_same (disconnected client) (with_connection up) progress.server.opens
     (λ one. choose_connection (one.client == client) false one)))
-    (connection_sound up progress.server.opens progress.server.leases progress.server.expired
-    progress.server.last_id s
+    (connection_sound up progress.server.opens progress.server.leases progress.server.expired progress.server.last_id s
     (λ one a d. either (one.client == client)
     (λ e. lasting one a ((Decides-eqb one.client client).0 e))
-    (λ e. s.disconnected one a (if_cases (λ b. b ≡ false → one.connected ≡ false) (one.client == client) false
-    one.connected
+    (λ e. s.disconnected one a (if_cases (λ b. b ≡ false → one.connected ≡ false) (one.client == client) false one.connected
     (λ t. clash (one.client == client) t e) (λ t same. same) d))))
 
 -- to forget a client keeps the laws
@@ -237,35 +218,28 @@ cut-sound : (server : Server) (client : ℕ) → IsSound server → IsSound (cut
 unfolding cut
 cut-sound server client s =
     let dropped = opens_dropped (is_lost server client) (begun server) in
-    sound_cases (server.present client) (all_passes
-    (client_forgotten client (opens_disconnected client dropped))) (begun server)
+    sound_cases (server.present client) (all_passes (client_forgotten client (opens_disconnected client dropped))) (begun server)
     (λ e. all_passes-sound (client_forgotten client (opens_disconnected client dropped))
     (client_forgotten-sound client (opens_disconnected client dropped)
     (opens_disconnected-sound client dropped (opens_dropped-sound (is_lost server client) (begun server) s)
-    (λ one a c. lasting_left (is_lost server client) (begun server) one a
-    (left_lasting client server one s a c)))))
+    (λ one a c. lasting_left (is_lost server client) (begun server) one a (left_lasting client server one s a c)))))
     (λ e. s)
 
 -- none of the opens that are left has the key that was dropped
-none_left : (key : Key) (opens : List Open) {X : Type 0}
-    → list_any (has_key key) (without (has_key key) opens) ≡ true → X
+none_left : (key : Key) (opens : List Open) {X : Type 0} → list_any (has_key key) (without (has_key key) opens) ≡ true → X
 none_left key opens e =
     let x = any_has (has_key key) (without (has_key key) opens) e in
-    clash (has_key key x.0) x.2 (not_parts (has_key key x.0)
-    (among_filter (λ one. not (has_key key one)) x.0 opens x.1).1)
+    clash (has_key key x.0) x.2 (not_parts (has_key key x.0) (among_filter (λ one. not (has_key key one)) x.0 opens x.1).1)
 
 -- a key whose opens are dropped has no lease
-pub dropped_lease : (key : Key) (progress : Progress)
-    → (opens_dropped (has_key key) progress).server.leases key ≡ no_lease
+pub dropped_lease : (key : Key) (progress : Progress) → (opens_dropped (has_key key) progress).server.leases key ≡ no_lease
 unfolding opens_dropped with_opens
-dropped_lease key progress = if_cases (λ l. l ≡ no_lease)
-    (list_any (has_key key) (without (has_key key) progress.server.opens))
+dropped_lease key progress = if_cases (λ l. l ≡ no_lease) (list_any (has_key key) (without (has_key key) progress.server.opens))
     (progress.server.leases key) no_lease
     (λ e. none_left key progress.server.opens e) (λ e. refl)
 
 -- to mark a key keeps the laws
-pub key_expired-sound : (key : Key) (progress : Progress) → IsSound progress.server
-    → progress.server.leases key ≡ no_lease
+pub key_expired-sound : (key : Key) (progress : Progress) → IsSound progress.server → progress.server.leases key ≡ no_lease
     → IsSound (key_expired key progress).server
 unfolding key_expired
 key_expired-sound key progress s none = one_timer progress.server key s none
@@ -276,8 +250,7 @@ unfolding expire
 expire-sound server key s = sound_cases (is_breaking (server.leases key))
     (all_passes (key_expired key (opens_dropped (has_key key) (begun server)))) (begun server)
     (λ e. all_passes-sound (key_expired key (opens_dropped (has_key key) (begun server)))
-    (key_expired-sound key (opens_dropped (has_key key) (begun server))
-    (opens_dropped-sound (has_key key) (begun server) s)
+    (key_expired-sound key (opens_dropped (has_key key) (begun server)) (opens_dropped-sound (has_key key) (begun server) s)
     (dropped_lease key (begun server))))
     (λ e. s)
 

@@ -109,8 +109,7 @@ written_first client file_id number patch server one found alone [] behind file 
       open_so = record {
         one = one;
         is_there = there.0;
-        is_by = (Decides-eqb one.client client).0
-            (and_parts (one.file_id == file_id) (one.client == client)
+        is_by = (Decides-eqb one.client client).0 (and_parts (one.file_id == file_id) (one.client == client)
             (and_parts (one.file_id == file_id && one.client == client) one.connected there.1).0).1 ∙ writers e;
         is_on = files e;
         alone = alone;
@@ -194,8 +193,7 @@ unfolding held_left
 step_first (SmallStep.Answer client request outcome) progress may more before behind file by n p e at =
     concluded_first client request progress outcome may more before behind file by n p e at
 step_first (SmallStep.AnswerHeld on earlier one later outcome) progress may more before behind file by n p e at =
-    by_outcome outcome may.1
-    (e ∙ ap (λ l. l ++ more) (sym (held_left-outs on (earlier ++ later) progress)))
+    by_outcome outcome may.1 (e ∙ ap (λ l. l ++ more) (sym (held_left-outs on (earlier ++ later) progress)))
   where
     same : IsFirst (held_left on (earlier ++ later) progress).server file by before → IsFirst progress.server file by before
     same f = record {
@@ -279,8 +277,7 @@ reached (step ∷ steps) progress guarded before behind file by n p e =
     let rest = steps_more steps next in
     let both : one.more ++ rest.more ≡ before ++ Out.Changed file by n p ∷ behind =
     append_same progress.outs (one.more ++ rest.more) (before ++ Out.Changed file by n p ∷ behind)
-    (sym (append_assoc progress.outs one.more rest.more) ∙ sym (ap (λ l. l ++ rest.more) one.are_more)
-    ∙ sym rest.are_more ∙ e) in
+    (sym (append_assoc progress.outs one.more rest.more) ∙ sym (ap (λ l. l ++ rest.more) one.are_more) ∙ sym rest.are_more ∙ e) in
     ⊎_elim
     (λ f. let s = step_first step progress guarded.0 one.more before f.left file by n p one.are_more f.is in record {
       first = [];
@@ -297,8 +294,7 @@ reached (step ∷ steps) progress guarded before behind file by n p e =
       lead = r.lead ∙ ap (λ l. l ++ s.left) one.are_more ∙ append_assoc progress.outs one.more s.left
           ∙ ap (λ l. progress.outs ++ l) (sym s.is);
       open_so = r.open_so;
-    })
-    (split one.more rest.more before behind (Out.Changed file by n p) both)
+    }) (split one.more rest.more before behind (Out.Changed file by n p) both)
 
 -- ---- what is given up on the way
 
@@ -389,14 +385,12 @@ told_now call key other lowered current step steps progress same none outs =
 same_on : (call : Call) (key : Key) (step : SmallStep) (steps : List SmallStep) (progress : Progress)
     → IsCaching (progress.server.leases key)
     → (IsCaching ((step_taken step progress).server.leases key) → HasGivenUp call key (step ∷ steps) progress)
-    → (step_taken step progress).server.leases key ≡ progress.server.leases key
-    → HasGivenUp call key (step ∷ steps) progress
+    → (step_taken step progress).server.leases key ≡ progress.server.leases key → HasGivenUp call key (step ∷ steps) progress
 same_on call key step steps progress caches later e = later (subst IsCaching (sym e) caches)
 
 gone_on : (call : Call) (key : Key) (step : SmallStep) (steps : List SmallStep) (progress : Progress)
     → has_lease (step_taken step progress).server key ≡ false → HasGivenUp call key (step ∷ steps) progress
-gone_on call key step steps progress e =
-    inr (inl (record { first = step ∷ []; rest = steps; are_both = refl; is_gone = e }))
+gone_on call key step steps progress e = inr (inl (record { first = step ∷ []; rest = steps; are_both = refl; is_gone = e }))
 
 within_nothing : (state whole : State) → is_state_within state whole ≡ true → whole ≡ nothing_cached → state ≡ nothing_cached
 within_nothing state whole part none =
@@ -457,8 +451,7 @@ by_step call key (SmallStep.Acknowledge client given) steps progress of caches l
       is_of_key = ap (λ (k : Key). k.bytes) (sym a.own);
       is_of_nothing = none;
     })))
-    (λ some. later (settled_caches _ (granted_form_of a.told.state) a.left some))
-    (nothing_or_not (granted_form_of a.told.state)))
+    (λ some. later (settled_caches _ (granted_form_of a.told.state) a.left some)) (nothing_or_not (granted_form_of a.told.state)))
     (acked_leaves client given progress key)
 by_step call key (SmallStep.Hold file one) steps progress of caches later b =
     same_on call key (SmallStep.Hold file one) steps progress caches later b
@@ -478,15 +471,13 @@ by_step call key (SmallStep.Begin other lowered) steps progress of caches later 
     progress x.0 none (step-tells (SmallStep.Begin other lowered) progress))
     (λ some. later (breaking_caches _ (progress.server.leases key).state lowered x.1 (λ none. caches (inl none)) some))
     (nothing_or_not lowered)) b
-by_step call key step steps progress of caches later b =
-    answer_on call key step steps progress caches later b
+by_step call key step steps progress of caches later b = answer_on call key step steps progress caches later b
 
 gave_up : (call : Call) (key : Key) (steps : List SmallStep) (progress : Progress) → IsSound progress.server
     → AreGuarded steps progress → AreOf call steps → IsCaching (progress.server.leases key)
     → IsGivenUp ((steps_taken steps progress).server.leases key) → HasGivenUp call key steps progress
 gave_up call key [] progress s guarded of caches given = absurd (caches given)
-gave_up call key (step ∷ steps) progress s guarded of caches given =
-    by_step call key step steps progress of.0 caches
+gave_up call key (step ∷ steps) progress s guarded of caches given = by_step call key step steps progress of.0 caches
     (λ c. goes_on call key step steps progress
     (gave_up call key steps (step_taken step progress) (step-sound step progress s guarded.0) guarded.1 of.1 c given))
     (step-leases step progress s guarded.0 key)
@@ -519,14 +510,12 @@ of_rest call (step ∷ first) rest o = of_rest call first rest o.1
 sound_along : (steps : List SmallStep) (progress : Progress) → IsSound progress.server → AreGuarded steps progress
     → IsSound (steps_taken steps progress).server
 sound_along [] progress s g = s
-sound_along (step ∷ steps) progress s g =
-    sound_along steps (step_taken step progress) (step-sound step progress s g.0) g.1
+sound_along (step ∷ steps) progress s g = sound_along steps (step_taken step progress) (step-sound step progress s g.0) g.1
 
 -- ---- calls
 
 pub breaks-come-first : (server : Server) (call : Call) → IsSound server → WaitsWell server → (before behind : List Out)
-    (file client number : ℕ) (patch : Patch)
-    → (called server call).outs ≡ before ++ Out.Changed file client number patch ∷ behind
+    (file client number : ℕ) (patch : Patch) → (called server call).outs ≡ before ++ Out.Changed file client number patch ∷ behind
     → ComesBehindBreaks server call file client before
 breaks-come-first server call s w before behind file client number patch e =
     let start = call_begun server call in

@@ -39,8 +39,7 @@ pub record IsRead (before : Progress) (after : Progress) : Type 0 where
   pub one : Open
   pub is_there : Among one before.server.opens
   pub contents : after.server.contents ≡ before.server.contents
-  pub outs : after.outs ≡ before.outs
-      ++ Out.Sent one.client (Reply.ReadDone one.file_id (before.server.contents one.file)) ∷ []
+  pub outs : after.outs ≡ before.outs ++ Out.Sent one.client (Reply.ReadDone one.file_id (before.server.contents one.file)) ∷ []
 
 -- a write
 pub record IsChange (before : Progress) (after : Progress) : Type 0 where
@@ -49,8 +48,7 @@ pub record IsChange (before : Progress) (after : Progress) : Type 0 where
   pub file_id : ℕ
   pub number : ℕ
   pub patch : Patch
-  pub contents : after.server.contents
-      ≡ put before.server.contents file (patched (before.server.contents file) patch)
+  pub contents : after.server.contents ≡ put before.server.contents file (patched (before.server.contents file) patch)
   pub outs : after.outs ≡ before.outs
       ++ Out.Changed file client number patch ∷ Out.Sent client (Reply.WriteDone file_id number) ∷ []
 
@@ -80,8 +78,7 @@ granted_leaves client file access share (Some asked) durable lease progress =
 
 -- a read by an open
 read_step : (client file_id : ℕ) (progress : Progress) (one : Open) → Among one progress.server.opens
-    → one.file_id ≡ file_id → one.client ≡ client
-    → ContentStep progress (read_done client one.file file_id progress)
+    → one.file_id ≡ file_id → one.client ≡ client → ContentStep progress (read_done client one.file file_id progress)
 read_step client file_id progress one a id by = ContentStep.Reads (record {
   one = one;
   is_there = a;
@@ -97,8 +94,7 @@ read_step client file_id progress one a id by = ContentStep.Reads (record {
 -- the end of a request
 refusal_leaves : (client : ℕ) (request : FileRequest) (status : Status) (progress : Progress)
     → LeavesContents progress (replied client (refusal_of request status) progress)
-refusal_leaves client (FileRequest.Create file access share contexts) status progress =
-    reply_leaves client _ progress tt
+refusal_leaves client (FileRequest.Create file access share contexts) status progress = reply_leaves client _ progress tt
 refusal_leaves client request status progress = reply_leaves client _ progress tt
 
 ends_content : (client : ℕ) (progress : Progress) → HasEnds client progress (λ request outcome. ContentStep progress)
@@ -156,8 +152,7 @@ silent_leaves before after contents outs = record {
 
 -- behind a step that leaves opens, contents and outs alone
 step_behind : (before next after : Progress) → next.server.contents ≡ before.server.contents
-    → next.server.opens ≡ before.server.opens → next.outs ≡ before.outs → ContentStep next after
-    → ContentStep before after
+    → next.server.opens ≡ before.server.opens → next.outs ≡ before.outs → ContentStep next after → ContentStep before after
 step_behind before next after contents opens outs (ContentStep.Leaves l) = ContentStep.Leaves (record {
   contents = l.contents ∙ contents;
   outs = record {
@@ -200,7 +195,6 @@ content_step (SmallStep.Acknowledge client given) progress = ContentStep.Leaves 
 content_step (SmallStep.Hold file one) progress = ContentStep.Leaves
     (silent_leaves progress (request_held file one progress) refl (request_held-outs file one progress))
 content_step (SmallStep.Drop key) progress = ContentStep.Leaves
-    (silent_leaves progress (opens_dropped (is_left_open key) progress) refl
-    (opens_dropped-outs (is_left_open key) progress))
+    (silent_leaves progress (opens_dropped (is_left_open key) progress) refl (opens_dropped-outs (is_left_open key) progress))
 content_step step progress = ContentStep.Leaves
     (record { contents = refl; outs = record { more = _; are_more = refl; each = (tt, tt) } })

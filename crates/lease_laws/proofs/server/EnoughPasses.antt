@@ -12,8 +12,7 @@ more_passes : (file count other : ℕ) (progress : Progress) → length (progres
 unfolding passes_for
 more_passes file zero other progress lt less = let never : ⊥ = omega arith in absurd never
 more_passes file (suc count) zero progress lt less = let never : ⊥ = omega arith in absurd never
-more_passes file (suc count) (suc other) progress lt less =
-    either (one_pass file progress).has_answered
+more_passes file (suc count) (suc other) progress lt less = either (one_pass file progress).has_answered
     (λ a. let fewer = one_pass-fewer file progress a in
     rw a (more_passes file count other (one_pass file progress).progress (omega arith) (omega arith)))
     (λ n. rw n refl)
@@ -24,8 +23,7 @@ last_pass : (file count : ℕ) (progress : Progress) → length (progress.server
     × (passes_for count file progress ≡ (one_pass file before).progress)
 unfolding passes_for
 last_pass file zero progress lt = let never : ⊥ = omega arith in absurd never
-last_pass file (suc count) progress lt =
-    either (one_pass file progress).has_answered
+last_pass file (suc count) progress lt = either (one_pass file progress).has_answered
     (λ a. let fewer = one_pass-fewer file progress a in
     let rest = last_pass file count (one_pass file progress).progress (omega arith) in
     (rest.0, rest.1, rw a rest.2))

@@ -28,8 +28,7 @@ among_mapped f x (y ∷ xs) (inr a) = inr (among_mapped f x xs a)
 -- where no element passes, the filter leaves nothing
 filter_none : {X : Type 0} (test : X → Bool) (xs : List X) → ((x : X) → Among x xs → test x ≡ false) → filter test xs ≡ []
 filter_none test [] none = refl
-filter_none test (y ∷ xs) none =
-    if_cases (λ l. l ≡ []) (test y) (y ∷ filter test xs) (filter test xs)
+filter_none test (y ∷ xs) none = if_cases (λ l. l ≡ []) (test y) (y ∷ filter test xs) (filter test xs)
     (λ e. clash (test y) e (none y (inl refl)))
     (λ e. filter_none test xs (λ x a. none x (inr a)))
 
@@ -48,8 +47,7 @@ find_kept test keep left (y ∷ xs) =
 key_added-self : (new : Key) (keys : List Key) → Among new (key_added new keys)
 unfolding key_added
 key_added-self new [] = inl refl
-key_added-self new (other ∷ keys) =
-    if_cases (λ l. Among new l) (key_eq new other) (other ∷ keys)
+key_added-self new (other ∷ keys) = if_cases (λ l. Among new l) (key_eq new other) (other ∷ keys)
     (if key_before new other then new ∷ other ∷ keys else other ∷ key_added new keys)
     (λ e. inl (key_eq-same new other e))
     (λ e. if_cases (λ l. Among new l) (key_before new other) (new ∷ other ∷ keys) (other ∷ key_added new keys)
@@ -59,8 +57,7 @@ key_added-self new (other ∷ keys) =
 key_added-keeps : (key new : Key) (keys : List Key) → Among key keys → Among key (key_added new keys)
 unfolding key_added
 key_added-keeps key new [] a = absurd a
-key_added-keeps key new (other ∷ keys) a =
-    if_cases (λ l. Among key l) (key_eq new other) (other ∷ keys)
+key_added-keeps key new (other ∷ keys) a = if_cases (λ l. Among key l) (key_eq new other) (other ∷ keys)
     (if key_before new other then new ∷ other ∷ keys else other ∷ key_added new keys)
     (λ e. a)
     (λ e. if_cases (λ l. Among key l) (key_before new other) (new ∷ other ∷ keys) (other ∷ key_added new keys)
@@ -75,8 +72,7 @@ open_key_added-keeps key client (Some bytes) keys a = key_added-keeps key (key_o
 -- the key of an open with a key is added
 open_key_added-self : (client : ℕ) (bytes : List ℕ) (key : Option (List ℕ)) (keys : List Key) → key ≡ Some bytes
     → Among (key_of client bytes) (open_key_added client key keys)
-open_key_added-self client bytes key keys e =
-    rw e (key_added-self (key_of client bytes) keys)
+open_key_added-self client bytes key keys e = rw e (key_added-self (key_of client bytes) keys)
 
 -- the key of an open is among the keys of the opens
 keys_of-own : (one : Open) (bytes : List ℕ) (opens : List Open) → Among one opens → one.lease_key ≡ Some bytes
@@ -126,8 +122,7 @@ and_then holds first middle last f l = record {
   no_new_open = λ one a. f.no_new_open one (l.no_new_open one a);
   connected_left = λ test. l.connected_left test ∙ f.connected_left test;
   same_files = l.same_files ∙ f.same_files;
-  still_breaking = λ key b h. l.still_breaking key
-      (f.still_breaking key b (lease_before middle last key l.no_new_open h)) h;
+  still_breaking = λ key b h. l.still_breaking key (f.still_breaking key b (lease_before middle last key l.no_new_open h)) h;
   no_new_right = λ key h. l.no_new_right key (f.no_new_right key h);
 }
 
@@ -205,8 +200,7 @@ met_later : (holds : State → Bool) (key : Key) (before after : Server) → IsA
     → IsMet holds key before → IsMet holds key after
 met_later holds key before after later met h = ⊎_elim
     (λ b. inl (later.still_breaking key b h))
-    (λ r. inr (later.no_new_right key r))
-    (met (lease_before before after key later.no_new_open h))
+    (λ r. inr (later.no_new_right key r)) (met (lease_before before after key later.no_new_open h))
 
 -- a break that is begun leaves the lease breaking
 break_begun_met : (holds : State → Bool) (key : Key) (lowered : State) (progress : Progress)
@@ -238,8 +232,7 @@ lease_broken_met holds key lowered progress low =
     let breaking : Bool = is_breaking (progress.server.leases key) in
     if_cases (λ (q : Progress). IsBroken holds key progress.server q.server) (there && not breaking)
     (if needs_acknowledgment (progress.server.leases key).state
-    then break_begun key lowered progress else lease_lowered key lowered progress)
-    progress
+    then break_begun key lowered progress else lease_lowered key lowered progress) progress
     (λ e. if_cases (λ (q : Progress). IsBroken holds key progress.server q.server)
     (needs_acknowledgment (progress.server.leases key).state)
     (break_begun key lowered progress) (lease_lowered key lowered progress)
@@ -316,8 +309,7 @@ wanted_low holds base lowering server low want a =
 -- an open with a key whose lease is to give something up: its key is wanted
 wanted_has : (holds : State → Bool) (base : Open → Bool) (lowering : State → State) (server : Server) (one : Open)
     (bytes : List ℕ) → Among one server.opens → one.lease_key ≡ Some bytes → base one ≡ true
-    → holds (server.leases (key_of one.client bytes)).state ≡ true
-    → Among (record {
+    → holds (server.leases (key_of one.client bytes)).state ≡ true → Among (record {
       key = key_of one.client bytes;
       lowered = lowering (server.leases (key_of one.client bytes)).state;
     }) (wanted holds base lowering server)
@@ -326,15 +318,13 @@ wanted_has holds base lowering server one bytes a e b h =
     among_mapped (λ key. record { key = key; lowered = lowering (server.leases key).state }) (key_of one.client bytes)
     (keys_of (filter (is_wanted holds base server) server.opens))
     (keys_of-own one bytes (filter (is_wanted holds base server) server.opens)
-    (among_filtered (is_wanted holds base server) one server.opens a
-    (and_both (base one) (holds (lease_of server one).state) b
+    (among_filtered (is_wanted holds base server) one server.opens a (and_both (base one) (holds (lease_of server one).state) b
     (ap (λ (key : Option (List ℕ)). holds (lease_by server one.client key).state) e ∙ h))) e)
 
 -- an open that is still wanted after a round: its lease was wanted, and is breaking
 pub record IsStillWanted (holds : State → Bool) (base : Open → Bool) (lowering : State → State) (before : Server)
     (after : Server) (key : Key) : Type 0 where
-  pub was_wanted : Among (record { key = key; lowered = lowering (before.leases key).state })
-      (wanted holds base lowering before)
+  pub was_wanted : Among (record { key = key; lowered = lowering (before.leases key).state }) (wanted holds base lowering before)
   pub is_breaking : is_breaking (after.leases key) ≡ true
 
 -- its key is the open's
@@ -368,8 +358,7 @@ NoneIs test server wants = list_any (λ want. test (server.leases want.key)) wan
 
 -- an open that is left after a round that leaves nothing breaking: its lease has nothing to give up
 left_met : (holds : State → Bool) (base : Open → Bool) (lowering : State → State)
-    (before after : Server) (one : Open) (key : Option (List ℕ)) → one.lease_key ≡ key
-    → holds nothing_cached ≡ false
+    (before after : Server) (one : Open) (key : Option (List ℕ)) → one.lease_key ≡ key → holds nothing_cached ≡ false
     → IsRound holds (wanted holds base lowering before) before after
     → NoneIs (λ lease. is_breaking lease) after (wanted holds base lowering before)
     → Among one after.opens → is_wanted holds base after one ≡ false
@@ -386,8 +375,7 @@ left_met holds base lowering before after one (Some bytes) e nothing round ready
 
 -- where no open's lease has anything to give up, nothing is wanted
 pub nothing_wanted : (holds : State → Bool) (base : Open → Bool) (lowering : State → State) (server : Server)
-    → ((one : Open) → Among one server.opens → is_wanted holds base server one ≡ false)
-    → wanted holds base lowering server ≡ []
+    → ((one : Open) → Among one server.opens → is_wanted holds base server one ≡ false) → wanted holds base lowering server ≡ []
 unfolding wants_where keys_of
 nothing_wanted holds base lowering server none =
     ap (λ (opens : List Open). map (λ key. record { key = key; lowered = lowering (server.leases key).state }) (keys_of opens))
@@ -428,8 +416,7 @@ pub record IsRoundBroken (holds : State → Bool) (base : Open → Bool) (loweri
 still_open : (holds : State → Bool) (base : Open → Bool) (lowering : State → State) (before after : Server) (key : Key)
     (one : Open) (bytes : Option (List ℕ)) → one.lease_key ≡ bytes → has_key key one ≡ true
     → IsRound holds (wanted holds base lowering before) before after
-    → Among one after.opens → is_wanted holds base after one ≡ true
-    → IsStillWanted holds base lowering before after key
+    → Among one after.opens → is_wanted holds base after one ≡ true → IsStillWanted holds base lowering before after key
 still_open holds base lowering before after key one None e k round a t =
     clash (has_key key one) k (ap (λ (b : Option (List ℕ)). is_key key one.client b) e)
 still_open holds base lowering before after key one (Some bytes) e k round a t =
@@ -443,8 +430,7 @@ still_open holds base lowering before after key one (Some bytes) e k round a t =
 pub round_broken : (holds : State → Bool) (base : Open → Bool) (lowering : State → State) (progress : Progress)
     → holds nothing_cached ≡ false → ((state : State) → holds (lowering state) ≡ false)
     → NoneIs (λ lease. breaks_to_some lease) (wants_met (wanted holds base lowering progress.server) progress).server
-    (wanted holds base lowering progress.server)
-    → IsRoundBroken holds base lowering progress.server
+    (wanted holds base lowering progress.server) → IsRoundBroken holds base lowering progress.server
     (wants_met (wanted holds base lowering progress.server) progress).server
 unfolding wants_where
 round_broken holds base lowering progress nothing low ready =
@@ -460,9 +446,7 @@ round_broken holds base lowering progress nothing low ready =
           (keys_of (filter (is_wanted holds base after) after.opens)) a in
           let y = keys_of-has x.0 (filter (is_wanted holds base after) after.opens) x.1 in
           let z = among_filter (is_wanted holds base after) y.0 after.opens y.1 in
-          let still = still_open holds base lowering progress.server after x.0 y.0 (y.0).lease_key refl y.2 round
-          z.0 z.1 in
-          ap (λ (w : Want). breaks_to_none (after.leases w.key)) x.2
-          ∙ to_nothing (after.leases x.0).broken_to still.is_breaking
+          let still = still_open holds base lowering progress.server after x.0 y.0 (y.0).lease_key refl y.2 round z.0 z.1 in
+          ap (λ (w : Want). breaks_to_none (after.leases w.key)) x.2 ∙ to_nothing (after.leases x.0).broken_to still.is_breaking
           (none_has (λ want. breaks_to_some (after.leases want.key)) _ wants ready still.was_wanted));
     }

@@ -65,8 +65,7 @@ more_same (suc rounds) (suc more) client request progress ends le =
 after_reason : (again : Progress → Tried) (next : Progress → Type 0) (client : ℕ) (request : FileRequest) (progress : Progress)
     (found : Finding) → finding progress.server client request ≡ found
     → ((q : Progress) → next q → EndsFor client request (again q).progress (again q).outcome)
-    → EndsAfter next request progress found
-    → EndsFor client request (after_finding again request progress found).progress
+    → EndsAfter next request progress found → EndsFor client request (after_finding again request progress found).progress
     (after_finding again request progress found).outcome
 after_reason again next client request progress (Finding.Fails status) e good ends = e
 after_reason again next client request progress (Finding.Needs wants) e good ends =
@@ -139,8 +138,7 @@ create file access share lease durable = FileRequest.Create file access share
 
 -- a create that goes on waits for no lease that is breaking
 create_goes_on : (file : ℕ) (access : Access) (share : Share) (lease : Option LeaseOf) (durable : Bool)
-    (wants : List Want) (progress : Progress)
-    → must_wait (create file access share lease durable) progress wants ≡ false
+    (wants : List Want) (progress : Progress) → must_wait (create file access share lease durable) progress wants ≡ false
     → NoneIs (λ lease. is_breaking lease) progress.server wants
 unfolding waits_for
 create_goes_on file access share lease durable wants progress e = e
@@ -201,8 +199,7 @@ finds_violation : (client file : ℕ) (access : Access) (share : Share) (lease :
     → is_empty (handle_wants server (own_key client lease) file access share) ≡ true
     → finding server client (create file access share lease durable) ≡ Finding.Fails Status.SharingViolation
 unfolding finding create_finding
-finds_violation client file access share lease durable server at clash none =
-    rw (at.there, at.home, clash, none) refl
+finds_violation client file access share lease durable server at clash none = rw (at.there, at.home, clash, none) refl
 
 -- a conflict, and handles to be given up
 finds_handles : (client file : ℕ) (access : Access) (share : Share) (lease : Option LeaseOf) (durable : Bool) (server : Server)
@@ -211,8 +208,7 @@ finds_handles : (client file : ℕ) (access : Access) (share : Share) (lease : O
     → finding server client (create file access share lease durable)
     ≡ Finding.Needs (handle_wants server (own_key client lease) file access share)
 unfolding finding create_finding
-finds_handles client file access share lease durable server at clash some =
-    rw (at.there, at.home, clash, some) refl
+finds_handles client file access share lease durable server at clash some = rw (at.there, at.home, clash, some) refl
 
 -- which leases a create without conflicts, and one with, wants lowered
 abbrev writes : State → Bool
@@ -228,31 +224,26 @@ in_conflict own file access share one = conflicts_on file access share one && is
 
 -- where no conflict is left and nobody else caches writes, the create is ready
 last_round : (rounds client file : ℕ) (access : Access) (share : Share) (lease : Option LeaseOf) (durable : Bool)
-    (progress : Progress)
-    → IsAt (own_key client lease) file progress.server
-    → list_any (conflicts_on file access share) progress.server.opens ≡ false
-    → ((one : Open) → Among one progress.server.opens
+    (progress : Progress) → IsAt (own_key client lease) file progress.server
+    → list_any (conflicts_on file access share) progress.server.opens ≡ false → ((one : Open) → Among one progress.server.opens
     → is_wanted writes (is_other_on (own_key client lease) file) progress.server one ≡ false)
     → Ends (suc rounds) client (create file access share lease durable) progress
 unfolding write_wants
 last_round rounds client file access share lease durable progress at calm none =
     ends_ready rounds client (create file access share lease durable) progress
-    (finds_writes client file access share lease durable progress.server at calm
-    ∙ ap (λ (w : List Want). Finding.Needs w)
+    (finds_writes client file access share lease durable progress.server at calm ∙ ap (λ (w : List Want). Finding.Needs w)
     (nothing_wanted writes (is_other_on (own_key client lease) file) without_write progress.server none))
 
 -- where no conflict is left, two rounds are enough
 write_round : (rounds client file : ℕ) (access : Access) (share : Share) (lease : Option LeaseOf) (durable : Bool)
-    (progress : Progress)
-    → IsAt (own_key client lease) file progress.server
+    (progress : Progress) → IsAt (own_key client lease) file progress.server
     → list_any (conflicts_on file access share) progress.server.opens ≡ false
     → Ends (suc (suc rounds)) client (create file access share lease durable) progress
 unfolding write_wants
 write_round rounds client file access share lease durable progress at calm =
     let own : Option Key = own_key client lease in
     let next : Progress = wants_met (write_wants progress.server own file) progress in
-    ends_wants (suc rounds) client (create file access share lease durable) progress
-    (write_wants progress.server own file)
+    ends_wants (suc rounds) client (create file access share lease durable) progress (write_wants progress.server own file)
     (finds_writes client file access share lease durable progress.server at calm)
     (λ ready.
     let done : IsRoundDone writes (is_other_on own file) progress.server next.server =
@@ -260,36 +251,31 @@ write_round rounds client file access share lease durable progress at calm =
     (create_goes_on file access share lease durable (write_wants progress.server own file) next ready) in
     last_round rounds client file access share lease durable next
     (at_after writes own file progress.server next.server done.goes_on at)
-    (fewer_none (conflicts_on file access share) progress.server next.server done.goes_on.no_new_open calm)
-    done.none_left)
+    (fewer_none (conflicts_on file access share) progress.server next.server done.goes_on.no_new_open calm) done.none_left)
 
 -- after handles were given up, two rounds are enough
 handles_gone : (client file : ℕ) (access : Access) (share : Share) (lease : Option LeaseOf) (durable : Bool) (progress : Progress)
-    → IsAt (own_key client lease) file progress.server
-    → ((one : Open) → Among one progress.server.opens
+    → IsAt (own_key client lease) file progress.server → ((one : Open) → Among one progress.server.opens
     → is_wanted handles (in_conflict (own_key client lease) file access share) progress.server one ≡ false)
     → Ends 2 client (create file access share lease durable) progress
 unfolding handle_wants
 handles_gone client file access share lease durable progress at none =
     either (list_any (conflicts_on file access share) progress.server.opens)
     (λ clash. ends_refused 1 client (create file access share lease durable) progress Status.SharingViolation
-    (finds_violation client file access share lease durable progress.server at clash
-    (ap (λ (w : List Want). is_empty w)
+    (finds_violation client file access share lease durable progress.server at clash (ap (λ (w : List Want). is_empty w)
     (nothing_wanted handles (in_conflict (own_key client lease) file access share) without_handle progress.server none))))
     (λ calm. write_round 0 client file access share lease durable progress at calm)
 
 -- where a conflict can be resolved, three rounds are enough
 handle_round : (client file : ℕ) (access : Access) (share : Share) (lease : Option LeaseOf) (durable : Bool) (progress : Progress)
-    → IsAt (own_key client lease) file progress.server
-    → list_any (conflicts_on file access share) progress.server.opens ≡ true
+    → IsAt (own_key client lease) file progress.server → list_any (conflicts_on file access share) progress.server.opens ≡ true
     → is_empty (handle_wants progress.server (own_key client lease) file access share) ≡ false
     → Ends 3 client (create file access share lease durable) progress
 unfolding handle_wants
 handle_round client file access share lease durable progress at clash some =
     let own : Option Key = own_key client lease in
     let next : Progress = wants_met (handle_wants progress.server own file access share) progress in
-    ends_wants 2 client (create file access share lease durable) progress
-    (handle_wants progress.server own file access share)
+    ends_wants 2 client (create file access share lease durable) progress (handle_wants progress.server own file access share)
     (finds_handles client file access share lease durable progress.server at clash some)
     (λ ready.
     let done : IsRoundDone handles (in_conflict own file access share) progress.server next.server =
@@ -335,8 +321,7 @@ plain_ends client request progress (Finding.Needs wants) e plain =
 reconnect_plain : (server : Server) (client file : ℕ) (own : Option Key) (file_id : ℕ)
     → IsPlain (reconnect_finding server client file own file_id)
 unfolding reconnect_finding
-reconnect_plain server client file own file_id =
-    if_cases IsPlain (list_any (awaits client file own file_id) server.opens)
+reconnect_plain server client file own file_id = if_cases IsPlain (list_any (awaits client file own file_id) server.opens)
     (Finding.Needs []) (Finding.Fails Status.ObjectNameNotFound) (λ e. refl) (λ e. tt)
 
 -- also where its file is looked for
@@ -349,12 +334,10 @@ again_plain server client file own file_id = if_cases IsPlain (has_file server f
 
 -- a create, whether it reconnects or not
 any_create_ends : (client file : ℕ) (access : Access) (share : Share) (lease : Option LeaseOf) (durable : Bool)
-    (again : Option ℕ) (progress : Progress)
-    → Ends 3 client (FileRequest.Create file access share
+    (again : Option ℕ) (progress : Progress) → Ends 3 client (FileRequest.Create file access share
     (Some (record { lease = lease; durable = durable; reconnect = again }))) progress
 unfolding finding
-any_create_ends client file access share lease durable None progress =
-    create_ends client file access share lease durable progress
+any_create_ends client file access share lease durable None progress = create_ends client file access share lease durable progress
 any_create_ends client file access share lease durable (Some file_id) progress =
     plain_ends client _ progress _ refl (again_plain progress.server client file (own_key client lease) file_id)
 
@@ -369,8 +352,7 @@ contexts_end client file access share (Some ask) progress =
 -- where a write's open is there and nobody else caches anything, the write is ready
 finds_all : (client file_id number : ℕ) (patch : Patch) (server : Server) (one : Open)
     → connected_open server client file_id ≡ Some one → may_write one.access ≡ true → is_within_limit patch ≡ true
-    → finding server client (FileRequest.Write file_id number patch)
-    ≡ Finding.Needs (all_wants server (key_of_open one) one.file)
+    → finding server client (FileRequest.Write file_id number patch) ≡ Finding.Needs (all_wants server (key_of_open one) one.file)
 unfolding finding write_finding
 finds_all client file_id number patch server one e may fits =
     ap (λ (o : Option Open). by_open o (λ one. write_finding server one patch)) e ∙ rw (may, fits) refl
@@ -395,8 +377,7 @@ finds_refused client file_id number patch server one e refused =
 finds_closed : (client file_id number : ℕ) (patch : Patch) (server : Server) → connected_open server client file_id ≡ None
     → finding server client (FileRequest.Write file_id number patch) ≡ Finding.Fails Status.FileClosed
 unfolding finding
-finds_closed client file_id number patch server e =
-    ap (λ (o : Option Open). by_open o (λ one. write_finding server one patch)) e
+finds_closed client file_id number patch server e = ap (λ (o : Option Open). by_open o (λ one. write_finding server one patch)) e
 
 -- a write that goes on waits for no lease that is breaking to something
 write_goes_on : (file_id number : ℕ) (patch : Patch) (wants : List Want) (progress : Progress)
@@ -426,21 +407,18 @@ all_round client file_id number patch progress one e may fits =
     let done : IsRoundBroken holds_any others (λ state. nothing_cached) progress.server next.server =
     round_broken holds_any others (λ state. nothing_cached) progress refl (λ s. refl)
     (write_goes_on file_id number patch wants next ready) in
-    ends_found 1 client (FileRequest.Write file_id number patch) next
-    (all_wants next.server (key_of_open one) one.file)
+    ends_found 1 client (FileRequest.Write file_id number patch) next (all_wants next.server (key_of_open one) one.file)
     (finds_all client file_id number patch next.server one
     (done.goes_on.connected_left (λ x. x.file_id == file_id && x.client == client) ∙ e) may fits)
     (write_is_ready file_id number patch next.server (all_wants next.server (key_of_open one) one.file) done.to_none))
 
 -- a write
 write_ends : (client file_id number : ℕ) (patch : Patch) (progress : Progress) (found : Option Open)
-    → connected_open progress.server client file_id ≡ found
-    → Ends 3 client (FileRequest.Write file_id number patch) progress
+    → connected_open progress.server client file_id ≡ found → Ends 3 client (FileRequest.Write file_id number patch) progress
 write_ends client file_id number patch progress None e =
     ends_refused 2 client (FileRequest.Write file_id number patch) progress Status.FileClosed
     (finds_closed client file_id number patch progress.server e)
-write_ends client file_id number patch progress (Some one) e =
-    either (may_write one.access && is_within_limit patch)
+write_ends client file_id number patch progress (Some one) e = either (may_write one.access && is_within_limit patch)
     (λ good. let both : (may_write one.access ≡ true) × (is_within_limit patch ≡ true) =
     and_parts (may_write one.access) (is_within_limit patch) good in
     all_round client file_id number patch progress one e both.0 both.1)

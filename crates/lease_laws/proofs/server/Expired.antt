@@ -80,11 +80,9 @@ either_expired : (b : Bool) (x y : Progress) (was : Key → Bool) → x.server.e
 either_expired true x y was e f = e
 either_expired false x y was e f = f
 
-pub cut-expired : (server : Server) (client : ℕ)
-    → (call_begun server (Call.Cut client)).server.expired ≡ server.expired
+pub cut-expired : (server : Server) (client : ℕ) → (call_begun server (Call.Cut client)).server.expired ≡ server.expired
 unfolding opens_dropped with_opens opens_disconnected client_forgotten
-cut-expired server client =
-    either_expired (server.present client) _ (begun server) server.expired refl refl
+cut-expired server client = either_expired (server.present client) _ (begun server) server.expired refl refl
 
 pub scavenge-expired : (server : Server) (file_id : ℕ)
     → (call_begun server (Call.Scavenge file_id)).server.expired ≡ server.expired
@@ -93,8 +91,7 @@ scavenge-expired server file_id =
     either_expired (list_any (is_left_behind file_id) server.opens) _ (begun server) server.expired refl refl
 
 pub join-expired : (server : Server) (client : ℕ) → server.present client ≡ false → (key : Key)
-    → (call_begun server (Call.Join client)).server.expired key
-    ≡ (if key.client == client then false else server.expired key)
+    → (call_begun server (Call.Join client)).server.expired key ≡ (if key.client == client then false else server.expired key)
 unfolding join joined
 join-expired server client e key = rw (e) refl
 

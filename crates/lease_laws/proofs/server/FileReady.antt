@@ -32,26 +32,22 @@ AgainReady server client (Some file_id) = IsAwaited server client file_id
 -- by its contexts
 abbrev pub ContextsReady : Server → ℕ → ℕ → Option CreateAsk → Type 0
 ContextsReady server client file None = Unit {0}
-ContextsReady server client file (Some ask) = (has_file server file ≡ true) × AgainReady server client
-    ask.reconnect
+ContextsReady server client file (Some ask) = (has_file server file ≡ true) × AgainReady server client ask.reconnect
 
 -- what is known of the file of a request that is ready
 abbrev pub FileReady : Server → ℕ → FileRequest → Type 0
-FileReady server client (FileRequest.Create file access share contexts) = ContextsReady server client file
-    contexts
+FileReady server client (FileRequest.Create file access share contexts) = ContextsReady server client file contexts
 FileReady server client request = Unit {0}
 
 -- an open that waits for its client is its own
-pub awaits_own : (client file : ℕ) (own : Option Key) (file_id : ℕ) (one : Open)
-    → awaits client file own file_id one ≡ true
+pub awaits_own : (client file : ℕ) (own : Option Key) (file_id : ℕ) (one : Open) → awaits client file own file_id one ≡ true
     → (one.file_id ≡ file_id) × (one.client ≡ client)
 unfolding awaits
 awaits_own client file None file_id one e = absurd (true≢false (sym e))
 awaits_own client file (Some key) file_id one e =
     let p = and_parts (one.file_id == file_id && not one.connected && one.client == client && one.file ==
     file) (has_key key one) e in
-    let q = and_parts (one.file_id == file_id && not one.connected && one.client == client) (one.file == file)
-    p.0 in
+    let q = and_parts (one.file_id == file_id && not one.connected && one.client == client) (one.file == file) p.0 in
     let r = and_parts (one.file_id == file_id && not one.connected) (one.client == client) q.0 in
     let t = and_parts (one.file_id == file_id) (not one.connected) r.0 in
     ((Decides-eqb one.file_id file_id).0 t.0, (Decides-eqb one.client client).0 r.1)
@@ -62,8 +58,7 @@ reconnect_awaited : (server : Server) (client file : ℕ) (own : Option Key) (fi
 unfolding reconnect_finding
 reconnect_awaited server client file own file_id wants =
     if_cases (λ found. found ≡ Finding.Needs wants → IsAwaited server client file_id)
-    (list_any (awaits client file own file_id) server.opens)
-    (Finding.Needs []) (Finding.Fails Status.ObjectNameNotFound)
+    (list_any (awaits client file own file_id) server.opens) (Finding.Needs []) (Finding.Fails Status.ObjectNameNotFound)
     (λ e same. let x = any_has (awaits client file own file_id) server.opens e in let y = awaits_own client
     file own file_id x.0 x.2 in
     record { one = x.0; is_there = x.1; has_id = y.0; is_own = y.1 })
@@ -71,8 +66,7 @@ reconnect_awaited server client file own file_id wants =
 
 -- so does a create with a reconnect
 asked_again : (server : Server) (client file : ℕ) (access : Access) (share : Share) (lease : Option LeaseOf)
-    (again : Option ℕ) (wants : List Want)
-    → asked_finding server client file access share lease again ≡ Finding.Needs wants
+    (again : Option ℕ) (wants : List Want) → asked_finding server client file access share lease again ≡ Finding.Needs wants
     → AgainReady server client again
 asked_again server client file access share lease None wants e = tt
 asked_again server client file access share lease (Some file_id) wants e = reconnect_awaited server client
@@ -86,10 +80,8 @@ contexts_ready : (server : Server) (client file : ℕ) (access : Access) (share 
 unfolding finding
 contexts_ready server client file access share None wants e = tt
 contexts_ready server client file access share (Some ask) wants e =
-    if_cases (λ found. found ≡ Finding.Needs wants → ContextsReady server client file (Some ask))
-    (has_file server file)
-    (asked_finding server client file access share ask.lease ask.reconnect)
-    (Finding.Fails Status.ObjectNameNotFound)
+    if_cases (λ found. found ≡ Finding.Needs wants → ContextsReady server client file (Some ask)) (has_file server file)
+    (asked_finding server client file access share ask.lease ask.reconnect) (Finding.Fails Status.ObjectNameNotFound)
     (λ t same. (t, asked_again server client file access share ask.lease ask.reconnect wants same))
     (λ t never. absurd (cc)) e
 

@@ -58,8 +58,7 @@ still_there before one a = record {
   was_there = a;
   same_id = refl;
   same_file = refl;
-  same_client =
-      refl;
+  same_client = refl;
   up = λ e. inl e;
 }
 
@@ -69,8 +68,7 @@ goes-same server = record {
   files = refl;
   ups = λ c. refl;
   ids = omega arith;
-  from = λ one a. inl
-      (still_there server one a);
+  from = λ one a. inl (still_there server one a);
 }
 
 -- the files of a server are known by their number
@@ -113,8 +111,7 @@ goes-twice a b c g h = record {
   ups = λ client. h.ups client ∙ g.ups client;
   ids = let x = g.ids in let y = h.ids in omega (arith, x, y);
   from = λ one m. ⊎_elim
-      (λ o. ⊎_elim (λ p. inl (old_of_old a b one g o p)) (λ p. inr (new_of_old a b one o p))
-      (g.from o.was o.was_there))
+      (λ o. ⊎_elim (λ p. inl (old_of_old a b one g o p)) (λ p. inr (new_of_old a b one o p)) (g.from o.was o.was_there))
       (λ n. inr (new_of_new a b one g n)) (h.from one m);
 }
 
@@ -139,8 +136,7 @@ dropped-goes test progress = record {
   files = refl;
   ups = λ c. refl;
   ids = omega arith;
-  from = λ one a. inl (still_there progress.server one
-      (among_filter (λ x. not (test x)) one progress.server.opens a).0);
+  from = λ one a. inl (still_there progress.server one (among_filter (λ x. not (test x)) one progress.server.opens a).0);
 }
 
 tries_go : HasTries Goes
@@ -165,12 +161,10 @@ added : (new : Open) (progress : Progress) (one : Open) → new.file_id ≡ prog
 added new progress one id up on a = ⊎_elim
     (λ h. inl (still_there progress.server one h))
     (λ h. ⊎_elim (λ same. inr (record {
-      is_new = let e : one.file_id ≡ progress.server.last_id + 1 = ap (λ o. o.file_id) same
-          ∙ id in omega (arith, e);
+      is_new = let e : one.file_id ≡ progress.server.last_id + 1 = ap (λ o. o.file_id) same ∙ id in omega (arith, e);
       up = ap (λ o. progress.server.present o.client) same ∙ up;
       on_file = ap (λ o. has_file progress.server o.file) same ∙ on;
-    })) (λ never. absurd never) h)
-    (among_append one progress.server.opens (new ∷ []) a)
+    })) (λ never. absurd never) h) (among_append one progress.server.opens (new ∷ []) a)
 
 -- a grant lets opens go on
 granted_with-goes : (client file : ℕ) (access : Access) (share : Share) (asked : Option LeaseOf)
@@ -182,21 +176,18 @@ granted_with-goes client file access share None durable lease progress up on = r
   files = refl;
   ups = λ c. refl;
   ids = omega arith;
-  from = λ one a. added (new_open progress.server client file access share None durable lease) progress one
-      refl up on a;
+  from = λ one a. added (new_open progress.server client file access share None durable lease) progress one refl up on a;
 }
 granted_with-goes client file access share (Some asked) durable lease progress up on = record {
   files = refl;
   ups = λ c. refl;
   ids = omega arith;
-  from = λ one a. added (new_open progress.server client file access share (Some asked) durable lease)
-      progress one refl up on a;
+  from = λ one a. added (new_open progress.server client file access share (Some asked) durable lease) progress one refl up on a;
 }
 
 -- an open that is connected again is one of its client
 again_old : (server : Server) (client file_id : ℕ) (was : Open) (b : Bool) → (was.file_id == file_id) ≡ b
-    → IsSound server → IsAwaited server client file_id → server.present client ≡ true
-    → Among was server.opens
+    → IsSound server → IsAwaited server client file_id → server.present client ≡ true → Among was server.opens
     → IsOld server (cond b (record was { connected = true }) was)
 again_old server client file_id was true e s w up a = record {
   was = was;
@@ -204,16 +195,13 @@ again_old server client file_id was true e s w up a = record {
   same_id = refl;
   same_file = refl;
   same_client = refl;
-  up = λ u. inr (ap (λ o. server.present o.client)
-      (one_id server.opens was w.one s.in_order a w.is_there
-      ((Decides-eqb was.file_id file_id).0 e ∙ sym w.has_id))
-      ∙ ap (λ c. server.present c) w.is_own ∙ up);
+  up = λ u. inr (ap (λ o. server.present o.client) (one_id server.opens was w.one s.in_order a w.is_there
+      ((Decides-eqb was.file_id file_id).0 e ∙ sym w.has_id)) ∙ ap (λ c. server.present c) w.is_own ∙ up);
 }
 again_old server client file_id was false e s w up a = still_there server was a
 
 -- a reconnect lets opens go on
-reconnected-goes : (client file : ℕ) (asked : Option LeaseOf) (file_id : ℕ) (progress : Progress)
-    → IsSound progress.server
+reconnected-goes : (client file : ℕ) (asked : Option LeaseOf) (file_id : ℕ) (progress : Progress) → IsSound progress.server
     → IsAwaited progress.server client file_id → progress.server.present client ≡ true
     → Goes progress (reconnected client file asked file_id progress)
 unfolding reconnected
@@ -248,8 +236,7 @@ pub concluded-goes : (client : ℕ) (request : FileRequest) (progress : Progress
     → IsSound progress.server → progress.server.present client ≡ true
     → (outcome ≡ Outcome.Ready → FileReady progress.server client request)
     → Goes progress (concluded client request progress outcome)
-concluded-goes client request progress outcome s up =
-    any_end client progress _ (ends_go client progress s up) request outcome
+concluded-goes client request progress outcome s up = any_end client progress _ (ends_go client progress s up) request outcome
 
 -- any acknowledgment
 pub acknowledged-goes : (client : ℕ) (given : Option LeaseOf) (progress : Progress)

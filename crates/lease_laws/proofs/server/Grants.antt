@@ -26,8 +26,7 @@ use Rattle.lease_laws.proofs.server.States.{settled-lawful, granted_form_of-agai
 allowed-form : (server : Server) (own : Option Key) (file : ℕ) (want : State)
     → granted_form_of (allowed server own file want) ≡ allowed server own file want
 unfolding allowed
-allowed-form server own file want = if_cases (λ s. granted_form_of s ≡ s)
-    (list_any (is_other_on own file) server.opens)
+allowed-form server own file want = if_cases (λ s. granted_form_of s ≡ s) (list_any (is_other_on own file) server.opens)
     (without_write (granted_form_of want)) (granted_form_of want)
     (λ e. without_write-form (granted_form_of want) (granted_form_of-again want))
     (λ e. granted_form_of-again want)
@@ -43,8 +42,7 @@ offered-form server key file want = if_cases (λ s. granted_form_of s ≡ s) (se
 allowed-handle : (server : Server) (own : Option Key) (file : ℕ) (want : State)
     → (granted_form_of want).handle ≡ true → (allowed server own file want).handle ≡ true
 unfolding allowed
-allowed-handle server own file want h = if_cases (λ s. s.handle ≡ true)
-    (list_any (is_other_on own file) server.opens)
+allowed-handle server own file want h = if_cases (λ s. s.handle ≡ true) (list_any (is_other_on own file) server.opens)
     (without_write (granted_form_of want)) (granted_form_of want) (λ e. h) (λ e. h)
 
 -- what is offered holds H where the want does
@@ -56,8 +54,7 @@ offered-handle server key file want e h = if_cases (λ s. s.handle ≡ true) (se
     (λ t. allowed-handle server (Some key) file want h)
 
 -- W is allowed only where no open on the file has another key
-allowed-alone : (server : Server) (own : Option Key) (file : ℕ) (want : State)
-    → (allowed server own file want).write ≡ true
+allowed-alone : (server : Server) (own : Option Key) (file : ℕ) (want : State) → (allowed server own file want).write ≡ true
     → (one : Open) → Among one server.opens → one.file ≡ file → has_own_key own one ≡ true
 unfolding allowed is_other_on
 allowed-alone server own file want w one a f =
@@ -65,15 +62,13 @@ allowed-alone server own file want w one a f =
     if_cases (λ s. s.write ≡ true → has_own_key own one ≡ true) (list_any (is_other_on own file) server.opens)
     (without_write (granted_form_of want)) (granted_form_of want)
     (λ e t. absurd (true≢false (sym t)))
-    (λ e t. not_false (has_own_key own one) (λ d.
-    clash (one.file == file && not (has_own_key own one))
+    (λ e t. not_false (has_own_key own one) (λ d. clash (one.file == file && not (has_own_key own one))
     (and_both (one.file == file) (not (has_own_key own one)) ((Decides-eqb one.file file).1 f) (ap not d))
     (none_has (is_other_on own file) one server.opens e a))) in
     go w
 
 -- W is offered only where no open on the file has another key
-offered-alone : (server : Server) (key : Key) (file : ℕ) (want : State)
-    → (offered server key file want).write ≡ true
+offered-alone : (server : Server) (key : Key) (file : ℕ) (want : State) → (offered server key file want).write ≡ true
     → (one : Open) → Among one server.opens → one.file ≡ file → has_key key one ≡ true
 unfolding offered
 offered-alone server key file want w one a f =
@@ -99,45 +94,37 @@ keep_may opens leases expired last_id key s = record {
 
 -- the new open conflicts with what the create conflicts with
 quiet_new : (server : Server) (client file : ℕ) (access : Access) (share : Share) (asked : Option LeaseOf)
-    (durable : Bool) (lease : Lease) (other : Open)
-    → conflict access share other.access other.share ≡ false
+    (durable : Bool) (lease : Lease) (other : Open) → conflict access share other.access other.share ≡ false
     → conflict (new_open server client file access share asked durable lease).access
     (new_open server client file access share asked durable lease).share other.access other.share ≡ false
 quiet_new server client file access share asked durable lease other e = e
 
 -- the new open of a create with a key may be opened
 keyed_may_open : (server : Server) (client file : ℕ) (access : Access) (share : Share) (asked : LeaseOf)
-    (durable : Bool) (lease : Lease)
-    → IsFree server.opens server.leases (Some (key_of client asked.key)) file access share
+    (durable : Bool) (lease : Lease) → IsFree server.opens server.leases (Some (key_of client asked.key)) file access share
     → MayOpen server.opens server.leases (new_open server client file access share (Some asked) durable lease)
 keyed_may_open server client file access share asked durable lease free = record {
   is_connected = refl;
-  is_peaceful = λ other a f. quiet_new server client file access share (Some asked) durable lease other
-      (free.peaceful other a f);
+  is_peaceful = λ other a f. quiet_new server client file access share (Some asked) durable lease other (free.peaceful other a f);
   is_at_home = λ key other a kn ko. free.at_home other a
       (ap (λ x. has_key x other) (is_key-one (key_of client asked.key) key client (Some asked.key)
       (is_key-refl client asked.key) kn) ∙ ko);
   is_welcome = λ key other w a k f. not_false (is_key key client (Some asked.key)) (λ differs.
       either (has_key (key_of client asked.key) other)
-      (λ own. clash (is_key key client (Some asked.key))
-      (ap (λ x. is_key x client (Some asked.key))
-      (is_key-one key (key_of client asked.key) other.client other.lease_key k own)
-      ∙ is_key-refl client asked.key) differs)
+      (λ own. clash (is_key key client (Some asked.key)) (ap (λ x. is_key x client (Some asked.key))
+      (is_key-one key (key_of client asked.key) other.client other.lease_key k own) ∙ is_key-refl client asked.key) differs)
       (λ strange. clash (server.leases key).state.write w (free.unwritten key other a f strange k)));
 }
 
 -- the new open of a create without a key may be opened
-plain_may_open : (server : Server) (client file : ℕ) (access : Access) (share : Share) (durable : Bool)
-    (lease : Lease)
+plain_may_open : (server : Server) (client file : ℕ) (access : Access) (share : Share) (durable : Bool) (lease : Lease)
     → IsFree server.opens server.leases None file access share
     → MayOpen server.opens server.leases (new_open server client file access share None durable lease)
 plain_may_open server client file access share durable lease free = record {
   is_connected = refl;
-  is_peaceful = λ other a f. quiet_new server client file access share None durable lease other
-      (free.peaceful other a f);
+  is_peaceful = λ other a f. quiet_new server client file access share None durable lease other (free.peaceful other a f);
   is_at_home = λ key other a kn ko. absurd (true≢false (sym kn));
-  is_welcome = λ key other w a k f. clash (server.leases key).state.write w
-      (free.unwritten key other a f refl k);
+  is_welcome = λ key other w a k f. clash (server.leases key).state.write w (free.unwritten key other a f refl k);
 }
 
 -- what is offered may become the lease, once the new open is there
@@ -153,24 +140,20 @@ offer_may server client file asked new s new_file new_up new_key home part =
     λ one a. ⊎_elim (λ h. inl h) (λ h. inr (⊎_elim (λ e. e) (λ never. absurd never) h))
     (among_append one server.opens (new ∷ []) a) in
     record {
-      is_lawful = settled-lawful (offered server key file asked.state)
-          (offered-form server key file asked.state);
+      is_lawful = settled-lawful (offered server key file asked.state) (offered-form server key file asked.state);
       is_alone = λ one other w a k b f. ⊎_elim
           (λ q. offered-alone server key file asked.state w other q
           (f ∙ ⊎_elim (λ p. home one p k) (λ p. ap (λ o. o.file) p ∙ new_file) (split one a)))
-          (λ q. ap (λ o. has_key key o) q ∙ new_key)
-          (split other b);
+          (λ q. ap (λ o. has_key key o) q ∙ new_key) (split other b);
       lasts = λ one a k d. ⊎_elim
-          (λ p. let old = (keep_may server.opens server.leases server.expired server.last_id key s).lasts one
-          p k d in (
+          (λ p. let old = (keep_may server.opens server.leases server.expired server.last_id key s).lasts one p k d in (
             offered-handle server key file asked.state
                 (not_true (server.expired key) (λ out. clash (server.leases key).state.handle old.0
                 (ap (λ l. l.state.handle) (s.timed_out key out))))
                 (handle_of_part (server.leases key).state (granted_form_of asked.state) part old.0),
             refl,
           ))
-          (λ p. clash new.connected new_up (ap (λ o. o.connected) (sym p) ∙ d))
-          (split one a);
+          (λ p. clash new.connected new_up (ap (λ o. o.connected) (sym p) ∙ d)) (split one a);
     }
 
 -- the lease after a grant may become the key's
@@ -183,10 +166,8 @@ granted_may : (server : Server) (client file : ℕ) (asked : LeaseOf) (new : Ope
 unfolding lease_granted
 granted_may server client file asked new s more new_file new_up new_key home =
     let key : Key = key_of client asked.key in
-    let keep = keep_may (server.opens ++ new ∷ []) server.leases server.expired (server.last_id + 1) key
-    more in
-    if_cases (MayBecome (server.opens ++ new ∷ []) key) (is_breaking (server.leases key)) (server.leases key)
-    _
+    let keep = keep_may (server.opens ++ new ∷ []) server.leases server.expired (server.last_id + 1) key more in
+    if_cases (MayBecome (server.opens ++ new ∷ []) key) (is_breaking (server.leases key)) (server.leases key) _
     (λ e. keep)
     (λ e. if_cases (MayBecome (server.opens ++ new ∷ []) key)
     (is_state_within (server.leases key).state (granted_form_of asked.state)) _ (server.leases key)
@@ -198,45 +179,37 @@ abbrev pub settled : State → Lease
 settled state = record { state = state; broken_to = None }
 
 -- a key whose timer ran out is given nothing
-granted_late : (server : Server) (key : Key) (file : ℕ) (want : State) → IsSound server
-    → server.expired key ≡ true
+granted_late : (server : Server) (key : Key) (file : ℕ) (want : State) → IsSound server → server.expired key ≡ true
     → lease_granted server key file want ≡ no_lease
 unfolding lease_granted offered
 granted_late server key file want s out =
     let none = s.timed_out key out in
     if_cases (λ l. l ≡ no_lease) (is_breaking (server.leases key)) (server.leases key) _
     (λ e. none)
-    (λ e. if_cases (λ l. l ≡ no_lease) (is_state_within (server.leases key).state (granted_form_of want)) _
-    (server.leases key)
-    (λ part. if_cases (λ x. settled x ≡ no_lease) (server.expired key) nothing_cached
-    (allowed server (Some key) file want)
+    (λ e. if_cases (λ l. l ≡ no_lease) (is_state_within (server.leases key).state (granted_form_of want)) _ (server.leases key)
+    (λ part. if_cases (λ x. settled x ≡ no_lease) (server.expired key) nothing_cached (allowed server (Some key) file want)
     (λ t. refl) (λ t. clash (server.expired key) out t))
     (λ p. none))
 
 -- a grant keeps the laws
 pub granted_with-sound : (client file : ℕ) (access : Access) (share : Share) (asked : Option LeaseOf)
     (durable : Bool) (progress : Progress)
-    → IsSound progress.server → IsFree progress.server.opens progress.server.leases (own_key client asked)
-    file access share
+    → IsSound progress.server → IsFree progress.server.opens progress.server.leases (own_key client asked) file access share
     → IsSound (granted_with client file access share asked durable
     (lease_after progress.server client file asked) progress).server
 unfolding granted_with
 granted_with-sound client file access share None durable progress s free =
     let new : Open = new_open progress.server client file access share None durable no_lease in
-    open_sound progress.server.opens progress.server.leases progress.server.expired progress.server.last_id
-    new s refl
+    open_sound progress.server.opens progress.server.leases progress.server.expired progress.server.last_id new s refl
     (plain_may_open progress.server client file access share durable no_lease free)
 granted_with-sound client file access share (Some asked) durable progress s free =
     let key : Key = key_of client asked.key in
     let lease : Lease = lease_granted progress.server key file asked.state in
     let new : Open = new_open progress.server client file access share (Some asked) durable lease in
-    let more = open_sound progress.server.opens progress.server.leases progress.server.expired
-    progress.server.last_id new s refl
+    let more = open_sound progress.server.opens progress.server.leases progress.server.expired progress.server.last_id new s refl
     (keyed_may_open progress.server client file access share asked durable lease free) in
     let owned : has_key key new ≡ true = is_key-refl client asked.key in
     put_sound (progress.server.opens ++ new ∷ []) progress.server.leases progress.server.expired
-    (progress.server.last_id + 1) key lease more
-    (has_any (has_key key) new (progress.server.opens ++ new ∷ [])
-    (among_behind new progress.server.opens (new ∷ []) (inl refl)) owned)
-    (granted_late progress.server key file asked.state s)
+    (progress.server.last_id + 1) key lease more (has_any (has_key key) new (progress.server.opens ++ new ∷ [])
+    (among_behind new progress.server.opens (new ∷ []) (inl refl)) owned) (granted_late progress.server key file asked.state s)
     (granted_may progress.server client file asked new s more refl refl owned free.at_home)

@@ -19,8 +19,7 @@ abbrev pub SameHeld : Progress → Progress → Type 0
 SameHeld before after = after.server.held ≡ before.server.held
 
 -- to drop opens leaves the held requests as they are
-pub dropped_held : (test : Open → Bool) (progress : Progress)
-    → SameHeld progress (opens_dropped test progress)
+pub dropped_held : (test : Open → Bool) (progress : Progress) → SameHeld progress (opens_dropped test progress)
 unfolding opens_dropped with_opens
 dropped_held test progress = refl
 
@@ -64,8 +63,7 @@ pub concluded-held : (client : ℕ) (request : FileRequest) (progress : Progress
 concluded-held client request progress = any_end client progress _ (ends_hold client progress) request
 
 -- the file has the requests that are left
-pub held_left-here : (file : ℕ) (left : List Held) (progress : Progress)
-    → (held_left file left progress).server.held file ≡ left
+pub held_left-here : (file : ℕ) (left : List Held) (progress : Progress) → (held_left file left progress).server.held file ≡ left
 unfolding held_left put
 held_left-here file left progress = rw ((Decides-eqb file file).1 refl) refl
 
@@ -108,8 +106,7 @@ left_waiting-in file count one waiting pass progress i same =
 
 -- to answer a held request keeps count of the pass
 pub pass_answered-in : (file count : ℕ) (one : Held) (waiting : List Held) (pass : Pass) (done : Tried)
-    → InPass file count (one ∷ waiting) pass
-    → InPass file count waiting (pass_answered file one waiting pass done)
+    → InPass file count (one ∷ waiting) pass → InPass file count waiting (pass_answered file one waiting pass done)
 pass_answered-in file count one waiting pass done i =
     let shorter : length (one ∷ waiting) ≡ length waiting + 1 = length_cons one waiting in
     record {
@@ -121,17 +118,14 @@ pass_answered-in file count one waiting pass done i =
     }
 
 -- what follows a try in a pass keeps count of the pass
-after_try-in : (file count : ℕ) (one : Held) (waiting : List Held) (pass : Pass) (progress : Progress)
-    (outcome : Outcome)
+after_try-in : (file count : ℕ) (one : Held) (waiting : List Held) (pass : Pass) (progress : Progress) (outcome : Outcome)
     → InPass file count (one ∷ waiting) pass → SameHeld pass.progress progress
     → InPass file count waiting (after_try file one waiting pass progress outcome)
 after_try-in file count one waiting pass progress Outcome.Waits i same = left_waiting-in file count one waiting
     pass progress i same
-after_try-in file count one waiting pass progress (Outcome.Refused status) i same = pass_answered-in file
-    count one waiting pass
+after_try-in file count one waiting pass progress (Outcome.Refused status) i same = pass_answered-in file count one waiting pass
     (record { progress = progress; outcome = Outcome.Refused status }) i
-after_try-in file count one waiting pass progress Outcome.Ready i same = pass_answered-in file count one
-    waiting pass
+after_try-in file count one waiting pass progress Outcome.Ready i same = pass_answered-in file count one waiting pass
     (record { progress = progress; outcome = Outcome.Ready }) i
 
 -- a held request tried again keeps count of the pass
@@ -144,8 +138,7 @@ tried_again-in file count one waiting pass i =
     (tried one.client one.request pass.progress).outcome)
     (λ e. left_waiting-in file count one waiting pass pass.progress i refl)
     (λ e. after_try-in file count one waiting pass (tried one.client one.request pass.progress).progress
-    (tried one.client one.request pass.progress).outcome i
-    (tried_for-held 3 one.client one.request pass.progress))
+    (tried one.client one.request pass.progress).outcome i (tried_for-held 3 one.client one.request pass.progress))
 
 -- a pass keeps count of the pass
 pass_over-in : (file count : ℕ) (waiting : List Held) (pass : Pass) → InPass file count waiting pass
@@ -160,15 +153,12 @@ pub one_pass-fewer : (file : ℕ) (progress : Progress) → (one_pass file progr
     → length ((one_pass file progress).progress.server.held file) < length (progress.server.held file)
 one_pass-fewer file progress e =
     let i = pass_over-in file (length (progress.server.held file)) (progress.server.held file)
-    (record { passed = []; progress = progress; has_answered = false })
-    (record {
+    (record { passed = []; progress = progress; has_answered = false }) (record {
       is_held = refl;
       is_counted = all_counted (progress.server.held file);
-      is_fewer = λ never. absurd
-          (true≢false (sym never));
+      is_fewer = λ never. absurd (true≢false (sym never));
     }) in
     let less = i.is_fewer e in
     let same : length ((one_pass file progress).progress.server.held file) ≡ length
-    (one_pass file progress).passed =
-    ap length (i.is_held ∙ append-nil (one_pass file progress).passed) in
+    (one_pass file progress).passed = ap length (i.is_held ∙ append-nil (one_pass file progress).passed) in
     nothing_more (length (one_pass file progress).passed) (length (progress.server.held file)) _ less same

@@ -34,20 +34,16 @@ use Rattle.lease_laws.proofs.server.cases.Tries.{HasTries, any_try}
 -- On the files of a kind, connected opens of breaking keys stay, and the leases of these keys stay as they
 -- are; and the open of a FileId that a client has stays it.
 pub record Keeps (Guard : ℕ → Type 0) (before : Server) (after : Server) : Type 0 where
-  pub stands : (key : Key) (one : Open) → Among one before.opens → has_key key one ≡ true
-      → one.connected ≡ true
-      → is_breaking (before.leases key) ≡ true → Guard one.file
-      → (Among one after.opens) × (after.leases key ≡ before.leases key)
-  pub finds : (client file_id : ℕ) (one : Open) → connected_open before client file_id ≡ Some one
-      → Guard one.file
+  pub stands : (key : Key) (one : Open) → Among one before.opens → has_key key one ≡ true → one.connected ≡ true
+      → is_breaking (before.leases key) ≡ true → Guard one.file → (Among one after.opens) × (after.leases key ≡ before.leases key)
+  pub finds : (client file_id : ℕ) (one : Open) → connected_open before client file_id ≡ Some one → Guard one.file
       → connected_open after client file_id ≡ Some one
 
 -- nothing happens
 pub keeps-same : (Guard : ℕ → Type 0) (server : Server) → Keeps Guard server server
 keeps-same Guard server = record {
   stands = λ key one a k up b g. (a, refl);
-  finds = λ client file_id one e g.
-      e;
+  finds = λ client file_id one e g. e;
 }
 
 -- two steps
@@ -65,8 +61,7 @@ abbrev pub Anywhere : ℕ → Type 0
 Anywhere file = Unit {0}
 
 -- what is kept everywhere is kept there
-pub keeps-weaker : (Guard : ℕ → Type 0) (before after : Server) → Keeps Anywhere before after
-    → Keeps Guard before after
+pub keeps-weaker : (Guard : ℕ → Type 0) (before after : Server) → Keeps Anywhere before after → Keeps Guard before after
 keeps-weaker Guard before after h = record {
   stands = λ key one a k up b g. h.stands key one a k up b tt;
   finds = λ client file_id one e g. h.finds client file_id one e tt;
@@ -74,15 +69,13 @@ keeps-weaker Guard before after h = record {
 
 -- what is blocked stays so, where only a breaking lease is in the way
 blocked_keeps : (test : Lease → Bool) (Guard : ℕ → Type 0) (before after : Server) (own : Option Key) (file : ℕ)
-    → ((lease : Lease) → test lease ≡ true → is_breaking lease ≡ true)
-    → Keeps Guard before after → IsSound before
+    → ((lease : Lease) → test lease ≡ true → is_breaking lease ≡ true) → Keeps Guard before after → IsSound before
     → Guard file → IsBlockedBy test before own file → IsBlockedBy test after own file
 blocked_keeps test Guard before after own file only h s g b =
     let breaks = only (before.leases b.key) b.is_in_the_way in
     let up = breaking_present before.opens before.leases before.expired before.last_id b.key b.one s
     breaks b.is_there b.has_the_key in
-    let x = h.stands b.key b.one b.is_there b.has_the_key up breaks
-    (subst Guard (sym b.is_on_file) g) in
+    let x = h.stands b.key b.one b.is_there b.has_the_key up breaks (subst Guard (sym b.is_on_file) g) in
     record {
       key = b.key;
       is_in_the_way = ap test x.1 ∙ b.is_in_the_way;
@@ -94,15 +87,13 @@ blocked_keeps test Guard before after own file only h s g b =
     }
 
 -- the open of a FileId that a client has
-pub connected_has : (server : Server) (client file_id : ℕ) (one : Open)
-    → connected_open server client file_id ≡ Some one
+pub connected_has : (server : Server) (client file_id : ℕ) (one : Open) → connected_open server client file_id ≡ Some one
     → (Among one server.opens) × (one.file_id ≡ file_id)
 connected_has server client file_id one e = let own = own_open server client file_id one e in (own.there, own.id)
 
 -- a create goes on having to wait
 contexts_keep : (Guard : ℕ → Type 0) (before after : Server) (client at file : ℕ) (access : Access)
-    (share : Share) (contexts : Option CreateAsk)
-    → Keeps Guard before after → IsSound before → at ≡ file → Guard file
+    (share : Share) (contexts : Option CreateAsk) → Keeps Guard before after → IsSound before → at ≡ file → Guard file
     → HasToWait before client (FileRequest.Create at access share contexts)
     → HasToWait after client (FileRequest.Create at access share contexts)
 contexts_keep Guard before after client at file access share None h s e g w = absurd w
@@ -112,8 +103,7 @@ contexts_keep Guard before after client at file access share (Some ask) h s e g 
 
 -- what has to wait for a break on a file goes on having to
 pub waits_keep : (Guard : ℕ → Type 0) (before after : Server) (client file : ℕ) (request : FileRequest)
-    → Keeps Guard before after → IsSound before
-    → IsAbout before file request → Guard file → HasToWait before client request
+    → Keeps Guard before after → IsSound before → IsAbout before file request → Guard file → HasToWait before client request
     → HasToWait after client request
 waits_keep Guard before after client file (FileRequest.Create at access share contexts) h s about g w =
     contexts_keep Guard before after client at file access share contexts h s about g w
@@ -133,23 +123,19 @@ abbrev pub Kept : (ℕ → Type 0) → Progress → Progress → Type 0
 Kept Guard before after = Keeps Guard before.server after.server
 
 -- opens without their connection are dropped
-left_dropped-kept : (key : Key) (progress : Progress)
-    → Kept Anywhere progress (opens_dropped (is_left_open key) progress)
+left_dropped-kept : (key : Key) (progress : Progress) → Kept Anywhere progress (opens_dropped (is_left_open key) progress)
 unfolding opens_dropped with_opens
 left_dropped-kept key progress =
     let safe : (one : Open) → one.connected ≡ true → not (is_left_open key one) ≡ true = λ one up.
     ap not (not_true (is_left_open key one)
-    (λ left. clash one.connected up (not_parts one.connected
-    (and_parts (has_key key one) (not one.connected) left).1))) in
+    (λ left. clash one.connected up (not_parts one.connected (and_parts (has_key key one) (not one.connected) left).1))) in
     record {
       stands = λ k one a h up b g.
-          let there = among_filtered (λ x. not (is_left_open key x)) one progress.server.opens a
-          (safe one up) in (
+          let there = among_filtered (λ x. not (is_left_open key x)) one progress.server.opens a (safe one up) in (
             there,
             left_here progress.server.leases (without (is_left_open key) progress.server.opens) k one there h,
           );
-      finds = λ client file_id one e g.
-          find_kept (λ x. x.file_id == file_id && x.client == client && x.connected)
+      finds = λ client file_id one e g. find_kept (λ x. x.file_id == file_id && x.client == client && x.connected)
           (λ x. not (is_left_open key x)) progress.server.opens
           (λ x t. safe x (and_parts (x.file_id == file_id && x.client == client) x.connected t).1) ∙ e;
     }
@@ -164,8 +150,7 @@ settled_put-kept key lease before after settled opens leases = record {
         (λ same. clash (is_breaking (before.leases key)) (ap (λ k. is_breaking (before.leases k)) (sym same) ∙ b) settled)
         (λ e. refl),
   );
-  finds = λ client file_id one e g.
-      ap (λ os. find (λ x. x.file_id == file_id && x.client == client && x.connected) os) opens ∙ e;
+  finds = λ client file_id one e g. ap (λ os. find (λ x. x.file_id == file_id && x.client == client && x.connected) os) opens ∙ e;
 }
 
 tries_keep : HasTries (Kept Anywhere)
@@ -184,18 +169,15 @@ pub tried_for-kept : (rounds client : ℕ) (request : FileRequest) (progress : P
 tried_for-kept = any_try (Kept Anywhere) tries_keep
 
 -- what is found is still found with more behind it
-find_append : {X : Type 0} (test : X → Bool) (xs ys : List X) (x : X) → find test xs ≡ Some x
-    → find test (xs ++ ys) ≡ Some x
+find_append : {X : Type 0} (test : X → Bool) (xs ys : List X) (x : X) → find test xs ≡ Some x → find test (xs ++ ys) ≡ Some x
 find_append test [] ys x e = absurd (cc)
 find_append test (y ∷ xs) ys x e =
-    if_cases (λ o. o ≡ Some x → cond (test y) (Some y) (find test (xs ++ ys)) ≡ Some x) (test y) (Some y)
-    (find test xs)
+    if_cases (λ o. o ≡ Some x → cond (test y) (Some y) (find test (xs ++ ys)) ≡ Some x) (test y) (Some y) (find test xs)
     (λ t same. ap (λ b. cond b (Some y) (find test (xs ++ ys))) t ∙ same)
     (λ t later. ap (λ b. cond b (Some y) (find test (xs ++ ys))) t ∙ find_append test xs ys x later) e
 
 -- a grant leaves a breaking lease as it is
-granted-stays : (server : Server) (key : Key) (file : ℕ) (want : State)
-    → is_breaking (server.leases key) ≡ true
+granted-stays : (server : Server) (key : Key) (file : ℕ) (want : State) → is_breaking (server.leases key) ≡ true
     → lease_granted server key file want ≡ server.leases key
 unfolding lease_granted
 granted-stays server key file want b = if_cases (λ l. l ≡ server.leases key) (is_breaking (server.leases key))
@@ -204,8 +186,7 @@ granted-stays server key file want b = if_cases (λ l. l ≡ server.leases key) 
 
 -- a grant lets wait what has to wait
 granted_with-kept : (client file : ℕ) (access : Access) (share : Share) (asked : Option LeaseOf)
-    (durable : Bool) (progress : Progress)
-    → Kept Anywhere progress (granted_with client file access share asked durable
+    (durable : Bool) (progress : Progress) → Kept Anywhere progress (granted_with client file access share asked durable
     (lease_after progress.server client file asked) progress)
 unfolding granted_with
 granted_with-kept client file access share None durable progress = record {
@@ -231,8 +212,7 @@ with_up one up = record one { connected = up }
 
 -- a connected open that is connected again is the same
 again_same : (file_id : ℕ) (one : Open) → one.connected ≡ true → connected_again file_id one ≡ one
-again_same file_id one up = if_cases (λ o. o ≡ one) (one.file_id == file_id) (record one { connected = true })
-    one
+again_same file_id one up = if_cases (λ o. o ≡ one) (one.file_id == file_id) (record one { connected = true }) one
     (λ e. ap (λ b. with_up one b) (sym up)) (λ e. refl)
 
 -- so it stays on the list
@@ -251,39 +231,32 @@ again_id file_id one = if_cases (λ o. o.file_id ≡ one.file_id) (one.file_id =
 -- and what is found of connected opens is still found
 find_again : (file_id client id : ℕ) (one : Open) (opens : List Open) → AreInOrder opens
     → find (λ x. x.file_id == id && x.client == client && x.connected) opens ≡ Some one
-    → find (λ x. x.file_id == id && x.client == client && x.connected) (map (connected_again file_id) opens) ≡
-    Some one
+    → find (λ x. x.file_id == id && x.client == client && x.connected) (map (connected_again file_id) opens) ≡ Some one
 find_again file_id client id one [] order e = e
 find_again file_id client id one (first ∷ opens) order e =
     let test : Open → Bool = λ x. x.file_id == id && x.client == client && x.connected in
     if_cases (λ o. o ≡ Some one → find test (map (connected_again file_id) (first ∷ opens)) ≡ Some one)
     (test first) (Some first) (find test opens)
     (λ t same. let up = (and_parts (first.file_id == id && first.client == client) first.connected t).1 in
-    ap (λ x. cond (test x) (Some x) (find test (map (connected_again file_id) opens)))
-    (again_same file_id first up)
+    ap (λ x. cond (test x) (Some x) (find test (map (connected_again file_id) opens))) (again_same file_id first up)
     ∙ ap (λ b. cond b (Some first) (find test (map (connected_again file_id) opens))) t ∙ same)
     (λ t later.
     let there = find_has test one opens later in
-    let ids : one.file_id ≡ id = (Decides-eqb one.file_id id).0
-    (and_parts (one.file_id == id) (one.client == client)
+    let ids : one.file_id ≡ id = (Decides-eqb one.file_id id).0 (and_parts (one.file_id == id) (one.client == client)
     (and_parts (one.file_id == id && one.client == client) one.connected there.1).0).0 in
-    let no_match : test (connected_again file_id first) ≡ false = not_true
-    (test (connected_again file_id first)) (λ m.
-    let f = (Decides-eqb (connected_again file_id first).file_id id).0
-    (and_parts ((connected_again file_id first).file_id == id)
+    let no_match : test (connected_again file_id first) ≡ false = not_true (test (connected_again file_id first)) (λ m.
+    let f = (Decides-eqb (connected_again file_id first).file_id id).0 (and_parts ((connected_again file_id first).file_id == id)
     ((connected_again file_id first).client == client)
     (and_parts ((connected_again file_id first).file_id == id && (connected_again file_id first).client ==
     client) (connected_again file_id first).connected m).0).0 in
     let less = order.0 one there.0 in
     let same = again_id file_id first in
     absurd (omega (arith, f, less, same, ids))) in
-    ap (λ b. cond b (Some (connected_again file_id first)) (find test (map (connected_again file_id) opens)))
-    no_match
+    ap (λ b. cond b (Some (connected_again file_id first)) (find test (map (connected_again file_id) opens))) no_match
     ∙ find_again file_id client id one opens order.1 later) e
 
 -- a reconnect lets wait what has to wait
-reconnected-kept : (client file : ℕ) (asked : Option LeaseOf) (file_id : ℕ) (progress : Progress)
-    → IsSound progress.server
+reconnected-kept : (client file : ℕ) (asked : Option LeaseOf) (file_id : ℕ) (progress : Progress) → IsSound progress.server
     → Kept Anywhere progress (reconnected client file asked file_id progress)
 unfolding reconnected
 reconnected-kept client file asked file_id progress s = record {
@@ -311,13 +284,11 @@ closed-kept client file_id gone progress s e =
           let there = among_filtered (λ y. not (y.file_id == file_id)) one progress.server.opens a
           (safe one.file_id (other one a away)) in (
             there,
-            left_here progress.server.leases (without (λ y. y.file_id == file_id) progress.server.opens) k one
-                there h,
+            left_here progress.server.leases (without (λ y. y.file_id == file_id) progress.server.opens) k one there h,
           );
       finds = λ c id one found away.
           let y = connected_has progress.server c id one found in
-          find_kept (λ z. z.file_id == id && z.client == c && z.connected) (λ z. not (z.file_id == file_id))
-          progress.server.opens
+          find_kept (λ z. z.file_id == id && z.client == c && z.connected) (λ z. not (z.file_id == file_id)) progress.server.opens
           (λ z t. let same = (Decides-eqb z.file_id id).0 (and_parts (z.file_id == id) (z.client == c)
           (and_parts (z.file_id == id && z.client == c) z.connected t).0).0 in
           safe z.file_id (λ q. other one y.0 away (y.1 ∙ sym same ∙ q))) ∙ found;
@@ -329,8 +300,7 @@ record IsKeptBy (before : Server) (request : FileRequest) (after : Server) : Typ
   elsewhere : (file : ℕ) → IsAbout before file request → Keeps (Elsewhere file) before after
   anywhere : IsAlone request → Keeps Anywhere before after
 
-kept_everywhere : (request : FileRequest) (before after : Server) → Keeps Anywhere before after
-    → IsKeptBy before request after
+kept_everywhere : (request : FileRequest) (before after : Server) → Keeps Anywhere before after → IsKeptBy before request after
 kept_everywhere request before after k =
     record { elsewhere = λ file about. keeps-weaker (Elsewhere file) before after k; anywhere = λ alone. k }
 

@@ -15,8 +15,7 @@ use Rattle.lease_laws.proofs.server.Lists.{if_cases, among_filtered}
 key_added-old : (key new : Key) (keys : List Key) → Among key keys → Among key (key_added new keys)
 unfolding key_added
 key_added-old key new [] a = absurd a
-key_added-old key new (other ∷ keys) a =
-    if_cases (λ l. Among key l) (key_eq new other) (other ∷ keys)
+key_added-old key new (other ∷ keys) a = if_cases (λ l. Among key l) (key_eq new other) (other ∷ keys)
     (if key_before new other then new ∷ other ∷ keys else other ∷ key_added new keys)
     (λ e. a)
     (λ e. if_cases (λ l. Among key l) (key_before new other) (new ∷ other ∷ keys) (other ∷ key_added new keys)
@@ -26,8 +25,7 @@ key_added-old key new (other ∷ keys) a =
 key_added-new : (new : Key) (keys : List Key) → Among new (key_added new keys)
 unfolding key_added
 key_added-new new [] = inl refl
-key_added-new new (other ∷ keys) =
-    if_cases (λ l. Among new l) (key_eq new other) (other ∷ keys)
+key_added-new new (other ∷ keys) = if_cases (λ l. Among new l) (key_eq new other) (other ∷ keys)
     (if key_before new other then new ∷ other ∷ keys else other ∷ key_added new keys)
     (λ e. inl (key_eq-same new other e))
     (λ e. if_cases (λ l. Among new l) (key_before new other) (new ∷ other ∷ keys) (other ∷ key_added new keys)
@@ -43,8 +41,7 @@ open_key_added-old key client (Some bytes) keys a = key_added-old key (key_of cl
 open_key_added-new : (key : Key) (client : ℕ) (bytes : Option (List ℕ)) (keys : List Key)
     → is_key key client bytes ≡ true → Among key (open_key_added client bytes keys)
 open_key_added-new key client None keys k = absurd (true≢false (sym k))
-open_key_added-new key client (Some bytes) keys k =
-    subst (λ x. Among x (key_added (key_of client bytes) keys))
+open_key_added-new key client (Some bytes) keys k = subst (λ x. Among x (key_added (key_of client bytes) keys))
     (is_key-one (key_of client bytes) key client (Some bytes) (is_key-refl client bytes) k)
     (key_added-new (key_of client bytes) keys)
 
@@ -53,8 +50,7 @@ pub keys_of-all : (key : Key) (one : Open) (opens : List Open) → Among one ope
     → Among key (keys_of opens)
 unfolding keys_of
 keys_of-all key one [] a k = absurd a
-keys_of-all key one (other ∷ opens) (inl same) k = open_key_added-new key other.client other.lease_key
-    (keys_of opens)
+keys_of-all key one (other ∷ opens) (inl same) k = open_key_added-new key other.client other.lease_key (keys_of opens)
     (ap (λ o. has_key key o) (sym same) ∙ k)
 keys_of-all key one (other ∷ opens) (inr a) k = open_key_added-old key other.client other.lease_key
     (keys_of opens) (keys_of-all key one opens a k)

@@ -18,8 +18,7 @@ pub key_eq-same : (one other : Key) → key_eq one other ≡ true → one ≡ ot
 unfolding key_eq
 key_eq-same one other h =
     let parts = and_parts (one.client == other.client) (bytes_eq one.bytes other.bytes) h in
-    key_of_parts one other ((Decides-eqb one.client other.client).0 parts.0)
-    ((bytes_eq-Decides one.bytes other.bytes).0 parts.1)
+    key_of_parts one other ((Decides-eqb one.client other.client).0 parts.0) ((bytes_eq-Decides one.bytes other.bytes).0 parts.1)
 
 -- a key equals itself
 pub key_eq-refl : (key : Key) → key_eq key key ≡ true
@@ -28,8 +27,7 @@ key_eq-refl key = and_both (key.client == key.client) (bytes_eq key.bytes key.by
     ((Decides-eqb key.client key.client).1 refl) ((bytes_eq-Decides key.bytes key.bytes).1 refl)
 
 -- what an open's key says: its client and its bytes
-is_key-bytes : (key : Key) (client : ℕ) (bytes : List ℕ) → is_key key client (Some bytes) ≡ true
-    → key ≡ key_of client bytes
+is_key-bytes : (key : Key) (client : ℕ) (bytes : List ℕ) → is_key key client (Some bytes) ≡ true → key ≡ key_of client bytes
 is_key-bytes key client bytes h =
     let parts = and_parts (key.client == client) (bytes_eq key.bytes bytes) h in
     key_of_parts key (key_of client bytes) ((Decides-eqb key.client client).0 parts.0)
@@ -44,15 +42,13 @@ is_key-refl client bytes = and_both (client == client) (bytes_eq bytes bytes)
 pub is_key-one : (one other : Key) (client : ℕ) (bytes : Option (List ℕ)) → is_key one client bytes ≡ true
     → is_key other client bytes ≡ true → one ≡ other
 is_key-one one other client None h k = absurd (true≢false (sym h))
-is_key-one one other client (Some bytes) h k =
-    is_key-bytes one client bytes h ∙ sym (is_key-bytes other client bytes k)
+is_key-one one other client (Some bytes) h k = is_key-bytes one client bytes h ∙ sym (is_key-bytes other client bytes k)
 
 -- the lease of an open is that of its key
 pub lease_by-key : (server : Server) (key : Key) (client : ℕ) (bytes : Option (List ℕ))
     → is_key key client bytes ≡ true → lease_by server client bytes ≡ server.leases key
 lease_by-key server key client None h = absurd (true≢false (sym h))
-lease_by-key server key client (Some bytes) h = ap (λ k. server.leases k)
-    (sym (is_key-bytes key client bytes h))
+lease_by-key server key client (Some bytes) h = ap (λ k. server.leases k) (sym (is_key-bytes key client bytes h))
 
 -- a table at the place that was changed
 pub put_key-here : {X : Type 0} (table : Key → X) (key : Key) (new : X) → put_key table key new key ≡ new

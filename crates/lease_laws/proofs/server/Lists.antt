@@ -5,8 +5,7 @@ use Rattle.std.specs.List.{list_any, list_all}
 use Rattle.lease_laws.specs.server.Laws.{Among}
 
 -- to choose by a test keeps what holds of both
-pub if_cases : {X : Type 0} (P : X → Type 0) (b : Bool) (x y : X) → (b ≡ true → P x) → (b ≡ false → P y)
-    → P (cond b x y)
+pub if_cases : {X : Type 0} (P : X → Type 0) (b : Bool) (x y : X) → (b ≡ true → P x) → (b ≡ false → P y) → P (cond b x y)
 if_cases P true x y at_true at_false = at_true refl
 if_cases P false x y at_true at_false = at_false refl
 
@@ -79,13 +78,11 @@ among_filter test x [] h = absurd h
 among_filter test x (y ∷ xs) h =
     let later : Among x (filter test xs) → (Among x (y ∷ xs)) × (test x ≡ true) =
     λ k. let rest = among_filter test x xs k in (inr rest.0, rest.1) in
-    if_cases (λ l. Among x l → (Among x (y ∷ xs)) × (test x ≡ true)) (test y) (y ∷ filter test xs)
-    (filter test xs)
+    if_cases (λ l. Among x l → (Among x (y ∷ xs)) × (test x ≡ true)) (test y) (y ∷ filter test xs) (filter test xs)
     (λ e k. ⊎_elim (λ same. (inl same, ap test same ∙ e)) later k) (λ e. later) h
 
 -- what was on the list and passes is on the filtered list
-pub among_filtered : {X : Type 0} (test : X → Bool) (x : X) (xs : List X) → Among x xs → test x ≡ true
-    → Among x (filter test xs)
+pub among_filtered : {X : Type 0} (test : X → Bool) (x : X) (xs : List X) → Among x xs → test x ≡ true → Among x (filter test xs)
 among_filtered test x [] h e = absurd h
 among_filtered test x (y ∷ xs) h e =
     let later : Among x xs → Among x (filter test xs) = λ k. among_filtered test x xs k e in
@@ -94,15 +91,13 @@ among_filtered test x (y ∷ xs) h e =
     (λ t. ⊎_elim (λ same. clash (test x) e (ap test same ∙ t)) later h)
 
 -- an element of a mapped list comes from one of the list
-pub among_map : {X Y : Type 0} (f : X → Y) (y : Y) (xs : List X) → Among y (map f xs)
-    → (x : X) × (Among x xs) × (y ≡ f x)
+pub among_map : {X Y : Type 0} (f : X → Y) (y : Y) (xs : List X) → Among y (map f xs) → (x : X) × (Among x xs) × (y ≡ f x)
 among_map f y [] h = absurd h
 among_map f y (x ∷ xs) (inl e) = (x, inl refl, e)
 among_map f y (x ∷ xs) (inr h) = let rest = among_map f y xs h in (rest.0, inr rest.1, rest.2)
 
 -- where the test is true of some element, that one is on the list
-pub any_has : {X : Type 0} (test : X → Bool) (xs : List X) → list_any test xs ≡ true
-    → (x : X) × (Among x xs) × (test x ≡ true)
+pub any_has : {X : Type 0} (test : X → Bool) (xs : List X) → list_any test xs ≡ true → (x : X) × (Among x xs) × (test x ≡ true)
 any_has test [] h = absurd (true≢false (sym h))
 any_has {X} test (y ∷ xs) h =
     let later : list_any test xs ≡ true → (x : X) × (Among x (y ∷ xs)) × (test x ≡ true) =
@@ -110,42 +105,34 @@ any_has {X} test (y ∷ xs) h =
     ⊎_elim (λ e. (y, inl refl, e)) later (or_true (test y) (list_any test xs) h)
 
 -- where it is true of one on the list, it is true of some
-pub has_any : {X : Type 0} (test : X → Bool) (x : X) (xs : List X) → Among x xs → test x ≡ true
-    → list_any test xs ≡ true
+pub has_any : {X : Type 0} (test : X → Bool) (x : X) (xs : List X) → Among x xs → test x ≡ true → list_any test xs ≡ true
 has_any test x [] h e = absurd h
 has_any test x (y ∷ xs) (inl same) e = true_or (test y) (list_any test xs) (ap test (sym same) ∙ e)
 has_any test x (y ∷ xs) (inr h) e = or_of_true (test y) (list_any test xs) (has_any test x xs h e)
 
 -- where it is true of none, it is false of each on the list
-pub none_has : {X : Type 0} (test : X → Bool) (x : X) (xs : List X) → list_any test xs ≡ false → Among x xs
-    → test x ≡ false
+pub none_has : {X : Type 0} (test : X → Bool) (x : X) (xs : List X) → list_any test xs ≡ false → Among x xs → test x ≡ false
 none_has test x xs none h = not_true (test x) (λ e. clash (list_any test xs) (has_any test x xs h e) none)
 
 -- where it is false of each on the list, it is true of none
-pub has_none : {X : Type 0} (test : X → Bool) (xs : List X) → ((x : X) → Among x xs → test x ≡ false)
-    → list_any test xs ≡ false
+pub has_none : {X : Type 0} (test : X → Bool) (xs : List X) → ((x : X) → Among x xs → test x ≡ false) → list_any test xs ≡ false
 has_none test xs each = not_true (list_any test xs)
     (λ e. let found = any_has test xs e in clash (test found.0) found.2 (each found.0 found.1))
 
 -- what is found is on the list and passes
-pub find_has : {X : Type 0} (test : X → Bool) (x : X) (xs : List X) → find test xs ≡ Some x
-    → (Among x xs) × (test x ≡ true)
+pub find_has : {X : Type 0} (test : X → Bool) (x : X) (xs : List X) → find test xs ≡ Some x → (Among x xs) × (test x ≡ true)
 find_has test x [] h = absurd (cc)
-find_has test x (y ∷ xs) h =
-    if_cases (λ o. o ≡ Some x → (Among x (y ∷ xs)) × (test x ≡ true)) (test y) (Some y) (find test xs)
+find_has test x (y ∷ xs) h = if_cases (λ o. o ≡ Some x → (Among x (y ∷ xs)) × (test x ≡ true)) (test y) (Some y) (find test xs)
     (λ e k. let same : x ≡ y = cc in (inl same, ap test same ∙ e))
     (λ e k. let rest = find_has test x xs k in (inr rest.0, rest.1)) h
 
 -- where the test is true of each on the list, it is true of all
-pub each_all : {X : Type 0} (test : X → Bool) (xs : List X) → ((x : X) → Among x xs → test x ≡ true)
-    → list_all test xs ≡ true
+pub each_all : {X : Type 0} (test : X → Bool) (xs : List X) → ((x : X) → Among x xs → test x ≡ true) → list_all test xs ≡ true
 each_all test [] each = refl
-each_all test (x ∷ xs) each = and_both (test x) (list_all test xs) (each x (inl refl))
-    (each_all test xs (λ y a. each y (inr a)))
+each_all test (x ∷ xs) each = and_both (test x) (list_all test xs) (each x (inl refl)) (each_all test xs (λ y a. each y (inr a)))
 
 -- where the test is true of all, it is true of each on the list
-pub all_each : {X : Type 0} (test : X → Bool) (x : X) (xs : List X) → list_all test xs ≡ true → Among x xs
-    → test x ≡ true
+pub all_each : {X : Type 0} (test : X → Bool) (x : X) (xs : List X) → list_all test xs ≡ true → Among x xs → test x ≡ true
 all_each test x [] all a = absurd a
 all_each test x (y ∷ xs) all a = let parts = and_parts (test y) (list_all test xs) all in
     ⊎_elim (λ same. ap test same ∙ parts.0) (λ later. all_each test x xs parts.1 later) a

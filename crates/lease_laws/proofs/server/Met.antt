@@ -15,13 +15,11 @@ use Rattle.lease_laws.proofs.server.Lists.{if_cases, clash, and_parts, not_parts
 pub lease_broken-opens : (key : Key) (lowered : State) (progress : Progress)
     → (lease_broken key lowered progress).server.opens ≡ progress.server.opens
 unfolding lease_broken break_begun lease_lowered
-lease_broken-opens key lowered progress =
-    if_cases (λ p. p.server.opens ≡ progress.server.opens)
+lease_broken-opens key lowered progress = if_cases (λ p. p.server.opens ≡ progress.server.opens)
     (has_lease progress.server key && not (is_breaking (progress.server.leases key)))
     (if needs_acknowledgment (progress.server.leases key).state then break_begun key lowered progress else
     lease_lowered key lowered progress) progress
-    (λ t. if_cases (λ p. p.server.opens ≡ progress.server.opens)
-    (needs_acknowledgment (progress.server.leases key).state)
+    (λ t. if_cases (λ p. p.server.opens ≡ progress.server.opens) (needs_acknowledgment (progress.server.leases key).state)
     (break_begun key lowered progress) (lease_lowered key lowered progress) (λ n. refl) (λ n. refl))
     (λ t. refl)
 
@@ -33,11 +31,9 @@ dropped-opens test progress = refl
 
 -- the opens that are left once a want is met
 want_met-opens : (want : Want) (progress : Progress)
-    → (want_met want progress).server.opens ≡ filter (λ one. not (is_left_open want.key one))
-    progress.server.opens
+    → (want_met want progress).server.opens ≡ filter (λ one. not (is_left_open want.key one)) progress.server.opens
 unfolding want_met
-want_met-opens want progress = lease_broken-opens want.key want.lowered
-    (opens_dropped (is_left_open want.key) progress)
+want_met-opens want progress = lease_broken-opens want.key want.lowered (opens_dropped (is_left_open want.key) progress)
     ∙ dropped-opens (is_left_open want.key) progress
 
 -- an open that is there once wants are met was there before
@@ -45,10 +41,8 @@ pub wants_met-were : (wants : List Want) (progress : Progress) (one : Open)
     → Among one (wants_met wants progress).server.opens → Among one progress.server.opens
 unfolding wants_met
 wants_met-were [] progress one a = a
-wants_met-were (want ∷ wants) progress one a =
-    (among_filter (λ x. not (is_left_open want.key x)) one progress.server.opens
-    (subst (λ opens. Among one opens) (want_met-opens want progress)
-    (wants_met-were wants (want_met want progress) one a))).0
+wants_met-were (want ∷ wants) progress one a = (among_filter (λ x. not (is_left_open want.key x)) one progress.server.opens
+    (subst (λ opens. Among one opens) (want_met-opens want progress) (wants_met-were wants (want_met want progress) one a))).0
 
 -- what is found is still found where all that pass are kept
 pub find_kept : {X : Type 0} (test keep : X → Bool) (xs : List X) → ((x : X) → test x ≡ true → keep x ≡ true)
@@ -63,24 +57,19 @@ find_kept test keep (x ∷ xs) safe =
 
 -- a connected open stays while a want is met
 want_met-found : (want : Want) (progress : Progress) (client file_id : ℕ)
-    → connected_open (want_met want progress).server client file_id ≡ connected_open progress.server client
-    file_id
+    → connected_open (want_met want progress).server client file_id ≡ connected_open progress.server client file_id
 want_met-found want progress client file_id =
     ap (λ opens. find (λ one. one.file_id == file_id && one.client == client && one.connected) opens)
-    (want_met-opens want progress)
-    ∙ find_kept (λ one. one.file_id == file_id && one.client == client && one.connected)
+    (want_met-opens want progress) ∙ find_kept (λ one. one.file_id == file_id && one.client == client && one.connected)
     (λ one. not (is_left_open want.key one)) progress.server.opens
     (λ one t. let up = (and_parts (one.file_id == file_id && one.client == client) one.connected t).1 in
-    ap not (not_true (is_left_open want.key one) (λ left.
-    clash one.connected up (not_parts one.connected
+    ap not (not_true (is_left_open want.key one) (λ left. clash one.connected up (not_parts one.connected
     (and_parts (has_key want.key one) (not one.connected) left).1))))
 
 -- a connected open stays while wants are met
 pub wants_met-found : (wants : List Want) (progress : Progress) (client file_id : ℕ)
-    → connected_open (wants_met wants progress).server client file_id ≡ connected_open progress.server client
-    file_id
+    → connected_open (wants_met wants progress).server client file_id ≡ connected_open progress.server client file_id
 unfolding wants_met
 wants_met-found [] progress client file_id = refl
-wants_met-found (want ∷ wants) progress client file_id =
-    wants_met-found wants (want_met want progress) client file_id
+wants_met-found (want ∷ wants) progress client file_id = wants_met-found wants (want_met want progress) client file_id
     ∙ want_met-found want progress client file_id

@@ -44,8 +44,7 @@ pub record IsGrant (before : Progress) (after : Progress) : Type 0 where
   pub reply : Reply
   pub last : after.server.last_id ≡ before.server.last_id + 1
   pub outs : after.outs ≡ before.outs ++ Out.Opened file client ∷ Out.Sent client reply ∷ []
-  pub from : (one : Open) → Among one after.server.opens
-      → IsOld before.server one ⊎ IsMade before.server file client one
+  pub from : (one : Open) → Among one after.server.opens → IsOld before.server one ⊎ IsMade before.server file client one
 
 abbrev pub IsTold : Progress → Progress → Type 0
 IsTold before after = IsQuiet before after ⊎ IsGrant before after
@@ -62,8 +61,7 @@ same_quiet progress = record { last = refl; outs = go_on-same IsNoOpened progres
 
 -- a new open
 granted_told : (client file : ℕ) (access : Access) (share : Share) (asked : Option LeaseOf) (durable : Bool)
-    (lease : Lease) (progress : Progress)
-    → IsGrant progress (granted_with client file access share asked durable lease progress)
+    (lease : Lease) (progress : Progress) → IsGrant progress (granted_with client file access share asked durable lease progress)
 unfolding granted_with
 granted_told client file access share asked durable lease progress = record {
   file = file;
@@ -72,8 +70,7 @@ granted_told client file access share asked durable lease progress = record {
   last = refl;
   outs = refl;
   from = λ one a. ⊎_elim (λ old. inl (still_there progress.server one old)) (λ new. inr (made one new))
-      (among_append one progress.server.opens
-      (new_open progress.server client file access share asked durable lease ∷ []) a);
+      (among_append one progress.server.opens (new_open progress.server client file access share asked durable lease ∷ []) a);
 }
   where
     made : (one : Open) → Among one (new_open progress.server client file access share asked durable lease ∷ [])
@@ -133,8 +130,7 @@ silent_quiet before after last outs = record {
 }
 
 -- behind a step that leaves opens and outs alone
-told_behind : (before next after : Progress) → next.server.last_id ≡ before.server.last_id
-    → next.outs ≡ before.outs
+told_behind : (before next after : Progress) → next.server.last_id ≡ before.server.last_id → next.outs ≡ before.outs
     → ((one : Open) → IsOld next.server one → IsOld before.server one) → IsTold next after → IsTold before after
 told_behind before next after last outs old (inl q) = inl (record {
   last = q.last ∙ last;
@@ -151,8 +147,7 @@ told_behind before next after last outs old (inr g) = inr (record {
   last = g.last ∙ ap (λ n. n + 1) last;
   outs = g.outs ∙ ap (λ o. o ++ Out.Opened g.file g.client ∷ Out.Sent g.client g.reply ∷ []) outs;
   from = λ one a. ⊎_elim (λ o. inl (old one o))
-      (λ m. inr (record { id = m.id ∙ ap (λ n. n + 1) last; on_file = m.on_file; by_client = m.by_client }))
-      (g.from one a);
+      (λ m. inr (record { id = m.id ∙ ap (λ n. n + 1) last; on_file = m.on_file; by_client = m.by_client })) (g.from one a);
 })
 
 -- any step
@@ -170,12 +165,10 @@ step-told (SmallStep.AnswerHeld file before one behind outcome) progress =
       same_file = old.same_file;
       same_client = old.same_client;
       up = old.up;
-    })
-    (concluded-told one.client one.request left outcome)
+    }) (concluded-told one.client one.request left outcome)
 step-told (SmallStep.Acknowledge client given) progress = inl (acknowledged_quiet client given progress)
 step-told (SmallStep.Hold file one) progress = inl (silent_quiet progress (request_held file one progress) refl
     (request_held-outs file one progress))
 step-told (SmallStep.Drop key) progress = inl (silent_quiet progress (opens_dropped (is_left_open key) progress) refl
     (opens_dropped-outs (is_left_open key) progress))
-step-told step progress =
-    inl (record { last = refl; outs = record { more = _; are_more = refl; each = (tt, tt) } })
+step-told step progress = inl (record { last = refl; outs = record { more = _; are_more = refl; each = (tt, tt) } })

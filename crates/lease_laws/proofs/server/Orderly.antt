@@ -30,8 +30,7 @@ pub held_well : (server : Server) (file : ℕ) (one : Held) → IsOrderly server
 held_well server file one o a = record {
   up = o.held_up file one a;
   on_file = o.held_files file one a;
-  about =
-      o.held_about file one a;
+  about = o.held_about file one a;
 }
 
 -- what a FileId is about stays
@@ -41,8 +40,7 @@ open_goes before after file file_id g o = record {
   was_given = let x = g.ids in let y = o.was_given in omega (arith, x, y);
   is_on_file = λ one a e. ⊎_elim
       (λ old. old.same_file ∙ o.is_on_file old.was old.was_there (sym old.same_id ∙ e))
-      (λ new. let x = new.is_new in let y = o.was_given in absurd (omega (arith, x, y, e)))
-      (g.from one a);
+      (λ new. let x = new.is_new in let y = o.was_given in absurd (omega (arith, x, y, e))) (g.from one a);
 }
 
 -- what a request is about stays
@@ -50,8 +48,7 @@ pub about_goes : (before after : Server) (file : ℕ) (request : FileRequest) �
     → IsAbout before file request → IsAbout after file request
 about_goes before after file (FileRequest.Create at access share contexts) g about = about
 about_goes before after file (FileRequest.Read file_id) g about = open_goes before after file file_id g about
-about_goes before after file (FileRequest.Write file_id number patch) g about = open_goes before after file
-    file_id g about
+about_goes before after file (FileRequest.Write file_id number patch) g about = open_goes before after file file_id g about
 about_goes before after file (FileRequest.Close file_id) g about = open_goes before after file file_id g about
 
 -- opens that go on, and requests that were held well, stay in order
@@ -60,8 +57,7 @@ pub orderly_goes : (before after : Server) → IsOrderly before → GoesOn befor
 orderly_goes before after o g well = record {
   opens_up = λ one a up. ⊎_elim
       (λ old. ⊎_elim
-      (λ u. g.ups one.client ∙ ap (λ c. before.present c) old.same_client
-      ∙ o.opens_up old.was old.was_there u)
+      (λ u. g.ups one.client ∙ ap (λ c. before.present c) old.same_client ∙ o.opens_up old.was old.was_there u)
       (λ u. g.ups one.client ∙ u) (old.up up))
       (λ new. g.ups one.client ∙ new.up) (g.from one a);
   open_files = λ one a. file_frame before after one.file g.files ∙ ⊎_elim
@@ -80,8 +76,7 @@ pub record IsFine (server : Server) : Type 0 where
 -- held requests that are the same are held well
 pub same_well : (before after : Progress) → IsOrderly before.server → SameHeld before after
     → (file : ℕ) (one : Held) → Among one (after.server.held file) → IsHeldWell before.server file one
-same_well before after o same file one a = held_well before.server file one o
-    (subst (λ held. Among one (held file)) same a)
+same_well before after o same file one a = held_well before.server file one o (subst (λ held. Among one (held file)) same a)
 
 -- all that is known of a try
 pub record IsTry (client : ℕ) (request : FileRequest) (before : Progress) (done : Tried) : Type 0 where
@@ -107,34 +102,28 @@ pub fine_try : (client : ℕ) (request : FileRequest) (before : Progress) (done 
     → IsTry client request before done → IsFine done.progress.server
 fine_try client request before done f t = record {
   sound = t.good.sound;
-  orderly = orderly_goes before.server done.progress.server f.orderly t.goes
-      (same_well before done.progress f.orderly t.held);
+  orderly = orderly_goes before.server done.progress.server f.orderly t.goes (same_well before done.progress f.orderly t.held);
 }
 
 -- the end of a try of a connected client
-pub fine_concluded : (client : ℕ) (request : FileRequest) (progress : Progress) (outcome : Outcome)
-    → IsFine progress.server
-    → progress.server.present client ≡ true
-    → (outcome ≡ Outcome.Ready → RequestFree progress.server client request)
+pub fine_concluded : (client : ℕ) (request : FileRequest) (progress : Progress) (outcome : Outcome) → IsFine progress.server
+    → progress.server.present client ≡ true → (outcome ≡ Outcome.Ready → RequestFree progress.server client request)
     → (outcome ≡ Outcome.Ready → FileReady progress.server client request)
     → IsFine (concluded client request progress outcome).server
 fine_concluded client request progress outcome f up free ready = record {
   sound = concluded-sound client request progress outcome f.sound free;
   orderly = orderly_goes progress.server (concluded client request progress outcome).server f.orderly
       (concluded-goes client request progress outcome f.sound up ready)
-      (same_well progress (concluded client request progress outcome) f.orderly
-      (concluded-held client request progress outcome));
+      (same_well progress (concluded client request progress outcome) f.orderly (concluded-held client request progress outcome));
 }
 
 -- what has to wait on a file
 pub all_wait-keep : (Guard : ℕ → Type 0) (before after : Server) (file : ℕ) → Keeps Guard before after
-    → IsFine before → Guard file
-    → after.held file ≡ before.held file → AllWait before file → AllWait after file
+    → IsFine before → Guard file → after.held file ≡ before.held file → AllWait before file → AllWait after file
 all_wait-keep Guard before after file k f g same all client one first =
     let was = subst (λ held. find (λ other. other.client == client) held ≡ Some one) same first in
     let there = find_has (λ other. other.client == client) one (before.held file) was in
-    waits_keep Guard before after client file one.request k f.sound (f.orderly.held_about file one there.0) g
-    (all client one was)
+    waits_keep Guard before after client file one.request k f.sound (f.orderly.held_about file one there.0) g (all client one was)
 
 -- a reconnect is ready whatever is held
 again_frame : (client : ℕ) (again : Option ℕ) (file : ℕ) (left : List Held) (progress : Progress)
@@ -145,10 +134,8 @@ again_frame client (Some file_id) file left progress ready =
     record { one = ready.one; is_there = ready.is_there; has_id = ready.has_id; is_own = ready.is_own }
 
 -- a create is ready whatever is held
-contexts_frame : (client at : ℕ) (contexts : Option CreateAsk) (file : ℕ) (left : List Held)
-    (progress : Progress)
-    → ContextsReady progress.server client at contexts
-    → ContextsReady (held_left file left progress).server client at contexts
+contexts_frame : (client at : ℕ) (contexts : Option CreateAsk) (file : ℕ) (left : List Held) (progress : Progress)
+    → ContextsReady progress.server client at contexts → ContextsReady (held_left file left progress).server client at contexts
 unfolding held_left
 contexts_frame client at None file left progress ready = ready
 contexts_frame client at (Some ask) file left progress ready =
@@ -156,8 +143,7 @@ contexts_frame client at (Some ask) file left progress ready =
 
 -- what is held has nothing to do with what is ready
 pub held_left-ready : (client : ℕ) (request : FileRequest) (file : ℕ) (left : List Held) (progress : Progress)
-    → FileReady progress.server client request
-    → FileReady (held_left file left progress).server client request
+    → FileReady progress.server client request → FileReady (held_left file left progress).server client request
 held_left-ready client (FileRequest.Create at access share contexts) file left progress ready = contexts_frame
     client at contexts file left progress ready
 held_left-ready client request file left progress ready = tt

@@ -34,8 +34,7 @@ use Rattle.lease_laws.proofs.server.States.{rights}
 use Rattle.lease_laws.proofs.server.Tries.{tried_for-good}
 
 -- breaks, and then an answer
-breaks_then : (middle after : List Out) → GoOn IsBreak [] middle → GoOn IsNoBreak middle after
-    → AreBreaksFirst after
+breaks_then : (middle after : List Out) → GoOn IsBreak [] middle → GoOn IsNoBreak middle after → AreBreaksFirst after
 breaks_then middle after b a = record {
   breaks = b.more;
   answer = a.more;
@@ -60,8 +59,7 @@ no_breaks = record { more = []; are_more = refl; each = tt }
 
 -- what follows a first try gives out breaks first
 first_try-breaks : (client file : ℕ) (request : FileRequest) (progress : Progress) (outcome : Outcome)
-    → GoOn IsBreak [] progress.outs
-    → AreBreaksFirst (after_first_try client file request progress outcome).outs
+    → GoOn IsBreak [] progress.outs → AreBreaksFirst (after_first_try client file request progress outcome).outs
 first_try-breaks client file request progress Outcome.Waits b =
     breaks_only progress.outs (request_held file (held_of client request) progress).outs b
     (request_held-outs file (held_of client request) progress)
@@ -73,34 +71,28 @@ arrived_on-breaks : (client : ℕ) (request : FileRequest) (server : Server) (as
     → AreBreaksFirst (arrived_on client request (begun server) asked).outs
 arrived_on-breaks client request server (Err status) = breaks_then []
     (refused client request status (begun server)).outs no_breaks
-    (answers_go_on [] (refused client request status (begun server)).outs
-    (refused-answered client request status (begun server)))
-arrived_on-breaks client request server (Ok file) =
-    if_cases (λ p. AreBreaksFirst p.outs) (is_behind client (server.held file))
+    (answers_go_on [] (refused client request status (begun server)).outs (refused-answered client request status (begun server)))
+arrived_on-breaks client request server (Ok file) = if_cases (λ p. AreBreaksFirst p.outs) (is_behind client (server.held file))
     (request_held file (held_of client request) (begun server))
     (after_first_try client file request (tried client request (begun server)).progress
     (tried client request (begun server)).outcome)
     (λ e. breaks_only [] (request_held file (held_of client request) (begun server)).outs no_breaks
     (request_held-outs file (held_of client request) (begun server)))
     (λ e. first_try-breaks client file request (tried client request (begun server)).progress
-    (tried client request (begun server)).outcome
-    (tried-breaks client request (begun server)))
+    (tried client request (begun server)).outcome (tried-breaks client request (begun server)))
 
 -- a request that comes gives out breaks first
 arrived-breaks : (client : ℕ) (request : FileRequest) (server : Server) → IsAlone request
     → AreBreaksFirst (file_request_arrived client request (begun server)).outs
 arrived-breaks client (FileRequest.Close file_id) server alone = absurd alone
-arrived-breaks client request server alone =
-    arrived_on-breaks client request server (file_asked server client request)
+arrived-breaks client request server alone = arrived_on-breaks client request server (file_asked server client request)
 
 -- a request after which none is tried again gives out breaks, and then its answer
 pub receive-breaks : (server : Server) (client : ℕ) (request : FileRequest) → IsAlone request
     → AreBreaksFirst (receive server client (Request.OnFile request)).outs
 unfolding receive arrived
-receive-breaks server client request alone =
-    if_cases (λ p. AreBreaksFirst p.outs) (server.present client)
-    (file_request_arrived client request (begun server))
-    (begun server)
+receive-breaks server client request alone = if_cases (λ p. AreBreaksFirst p.outs) (server.present client)
+    (file_request_arrived client request (begun server)) (begun server)
     (λ e. arrived-breaks client request server alone) (λ e. breaks_only [] [] no_breaks refl)
 
 -- a state that holds nothing
@@ -148,15 +140,13 @@ AloneWhenReady server one (Finding.Needs wants) = AllBreakToNone server wants �
 pub write_finding-alone : (server : Server) (one : Open) (patch : Patch)
     → AloneWhenReady server one (write_finding server one patch)
 unfolding write_finding
-write_finding-alone server one patch =
-    if_cases (AloneWhenReady server one) (may_write one.access) _ _
+write_finding-alone server one patch = if_cases (AloneWhenReady server one) (may_write one.access) _ _
     (λ e. if_cases (AloneWhenReady server one) (is_within_limit patch) _ _
     (λ i. all_wants-given server one) (λ i. tt))
     (λ e. tt)
 
 -- so it is by what is found
-pub found_alone : (server : Server) (one : Open) (found : Finding) (wants : List Want)
-    → AloneWhenReady server one found
+pub found_alone : (server : Server) (one : Open) (found : Finding) (wants : List Want) → AloneWhenReady server one found
     → found ≡ Finding.Needs wants → AllBreakToNone server wants → CachesAlone server one
 found_alone server one found wants alone e none = (subst (AloneWhenReady server one) e alone) none
 
@@ -171,20 +161,16 @@ write_found : (server : Server) (client file_id number : ℕ) (patch : Patch) (o
     → connected_open server client file_id ≡ Some one
     → finding server client (FileRequest.Write file_id number patch) ≡ write_finding server one patch
 unfolding finding
-write_found server client file_id number patch one e = ap (λ o. by_open o (λ x. write_finding server x patch))
-    e
+write_found server client file_id number patch one e = ap (λ o. by_open o (λ x. write_finding server x patch)) e
 
 -- a write that is ready
-pub write_ready-alone : (client file_id number : ℕ) (patch : Patch) (progress : Progress) (one : Open)
-    → IsSound progress.server
+pub write_ready-alone : (client file_id number : ℕ) (patch : Patch) (progress : Progress) (one : Open) → IsSound progress.server
     → (tried client (FileRequest.Write file_id number patch) progress).outcome ≡ Outcome.Ready
-    → connected_open (tried client (FileRequest.Write file_id number patch) progress).progress.server client
-    file_id ≡ Some one
+    → connected_open (tried client (FileRequest.Write file_id number patch) progress).progress.server client file_id ≡ Some one
     → CachesAlone (tried client (FileRequest.Write file_id number patch) progress).progress.server one
 write_ready-alone client file_id number patch progress one s ready open_is =
     let end = (tried client (FileRequest.Write file_id number patch) progress).progress in
     let found = (tried_for-good 3 client (FileRequest.Write file_id number patch) progress s).found_ready ready in
-    found_alone end.server one (write_finding end.server one patch) found.wants
-    (write_finding-alone end.server one patch)
+    found_alone end.server one (write_finding end.server one patch) found.wants (write_finding-alone end.server one patch)
     (sym (write_found end.server client file_id number patch one open_is) ∙ found.found)
     (write_ready-given file_id number patch end.server found.wants found.ready)

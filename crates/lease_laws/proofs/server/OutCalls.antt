@@ -28,26 +28,22 @@ silent_fair : (before after : List Out) → after ≡ before → AreFair before 
 silent_fair before after same fair = subst AreFair (sym same) fair
 
 -- to take a request off the held ones gives nothing out
-pub held_left-outs : (file : ℕ) (left : List Held) (progress : Progress)
-    → (held_left file left progress).outs ≡ progress.outs
+pub held_left-outs : (file : ℕ) (left : List Held) (progress : Progress) → (held_left file left progress).outs ≡ progress.outs
 unfolding held_left
 held_left-outs file left progress = append-nil progress.outs
 
 -- to hold a request gives nothing out
-pub request_held-outs : (file : ℕ) (one : Held) (progress : Progress)
-    → (request_held file one progress).outs ≡ progress.outs
+pub request_held-outs : (file : ℕ) (one : Held) (progress : Progress) → (request_held file one progress).outs ≡ progress.outs
 unfolding request_held
 request_held-outs file one progress = append-nil progress.outs
 
 -- to disconnect opens gives nothing out
-opens_disconnected-outs : (client : ℕ) (progress : Progress)
-    → (opens_disconnected client progress).outs ≡ progress.outs
+opens_disconnected-outs : (client : ℕ) (progress : Progress) → (opens_disconnected client progress).outs ≡ progress.outs
 unfolding opens_disconnected
 opens_disconnected-outs client progress = append-nil progress.outs
 
 -- to forget a client gives nothing out
-client_forgotten-outs : (client : ℕ) (progress : Progress)
-    → (client_forgotten client progress).outs ≡ progress.outs
+client_forgotten-outs : (client : ℕ) (progress : Progress) → (client_forgotten client progress).outs ≡ progress.outs
 unfolding client_forgotten
 client_forgotten-outs client progress = append-nil progress.outs
 
@@ -64,20 +60,17 @@ joined-outs client progress = append-nil progress.outs
 -- a try
 tried-fair : (client : ℕ) (request : FileRequest) (progress : Progress) → Fair progress
     → Fair (tried client request progress).progress
-tried-fair client request progress fair = breaks_fair progress.outs
-    (tried client request progress).progress.outs fair
+tried-fair client request progress fair = breaks_fair progress.outs (tried client request progress).progress.outs fair
     (tried_for-broken 3 client request progress)
 
 -- the end of a try keeps the outs fair
 concluded-fair : (client : ℕ) (request : FileRequest) (progress : Progress) (outcome : Outcome) → Fair progress
     → Fair (concluded client request progress outcome)
 concluded-fair client request progress outcome fair = answers_fair progress.outs
-    (concluded client request progress outcome).outs fair
-    (concluded-answered client request progress outcome)
+    (concluded client request progress outcome).outs fair (concluded-answered client request progress outcome)
 
 -- to answer a held request keeps the outs fair
-pass_answered-fair : (file : ℕ) (one : Held) (waiting : List Held) (pass : Pass) (done : Tried)
-    → Fair done.progress
+pass_answered-fair : (file : ℕ) (one : Held) (waiting : List Held) (pass : Pass) (done : Tried) → Fair done.progress
     → Fair (pass_answered file one waiting pass done).progress
 pass_answered-fair file one waiting pass done fair = concluded-fair one.client one.request
     (held_left file (pass.passed ++ waiting) done.progress) done.outcome
@@ -86,11 +79,9 @@ pass_answered-fair file one waiting pass done fair = concluded-fair one.client o
 
 -- what follows a try in a pass keeps the outs fair
 after_try-fair : (file : ℕ) (one : Held) (waiting : List Held) (pass : Pass) (progress : Progress)
-    (outcome : Outcome) → Fair progress
-    → Fair (after_try file one waiting pass progress outcome).progress
+    (outcome : Outcome) → Fair progress → Fair (after_try file one waiting pass progress outcome).progress
 after_try-fair file one waiting pass progress Outcome.Waits fair = fair
-after_try-fair file one waiting pass progress (Outcome.Refused status) fair = pass_answered-fair file one
-    waiting pass
+after_try-fair file one waiting pass progress (Outcome.Refused status) fair = pass_answered-fair file one waiting pass
     (record { progress = progress; outcome = Outcome.Refused status }) fair
 after_try-fair file one waiting pass progress Outcome.Ready fair = pass_answered-fair file one waiting pass
     (record { progress = progress; outcome = Outcome.Ready }) fair
@@ -105,20 +96,17 @@ tried_again-fair file one waiting pass fair =
     (tried one.client one.request pass.progress).outcome)
     (λ e. fair)
     (λ e. after_try-fair file one waiting pass (tried one.client one.request pass.progress).progress
-    (tried one.client one.request pass.progress).outcome
-    (tried-fair one.client one.request pass.progress fair))
+    (tried one.client one.request pass.progress).outcome (tried-fair one.client one.request pass.progress fair))
 
 -- a pass keeps the outs fair
-pass_over-fair : (file : ℕ) (waiting : List Held) (pass : Pass) → Fair pass.progress
-    → Fair (pass_over file waiting pass).progress
+pass_over-fair : (file : ℕ) (waiting : List Held) (pass : Pass) → Fair pass.progress → Fair (pass_over file waiting pass).progress
 unfolding pass_over
 pass_over-fair file [] pass fair = fair
 pass_over-fair file (one ∷ waiting) pass fair = pass_over-fair file waiting
     (tried_again file one waiting pass) (tried_again-fair file one waiting pass fair)
 
 -- passes over a file keeps the outs fair
-passes_for-fair : (count file : ℕ) (progress : Progress) → Fair progress
-    → Fair (passes_for count file progress)
+passes_for-fair : (count file : ℕ) (progress : Progress) → Fair progress → Fair (passes_for count file progress)
 unfolding passes_for
 passes_for-fair zero file progress fair = fair
 passes_for-fair (suc count) file progress fair =
@@ -141,52 +129,41 @@ unfolding all_passes
 all_passes-fair progress fair = passes_over-fair (numbers_to progress.server.files) progress fair
 
 -- what follows a first try keeps the outs fair
-after_first_try-fair : (client file : ℕ) (request : FileRequest) (progress : Progress) (outcome : Outcome)
-    → Fair progress
+after_first_try-fair : (client file : ℕ) (request : FileRequest) (progress : Progress) (outcome : Outcome) → Fair progress
     → Fair (after_first_try client file request progress outcome)
 after_first_try-fair client file request progress Outcome.Waits fair =
     silent_fair progress.outs (request_held file (held_of client request) progress).outs
     (request_held-outs file (held_of client request) progress) fair
-after_first_try-fair client file request progress outcome fair = concluded-fair client
-    request progress outcome fair
+after_first_try-fair client file request progress outcome fair = concluded-fair client request progress outcome fair
 
 -- a request on a file keeps the outs fair
 arrived_on-fair : (client : ℕ) (request : FileRequest) (progress : Progress) (asked : Result ℕ Status)
     → Fair progress → Fair (arrived_on client request progress asked)
 arrived_on-fair client request progress (Err status) fair = answers_fair progress.outs
-    (refused client request status progress).outs fair
-    (refused-answered client request status progress)
-arrived_on-fair client request progress (Ok file) fair = if_cases Fair
-    (is_behind client (progress.server.held file))
+    (refused client request status progress).outs fair (refused-answered client request status progress)
+arrived_on-fair client request progress (Ok file) fair = if_cases Fair (is_behind client (progress.server.held file))
     (request_held file (held_of client request) progress)
-    (after_first_try client file request (tried client request progress).progress
-    (tried client request progress).outcome)
+    (after_first_try client file request (tried client request progress).progress (tried client request progress).outcome)
     (λ e. silent_fair progress.outs (request_held file (held_of client request) progress).outs
     (request_held-outs file (held_of client request) progress) fair)
     (λ e. after_first_try-fair client file request (tried client request progress).progress
-    (tried client request progress).outcome
-    (tried-fair client request progress fair))
+    (tried client request progress).outcome (tried-fair client request progress fair))
 
 -- a request about a file keeps the outs fair
 file_request-fair : (client : ℕ) (request : FileRequest) (progress : Progress) → Fair progress
     → Fair (file_request_arrived client request progress)
 file_request-fair client (FileRequest.Close file_id) progress fair = all_passes-fair
-    (arrived_on client (FileRequest.Close file_id) progress
-    (file_asked progress.server client (FileRequest.Close file_id)))
+    (arrived_on client (FileRequest.Close file_id) progress (file_asked progress.server client (FileRequest.Close file_id)))
     (arrived_on-fair client (FileRequest.Close file_id) progress
     (file_asked progress.server client (FileRequest.Close file_id)) fair)
-file_request-fair client request progress fair =
-    arrived_on-fair client request progress
+file_request-fair client request progress fair = arrived_on-fair client request progress
     (file_asked progress.server client request) fair
 
 -- a request that comes keeps the outs fair
-arrived-fair : (client : ℕ) (request : Request) (progress : Progress) → Fair progress
-    → Fair (arrived client request progress)
+arrived-fair : (client : ℕ) (request : Request) (progress : Progress) → Fair progress → Fair (arrived client request progress)
 unfolding arrived
-arrived-fair client (Request.Acknowledge given) progress fair = all_passes-fair
-    (acknowledged client given progress)
-    (answers_fair progress.outs (acknowledged client given progress).outs fair
-    (acknowledged-answered client given progress))
+arrived-fair client (Request.Acknowledge given) progress fair = all_passes-fair (acknowledged client given progress)
+    (answers_fair progress.outs (acknowledged client given progress).outs fair (acknowledged-answered client given progress))
 arrived-fair client (Request.OnFile request) progress fair = file_request-fair client request progress fair
 
 -- a call that may not apply
@@ -196,15 +173,13 @@ fair_cases b x y fx fy = if_cases Fair b x y (λ e. fx) (λ e. fy)
 -- a join keeps the outs fair
 join-fair : (server : Server) (client : ℕ) → Fair (join server client)
 unfolding join
-join-fair server client = fair_cases (server.present client) (begun server) (joined client (begun server))
-    none_fair
+join-fair server client = fair_cases (server.present client) (begun server) (joined client (begun server)) none_fair
     (silent_fair [] (joined client (begun server)).outs (joined-outs client (begun server)) none_fair)
 
 -- a request received keeps the outs fair
 receive-fair : (server : Server) (client : ℕ) (request : Request) → Fair (receive server client request)
 unfolding receive
-receive-fair server client request = fair_cases (server.present client)
-    (arrived client request (begun server)) (begun server)
+receive-fair server client request = fair_cases (server.present client) (arrived client request (begun server)) (begun server)
     (arrived-fair client request (begun server) none_fair) none_fair
 
 -- a cut keeps the outs fair
@@ -217,8 +192,7 @@ cut-fair server client =
     (all_passes-fair (client_forgotten client apart)
     (silent_fair apart.outs (client_forgotten client apart).outs (client_forgotten-outs client apart)
     (silent_fair dropped.outs apart.outs (opens_disconnected-outs client dropped)
-    (silent_fair [] dropped.outs (opens_dropped-outs (is_lost server client) (begun server)) none_fair))))
-    none_fair
+    (silent_fair [] dropped.outs (opens_dropped-outs (is_lost server client) (begun server)) none_fair)))) none_fair
 
 -- a timer that runs out keeps the outs fair
 expire-fair : (server : Server) (key : Key) → Fair (expire server key)
@@ -228,8 +202,7 @@ expire-fair server key =
     fair_cases (is_breaking (server.leases key)) (all_passes (key_expired key dropped)) (begun server)
     (all_passes-fair (key_expired key dropped)
     (silent_fair dropped.outs (key_expired key dropped).outs (key_expired-outs key dropped)
-    (silent_fair [] dropped.outs (opens_dropped-outs (has_key key) (begun server)) none_fair)))
-    none_fair
+    (silent_fair [] dropped.outs (opens_dropped-outs (has_key key) (begun server)) none_fair))) none_fair
 
 -- a scavenge keeps the outs fair
 scavenge-fair : (server : Server) (file_id : ℕ) → Fair (scavenge server file_id)
@@ -237,8 +210,7 @@ unfolding scavenge
 scavenge-fair server file_id =
     let dropped = opens_dropped (is_left_behind file_id) (begun server) in
     fair_cases (list_any (is_left_behind file_id) server.opens) (all_passes dropped) (begun server)
-    (all_passes-fair dropped (silent_fair [] dropped.outs
-    (opens_dropped-outs (is_left_behind file_id) (begun server)) none_fair))
+    (all_passes-fair dropped (silent_fair [] dropped.outs (opens_dropped-outs (is_left_behind file_id) (begun server)) none_fair))
     none_fair
 
 -- the outs of a call are fair
@@ -258,6 +230,5 @@ tried-breaks client request progress = go_on-weaker IsGoodBreak IsBreak (λ out 
 -- what the end of a try gives out is no break
 pub concluded-answers : (client : ℕ) (request : FileRequest) (progress : Progress) (outcome : Outcome)
     → GoOn IsNoBreak progress.outs (concluded client request progress outcome).outs
-concluded-answers client request progress outcome = answers_go_on progress.outs
-    (concluded client request progress outcome).outs
+concluded-answers client request progress outcome = answers_go_on progress.outs (concluded client request progress outcome).outs
     (concluded-answered client request progress outcome)

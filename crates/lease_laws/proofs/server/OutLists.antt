@@ -5,8 +5,7 @@ use Rattle.lease_model.specs.messages.Replies.{Reply, Out}
 use Rattle.lease_laws.specs.server.Outs.{EachOut, IsFlaggedRightly, Done, ArePaired, IsBreak, IsNoBreak, GoOn}
 
 -- what holds of each out of two lists holds of each of both
-pub each_append : (Holds : Out → Type 0) (xs ys : List Out) → EachOut Holds xs → EachOut Holds ys
-    → EachOut Holds (xs ++ ys)
+pub each_append : (Holds : Out → Type 0) (xs ys : List Out) → EachOut Holds xs → EachOut Holds ys → EachOut Holds (xs ++ ys)
 each_append Holds [] ys h k = k
 each_append Holds (x ∷ xs) ys h k = (h.0, each_append Holds xs ys h.1 k)
 
@@ -65,8 +64,7 @@ pub go_on-weaker : (Holds Weaker : Out → Type 0) → ((out : Out) → Holds ou
 go_on-weaker Holds Weaker f a b h = record {
   more = h.more;
   are_more = h.are_more;
-  each = each_weaker Holds
-      Weaker f h.more h.each;
+  each = each_weaker Holds Weaker f h.more h.each;
 }
 
 -- a break that is flagged rightly
@@ -88,8 +86,7 @@ pub record AreAnswered (before : List Out) (after : List Out) : Type 0 where
   pub fair : AreFair more
 
 -- an answer
-pub answered_by : (before more : List Out) → EachOut IsNoBreak more → AreFair more
-    → AreAnswered before (before ++ more)
+pub answered_by : (before more : List Out) → EachOut IsNoBreak more → AreFair more → AreAnswered before (before ++ more)
 answered_by before more e f = record { more = more; are_more = refl; each = e; fair = f }
 
 -- no answer

@@ -21,15 +21,13 @@ abbrev pub Broken : Progress → Progress → Type 0
 Broken before after = GoOn IsGoodBreak before.outs after.outs
 
 -- opens are dropped silently
-pub opens_dropped-outs : (test : Open → Bool) (progress : Progress)
-    → (opens_dropped test progress).outs ≡ progress.outs
+pub opens_dropped-outs : (test : Open → Bool) (progress : Progress) → (opens_dropped test progress).outs ≡ progress.outs
 unfolding opens_dropped
 opens_dropped-outs test progress = append-nil progress.outs
 
 -- to drop opens gives nothing out
 dropped_broken : (test : Open → Bool) (progress : Progress) → Broken progress (opens_dropped test progress)
-dropped_broken test progress = subst (λ outs. GoOn IsGoodBreak progress.outs outs)
-    (sym (opens_dropped-outs test progress))
+dropped_broken test progress = subst (λ outs. GoOn IsGoodBreak progress.outs outs) (sym (opens_dropped-outs test progress))
     (go_on-same IsGoodBreak progress.outs)
 
 tries_break : HasTries Broken
@@ -90,8 +88,7 @@ refused-answered client request status progress = replied-answered client (refus
 ends_answer : (client : ℕ) (progress : Progress) → HasEnds client progress (λ request outcome. Answered progress)
 unfolding granted_with reconnected changed
 ends_answer client progress = record {
-  refused = λ request status.
-      replied-answered client (refusal_of request status) progress (refusal_of-plain request status);
+  refused = λ request status. replied-answered client (refusal_of request status) progress (refusal_of-plain request status);
   left = λ request outcome. answered_nothing progress.outs;
   full = λ file access share ask none. replied-answered client _ progress tt;
   granted = λ file access share ask none. record {
@@ -112,8 +109,7 @@ ends_answer client progress = record {
       (tt, (tt, tt)) (record { flagged = (tt, (tt, tt)); paired = (refl, refl, tt) });
   closed = λ file_id one own. let test = λ (other : Open). other.file_id == file_id in
       subst (λ outs. AreAnswered outs (replied client (Reply.Closed file_id) (opens_dropped test progress)).outs)
-      (opens_dropped-outs test progress)
-      (replied-answered client (Reply.Closed file_id) (opens_dropped test progress) tt);
+      (opens_dropped-outs test progress) (replied-answered client (Reply.Closed file_id) (opens_dropped test progress) tt);
 }
 
 pub concluded-answered : (client : ℕ) (request : FileRequest) (progress : Progress) (outcome : Outcome)

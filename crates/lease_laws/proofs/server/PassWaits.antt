@@ -23,31 +23,26 @@ use Rattle.lease_laws.proofs.server.Progress.{held_left-sound}
 use Rattle.lease_laws.proofs.server.Ready.{ready-free}
 
 -- to take a request off the held ones lets opens go on
-pub held_left-goes : (file : ℕ) (left : List Held) (progress : Progress)
-    → Goes progress (held_left file left progress)
+pub held_left-goes : (file : ℕ) (left : List Held) (progress : Progress) → Goes progress (held_left file left progress)
 unfolding held_left
 held_left-goes file left progress = record {
   files = refl;
   ups = λ c. refl;
   ids = omega arith;
-  from = λ one a.
-      inl (still_there progress.server one a);
+  from = λ one a. inl (still_there progress.server one a);
 }
 
 -- to take a request off the held ones lets wait what has to wait
-held_left-kept : (file : ℕ) (left : List Held) (progress : Progress)
-    → Kept Anywhere progress (held_left file left progress)
+held_left-kept : (file : ℕ) (left : List Held) (progress : Progress) → Kept Anywhere progress (held_left file left progress)
 unfolding held_left
 held_left-kept file left progress = record {
   stands = λ key one a k up b g. (a, refl);
-  finds = λ c id one e g.
-      e;
+  finds = λ c id one e g. e;
 }
 
 -- what holds of the requests of each file, once one is taken off
 held_left-cases : (P : List Held → Type 0) (file : ℕ) (left : List Held) (progress : Progress) (other : ℕ)
-    → (other ≡ file → P left) → P (progress.server.held other)
-    → P ((held_left file left progress).server.held other)
+    → (other ≡ file → P left) → P (progress.server.held other) → P ((held_left file left progress).server.held other)
 unfolding held_left put
 held_left-cases P file left progress other here there =
     if_cases P (other == file) left (progress.server.held other) (λ e. here ((Decides-eqb other file).0 e))
@@ -66,18 +61,15 @@ among_more x y xs ys a = ⊎_elim (λ h. among_before x xs (y ∷ ys) h) (λ h. 
     (among_append x xs ys a)
 
 -- to take a request off the held ones keeps the laws and the order
-held_left-fine : (file : ℕ) (one : Held) (before behind : List Held) (progress : Progress)
-    → IsFine progress.server
-    → progress.server.held file ≡ before ++ one ∷ behind
-    → IsFine (held_left file (before ++ behind) progress).server
+held_left-fine : (file : ℕ) (one : Held) (before behind : List Held) (progress : Progress) → IsFine progress.server
+    → progress.server.held file ≡ before ++ one ∷ behind → IsFine (held_left file (before ++ behind) progress).server
 held_left-fine file one before behind progress f held = record {
   sound = held_left-sound file (before ++ behind) progress f.sound;
   orderly = orderly_goes progress.server (held_left file (before ++ behind) progress).server f.orderly
       (held_left-goes file (before ++ behind) progress)
       (λ other x. held_left-cases (λ list. Among x list → IsHeldWell progress.server other x) file
       (before ++ behind) progress other
-      (λ same a. subst (λ n. IsHeldWell progress.server n x) (sym same)
-      (held_well progress.server file x f.orderly
+      (λ same a. subst (λ n. IsHeldWell progress.server n x) (sym same) (held_well progress.server file x f.orderly
       (subst (λ list. Among x list) (sym held) (among_more x one before behind a))))
       (λ a. held_well progress.server other x f.orderly a));
 }
@@ -90,8 +82,7 @@ pub record PassWaits (start : Progress) (file : ℕ) (count : ℕ) (waiting : Li
     pub files : pass.progress.server.files ≡ start.server.files
     pub in_pass : InPass file count waiting pass
     pub kept_wait : pass.has_answered ≡ false → (client : ℕ) (one : Held)
-        → find (λ other. other.client == client) pass.passed ≡ Some one
-        → HasToWait pass.progress.server client one.request
+        → find (λ other. other.client == client) pass.passed ≡ Some one → HasToWait pass.progress.server client one.request
     pub others : (other : ℕ) → other ≢ file → AllWait start.server other → AllWait pass.progress.server other
 
 -- one request found is one request
@@ -108,23 +99,18 @@ pub find_more : (test : Held → Bool) (xs : List Held) (y x : Held) → find te
 find_more test [] y x e = if_cases (λ o. o ≡ Some x → (find test [] ≡ Some x)
     ⊎ ((list_any test [] ≡ false) × (test y ≡ true) × (x ≡ y)))
     (test y) (Some y) None (λ t same. inr (refl, t, held_same x y (sym same))) (λ t never. absurd (cc)) e
-find_more test (first ∷ xs) y x e =
-    either (test first)
+find_more test (first ∷ xs) y x e = either (test first)
     (λ t. inl (ap (λ b. cond b (Some first) (find test xs)) t
     ∙ sym (ap (λ b. cond b (Some first) (find test (xs ++ y ∷ []))) t) ∙ e))
-    (λ t. let later = find_more test xs y x
-    (sym (ap (λ b. cond b (Some first) (find test (xs ++ y ∷ []))) t) ∙ e) in
+    (λ t. let later = find_more test xs y x (sym (ap (λ b. cond b (Some first) (find test (xs ++ y ∷ []))) t) ∙ e) in
     ⊎_elim (λ found. inl (ap (λ b. cond b (Some first) (find test xs)) t ∙ found))
     (λ last. inr (or_none (test first) (list_any test xs) t last.0, last.1, last.2)) later)
 
 -- a request of the pass still waits
-kept_waits : (start : Progress) (file count : ℕ) (one : Held) (waiting : List Held) (pass : Pass)
-    (progress : Progress)
+kept_waits : (start : Progress) (file count : ℕ) (one : Held) (waiting : List Held) (pass : Pass) (progress : Progress)
     → PassWaits start file count (one ∷ waiting) pass → IsFine progress.server
-    → SameHeld pass.progress progress → Goes pass.progress progress
-    → Kept Anywhere pass.progress progress
-    → ((list_any (λ other. other.client == one.client) pass.passed ≡ false)
-    → HasToWait progress.server one.client one.request)
+    → SameHeld pass.progress progress → Goes pass.progress progress → Kept Anywhere pass.progress progress
+    → ((list_any (λ other. other.client == one.client) pass.passed ≡ false) → HasToWait progress.server one.client one.request)
     → PassWaits start file count waiting (left_waiting one pass progress)
 kept_waits start file count one waiting pass progress p f same goes keeps new = record {
   fine = f;
@@ -132,8 +118,7 @@ kept_waits start file count one waiting pass progress p f same goes keeps new = 
   in_pass = left_waiting-in file count one waiting pass progress p.in_pass same;
   kept_wait = λ none client x first. ⊎_elim
       (λ old. let there = find_has (λ other. other.client == client) x pass.passed old in
-      let held : Among x (pass.progress.server.held file) = subst (λ list. Among x list)
-      (sym p.in_pass.is_held)
+      let held : Among x (pass.progress.server.held file) = subst (λ list. Among x list) (sym p.in_pass.is_held)
       (among_before x pass.passed (one ∷ waiting) there.0) in
       waits_keep Anywhere pass.progress.server progress.server client file x.request keeps p.fine.sound
       (p.fine.orderly.held_about file x held) tt (p.kept_wait none client x old))
@@ -147,39 +132,32 @@ kept_waits start file count one waiting pass progress p f same goes keeps new = 
 }
 
 -- a request of the pass is answered
-answered_waits : (start : Progress) (file count : ℕ) (one : Held) (waiting : List Held) (pass : Pass)
-    (done : Tried)
+answered_waits : (start : Progress) (file count : ℕ) (one : Held) (waiting : List Held) (pass : Pass) (done : Tried)
     → PassWaits start file count (one ∷ waiting) pass → IsTry one.client one.request pass.progress done
     → PassWaits start file count waiting (pass_answered file one waiting pass done)
 answered_waits start file count one waiting pass done p t =
     let left = held_left file (pass.passed ++ waiting) done.progress in
     let after = concluded one.client one.request left done.outcome in
     let tried_fine = fine_try one.client one.request pass.progress done p.fine t in
-    let held : done.progress.server.held file ≡ pass.passed ++ one ∷ waiting = ap (λ h. h file) t.held
-    ∙ p.in_pass.is_held in
-    let well = held_well pass.progress.server file one p.fine.orderly
-    (subst (λ list. Among one list) (sym p.in_pass.is_held)
+    let held : done.progress.server.held file ≡ pass.passed ++ one ∷ waiting = ap (λ h. h file) t.held ∙ p.in_pass.is_held in
+    let well = held_well pass.progress.server file one p.fine.orderly (subst (λ list. Among one list) (sym p.in_pass.is_held)
     (among_behind one pass.passed (one ∷ waiting) (inl refl))) in
     let left_fine = held_left-fine file one pass.passed waiting done.progress tried_fine held in
     let left_goes = held_left-goes file (pass.passed ++ waiting) done.progress in
-    let up : left.server.present one.client ≡ true = left_goes.ups one.client ∙ t.goes.ups one.client
-    ∙ well.up in
+    let up : left.server.present one.client ≡ true = left_goes.ups one.client ∙ t.goes.ups one.client ∙ well.up in
     let about = about_goes done.progress.server left.server file one.request left_goes
     (about_goes pass.progress.server done.progress.server file one.request t.goes well.about) in
     let free = λ (ready : done.outcome ≡ Outcome.Ready). held_left-free one.client one.request file
-    (pass.passed ++ waiting) done.progress
-    (ready-free one.client one.request done.progress (t.good.found_ready ready)) in
+    (pass.passed ++ waiting) done.progress (ready-free one.client one.request done.progress (t.good.found_ready ready)) in
     let on_file = λ (ready : done.outcome ≡ Outcome.Ready). held_left-ready one.client one.request file
-    (pass.passed ++ waiting) done.progress
-    (ready-file one.client one.request done.progress (t.good.found_ready ready)) in
+    (pass.passed ++ waiting) done.progress (ready-file one.client one.request done.progress (t.good.found_ready ready)) in
     let after_goes = concluded-goes one.client one.request left done.outcome left_fine.sound up on_file in
     record {
       fine = fine_concluded one.client one.request left done.outcome left_fine up free on_file;
       files = after_goes.files ∙ left_goes.files ∙ t.goes.files ∙ p.files;
       in_pass = pass_answered-in file count one waiting pass done p.in_pass;
       kept_wait = λ never. absurd (true≢false never);
-      others = λ other away all.
-          all_wait-keep (Elsewhere file) left.server after.server other
+      others = λ other away all. all_wait-keep (Elsewhere file) left.server after.server other
           (concluded-kept one.client file one.request left done.outcome left_fine.sound about)
           left_fine away (ap (λ h. h other) (concluded-held one.client one.request left done.outcome))
           (all_wait-keep Anywhere done.progress.server left.server other
@@ -191,8 +169,7 @@ answered_waits start file count one waiting pass done p t =
 
 -- what follows a try in a pass leaves each first held request waiting
 after_try-waits : (start : Progress) (file count : ℕ) (one : Held) (waiting : List Held) (pass : Pass)
-    (progress : Progress) (outcome : Outcome)
-    → PassWaits start file count (one ∷ waiting) pass
+    (progress : Progress) (outcome : Outcome) → PassWaits start file count (one ∷ waiting) pass
     → IsTry one.client one.request pass.progress (record { progress = progress; outcome = outcome })
     → PassWaits start file count waiting (after_try file one waiting pass progress outcome)
 after_try-waits start file count one waiting pass progress Outcome.Waits p t = kept_waits start file count one
@@ -200,29 +177,23 @@ after_try-waits start file count one waiting pass progress Outcome.Waits p t = k
     (fine_try one.client one.request pass.progress (record { progress = progress; outcome = Outcome.Waits })
     p.fine t) t.held t.goes t.keeps (λ e. t.waits refl)
 after_try-waits start file count one waiting pass progress (Outcome.Refused status) p t = answered_waits start
-    file count one waiting pass
-    (record { progress = progress; outcome = Outcome.Refused status }) p t
-after_try-waits start file count one waiting pass progress Outcome.Ready p t = answered_waits start file count
-    one waiting pass
+    file count one waiting pass (record { progress = progress; outcome = Outcome.Refused status }) p t
+after_try-waits start file count one waiting pass progress Outcome.Ready p t = answered_waits start file count one waiting pass
     (record { progress = progress; outcome = Outcome.Ready }) p t
 
 -- a held request tried again leaves each first held request waiting
 pub tried_again-waits : (start : Progress) (file count : ℕ) (one : Held) (waiting : List Held) (pass : Pass)
-    → PassWaits start file count (one ∷ waiting) pass
-    → PassWaits start file count waiting (tried_again file one waiting pass)
+    → PassWaits start file count (one ∷ waiting) pass → PassWaits start file count waiting (tried_again file one waiting pass)
 unfolding tried_again
 tried_again-waits start file count one waiting pass p =
-    if_cases (PassWaits start file count waiting) (is_behind one.client pass.passed)
-    (left_waiting one pass pass.progress)
+    if_cases (PassWaits start file count waiting) (is_behind one.client pass.passed) (left_waiting one pass pass.progress)
     (after_try file one waiting pass (tried one.client one.request pass.progress).progress
     (tried one.client one.request pass.progress).outcome)
     (λ behind. kept_waits start file count one waiting pass pass.progress p p.fine refl
     (goes-same pass.progress.server) (keeps-same Anywhere pass.progress.server)
     (λ first. clash (is_behind one.client pass.passed) behind first))
-    (λ e. after_try-waits start file count one waiting pass
-    (tried one.client one.request pass.progress).progress
-    (tried one.client one.request pass.progress).outcome p
-    (any_try one.client one.request pass.progress p.fine.sound))
+    (λ e. after_try-waits start file count one waiting pass (tried one.client one.request pass.progress).progress
+    (tried one.client one.request pass.progress).outcome p (any_try one.client one.request pass.progress p.fine.sound))
 
 -- a pass leaves each first held request waiting
 pass_over-waits : (start : Progress) (file count : ℕ) (waiting : List Held) (pass : Pass)
@@ -230,8 +201,7 @@ pass_over-waits : (start : Progress) (file count : ℕ) (waiting : List Held) (p
 unfolding pass_over
 pass_over-waits start file count [] pass p = p
 pass_over-waits start file count (one ∷ waiting) pass p = pass_over-waits start file count waiting
-    (tried_again file one waiting pass)
-    (tried_again-waits start file count one waiting pass p)
+    (tried_again file one waiting pass) (tried_again-waits start file count one waiting pass p)
 
 -- What passes over a file come to.
 pub record FileWaits (start : Progress) (file : ℕ) (after : Progress) : Type 0 where
@@ -254,8 +224,7 @@ pass_begun file progress f = record {
   in_pass = record {
     is_held = refl;
     is_counted = all_counted (progress.server.held file);
-    is_fewer =
-        λ never. absurd (true≢false (sym never));
+    is_fewer = λ never. absurd (true≢false (sym never));
   };
   kept_wait = λ e client one never. absurd (cc);
   others = λ other away all. all;
@@ -264,15 +233,12 @@ pass_begun file progress f = record {
 -- a pass over a file leaves each first held request waiting
 pub one_pass-waits : (file : ℕ) (progress : Progress) → IsFine progress.server
     → PassWaits progress file (length (progress.server.held file)) [] (one_pass file progress)
-one_pass-waits file progress f = pass_over-waits progress file (length (progress.server.held file))
-    (progress.server.held file)
-    (record { passed = []; progress = progress; has_answered = false })
-    (pass_begun file progress f)
+one_pass-waits file progress f = pass_over-waits progress file (length (progress.server.held file)) (progress.server.held file)
+    (record { passed = []; progress = progress; has_answered = false }) (pass_begun file progress f)
 
 -- passes over a file leaves each first held request waiting
 pub passes_for-waits : (count file : ℕ) (progress : Progress) → length (progress.server.held file) < count
-    → IsFine progress.server
-    → FileWaits progress file (passes_for count file progress)
+    → IsFine progress.server → FileWaits progress file (passes_for count file progress)
 unfolding passes_for
 passes_for-waits zero file progress less f = absurd (omega (arith, less))
 passes_for-waits (suc count) file progress less f =
@@ -281,8 +247,7 @@ passes_for-waits (suc count) file progress less f =
     if_cases (FileWaits progress file) (one_pass file progress).has_answered
     (passes_for count file (one_pass file progress).progress) (one_pass file progress).progress
     (λ answered. let fewer = one_pass-fewer file progress answered in
-    let rest = passes_for-waits count file (one_pass file progress).progress (omega (arith, fewer, less))
-    p.fine in
+    let rest = passes_for-waits count file (one_pass file progress).progress (omega (arith, fewer, less)) p.fine in
     record {
       fine = rest.fine;
       files = rest.files ∙ p.files;
@@ -311,8 +276,7 @@ unfolding passes_over
 passes_over-waits [] progress f = record {
   fine = f;
   files = refl;
-  wait = λ file.
-      ⊎_elim (λ never. absurd never) (λ all. all);
+  wait = λ file. ⊎_elim (λ never. absurd never) (λ all. all);
 }
 passes_over-waits (file ∷ files) progress f =
     let first = passes_for-waits (length (progress.server.held file) + 1) file progress (omega arith) f in
@@ -338,12 +302,10 @@ numbered_to (suc n) file low high = either (file == suc n)
     (below_one file n high (λ same. clash (file == suc n) ((Decides-eqb file (suc n)).1 same) e))))
 
 -- a file of the server is among the numbers of its files
-file_numbered : (server : Server) (file : ℕ) → has_file server file ≡ true
-    → Among file (numbers_to server.files)
+file_numbered : (server : Server) (file : ℕ) → has_file server file ≡ true → Among file (numbers_to server.files)
 file_numbered server file e =
     let parts = and_parts (nat_le 1 file) (nat_le file server.files) e in
-    numbered_to server.files file (leb→le 1 file (subst T (sym parts.0) tt))
-    (leb→le file server.files (subst T (sym parts.1) tt))
+    numbered_to server.files file (leb→le 1 file (subst T (sym parts.0) tt)) (leb→le file server.files (subst T (sym parts.1) tt))
 
 -- After passes over all files, wherever requests are held, the first of each client has to wait.
 pub record EveryoneWaits (server : Server) : Type 0 where
@@ -351,8 +313,7 @@ pub record EveryoneWaits (server : Server) : Type 0 where
   pub wait : (file : ℕ) → AllWait server file
 
 -- passes over all files leave each first held request waiting
-pub all_passes-wait : (progress : Progress) → IsFine progress.server
-    → EveryoneWaits (all_passes progress).server
+pub all_passes-wait : (progress : Progress) → IsFine progress.server → EveryoneWaits (all_passes progress).server
 unfolding all_passes
 all_passes-wait progress f =
     let done = passes_over-waits (numbers_to progress.server.files) progress f in

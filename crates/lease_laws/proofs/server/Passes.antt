@@ -18,8 +18,7 @@ use Rattle.lease_laws.proofs.server.Tries.{IsGoodTry, tried_for-good}
 
 -- what a create needs, whatever is held
 create_free : (client file : ℕ) (access : Access) (share : Share) (asked : Option LeaseOf) (again : Option ℕ)
-    (at : ℕ) (left : List Held) (progress : Progress)
-    → CreateFree progress.server client file access share asked again
+    (at : ℕ) (left : List Held) (progress : Progress) → CreateFree progress.server client file access share asked again
     → CreateFree (held_left at left progress).server client file access share asked again
 unfolding held_left
 create_free client file access share asked None at left progress free = free
@@ -27,8 +26,7 @@ create_free client file access share asked (Some file_id) at left progress free 
 
 -- what a create needs, by its contexts
 contexts_free : (client file : ℕ) (access : Access) (share : Share) (contexts : Option CreateAsk) (at : ℕ)
-    (left : List Held) (progress : Progress)
-    → ContextsFree progress.server client file access share contexts
+    (left : List Held) (progress : Progress) → ContextsFree progress.server client file access share contexts
     → ContextsFree (held_left at left progress).server client file access share contexts
 unfolding held_left
 contexts_free client file access share None at left progress free = tt
@@ -37,8 +35,7 @@ contexts_free client file access share (Some ask) at left progress free = create
 
 -- what requests are held has nothing to do with what a create needs
 pub held_left-free : (client : ℕ) (request : FileRequest) (file : ℕ) (left : List Held) (progress : Progress)
-    → RequestFree progress.server client request
-    → RequestFree (held_left file left progress).server client request
+    → RequestFree progress.server client request → RequestFree (held_left file left progress).server client request
 unfolding held_left
 held_left-free client (FileRequest.Create file access share contexts) at left progress free = contexts_free client
     file access share contexts at left progress free
@@ -46,8 +43,7 @@ held_left-free client request file left progress free = tt
 
 -- a held request is answered
 pass_answered-sound : (file : ℕ) (one : Held) (waiting : List Held) (pass : Pass) (done : Tried)
-    → IsGoodTry one.client one.request done
-    → IsSound (pass_answered file one waiting pass done).progress.server
+    → IsGoodTry one.client one.request done → IsSound (pass_answered file one waiting pass done).progress.server
 pass_answered-sound file one waiting pass done good = concluded-sound one.client one.request
     (held_left file (pass.passed ++ waiting) done.progress) done.outcome
     (held_left-sound file (pass.passed ++ waiting) done.progress good.sound)
@@ -55,13 +51,11 @@ pass_answered-sound file one waiting pass done good = concluded-sound one.client
     (ready-free one.client one.request done.progress (good.found_ready ready)))
 
 -- what follows a try in a pass keeps the laws
-after_try-sound : (file : ℕ) (one : Held) (waiting : List Held) (pass : Pass) (progress : Progress)
-    (outcome : Outcome)
+after_try-sound : (file : ℕ) (one : Held) (waiting : List Held) (pass : Pass) (progress : Progress) (outcome : Outcome)
     → IsGoodTry one.client one.request (record { progress = progress; outcome = outcome })
     → IsSound (after_try file one waiting pass progress outcome).progress.server
 after_try-sound file one waiting pass progress Outcome.Waits good = good.sound
-after_try-sound file one waiting pass progress (Outcome.Refused status) good = pass_answered-sound file one
-    waiting pass
+after_try-sound file one waiting pass progress (Outcome.Refused status) good = pass_answered-sound file one waiting pass
     (record { progress = progress; outcome = Outcome.Refused status }) good
 after_try-sound file one waiting pass progress Outcome.Ready good = pass_answered-sound file one waiting pass
     (record { progress = progress; outcome = Outcome.Ready }) good
@@ -70,23 +64,19 @@ after_try-sound file one waiting pass progress Outcome.Ready good = pass_answere
 tried_again-sound : (file : ℕ) (one : Held) (waiting : List Held) (pass : Pass) → IsSound pass.progress.server
     → IsSound (tried_again file one waiting pass).progress.server
 unfolding tried_again
-tried_again-sound file one waiting pass s =
-    if_cases (λ p. IsSound p.progress.server) (is_behind one.client pass.passed)
-    (left_waiting one pass pass.progress)
-    (after_try file one waiting pass (tried one.client one.request pass.progress).progress
+tried_again-sound file one waiting pass s = if_cases (λ p. IsSound p.progress.server) (is_behind one.client pass.passed)
+    (left_waiting one pass pass.progress) (after_try file one waiting pass (tried one.client one.request pass.progress).progress
     (tried one.client one.request pass.progress).outcome)
     (λ e. s)
     (λ e. after_try-sound file one waiting pass (tried one.client one.request pass.progress).progress
-    (tried one.client one.request pass.progress).outcome
-    (tried_for-good 3 one.client one.request pass.progress s))
+    (tried one.client one.request pass.progress).outcome (tried_for-good 3 one.client one.request pass.progress s))
 
 -- a pass keeps the laws
 pass_over-sound : (file : ℕ) (waiting : List Held) (pass : Pass) → IsSound pass.progress.server
     → IsSound (pass_over file waiting pass).progress.server
 unfolding pass_over
 pass_over-sound file [] pass s = s
-pass_over-sound file (one ∷ waiting) pass s =
-    pass_over-sound file waiting (tried_again file one waiting pass)
+pass_over-sound file (one ∷ waiting) pass s = pass_over-sound file waiting (tried_again file one waiting pass)
     (tried_again-sound file one waiting pass s)
 
 -- passes over a file keeps the laws
@@ -103,8 +93,7 @@ passes_for-sound (suc count) file progress s =
     (λ e. next)
 
 -- passes over files keeps the laws
-passes_over-sound : (files : List ℕ) (progress : Progress) → IsSound progress.server
-    → IsSound (passes_over files progress).server
+passes_over-sound : (files : List ℕ) (progress : Progress) → IsSound progress.server → IsSound (passes_over files progress).server
 unfolding passes_over
 passes_over-sound [] progress s = s
 passes_over-sound (file ∷ files) progress s = passes_over-sound files (passes file progress)

@@ -16,8 +16,7 @@ use Rattle.lease_laws.proofs.server.Steps.{drop_sound}
 pub opens_dropped-sound : (test : Open → Bool) (progress : Progress) → IsSound progress.server
     → IsSound (opens_dropped test progress).server
 unfolding opens_dropped with_opens
-opens_dropped-sound test progress s = drop_sound (λ one. not (test one)) progress.server.opens
-    progress.server.leases
+opens_dropped-sound test progress s = drop_sound (λ one. not (test one)) progress.server.opens progress.server.leases
     progress.server.expired progress.server.last_id s
 
 -- to hold a request keeps the laws
@@ -44,12 +43,9 @@ pub lease_lowered-sound : (key : Key) (lowered : State) (progress : Progress) �
     → MayBreak progress.server key → granted_form_of lowered ≡ lowered → lowered.write ≡ false
     → IsSound (lease_lowered key lowered progress).server
 unfolding lease_lowered
-lease_lowered-sound key lowered progress s may form writeless = put_sound progress.server.opens
-    progress.server.leases
-    progress.server.expired progress.server.last_id key (record { state = lowered; broken_to = None }) s
-    may.has_open
-    (λ out. clash (progress.server.expired key) out may.is_timely)
-    (record {
+lease_lowered-sound key lowered progress s may form writeless = put_sound progress.server.opens progress.server.leases
+    progress.server.expired progress.server.last_id key (record { state = lowered; broken_to = None }) s may.has_open
+    (λ out. clash (progress.server.expired key) out may.is_timely) (record {
       is_lawful = settled-lawful lowered form;
       is_alone = λ one other w a k b f. clash lowered.write w writeless;
       lasts = λ one a k d. clash one.connected (may.is_present one a k) d;
@@ -58,17 +54,13 @@ lease_lowered-sound key lowered progress s may form writeless = put_sound progre
 -- to begin a break keeps the laws
 pub break_begun-sound : (key : Key) (lowered : State) (progress : Progress) → IsSound progress.server
     → MayBreak progress.server key → needs_acknowledgment (progress.server.leases key).state ≡ true
-    → IsLowered (progress.server.leases key).state lowered
-    → IsSound (break_begun key lowered progress).server
+    → IsLowered (progress.server.leases key).state lowered → IsSound (break_begun key lowered progress).server
 unfolding break_begun
-break_begun-sound key lowered progress s may needs low = put_sound progress.server.opens
-    progress.server.leases
+break_begun-sound key lowered progress s may needs low = put_sound progress.server.opens progress.server.leases
     progress.server.expired progress.server.last_id key
     (record { state = (progress.server.leases key).state; broken_to = Some lowered }) s may.has_open
-    (λ out. clash (progress.server.expired key) out may.is_timely)
-    (record {
-      is_lawful = breaking-lawful (progress.server.leases key).state lowered (s.lawful key).is_granted_form
-          needs low;
+    (λ out. clash (progress.server.expired key) out may.is_timely) (record {
+      is_lawful = breaking-lawful (progress.server.leases key).state lowered (s.lawful key).is_granted_form needs low;
       is_alone = λ one other w a k b f. s.one_writer key one other w a k b f;
       lasts = λ one a k d. clash one.connected (may.is_present one a k) d;
     })

@@ -36,8 +36,7 @@ home_at : (server : Server) (own : Option Key) (file : ℕ) → is_leased_elsewh
 unfolding is_leased_elsewhere
 home_at server None file e one a k = absurd (true≢false (sym k))
 home_at server (Some key) file e one a k = (Decides-eqb one.file file).0 (not_false (one.file == file) (λ d.
-    clash (has_key key one && not (one.file == file))
-    (and_both (has_key key one) (not (one.file == file)) k (ap not d))
+    clash (has_key key one && not (one.file == file)) (and_both (has_key key one) (not (one.file == file)) k (ap not d))
     (none_has (λ x. has_key key x && not (x.file == file)) one server.opens e a)))
 
 -- no open on the file conflicts
@@ -60,8 +59,7 @@ unwritten_at server own file none key one a f other k = not_true (server.leases 
     (and_both (is_other_on own file one) (lease_of server one).state.write
     (and_both (one.file == file) (not (has_own_key own one)) (same_file one file f) (ap not other))
     (ap (λ l. l.state.write) (lease_by-key server key one.client one.lease_key k) ∙ w))
-    (wants_where-none server (λ x. is_other_on own file x && (lease_of server x).state.write) without_write
-    none key one a k))
+    (wants_where-none server (λ x. is_other_on own file x && (lease_of server x).state.write) without_write none key one a k))
 
 -- a finding that leaves nothing wanted
 abbrev pub FreeWhenEmpty : Server → Option Key → ℕ → Access → Share → Finding → Type 0
@@ -76,10 +74,8 @@ unfolding create_finding
 create_finding-free server own file access share =
     if_cases (FreeWhenEmpty server own file access share) (is_leased_elsewhere server own file) _ _
     (λ e. tt)
-    (λ home. if_cases (FreeWhenEmpty server own file access share)
-    (list_any (conflicts_on file access share) server.opens) _ _
-    (λ c. if_cases (FreeWhenEmpty server own file access share)
-    (is_empty (handle_wants server own file access share)) _ _
+    (λ home. if_cases (FreeWhenEmpty server own file access share) (list_any (conflicts_on file access share) server.opens) _ _
+    (λ c. if_cases (FreeWhenEmpty server own file access share) (is_empty (handle_wants server own file access share)) _ _
     (λ n. tt) (λ n none. clash (is_empty (handle_wants server own file access share)) none n))
     (λ peace none. record {
       at_home = home_at server own file home;
@@ -89,20 +85,17 @@ create_finding-free server own file access share =
 
 -- what is known of a create with these contexts once it is ready
 abbrev pub CreateFree : Server → ℕ → ℕ → Access → Share → Option LeaseOf → Option ℕ → Type 0
-CreateFree server client file access share lease None = IsFree server.opens server.leases
-    (own_key client lease) file access share
+CreateFree server client file access share lease None = IsFree server.opens server.leases (own_key client lease) file access share
 CreateFree server client file access share lease (Some file_id) = Unit {0}
 
 -- by its contexts
 abbrev pub ContextsFree : Server → ℕ → ℕ → Access → Share → Option CreateAsk → Type 0
 ContextsFree server client file access share None = Unit {0}
-ContextsFree server client file access share (Some ask) = CreateFree server client file access share ask.lease
-    ask.reconnect
+ContextsFree server client file access share (Some ask) = CreateFree server client file access share ask.lease ask.reconnect
 
 -- by the request
 abbrev pub RequestFree : Server → ℕ → FileRequest → Type 0
-RequestFree server client (FileRequest.Create file access share contexts) = ContextsFree server client file access
-    share contexts
+RequestFree server client (FileRequest.Create file access share contexts) = ContextsFree server client file access share contexts
 RequestFree server client request = Unit {0}
 
 -- one list of wants found is one list
@@ -123,8 +116,7 @@ asked_free : (server : Server) (client file : ℕ) (access : Access) (share : Sh
     (again : Option ℕ) (wants : List Want)
     → asked_finding server client file access share lease again ≡ Finding.Needs wants → is_empty wants ≡ true
     → CreateFree server client file access share lease again
-asked_free server client file access share lease None wants e none =
-    found_free server (own_key client lease) file access share
+asked_free server client file access share lease None wants e none = found_free server (own_key client lease) file access share
     (create_finding server (own_key client lease) file access share) wants
     (create_finding-free server (own_key client lease) file access share) e none
 asked_free server client file access share lease (Some file_id) wants e none = tt
@@ -132,13 +124,11 @@ asked_free server client file access share lease (Some file_id) wants e none = t
 -- what a create needs, by its contexts
 pub contexts_free : (server : Server) (client file : ℕ) (access : Access) (share : Share)
     (contexts : Option CreateAsk) (wants : List Want)
-    → finding server client (FileRequest.Create file access share contexts) ≡ Finding.Needs wants
-    → is_empty wants ≡ true
+    → finding server client (FileRequest.Create file access share contexts) ≡ Finding.Needs wants → is_empty wants ≡ true
     → ContextsFree server client file access share contexts
 unfolding finding
 contexts_free server client file access share None wants e none = tt
-contexts_free server client file access share (Some ask) wants e none =
-    if_cases (λ found. found ≡ Finding.Needs wants
+contexts_free server client file access share (Some ask) wants e none = if_cases (λ found. found ≡ Finding.Needs wants
     → CreateFree server client file access share ask.lease ask.reconnect)
     (has_file server file) (asked_finding server client file access share ask.lease ask.reconnect)
     (Finding.Fails Status.ObjectNameNotFound)

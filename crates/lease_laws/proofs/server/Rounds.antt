@@ -18,14 +18,12 @@ IsExcused client request tried = tried.outcome ≡ Outcome.Waits → HasToWait t
 
 -- a round of a try that ends
 after_finding-excused : (again : Progress → Tried) (rounds client : ℕ) (request : FileRequest) (progress : Progress)
-    (found : Finding)
-    → finding progress.server client request ≡ found → FindingFits progress.server found
+    (found : Finding) → finding progress.server client request ≡ found → FindingFits progress.server found
     → IsSound progress.server
     → ((next : Progress) → IsSound next.server → Ends rounds client request next → IsExcused client request (again next))
     → EndsAfter (Ends rounds client request) request progress found
     → IsExcused client request (after_finding again request progress found)
-after_finding-excused again rounds client request progress (Finding.Fails status) e fits s good ends = λ never.
-    absurd (cc)
+after_finding-excused again rounds client request progress (Finding.Fails status) e fits s good ends = λ never. absurd (cc)
 after_finding-excused again rounds client request progress (Finding.Needs wants) e fits s good ends =
     let met = wants_met wants progress in
     let next = wants_met-sound wants progress s fits in
@@ -50,5 +48,4 @@ tried_for-excused (suc rounds) client request progress s ends = after_finding-ex
 pub tried-waits : (client : ℕ) (request : FileRequest) (progress : Progress) → IsSound progress.server
     → (tried client request progress).outcome ≡ Outcome.Waits
     → HasToWait (tried client request progress).progress.server client request
-tried-waits client request progress s = tried_for-excused 3 client request progress s
-    (tries_settle client request progress)
+tried-waits client request progress s = tried_for-excused 3 client request progress s (tries_settle client request progress)

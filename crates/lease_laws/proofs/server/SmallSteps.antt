@@ -66,15 +66,13 @@ taken_append (step ∷ first) later progress = taken_append first later (step_ta
 guarded_append : (first later : List SmallStep) (progress : Progress) → AreGuarded first progress
     → AreGuarded later (steps_taken first progress) → AreGuarded (first ++ later) progress
 guarded_append [] later progress g h = h
-guarded_append (step ∷ first) later progress g h =
-    (g.0, guarded_append first later (step_taken step progress) g.1 h)
+guarded_append (step ∷ first) later progress g h = (g.0, guarded_append first later (step_taken step progress) g.1 h)
 
 -- have their turns
 in_turn_append : (first later : List SmallStep) (progress : Progress) → AreInTurn first progress
     → AreInTurn later (steps_taken first progress) → AreInTurn (first ++ later) progress
 in_turn_append [] later progress g h = h
-in_turn_append (step ∷ first) later progress g h =
-    (g.0, in_turn_append first later (step_taken step progress) g.1 h)
+in_turn_append (step ∷ first) later progress g h = (g.0, in_turn_append first later (step_taken step progress) g.1 h)
 
 -- are counted together
 own_append : (first later : List SmallStep) → own_count (first ++ later) ≡ own_count first + own_count later
@@ -85,8 +83,7 @@ own_append (SmallStep.Acknowledge client given ∷ first) later = let e = own_ap
 own_append (step ∷ first) later = own_append first later
 
 -- and of one call
-of_append : (call : Call) (first later : List SmallStep) → AreOf call first → AreOf call later
-    → AreOf call (first ++ later)
+of_append : (call : Call) (first later : List SmallStep) → AreOf call first → AreOf call later → AreOf call (first ++ later)
 of_append call [] later o p = p
 of_append call (step ∷ first) later o p = (o.0, of_append call first later o.1 p)
 
@@ -95,10 +92,8 @@ pub steps_then : (call : Call) (m n : ℕ) (a b c : Progress) → GoesBySteps ca
     → GoesBySteps call (m + n) a c
 steps_then call m n a b c h k = record {
   steps = h.steps ++ k.steps;
-  are_guarded = guarded_append h.steps k.steps a h.are_guarded
-      (subst (λ p. AreGuarded k.steps p) h.lead k.are_guarded);
-  are_in_turn = in_turn_append h.steps k.steps a h.are_in_turn
-      (subst (λ p. AreInTurn k.steps p) h.lead k.are_in_turn);
+  are_guarded = guarded_append h.steps k.steps a h.are_guarded (subst (λ p. AreGuarded k.steps p) h.lead k.are_guarded);
+  are_in_turn = in_turn_append h.steps k.steps a h.are_in_turn (subst (λ p. AreInTurn k.steps p) h.lead k.are_in_turn);
   are_of = of_append call h.steps k.steps h.are_of k.are_of;
   are_own = own_append h.steps k.steps ∙ ap₂ (λ x y. x + y) h.are_own k.are_own;
   lead = k.lead ∙ ap (λ p. steps_taken k.steps p) h.lead ∙ sym (taken_append h.steps k.steps a);
@@ -127,8 +122,7 @@ broken-lowers : (key : Key) (lowered : State) (progress : Progress) (want : Want
 unfolding lease_broken break_begun lease_lowered
 broken-lowers key lowered progress want other lowers =
     let Stays : Lease → Type 0 = λ l. has_lease progress.server want.key ≡ true → IsLowered l.state want.lowered in
-    if_cases (λ p. Lowers p.server want)
-    (has_lease progress.server key && not (is_breaking (progress.server.leases key)))
+    if_cases (λ p. Lowers p.server want) (has_lease progress.server key && not (is_breaking (progress.server.leases key)))
     (if needs_acknowledgment (progress.server.leases key).state then break_begun key lowered progress
     else lease_lowered key lowered progress) progress
     (λ t. if_cases (λ p. Lowers p.server want) (needs_acknowledgment (progress.server.leases key).state)
@@ -150,13 +144,11 @@ unfolding want_met lease_broken
 want_met-steps call want progress lowers =
     let dropped = opens_dropped (is_left_open want.key) progress in
     steps_then call 0 0 progress dropped (lease_broken want.key want.lowered dropped)
-    (step_one call (SmallStep.Drop want.key) progress tt tt tt)
-    (if_cases (GoesBySteps call 0 dropped)
+    (step_one call (SmallStep.Drop want.key) progress tt tt tt) (if_cases (GoesBySteps call 0 dropped)
     (has_lease dropped.server want.key && not (is_breaking (dropped.server.leases want.key)))
     (if needs_acknowledgment (dropped.server.leases want.key).state then break_begun want.key want.lowered dropped
     else lease_lowered want.key want.lowered dropped) dropped
-    (λ t. let parts = and_parts (has_lease dropped.server want.key)
-    (not (is_breaking (dropped.server.leases want.key))) t in
+    (λ t. let parts = and_parts (has_lease dropped.server want.key) (not (is_breaking (dropped.server.leases want.key))) t in
     let may : MayLower dropped.server want.key want.lowered = record {
       is_there = parts.0;
       are_connected = left_present want.key progress;
@@ -174,27 +166,22 @@ want_met-lowers : (first other : Want) (progress : Progress) → key_eq other.ke
     → Lowers progress.server other → Lowers (want_met first progress).server other
 unfolding want_met
 want_met-lowers first other progress apart lowers = broken-lowers first.key first.lowered
-    (opens_dropped (is_left_open first.key) progress) other apart
-    (dropped-lowers (is_left_open first.key) progress other lowers)
+    (opens_dropped (is_left_open first.key) progress) other apart (dropped-lowers (is_left_open first.key) progress other lowers)
 
 -- a key that stands before another isn't that one
 before_apart : (one other : Key) → key_before one other ≡ true → key_eq other one ≡ false
-before_apart one other before = not_true (key_eq other one) (λ same.
-    clash (key_before one one)
+before_apart one other before = not_true (key_eq other one) (λ same. clash (key_before one one)
     (ap (λ x. key_before one x) (sym (key_eq-same other one same)) ∙ before) (key_before-self one))
 
 -- wants that stand in order
 wants_met-steps : (call : Call) (wants : List Want) (progress : Progress) → AreInKeyOrder wants
-    → ((want : Want) → Among want wants → Lowers progress.server want)
-    → GoesBySteps call 0 progress (wants_met wants progress)
+    → ((want : Want) → Among want wants → Lowers progress.server want) → GoesBySteps call 0 progress (wants_met wants progress)
 unfolding wants_met
 wants_met-steps call [] progress order lowers = steps_none call progress
 wants_met-steps call (want ∷ wants) progress order lowers =
     steps_then call 0 0 progress (want_met want progress) (wants_met wants (want_met want progress))
-    (want_met-steps call want progress (lowers want (inl refl)))
-    (wants_met-steps call wants (want_met want progress) order.1
-    (λ other a. want_met-lowers want other progress (before_apart want.key other.key (order.0 other a))
-    (lowers other (inr a))))
+    (want_met-steps call want progress (lowers want (inl refl))) (wants_met-steps call wants (want_met want progress) order.1
+    (λ other a. want_met-lowers want other progress (before_apart want.key other.key (order.0 other a)) (lowers other (inr a))))
 
 -- ---- what a look finds stands in order
 
@@ -206,8 +193,7 @@ IsOrdered (Finding.Needs wants) = AreInKeyOrder wants
 create-ordered : (server : Server) (own : Option Key) (file : ℕ) (access : Access) (share : Share)
     → IsOrdered (create_finding server own file access share)
 unfolding create_finding handle_wants write_wants
-create-ordered server own file access share =
-    if_cases IsOrdered (is_leased_elsewhere server own file) _ _ (λ e. tt)
+create-ordered server own file access share = if_cases IsOrdered (is_leased_elsewhere server own file) _ _ (λ e. tt)
     (λ e. if_cases IsOrdered (list_any (conflicts_on file access share) server.opens) _ _
     (λ c. if_cases IsOrdered (is_empty (handle_wants server own file access share)) _ _
     (λ n. tt) (λ n. (wants_where-exact server _ _).in_order))
@@ -217,8 +203,7 @@ create-ordered server own file access share =
 asked-ordered : (server : Server) (client file : ℕ) (access : Access) (share : Share) (lease : Option LeaseOf)
     (again : Option ℕ) → IsOrdered (asked_finding server client file access share lease again)
 unfolding reconnect_finding
-asked-ordered server client file access share lease None =
-    create-ordered server (own_key client lease) file access share
+asked-ordered server client file access share lease None = create-ordered server (own_key client lease) file access share
 asked-ordered server client file access share lease (Some file_id) =
     if_cases IsOrdered (list_any (awaits client file (own_key client lease) file_id) server.opens)
     (Finding.Needs []) (Finding.Fails Status.ObjectNameNotFound) (λ e. tt) (λ e. tt)
@@ -259,8 +244,7 @@ finding-ordered server client (FileRequest.Create file access share contexts) =
 finding-ordered server client (FileRequest.Read file_id) =
     by_open-ordered (connected_open server client file_id) read_finding read-ordered
 finding-ordered server client (FileRequest.Write file_id number patch) =
-    by_open-ordered (connected_open server client file_id) (λ one. write_finding server one patch)
-    (write-ordered server patch)
+    by_open-ordered (connected_open server client file_id) (λ one. write_finding server one patch) (write-ordered server patch)
 finding-ordered server client (FileRequest.Close file_id) =
     by_open-ordered (connected_open server client file_id) (λ one. Finding.Needs []) (λ one. tt)
 
@@ -319,8 +303,7 @@ finding-refuses : (server : Server) (client : ℕ) (request : FileRequest) (stat
     → finding server client request ≡ Finding.Fails status → MayRefuse server client request status
 unfolding finding write_finding
 finding-refuses server client (FileRequest.Create file access share contexts) status same = tt
-finding-refuses server client (FileRequest.Read file_id) status same =
-    gone_by server client file_id read_finding status
+finding-refuses server client (FileRequest.Read file_id) status same = gone_by server client file_id read_finding status
     (λ x. if_cases (λ f. f ≡ Finding.Fails Status.FileClosed → ⊥) (may_read x.access) (Finding.Needs [])
     (Finding.Fails Status.AccessDenied) (λ e never. absurd (cc)) (λ e never. absurd (cc)))
     (connected_open server client file_id) refl same
@@ -328,15 +311,13 @@ finding-refuses server client (FileRequest.Write file_id number patch) status sa
     gone_by server client file_id (λ one. write_finding server one patch) status
     (λ x. if_cases (λ f. f ≡ Finding.Fails Status.FileClosed → ⊥) (may_write x.access) _ _
     (λ e. if_cases (λ f. f ≡ Finding.Fails Status.FileClosed → ⊥) (is_within_limit patch) _ _
-    (λ i never. absurd (cc)) (λ i never. absurd (cc))) (λ e never. absurd (cc)))
-    (connected_open server client file_id) refl same
+    (λ i never. absurd (cc)) (λ i never. absurd (cc))) (λ e never. absurd (cc))) (connected_open server client file_id) refl same
 finding-refuses server client (FileRequest.Close file_id) status same =
     close_refused server client file_id status (connected_open server client file_id) refl same
 
 -- a request by an open that is found
 open_by : (server : Server) (client file_id : ℕ) (found : Open → Finding) (may : Open → Type 0) (wants : List Want)
-    → ((x : Open) → found x ≡ Finding.Needs wants → may x)
-    → (one : Option Open) → connected_open server client file_id ≡ one
+    → ((x : Open) → found x ≡ Finding.Needs wants → may x) → (one : Option Open) → connected_open server client file_id ≡ one
     → by_open one found ≡ Finding.Needs wants → HasOpen server client file_id may
 open_by server client file_id found may wants each None e same = absurd (cc)
 open_by server client file_id found may wants each (Some one) e same =
@@ -344,40 +325,33 @@ open_by server client file_id found may wants each (Some one) e same =
 
 -- a reconnect finds its open
 reconnect_at : (server : Server) (client file : ℕ) (own : Option Key) (file_id : ℕ) (wants : List Want)
-    → reconnect_finding server client file own file_id ≡ Finding.Needs wants
-    → IsAwaitedAt server client file own file_id
+    → reconnect_finding server client file own file_id ≡ Finding.Needs wants → IsAwaitedAt server client file own file_id
 unfolding reconnect_finding
 reconnect_at server client file own file_id wants =
     if_cases (λ found. found ≡ Finding.Needs wants → IsAwaitedAt server client file own file_id)
-    (list_any (awaits client file own file_id) server.opens)
-    (Finding.Needs []) (Finding.Fails Status.ObjectNameNotFound)
+    (list_any (awaits client file own file_id) server.opens) (Finding.Needs []) (Finding.Fails Status.ObjectNameNotFound)
     (λ e same. let x = any_has (awaits client file own file_id) server.opens e in
     record { one = x.0; is_there = x.1; waits = x.2 })
     (λ e never. absurd (cc))
 
 -- a create that is ready
-create_may : (server : Server) (client file : ℕ) (access : Access) (share : Share) (ask : CreateAsk)
-    (wants : List Want)
-    → finding server client (FileRequest.Create file access share (Some ask)) ≡ Finding.Needs wants
-    → is_empty wants ≡ true
+create_may : (server : Server) (client file : ℕ) (access : Access) (share : Share) (ask : CreateAsk) (wants : List Want)
+    → finding server client (FileRequest.Create file access share (Some ask)) ≡ Finding.Needs wants → is_empty wants ≡ true
     → (has_file server file ≡ true) × MayCreate server client file access share ask.lease ask.reconnect
 unfolding finding
-create_may server client file access share ask wants same none =
-    if_cases (λ found. found ≡ Finding.Needs wants
+create_may server client file access share ask wants same none = if_cases (λ found. found ≡ Finding.Needs wants
     → (has_file server file ≡ true) × MayCreate server client file access share ask.lease ask.reconnect)
     (has_file server file) (asked_finding server client file access share ask.lease ask.reconnect)
     (Finding.Fails Status.ObjectNameNotFound)
     (λ there e. (
       there,
-      free ask.lease ask.reconnect e
-          (contexts_free server client file access share (Some ask) wants same none),
+      free ask.lease ask.reconnect e (contexts_free server client file access share (Some ask) wants same none),
     ))
     (λ gone never. absurd (cc)) same
   where
     free : (lease : Option LeaseOf) (again : Option ℕ)
         → asked_finding server client file access share lease again ≡ Finding.Needs wants
-        → CreateFree server client file access share lease again
-        → MayCreate server client file access share lease again
+        → CreateFree server client file access share lease again → MayCreate server client file access share lease again
     free lease None e f = f
     free lease (Some file_id) e f = reconnect_at server client file (own_key client lease) file_id wants e
 
@@ -415,8 +389,7 @@ finding-serves server client (FileRequest.Read file_id) wants same ready =
     (connected_open server client file_id) refl same
 finding-serves server client (FileRequest.Write file_id number patch) wants same ready =
     open_by server client file_id (λ one. write_finding server one patch) (MayChange server patch) wants
-    (λ one e. write_may server file_id number patch one wants ready e)
-    (connected_open server client file_id) refl same
+    (λ one e. write_may server file_id number patch one wants ready e) (connected_open server client file_id) refl same
 finding-serves server client (FileRequest.Close file_id) wants same ready =
     open_by server client file_id (λ one. Finding.Needs []) (λ one. ⊤) wants (λ one e. tt)
     (connected_open server client file_id) refl same
@@ -437,5 +410,4 @@ pub tried-guarded : (client : ℕ) (request : FileRequest) (progress : Progress)
     → (tried client request progress).progress.server.present client ≡ true
     → MayEnd (tried client request progress).progress.server client request (tried client request progress).outcome
 tried-guarded client request progress never up = reason_guards client request
-    (tried client request progress).progress (tried client request progress).outcome never up
-    (tries_end client request progress)
+    (tried client request progress).progress (tried client request progress).outcome never up (tries_end client request progress)

@@ -105,30 +105,24 @@ nothing-lowered state holds = record {
 }
 
 -- a part that holds W, by its letters
-within_write : (r w h : Bool) (s t u : Bool) → is_state_within (rights r w h) (rights s t u) ≡ true → w ≡ true
-    → t ≡ true
+within_write : (r w h : Bool) (s t u : Bool) → is_state_within (rights r w h) (rights s t u) ≡ true → w ≡ true → t ≡ true
 within_write r w h s true u e f = refl
 within_write true w h true false u e f = grind arith
 within_write true w h false false u e f = grind arith
 within_write false w h s false u e f = grind arith
 
 -- a part that holds a right is a part of what holds it
-pub write_of_part : (part state : State) → is_state_within part state ≡ true → part.write ≡ true
-    → state.write ≡ true
-write_of_part part state e f = within_write part.read part.write part.handle state.read state.write
-    state.handle e f
+pub write_of_part : (part state : State) → is_state_within part state ≡ true → part.write ≡ true → state.write ≡ true
+write_of_part part state e f = within_write part.read part.write part.handle state.read state.write state.handle e f
 
 -- a part that holds H, by its letters
-within_handle : (r w h : Bool) (s t u : Bool) → is_state_within (rights r w h) (rights s t u) ≡ true → h ≡ true
-    → u ≡ true
+within_handle : (r w h : Bool) (s t u : Bool) → is_state_within (rights r w h) (rights s t u) ≡ true → h ≡ true → u ≡ true
 within_handle r w h s t true e f = refl
 within_handle r w h s t false e f = grind arith
 
 -- a part that holds H is a part of what holds it
-pub handle_of_part : (part state : State) → is_state_within part state ≡ true → part.handle ≡ true
-    → state.handle ≡ true
-handle_of_part part state e f = within_handle part.read part.write part.handle state.read state.write
-    state.handle e f
+pub handle_of_part : (part state : State) → is_state_within part state ≡ true → part.handle ≡ true → state.handle ≡ true
+handle_of_part part state e f = within_handle part.read part.write part.handle state.read state.write state.handle e f
 
 -- one value found is one value
 some_same : (one other : State) → Some one ≡ Some other → one ≡ other
@@ -142,16 +136,14 @@ no_lease-lawful = record {
 }
 
 -- a lease that isn't breaking is lawful where its state is a granted form
-pub settled-lawful : (state : State) → granted_form_of state ≡ state
-    → IsLawful (record { state = state; broken_to = None })
+pub settled-lawful : (state : State) → granted_form_of state ≡ state → IsLawful (record { state = state; broken_to = None })
 settled-lawful state form = record {
   is_granted_form = form;
   is_broken_so = λ lowered e. absurd (cc);
 }
 
 -- a lease that begins to break to a lowered state is lawful
-pub breaking-lawful : (state lowered : State) → granted_form_of state ≡ state
-    → needs_acknowledgment state ≡ true
+pub breaking-lawful : (state lowered : State) → granted_form_of state ≡ state → needs_acknowledgment state ≡ true
     → IsLowered state lowered → IsLawful (record { state = state; broken_to = Some lowered })
 breaking-lawful state lowered form needs low = record {
   is_granted_form = form;

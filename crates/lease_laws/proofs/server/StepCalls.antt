@@ -36,11 +36,9 @@ MayEndAt progress one outcome = MayEnd progress.server one.client one.request ou
 
 -- what follows the try of a held request
 after_try-steps : (call : Call) (start : Progress) (file count : ℕ) (one : Held) (waiting : List Held) (pass : Pass)
-    (progress : Progress) (outcome : Outcome)
-    → PassWaits start file count (one ∷ waiting) pass
+    (progress : Progress) (outcome : Outcome) → PassWaits start file count (one ∷ waiting) pass
     → IsTry one.client one.request pass.progress (record { progress = progress; outcome = outcome })
-    → GoesBySteps call 0 pass.progress progress
-    → ((outcome ≡ Outcome.Waits → ⊥) → MayEndAt progress one outcome)
+    → GoesBySteps call 0 pass.progress progress → ((outcome ≡ Outcome.Waits → ⊥) → MayEndAt progress one outcome)
     → is_behind one.client pass.passed ≡ false
     → GoesBySteps call 0 pass.progress (after_try file one waiting pass progress outcome).progress
 after_try-steps call start file count one waiting pass progress Outcome.Waits p t go may turn = go
@@ -57,8 +55,7 @@ unfolding tried_again
 tried_again-steps call start file count one waiting pass p =
     let done = tried one.client one.request pass.progress in
     let t = any_try one.client one.request pass.progress p.fine.sound in
-    let well = held_well pass.progress.server file one p.fine.orderly
-    (subst (λ list. Among one list) (sym p.in_pass.is_held)
+    let well = held_well pass.progress.server file one p.fine.orderly (subst (λ list. Among one list) (sym p.in_pass.is_held)
     (among_behind one pass.passed (one ∷ waiting) (inl refl))) in
     if_cases (λ q. GoesBySteps call 0 pass.progress q.progress) (is_behind one.client pass.passed)
     (left_waiting one pass pass.progress) (after_try file one waiting pass done.progress done.outcome)
@@ -69,8 +66,7 @@ tried_again-steps call start file count one waiting pass p =
 
 -- a pass
 pass_over-steps : (call : Call) (start : Progress) (file count : ℕ) (waiting : List Held) (pass : Pass)
-    → PassWaits start file count waiting pass
-    → GoesBySteps call 0 pass.progress (pass_over file waiting pass).progress
+    → PassWaits start file count waiting pass → GoesBySteps call 0 pass.progress (pass_over file waiting pass).progress
 unfolding pass_over
 pass_over-steps call start file count [] pass p = steps_none call pass.progress
 pass_over-steps call start file count (one ∷ waiting) pass p =
@@ -101,8 +97,7 @@ passes_over-steps call [] progress f = steps_none call progress
 passes_over-steps call (file ∷ files) progress f =
     let next = passes file progress in
     steps_then call 0 0 progress next (passes_over files next)
-    (passes_for-steps call (length (progress.server.held file) + 1) file progress f)
-    (passes_over-steps call files next
+    (passes_for-steps call (length (progress.server.held file) + 1) file progress f) (passes_over-steps call files next
     (passes_for-waits (length (progress.server.held file) + 1) file progress (omega arith) f).fine)
 
 -- passes over all files
@@ -115,14 +110,12 @@ all_passes-steps call progress f = passes_over-steps call (numbers_to progress.s
 
 -- a request that has no file is refused as it should be
 closed_asked : (server : Server) (client file_id : ℕ) (status : Status) (one : Option Open)
-    → connected_open server client file_id ≡ one → file_of_open one ≡ Err status
-    → IsGone server client file_id status
+    → connected_open server client file_id ≡ one → file_of_open one ≡ Err status → IsGone server client file_id status
 closed_asked server client file_id status None e same closed = e
 closed_asked server client file_id status (Some one) e never closed = absurd (cc)
 
 close_unasked : (server : Server) (client file_id : ℕ) (status : Status) (one : Option Open)
-    → connected_open server client file_id ≡ one → file_of_open one ≡ Err status
-    → connected_open server client file_id ≡ None
+    → connected_open server client file_id ≡ one → file_of_open one ≡ Err status → connected_open server client file_id ≡ None
 close_unasked server client file_id status None e same = e
 close_unasked server client file_id status (Some one) e never = absurd (cc)
 
@@ -143,8 +136,7 @@ asked_open : (before after : Server) (client file_id file : ℕ) (one : Option O
     → connected_open before client file_id ≡ one → file_of_open one ≡ Ok file
     → file_of_open (connected_open after client file_id) ≡ Ok file
 asked_open before after client file_id file None k e never = absurd (cc)
-asked_open before after client file_id file (Some one) k e asked =
-    ap file_of_open (k.finds client file_id one e tt) ∙ asked
+asked_open before after client file_id file (Some one) k e asked = ap file_of_open (k.finds client file_id one e tt) ∙ asked
 
 asked_create : (before after : Server) (file at : ℕ) (contexts : Option CreateAsk) → after.files ≡ before.files
     → file_of_create before file contexts ≡ Ok at → file_of_create after file contexts ≡ Ok at
@@ -153,8 +145,7 @@ asked_create before after file at (Some ask) same asked =
     ap (λ n. if has_file (record before { files = n }) file then Ok file else Err Status.ObjectNameNotFound) same ∙ asked
 
 asked_stays : (before after : Server) (client : ℕ) (request : FileRequest) (file : ℕ) → Keeps Anywhere before after
-    → after.files ≡ before.files → file_asked before client request ≡ Ok file
-    → file_asked after client request ≡ Ok file
+    → after.files ≡ before.files → file_asked before client request ≡ Ok file → file_asked after client request ≡ Ok file
 unfolding file_asked
 asked_stays before after client (FileRequest.Create file access share contexts) at k same e =
     asked_create before after file at contexts same e
@@ -174,53 +165,43 @@ one_file asked file other e f = cc
 -- no earlier request of the client is held there
 still_first : (client file : ℕ) (request : FileRequest) (before after : Progress) → SameHeld before after
     → file_asked after.server client request ≡ Ok file → is_behind client (before.server.held file) ≡ false
-    → (other : ℕ) → file_asked after.server client request ≡ Ok other
-    → is_behind client (after.server.held other) ≡ false
-still_first client file request before after same asked first other e =
-    ap (λ held. is_behind client (held other)) same
+    → (other : ℕ) → file_asked after.server client request ≡ Ok other → is_behind client (after.server.held other) ≡ false
+still_first client file request before after same asked first other e = ap (λ held. is_behind client (held other)) same
     ∙ ap (λ at. is_behind client (before.server.held at)) (one_file (file_asked after.server client request) file other asked e)
     ∙ first
 
 -- what follows a first try
 first_try-steps : (call : Call) (client file : ℕ) (request : FileRequest) (before : Progress) (progress : Progress)
-    (outcome : Outcome)
-    → call ≡ Call.Receive client (Request.OnFile request) → before.server.present client ≡ true
-    → IsTry client request before (record { progress = progress; outcome = outcome })
-    → GoesBySteps call 0 before progress
+    (outcome : Outcome) → call ≡ Call.Receive client (Request.OnFile request) → before.server.present client ≡ true
+    → IsTry client request before (record { progress = progress; outcome = outcome }) → GoesBySteps call 0 before progress
     → ((outcome ≡ Outcome.Waits → ⊥) → MayEndAt progress (held_of client request) outcome)
     → file_asked before.server client request ≡ Ok file → is_behind client (before.server.held file) ≡ false
     → GoesBySteps call 1 before (after_first_try client file request progress outcome)
 first_try-steps call client file request before progress Outcome.Waits of up t go may asked first =
     steps_then call 0 1 before progress (request_held file (held_of client request) progress) go
-    (step_one call (SmallStep.Hold file (held_of client request)) progress
-    (t.goes.ups client ∙ up, inl (t.waits refl))
+    (step_one call (SmallStep.Hold file (held_of client request)) progress (t.goes.ups client ∙ up, inl (t.waits refl))
     (asked_stays before.server progress.server client request file t.keeps t.goes.files asked) of)
 first_try-steps call client file request before progress outcome of up t go may asked first =
     steps_then call 0 1 before progress (concluded client request progress outcome) go
-    (step_one call (SmallStep.Answer client request outcome) progress
-    (may (λ never. absurd (cc)))
+    (step_one call (SmallStep.Answer client request outcome) progress (may (λ never. absurd (cc)))
     (still_first client file request before progress t.held
     (asked_stays before.server progress.server client request file t.keeps t.goes.files asked) first) of)
 
 -- a request that comes
 arrived_on-steps : (call : Call) (client : ℕ) (request : FileRequest) (progress : Progress) (asked : Result ℕ Status)
     → call ≡ Call.Receive client (Request.OnFile request) → IsFine progress.server → WaitsWell progress.server
-    → progress.server.present client ≡ true
-    → file_asked progress.server client request ≡ asked
+    → progress.server.present client ≡ true → file_asked progress.server client request ≡ asked
     → GoesBySteps call 1 progress (arrived_on client request progress asked)
 arrived_on-steps call client request progress (Err status) of f w up e =
     step_one call (SmallStep.Answer client request (Outcome.Refused status)) progress
     (up, asked-refuses progress.server client request status e) (λ file asked. absurd
-    (no_file (file_asked progress.server client request) status file e asked))
-    of
+    (no_file (file_asked progress.server client request) status file e asked)) of
 arrived_on-steps call client request progress (Ok file) of f w up e =
     let done = tried client request progress in
     let t = any_try client request progress f.sound in
     if_cases (GoesBySteps call 1 progress) (is_behind client (progress.server.held file))
-    (request_held file (held_of client request) progress)
-    (after_first_try client file request done.progress done.outcome)
-    (λ behind. step_one call (SmallStep.Hold file (held_of client request)) progress
-    (up, inr (w, behind)) e of)
+    (request_held file (held_of client request) progress) (after_first_try client file request done.progress done.outcome)
+    (λ behind. step_one call (SmallStep.Hold file (held_of client request)) progress (up, inr (w, behind)) e of)
     (λ first. first_try-steps call client file request progress done.progress done.outcome of up t
     (tried-steps call client request progress f.sound)
     (λ ends. tried-guarded client request progress ends (t.goes.ups client ∙ up)) e first)
@@ -236,31 +217,26 @@ asked-steps call client request progress of f w up =
 -- a request about a file
 file_request-steps : (call : Call) (client : ℕ) (request : FileRequest) (progress : Progress)
     → call ≡ Call.Receive client (Request.OnFile request) → IsFine progress.server → WaitsWell progress.server
-    → progress.server.present client ≡ true
-    → GoesBySteps call 1 progress (file_request_arrived client request progress)
+    → progress.server.present client ≡ true → GoesBySteps call 1 progress (file_request_arrived client request progress)
 file_request-steps call client (FileRequest.Close file_id) progress of f w up =
     let request = FileRequest.Close file_id in
     let after = arrived_on client request progress (file_asked progress.server client request) in
     steps_then call 1 0 progress after (all_passes after) (asked-steps call client request progress of f w up)
     (all_passes-steps call after (arrived_on-fine client request progress (file_asked progress.server client request) f
     (asked_well client request progress f up)))
-file_request-steps call client request progress of f w up =
-    asked-steps call client request progress of f w up
+file_request-steps call client request progress of f w up = asked-steps call client request progress of f w up
 
 -- any request
 arrived-steps : (call : Call) (client : ℕ) (request : Request) (progress : Progress)
     → call ≡ Call.Receive client request → IsFine progress.server → WaitsWell progress.server
-    → progress.server.present client ≡ true
-    → GoesBySteps call 1 progress (arrived client request progress)
+    → progress.server.present client ≡ true → GoesBySteps call 1 progress (arrived client request progress)
 unfolding arrived
 arrived-steps call client (Request.Acknowledge given) progress of f w up =
     let after = acknowledged client given progress in
-    steps_then call 1 0 progress after (all_passes after)
-    (step_one call (SmallStep.Acknowledge client given) progress up tt of)
+    steps_then call 1 0 progress after (all_passes after) (step_one call (SmallStep.Acknowledge client given) progress up tt of)
     (all_passes-steps call after (fine_goes progress after f (acknowledged-sound client given progress f.sound)
     (acknowledged-goes client given progress) (acknowledged-held client given progress)))
-arrived-steps call client (Request.OnFile request) progress of f w up =
-    file_request-steps call client request progress of f w up
+arrived-steps call client (Request.OnFile request) progress of f w up = file_request-steps call client request progress of f w up
 
 -- ---- calls
 
@@ -280,8 +256,7 @@ receive-steps call server client request of f w = received (server.present clien
     (λ up. arrived-steps call client request (begun server) of f w up)
   where
     received : (b : Bool) → (b ≡ true → GoesBySteps call 1 (begun server) (arrived client request (begun server)))
-        → GoesBySteps call (if b then 1 else 0) (begun server)
-        (if b then arrived client request (begun server) else begun server)
+        → GoesBySteps call (if b then 1 else 0) (begun server) (if b then arrived client request (begun server) else begun server)
     received true go = go refl
     received false go = steps_none call (begun server)
 
@@ -327,21 +302,18 @@ call_begun-silent server (Call.Scavenge file_id) =
 
 pub record IsBegunWell (progress : Progress) : Type 0 where
   pub sound : IsSound progress.server
-  pub up : (one : Open) → Among one progress.server.opens → one.connected ≡ true
-      → progress.server.present one.client ≡ true
+  pub up : (one : Open) → Among one progress.server.opens → one.connected ≡ true → progress.server.present one.client ≡ true
 
 -- a server that is fine has begun well
 fine_begun : (progress : Progress) → IsFine progress.server → IsBegunWell progress
 fine_begun progress f = record { sound = f.sound; up = f.orderly.opens_up }
 
 -- a choice of two
-either_begun : (b : Bool) (x y : Progress) → IsFine x.server → IsFine y.server
-    → IsBegunWell (if b then x else y)
+either_begun : (b : Bool) (x y : Progress) → IsFine x.server → IsFine y.server → IsBegunWell (if b then x else y)
 either_begun true x y f g = fine_begun x f
 either_begun false x y f g = fine_begun y g
 
-pub call_begun-up : (server : Server) (call : Call) → IsSound server → WaitsWell server
-    → IsBegunWell (call_begun server call)
+pub call_begun-up : (server : Server) (call : Call) → IsSound server → WaitsWell server → IsBegunWell (call_begun server call)
 unfolding join
 call_begun-up server (Call.Join client) s w =
     let fine : IsFine server = record { sound = s; orderly = w.is_orderly } in

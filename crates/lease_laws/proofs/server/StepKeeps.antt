@@ -86,8 +86,7 @@ nothing_lower lowered low = never lowered.read lowered.write lowered.handle low.
     never false false false part less = true≢false less
 
 -- a key that may be broken has its timer
-may_break : (server : Server) (key : Key) (lowered : State) → IsSound server → MayLower server key lowered
-    → MayBreak server key
+may_break : (server : Server) (key : Key) (lowered : State) → IsSound server → MayLower server key lowered → MayBreak server key
 may_break server key lowered s may = record {
   has_open = may.is_there;
   is_timely = not_true (server.expired key) (λ out. nothing_lower lowered
@@ -98,15 +97,13 @@ may_break server key lowered s may = record {
 -- Each step keeps the laws.
 pub step-sound : (step : SmallStep) (progress : Progress) → IsSound progress.server
     → IsGuarded step progress.server → IsSound (step_taken step progress).server
-step-sound (SmallStep.Answer client request outcome) progress s may =
-    concluded-sound client request progress outcome s
+step-sound (SmallStep.Answer client request outcome) progress s may = concluded-sound client request progress outcome s
     (λ ready. serve_free progress.server client request (end_serves progress.server client request outcome may ready))
 step-sound (SmallStep.AnswerHeld file before one behind outcome) progress s may =
     concluded-sound one.client one.request (held_left file (before ++ behind) progress) outcome
     (held_left-sound file (before ++ behind) progress s)
     (λ ready. held_left-free one.client one.request file (before ++ behind) progress
-    (serve_free progress.server one.client one.request
-    (end_serves progress.server one.client one.request outcome may.1 ready)))
+    (serve_free progress.server one.client one.request (end_serves progress.server one.client one.request outcome may.1 ready)))
 step-sound (SmallStep.Acknowledge client given) progress s up = acknowledged-sound client given progress s
 step-sound (SmallStep.Hold file one) progress s may = request_held-sound file one progress s
 step-sound (SmallStep.Drop key) progress s may = opens_dropped-sound (is_left_open key) progress s
@@ -150,8 +147,7 @@ step-goes (SmallStep.AnswerHeld file before one behind outcome) progress s may =
     (concluded-goes one.client one.request left outcome (held_left-sound file (before ++ behind) progress s)
     (go.ups one.client ∙ end_up progress.server one.client one.request outcome may.1)
     (λ ready. held_left-ready one.client one.request file (before ++ behind) progress
-    (serve_file progress.server one.client one.request
-    (end_serves progress.server one.client one.request outcome may.1 ready))))
+    (serve_file progress.server one.client one.request (end_serves progress.server one.client one.request outcome may.1 ready))))
 step-goes (SmallStep.Acknowledge client given) progress s up = acknowledged-goes client given progress
 step-goes (SmallStep.Hold file one) progress s may = request_held-goes file one progress
 step-goes (SmallStep.Drop key) progress s may = dropped-goes (is_left_open key) progress

@@ -72,8 +72,7 @@ written_there server key s w = either (has_lease server key) (λ e. e)
 
 -- a key that may be granted and holds W is alone on the file
 written_alone : (server : Server) (key : Key) (file : ℕ) (access : Access) (share : Share)
-    → IsSound server → IsFree server.opens server.leases (Some key) file access share
-    → (server.leases key).state.write ≡ true
+    → IsSound server → IsFree server.opens server.leases (Some key) file access share → (server.leases key).state.write ≡ true
     → list_any (is_other_on (Some key) file) server.opens ≡ true → ⊥
 written_alone server key file access share s free w others =
     let x = any_has (is_other_on (Some key) file) server.opens others in
@@ -101,8 +100,7 @@ offered_more server key file access share want s free part =
 -- a grant leaves the lease of its key, or raises it
 granted_rises : (server : Server) (key : Key) (file : ℕ) (access : Access) (share : Share) (want : State)
     → IsSound server → IsFree server.opens server.leases (Some key) file access share
-    → (lease_granted server key file want ≡ server.leases key)
-    ⊎ IsRaised (server.leases key) (lease_granted server key file want)
+    → (lease_granted server key file want ≡ server.leases key) ⊎ IsRaised (server.leases key) (lease_granted server key file want)
 unfolding lease_granted
 granted_rises server key file access share want s free =
     let Goal : Lease → Type 0 = λ l. (l ≡ server.leases key) ⊎ IsRaised (server.leases key) l in
@@ -120,10 +118,8 @@ granted_rises server key file access share want s free =
 -- the lease of any key, once a create has made its open
 granted_with-lease : (client file : ℕ) (access : Access) (share : Share) (asked : Option LeaseOf) (durable : Bool)
     (progress : Progress) (key : Key) → IsSound progress.server
-    → IsFree progress.server.opens progress.server.leases (own_key client asked) file access share
-    → StaysOrRises progress.server
-    (granted_with client file access share asked durable (lease_after progress.server client file asked) progress).server
-    key
+    → IsFree progress.server.opens progress.server.leases (own_key client asked) file access share → StaysOrRises progress.server
+    (granted_with client file access share asked durable (lease_after progress.server client file asked) progress).server key
 unfolding granted_with
 granted_with-lease client file access share None durable progress key s free = inl refl
 granted_with-lease client file access share (Some asked) durable progress key s free =
@@ -194,11 +190,9 @@ acknowledged-lease : (client : ℕ) (given : Option LeaseOf) (progress : Progres
     ⊎ IsEnded (progress.server.leases other) ((acknowledged client given progress).server.leases other)
 acknowledged-lease client given progress other = any_judgement client progress
     (λ after. (after.server.leases other ≡ progress.server.leases other)
-    ⊎ IsEnded (progress.server.leases other) (after.server.leases other))
-    (record {
+    ⊎ IsEnded (progress.server.leases other) (after.server.leases other)) (record {
       failed = λ status. inl refl;
-      ended = λ g lowered there breaks within.
-          ended-lease (key_of client g.key) g.state lowered progress other breaks within;
+      ended = λ g lowered there breaks within. ended-lease (key_of client g.key) g.state lowered progress other breaks within;
     }) given
 
 -- ---- each step
@@ -211,8 +205,7 @@ held_left-serves client (FileRequest.Create at access share None) file left prog
 held_left-serves client (FileRequest.Create at access share (Some ask)) file left progress may =
     (may.0, again ask.lease ask.reconnect may.1)
   where
-    again : (lease : Option LeaseOf) (file_id : Option ℕ)
-        → MayCreate progress.server client at access share lease file_id
+    again : (lease : Option LeaseOf) (file_id : Option ℕ) → MayCreate progress.server client at access share lease file_id
         → MayCreate (record progress.server { held = put progress.server.held file left }) client at access share lease file_id
     again lease None m = m
     again lease (Some file_id) m = record { one = m.one; is_there = m.is_there; waits = m.waits }
@@ -227,8 +220,7 @@ held_left-serves client (FileRequest.Close file_id) file left progress may =
     record { one = may.one; found = may.found; allowed = tt }
 
 -- what each step makes of the lease of any key
-pub step-leases : (step : SmallStep) (progress : Progress) → IsSound progress.server
-    → IsGuarded step progress.server
+pub step-leases : (step : SmallStep) (progress : Progress) → IsSound progress.server → IsGuarded step progress.server
     → (key : Key) → BecomesBy step progress.server (step_taken step progress).server key
 unfolding lease_lowered break_begun request_held held_left
 step-leases (SmallStep.Answer client request outcome) progress s may key =
@@ -241,16 +233,13 @@ step-leases (SmallStep.AnswerHeld file before one behind outcome) progress s may
 step-leases (SmallStep.Acknowledge client given) progress s up key = acknowledged-lease client given progress key
 step-leases (SmallStep.Hold file one) progress s may key = refl
 step-leases (SmallStep.Drop other) progress s may key = dropped-lease (is_left_open other) progress key
-step-leases (SmallStep.Lower other lowered) progress s may key =
-    put_key-cases (λ l. (l ≡ progress.server.leases key)
+step-leases (SmallStep.Lower other lowered) progress s may key = put_key-cases (λ l. (l ≡ progress.server.leases key)
     ⊎ ((key ≡ other) × (l ≡ record { state = lowered; broken_to = None })))
     progress.server.leases other (record { state = lowered; broken_to = None }) key
     (λ same. inr (same, refl)) (λ e. inl refl)
-step-leases (SmallStep.Begin other lowered) progress s may key =
-    put_key-cases (λ l. (l ≡ progress.server.leases key)
+step-leases (SmallStep.Begin other lowered) progress s may key = put_key-cases (λ l. (l ≡ progress.server.leases key)
     ⊎ ((key ≡ other) × (l ≡ record { state = (progress.server.leases key).state; broken_to = Some lowered })))
-    progress.server.leases other
-    (record { state = (progress.server.leases other).state; broken_to = Some lowered }) key
+    progress.server.leases other (record { state = (progress.server.leases other).state; broken_to = Some lowered }) key
     (λ same. inr (same, ap (λ k. begun (progress.server.leases k).state) (sym same))) (λ e. inl refl)
   where
     begun : State → Lease
@@ -273,20 +262,17 @@ still_breaking : (before after : Lease) (lowered : State) → after ≡ before �
 still_breaking before after lowered same e = ap (λ l. l.broken_to) (sym same) ∙ e
 
 -- a lease that isn't breaking isn't breaking to anything
-not_settled : {X : Type 0} (lease : Lease) (lowered : State) → is_breaking lease ≡ false
-    → lease.broken_to ≡ Some lowered → X
+not_settled : {X : Type 0} (lease : Lease) (lowered : State) → is_breaking lease ≡ false → lease.broken_to ≡ Some lowered → X
 not_settled lease lowered settled e = clash (is_breaking lease) (ap (λ b. is_some b) e) settled
 
 -- a key without an open isn't breaking
 not_gone : {X : Type 0} (server : Server) (key : Key) (lowered : State) → IsSound server
     → has_lease server key ≡ false → (server.leases key).broken_to ≡ Some lowered → X
-not_gone server key lowered s gone e =
-    not_settled (server.leases key) lowered (ap (λ l. is_breaking l) (s.no_open key gone)) e
+not_gone server key lowered s gone e = not_settled (server.leases key) lowered (ap (λ l. is_breaking l) (s.no_open key gone)) e
 
 -- where a lease stays, is gone or rises, nothing new is breaking
 rises_breaking : (before after : Server) (key : Key) (lowered : State) → IsSound after
-    → StaysOrRises before after key → (after.leases key).broken_to ≡ Some lowered
-    → (before.leases key).broken_to ≡ Some lowered
+    → StaysOrRises before after key → (after.leases key).broken_to ≡ Some lowered → (before.leases key).broken_to ≡ Some lowered
 rises_breaking before after key lowered s what e = ⊎_elim
     (λ same. still_breaking (before.leases key) (after.leases key) lowered same e)
     (λ other. ⊎_elim (λ gone. not_gone after key lowered s gone e)
@@ -294,10 +280,8 @@ rises_breaking before after key lowered s what e = ⊎_elim
 
 -- one break that has begun
 begun_told : (key : Key) (lowered : State) (progress : Progress) (to : State) (new : Lease)
-    → new ≡ record { state = (progress.server.leases key).state; broken_to = Some to }
-    → new.broken_to ≡ Some lowered
-    → IsBreakTold key lowered (progress.outs
-    ++ Out.Sent key.client (break_notice key (progress.server.leases key).state to) ∷ [])
+    → new ≡ record { state = (progress.server.leases key).state; broken_to = Some to } → new.broken_to ≡ Some lowered
+    → IsBreakTold key lowered (progress.outs ++ Out.Sent key.client (break_notice key (progress.server.leases key).state to) ∷ [])
 begun_told key lowered progress to new is e =
     let same : to ≡ lowered = some_state to lowered (sym (ap (λ l. l.broken_to) is) ∙ e) in
     record {
@@ -313,8 +297,7 @@ begun_told key lowered progress to new is e =
 step-told : (step : SmallStep) (progress : Progress) → IsSound progress.server
     → IsGuarded step progress.server → (key : Key) (lowered : State)
     → ((step_taken step progress).server.leases key).broken_to ≡ Some lowered
-    → ((progress.server.leases key).broken_to ≡ Some lowered)
-    ⊎ IsBreakTold key lowered (step_taken step progress).outs
+    → ((progress.server.leases key).broken_to ≡ Some lowered) ⊎ IsBreakTold key lowered (step_taken step progress).outs
 step-told (SmallStep.Answer client request outcome) progress s g key lowered e =
     let step = SmallStep.Answer client request outcome in
     inl (rises_breaking progress.server (step_taken step progress).server key lowered (step-sound step progress s g)
@@ -369,8 +352,7 @@ steps_more (step ∷ steps) progress =
 pub steps-told : (steps : List SmallStep) (progress : Progress) → IsSound progress.server
     → AreGuarded steps progress → (key : Key) (lowered : State)
     → ((steps_taken steps progress).server.leases key).broken_to ≡ Some lowered
-    → ((progress.server.leases key).broken_to ≡ Some lowered)
-    ⊎ IsBreakTold key lowered (steps_taken steps progress).outs
+    → ((progress.server.leases key).broken_to ≡ Some lowered) ⊎ IsBreakTold key lowered (steps_taken steps progress).outs
 steps-told [] progress s g key lowered e = inl e
 steps-told (step ∷ steps) progress s g key lowered e =
     let next = step_taken step progress in
@@ -379,5 +361,4 @@ steps-told (step ∷ steps) progress s g key lowered e =
     (λ was. ⊎_elim (λ old. inl old)
     (λ told. inr (told_more key lowered next.outs (steps_taken steps next).outs more.0 more.1 told))
     (step-told step progress s g.0 key lowered was))
-    (λ told. inr told)
-    (steps-told steps next (step-sound step progress s g.0) g.1 key lowered e)
+    (λ told. inr told) (steps-told steps next (step-sound step progress s g.0) g.1 key lowered e)

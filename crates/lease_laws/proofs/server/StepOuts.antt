@@ -34,8 +34,7 @@ use Rattle.lease_laws.proofs.server.cases.Judgements.{any_judgement}
 abbrev pub IsOfRequest : ℕ → FileRequest → Out → Type 0
 IsOfRequest client request (Out.Sent to reply) = to ≡ client
 IsOfRequest client request (Out.Opened file by) = by ≡ client
-IsOfRequest client request (Out.Changed file by number patch) =
-    (file_id : ℕ) × (request ≡ FileRequest.Write file_id number patch)
+IsOfRequest client request (Out.Changed file by number patch) = (file_id : ℕ) × (request ≡ FileRequest.Write file_id number patch)
 
 -- outs that go on so
 abbrev pub GoesOut : ℕ → FileRequest → Progress → Progress → Type 0
@@ -48,8 +47,7 @@ replied-out client request reply progress =
     record { more = Out.Sent client reply ∷ []; are_more = refl; each = (refl, tt) }
 
 -- any request
-ends_out : (client : ℕ) (progress : Progress)
-    → HasEnds client progress (λ request outcome. GoesOut client request progress)
+ends_out : (client : ℕ) (progress : Progress) → HasEnds client progress (λ request outcome. GoesOut client request progress)
 unfolding granted_with reconnected changed
 ends_out client progress = record {
   refused = λ request status. replied-out client request (refusal_of request status) progress;
@@ -62,8 +60,7 @@ ends_out client progress = record {
       record { more = _; are_more = refl; each = ((file_id, refl), (refl, tt)) };
   closed = λ file_id one own. let test = λ (other : Open). other.file_id == file_id in subst
       (λ outs. GoOn (IsOfRequest client (FileRequest.Close file_id)) outs
-      (replied client (Reply.Closed file_id) (opens_dropped test progress)).outs)
-      (opens_dropped-outs test progress)
+      (replied client (Reply.Closed file_id) (opens_dropped test progress)).outs) (opens_dropped-outs test progress)
       (replied-out client (FileRequest.Close file_id) (Reply.Closed file_id) (opens_dropped test progress));
 }
 
@@ -100,8 +97,7 @@ IsFine server out = IsToPresent server out × IsShort out
 of_request : (server : Server) (client : ℕ) (request : FileRequest) (outcome : Outcome)
     → server.present client ≡ true → (outcome ≡ Outcome.Ready → MayServe server client request)
     → outcome ≡ Outcome.Ready → (out : Out) → IsOfRequest client request out → IsFine server out
-of_request server client request outcome up serves ready (Out.Sent to reply) e =
-    (ap (λ c. server.present c) e ∙ up, tt)
+of_request server client request outcome up serves ready (Out.Sent to reply) e = (ap (λ c. server.present c) e ∙ up, tt)
 of_request server client request outcome up serves ready (Out.Opened file by) e = (tt, tt)
 of_request server client request outcome up serves ready (Out.Changed file by number patch) e =
     (tt, fits request e.1 (serves ready))
@@ -112,16 +108,14 @@ of_request server client request outcome up serves ready (Out.Changed file by nu
 
 -- a refusal is one reply
 refused_fine : (server : Server) (client : ℕ) (request : FileRequest) (status : Status) (progress : Progress)
-    → server.present client ≡ true
-    → GoOn (IsFine server) progress.outs (refused client request status progress).outs
+    → server.present client ≡ true → GoOn (IsFine server) progress.outs (refused client request status progress).outs
 unfolding refused
 refused_fine server client request status progress up =
     record { more = _; are_more = refl; each = ((up, tt), tt) }
 
 -- the end of a request
 concluded_fine : (server : Server) (client : ℕ) (request : FileRequest) (progress : Progress) (outcome : Outcome)
-    → MayEnd server client request outcome
-    → GoOn (IsFine server) progress.outs (concluded client request progress outcome).outs
+    → MayEnd server client request outcome → GoOn (IsFine server) progress.outs (concluded client request progress outcome).outs
 concluded_fine server client request progress (Outcome.Refused status) may =
     refused_fine server client request status progress may.0
 concluded_fine server client request progress Outcome.Waits may = absurd may
@@ -143,8 +137,7 @@ break_fine server key lowered up may =
         ((Decides-eqb key.client client).0 (and_parts (key.client == client) (bytes_eq key.bytes bytes) k).0) ∙ p
 
 -- each step
-pub step_fine : (step : SmallStep) (progress : Progress) → OpensUp progress.server
-    → IsGuarded step progress.server
+pub step_fine : (step : SmallStep) (progress : Progress) → OpensUp progress.server → IsGuarded step progress.server
     → GoOn (IsFine progress.server) progress.outs (step_taken step progress).outs
 unfolding lease_lowered break_begun
 step_fine (SmallStep.Answer client request outcome) progress up may =
@@ -158,8 +151,7 @@ step_fine (SmallStep.Acknowledge client given) progress up may = go_on-weaker (I
     (IsFine progress.server) (sent_fine client may) progress.outs
     (acknowledged client given progress).outs (acknowledged-out client given progress)
   where
-    sent_fine : (to : ℕ) → progress.server.present to ≡ true → (out : Out) → IsSentTo to out
-        → IsFine progress.server out
+    sent_fine : (to : ℕ) → progress.server.present to ≡ true → (out : Out) → IsSentTo to out → IsFine progress.server out
     sent_fine to there (Out.Sent c reply) e = (ap (λ x. progress.server.present x) e ∙ there, tt)
     sent_fine to there out e = absurd e
 step_fine (SmallStep.Hold file one) progress up may = subst
@@ -189,10 +181,8 @@ steps_fine (step ∷ steps) progress s up guarded each =
     let next = step_taken step progress in
     let go = step-goes step progress s guarded.0 in
     let more = step_fine step progress up guarded.0 in
-    steps_fine steps next (step-sound step progress s guarded.0)
-    (goes-up progress.server next.server go up) guarded.1
-    (each_weaker (IsFine progress.server) (IsFine next.server)
-    (same_present progress.server next.server go.ups) next.outs
+    steps_fine steps next (step-sound step progress s guarded.0) (goes-up progress.server next.server go up) guarded.1
+    (each_weaker (IsFine progress.server) (IsFine next.server) (same_present progress.server next.server go.ups) next.outs
     (subst (EachOut (IsFine progress.server)) (sym more.are_more)
     (each_append (IsFine progress.server) progress.outs more.more each more.each)))
 
@@ -203,8 +193,7 @@ called_fine server call s w =
     let start = call_begun server call in
     let go = called-steps server call s w in
     let first = call_begun-up server call s w in
-    subst (λ p. EachOut (IsFine p.server) p.outs) (sym go.lead)
-    (steps_fine go.steps start first.sound first.up go.are_guarded
+    subst (λ p. EachOut (IsFine p.server) p.outs) (sym go.lead) (steps_fine go.steps start first.sound first.up go.are_guarded
     (subst (EachOut (IsFine start.server)) (sym (call_begun-silent server call)) tt))
 
 pub replies-find : (server : Server) (call : Call) → IsSound server → WaitsWell server
@@ -224,8 +213,7 @@ pub step-tells : (step : SmallStep) (progress : Progress) → TellsBreaks step p
 unfolding lease_lowered break_begun
 step-tells (SmallStep.Answer client request outcome) progress = concluded-answers client request progress outcome
 step-tells (SmallStep.AnswerHeld file before one behind outcome) progress = subst
-    (λ outs. GoOn IsNoBreak outs
-    (concluded one.client one.request (held_left file (before ++ behind) progress) outcome).outs)
+    (λ outs. GoOn IsNoBreak outs (concluded one.client one.request (held_left file (before ++ behind) progress) outcome).outs)
     (held_left-outs file (before ++ behind) progress)
     (concluded-answers one.client one.request (held_left file (before ++ behind) progress) outcome)
 step-tells (SmallStep.Acknowledge client given) progress = answers_go_on progress.outs

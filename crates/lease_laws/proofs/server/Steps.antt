@@ -29,16 +29,13 @@ in_order-filter test (one ∷ opens) own =
     (λ e. later)
 
 -- opens are dropped, and the leases that have none
-pub drop_sound : (test : Open → Bool) (opens : List Open) (leases : Key → Lease) (expired : Key → Bool)
-    (last_id : ℕ)
+pub drop_sound : (test : Open → Bool) (opens : List Open) (leases : Key → Lease) (expired : Key → Bool) (last_id : ℕ)
     → AreSound opens leases expired last_id
     → AreSound (filter test opens) (left_leases leases (filter test opens)) expired last_id
 drop_sound test opens leases expired last_id s =
-    let was : (one : Open) → Among one (filter test opens) → Among one opens =
-    λ one a. (among_filter test one opens a).0 in
+    let was : (one : Open) → Among one (filter test opens) → Among one opens = λ one a. (among_filter test one opens a).0 in
     let here : (key : Key) (one : Open) → Among one (filter test opens) → has_key key one ≡ true
-    → left_leases leases (filter test opens) key ≡ leases key =
-    λ key one a k. left_here leases (filter test opens) key one a k in
+    → left_leases leases (filter test opens) key ≡ leases key = λ key one a k. left_here leases (filter test opens) key one a k in
     record {
       one_writer = λ key one other w a k b f. s.one_writer key one other
           (ap (λ l. l.state.write) (sym (here key one a k)) ∙ w) (was one a) k (was other b) f;
@@ -56,8 +53,7 @@ drop_sound test opens leases expired last_id s =
       no_open = λ key e. rw e refl;
       numbered = λ one a. s.numbered one (was one a);
       in_order = in_order-filter test opens s.in_order;
-      timed_out = λ key e. if_cases (λ l. l ≡ no_lease) (list_any (has_key key) (filter test opens))
-          (leases key) no_lease
+      timed_out = λ key e. if_cases (λ l. l ≡ no_lease) (list_any (has_key key) (filter test opens)) (leases key) no_lease
           (λ t. s.timed_out key e) (λ t. refl);
     }
 
@@ -66,8 +62,7 @@ abbrev pub with_connection : (Open → Bool) → Open → Open
 with_connection up one = record one { connected = up one }
 
 -- connections have nothing to do with the order
-in_order-connection : (up : Open → Bool) (opens : List Open) → AreInOrder opens
-    → AreInOrder (map (with_connection up) opens)
+in_order-connection : (up : Open → Bool) (opens : List Open) → AreInOrder opens → AreInOrder (map (with_connection up) opens)
 in_order-connection up [] own = tt
 in_order-connection up (one ∷ opens) own = (
   (λ other a. let x = among_map (with_connection up) other opens a in
@@ -87,26 +82,21 @@ conflict_frame : (up : Open → Bool) (one other : Open) → conflict one.access
 conflict_frame up one other e = e
 
 -- opens are connected, or lose their connection where they outlive it
-pub connection_sound : (up : Open → Bool) (opens : List Open) (leases : Key → Lease) (expired : Key → Bool)
-    (last_id : ℕ)
-    → AreSound opens leases expired last_id
-    → ((one : Open) → Among one opens → up one ≡ false → IsLasting leases one)
+pub connection_sound : (up : Open → Bool) (opens : List Open) (leases : Key → Lease) (expired : Key → Bool) (last_id : ℕ)
+    → AreSound opens leases expired last_id → ((one : Open) → Among one opens → up one ≡ false → IsLasting leases one)
     → AreSound (map (with_connection up) opens) leases expired last_id
 connection_sound up opens leases expired last_id s lasting =
     let was : (one : Open) → Among one (map (with_connection up) opens)
-    → (x : Open) × (Among x opens) × (one ≡ with_connection up x) =
-    λ one a. among_map (with_connection up) one opens a in
+    → (x : Open) × (Among x opens) × (one ≡ with_connection up x) = λ one a. among_map (with_connection up) one opens a in
     let key_was : (key : Key) (one : Open) (x : Open) → one ≡ with_connection up x
-    → has_key key one ≡ has_key key x =
-    λ key one x e. ap (λ o. has_key key o) e in
+    → has_key key one ≡ has_key key x = λ key one x e. ap (λ o. has_key key o) e in
     record {
       one_writer = λ key one other w a k b f. let x = was one a in let y = was other b in
           key_was key other y.0 y.2 ∙ s.one_writer key x.0 y.0 w x.1 (sym (key_was key one x.0 x.2) ∙ k)
           y.1 (sym (ap (λ o. o.file) y.2) ∙ f ∙ ap (λ o. o.file) x.2);
       no_conflict = λ one other a b f n. let x = was one a in let y = was other b in
           ap₂ (λ o p. conflict o.access o.share p.access p.share) x.2 y.2
-          ∙ conflict_frame up x.0 y.0 (s.no_conflict x.0 y.0 x.1 y.1
-          (sym (ap (λ o. o.file) y.2) ∙ f ∙ ap (λ o. o.file) x.2)
+          ∙ conflict_frame up x.0 y.0 (s.no_conflict x.0 y.0 x.1 y.1 (sym (ap (λ o. o.file) y.2) ∙ f ∙ ap (λ o. o.file) x.2)
           (λ e. n (ap (λ o. o.file_id) y.2 ∙ e ∙ sym (ap (λ o. o.file_id) x.2))));
       disconnected = λ one a d. let x = was one a in
           let l = lasting x.0 x.1 (sym (ap (λ o. o.connected) x.2) ∙ d) in record {

@@ -23,10 +23,8 @@ pub record IsGoodTry (client : ℕ) (request : FileRequest) (tried : Tried) : Ty
   pub found_ready : tried.outcome ≡ Outcome.Ready → IsFoundReady client request tried.progress
 
 -- a round of a good try
-after_finding-good : (again : Progress → Tried) (client : ℕ) (request : FileRequest) (progress : Progress)
-    (found : Finding)
-    → finding progress.server client request ≡ found → FindingFits progress.server found
-    → IsSound progress.server
+after_finding-good : (again : Progress → Tried) (client : ℕ) (request : FileRequest) (progress : Progress) (found : Finding)
+    → finding progress.server client request ≡ found → FindingFits progress.server found → IsSound progress.server
     → ((next : Progress) → IsSound next.server → IsGoodTry client request (again next))
     → IsGoodTry client request (after_finding again request progress found)
 after_finding-good again client request progress (Finding.Fails status) e fits s good =
@@ -47,6 +45,5 @@ pub tried_for-good : (rounds client : ℕ) (request : FileRequest) (progress : P
 unfolding tried_for
 tried_for-good zero client request progress s = record { sound = s; found_ready = λ same. absurd (cc) }
 tried_for-good (suc rounds) client request progress s = after_finding-good (tried_for rounds client request)
-    client request progress
-    (finding progress.server client request) refl (finding-fits progress.server client request s) s
+    client request progress (finding progress.server client request) refl (finding-fits progress.server client request s) s
     (λ next n. tried_for-good rounds client request next n)

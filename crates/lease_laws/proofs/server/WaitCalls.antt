@@ -40,16 +40,12 @@ joined-open client file file_id progress o = record { was_given = o.was_given; i
 joined-about : (client file : ℕ) (request : FileRequest) (progress : Progress)
     → IsAbout progress.server file request → IsAbout (joined client progress).server file request
 joined-about client file (FileRequest.Create at access share contexts) progress about = about
-joined-about client file (FileRequest.Read file_id) progress about = joined-open client file file_id progress
-    about
-joined-about client file (FileRequest.Write file_id number patch) progress about = joined-open client file file_id
-    progress about
-joined-about client file (FileRequest.Close file_id) progress about = joined-open client file file_id progress
-    about
+joined-about client file (FileRequest.Read file_id) progress about = joined-open client file file_id progress about
+joined-about client file (FileRequest.Write file_id number patch) progress about = joined-open client file file_id progress about
+joined-about client file (FileRequest.Close file_id) progress about = joined-open client file file_id progress about
 
 -- a join that applies keeps the order
-pub joined-orderly : (client : ℕ) (progress : Progress) → IsOrderly progress.server
-    → IsOrderly (joined client progress).server
+pub joined-orderly : (client : ℕ) (progress : Progress) → IsOrderly progress.server → IsOrderly (joined client progress).server
 unfolding joined
 joined-orderly client progress o = record {
   opens_up = λ one a up. put_true progress.server.present client one.client (o.opens_up one a up);
@@ -72,16 +68,12 @@ joined-held client progress = refl
 -- a join leaves each first held request waiting
 join-waits : (server : Server) (client : ℕ) → EveryoneWaits server → EveryoneWaits (join server client).server
 unfolding join
-join-waits server client e = everyone_cases (server.present client) (begun server)
-    (joined client (begun server))
+join-waits server client e = everyone_cases (server.present client) (begun server) (joined client (begun server))
     (λ t. e)
-    (λ t. everyone_keeps (begun server) (joined client (begun server)) e
-    (record {
+    (λ t. everyone_keeps (begun server) (joined client (begun server)) e (record {
       sound = joined-sound client (begun server) e.fine.sound;
-      orderly = joined-orderly client
-          (begun server) e.fine.orderly;
-    })
-    (joined-kept client (begun server)) (joined-held client (begun server)))
+      orderly = joined-orderly client (begun server) e.fine.orderly;
+    }) (joined-kept client (begun server)) (joined-held client (begun server)))
 
 -- to drop opens keeps the laws and the order
 pub dropped-fine : (test : Open → Bool) (progress : Progress) → IsFine progress.server
@@ -96,8 +88,7 @@ expired-goes key progress = record {
   files = refl;
   ups = λ c. refl;
   ids = omega arith;
-  from = λ one a. inl
-      (still_there progress.server one a);
+  from = λ one a. inl (still_there progress.server one a);
 }
 
 -- to mark a key leaves the held requests as they are
@@ -111,8 +102,7 @@ pub expired-fine : (server : Server) (key : Key) → IsFine server
 expired-fine server key fine =
     let dropped = opens_dropped (has_key key) (begun server) in
     let f = dropped-fine (has_key key) (begun server) fine in
-    fine_goes dropped (key_expired key dropped) f
-    (key_expired-sound key dropped f.sound (dropped_lease key (begun server)))
+    fine_goes dropped (key_expired key dropped) f (key_expired-sound key dropped f.sound (dropped_lease key (begun server)))
     (expired-goes key dropped) (expired-held key dropped)
 
 -- and leaves each first held request waiting
@@ -125,8 +115,7 @@ expire-waits server key e =
     (λ t. e)
 
 -- a scavenge leaves each first held request waiting
-scavenge-waits : (server : Server) (file_id : ℕ) → EveryoneWaits server
-    → EveryoneWaits (scavenge server file_id).server
+scavenge-waits : (server : Server) (file_id : ℕ) → EveryoneWaits server → EveryoneWaits (scavenge server file_id).server
 unfolding scavenge
 scavenge-waits server file_id e = everyone_cases (list_any (is_left_behind file_id) server.opens)
     (all_passes (opens_dropped (is_left_behind file_id) (begun server))) (begun server)
@@ -144,8 +133,7 @@ record IsCutFrom (server : Server) (client : ℕ) (one : Open) : Type 0 where
   up : one.connected ≡ true → (was.connected ≡ true) × (was.client == client ≡ false)
 
 -- an open after a cut
-cut_open : (server : Server) (client : ℕ) (was : Open) (b : Bool) → (was.client == client) ≡ b
-    → Among was server.opens
+cut_open : (server : Server) (client : ℕ) (was : Open) (b : Bool) → (was.client == client) ≡ b → Among was server.opens
     → IsCutFrom server client (cond b (record was { connected = false }) was)
 cut_open server client was true e a = record {
   was = was;
@@ -172,8 +160,7 @@ cut_opens server client one a =
     subst (IsCutFrom server client) (sym x.2) (cut_open server client x.0 ((x.0).client == client) refl x.1)
 
 -- another client stays as it was
-put_other : (up : ℕ → Bool) (client other : ℕ) → other == client ≡ false
-    → put up client false other ≡ up other
+put_other : (up : ℕ → Bool) (client other : ℕ) → other == client ≡ false → put up client false other ≡ up other
 unfolding put
 put_other up client other e = if_cases (λ b. b ≡ up other) (other == client) false (up other)
     (λ t. clash (other == client) t e) (λ t. refl)
@@ -192,20 +179,16 @@ cut_about_open client file file_id progress o = record {
 cut_about : (client file : ℕ) (request : FileRequest) (progress : Progress) → IsAbout progress.server file request
     → IsAbout (client_forgotten client (opens_disconnected client progress)).server file request
 cut_about client file (FileRequest.Create at access share contexts) progress about = about
-cut_about client file (FileRequest.Read file_id) progress about = cut_about_open client file file_id progress
-    about
-cut_about client file (FileRequest.Write file_id number patch) progress about = cut_about_open client file file_id
-    progress about
-cut_about client file (FileRequest.Close file_id) progress about = cut_about_open client file file_id progress
-    about
+cut_about client file (FileRequest.Read file_id) progress about = cut_about_open client file file_id progress about
+cut_about client file (FileRequest.Write file_id number patch) progress about = cut_about_open client file file_id progress about
+cut_about client file (FileRequest.Close file_id) progress about = cut_about_open client file file_id progress about
 
 -- a cut keeps the order
 cut_orderly : (client : ℕ) (progress : Progress) → IsOrderly progress.server
     → IsOrderly (client_forgotten client (opens_disconnected client progress)).server
 unfolding client_forgotten opens_disconnected
 cut_orderly client progress o =
-    let left : (file : ℕ) (one : Held) → Among one
-    (without (λ x. x.client == client) (progress.server.held file))
+    let left : (file : ℕ) (one : Held) → Among one (without (λ x. x.client == client) (progress.server.held file))
     → (Among one (progress.server.held file)) × (not (one.client == client) ≡ true) =
     λ file one a. among_filter (λ x. not (x.client == client)) one (progress.server.held file) a in
     record {
@@ -216,25 +199,20 @@ cut_orderly client progress o =
       open_files = λ one a. let x = cut_opens progress.server client one a in
           ap (λ f. has_file progress.server f) x.same_file ∙ o.open_files x.was x.was_there;
       held_up = λ file one a. let x = left file one a in
-          put_other progress.server.present client one.client (not_parts (one.client == client) x.1)
-          ∙ o.held_up file one x.0;
+          put_other progress.server.present client one.client (not_parts (one.client == client) x.1) ∙ o.held_up file one x.0;
       held_files = λ file one a. o.held_files file one (left file one a).0;
-      held_about = λ file one a. cut_about client file one.request progress
-          (o.held_about file one (left file one a).0);
+      held_about = λ file one a. cut_about client file one.request progress (o.held_about file one (left file one a).0);
     }
 
 -- a cut keeps the laws and the order
-pub cut-fine : (server : Server) (client : ℕ) → IsFine server
-    → IsFine (client_forgotten client (opens_disconnected client
+pub cut-fine : (server : Server) (client : ℕ) → IsFine server → IsFine (client_forgotten client (opens_disconnected client
     (opens_dropped (is_lost server client) (begun server)))).server
 cut-fine server client fine =
     let dropped = opens_dropped (is_lost server client) (begun server) in
     let f = dropped-fine (is_lost server client) (begun server) fine in
     record {
-      sound = client_forgotten-sound client (opens_disconnected client dropped)
-          (opens_disconnected-sound client dropped f.sound
-          (λ one a c. lasting_left (is_lost server client) (begun server) one a
-          (left_lasting client server one fine.sound a c)));
+      sound = client_forgotten-sound client (opens_disconnected client dropped) (opens_disconnected-sound client dropped f.sound
+          (λ one a c. lasting_left (is_lost server client) (begun server) one a (left_lasting client server one fine.sound a c)));
       orderly = cut_orderly client dropped f.orderly;
     }
 
@@ -242,15 +220,13 @@ cut-fine server client fine =
 cut-waits : (server : Server) (client : ℕ) → EveryoneWaits server → EveryoneWaits (cut server client).server
 unfolding cut
 cut-waits server client e =
-    let start = client_forgotten client (opens_disconnected client
-    (opens_dropped (is_lost server client) (begun server))) in
+    let start = client_forgotten client (opens_disconnected client (opens_dropped (is_lost server client) (begun server))) in
     everyone_cases (server.present client) (all_passes start) (begun server)
     (λ t. all_passes-wait start (cut-fine server client e.fine))
     (λ t. e)
 
 -- every call
-pub called-waits : (server : Server) (call : Call) → EveryoneWaits server
-    → EveryoneWaits (called server call).server
+pub called-waits : (server : Server) (call : Call) → EveryoneWaits server → EveryoneWaits (called server call).server
 called-waits server (Call.Join client) e = join-waits server client e
 called-waits server (Call.Receive client request) e = receive-waits server client request e
 called-waits server (Call.Cut client) e = cut-waits server client e
@@ -268,14 +244,12 @@ pub called-waits-well : (server : Server) (call : Call) → IsSound server → W
 called-waits-well server call s w =
     let e = called-waits server call (record {
       fine = record { sound = s; orderly = w.is_orderly };
-      wait =
-          w.all_wait;
+      wait = w.all_wait;
     }) in
     record { is_orderly = e.fine.orderly; all_wait = e.wait }
 
 -- a key that holds W isn't blocked on its file
-pub writer-unblocked : (server : Server) (key : Key) (one : Open) → IsSound server
-    → (server.leases key).state.write ≡ true
+pub writer-unblocked : (server : Server) (key : Key) (one : Open) → IsSound server → (server.leases key).state.write ≡ true
     → Among one server.opens → has_key key one ≡ true → IsBlocked server (Some key) one.file → ⊥
 writer-unblocked server key one s w a k b = clash (has_key key b.one)
     (s.one_writer key one b.one w a k b.is_there b.is_on_file) b.is_other
@@ -304,8 +278,7 @@ writers-wait_not server key one client (FileRequest.Write file_id number patch) 
     let its : has_key key wait.one ≡ true = ap (λ o. has_key key o) same ∙ under.has_the_key in
     let b = wait.is_blocked in
     let there = connected_has server client file_id wait.one wait.is_open in
-    clash (has_key key b.one)
-    (s.one_writer key wait.one b.one w there.0 its b.is_there b.is_on_file)
+    clash (has_key key b.one) (s.one_writer key wait.one b.one w there.0 its b.is_there b.is_on_file)
     (ap (λ own. has_own_key own b.one) (sym (key_of_that key wait.one its)) ∙ b.is_other)
   where
     one_open : (x y : Open) → Some x ≡ Some y → x ≡ y
@@ -314,12 +287,9 @@ writers-wait_not server key one client (FileRequest.Close file_id) s w a k about
 
 -- so no first held request is
 pub writers-dont-wait : (server : Server) (key : Key) (one : Open) (client : ℕ) (held : Held)
-    → IsSound server → WaitsWell server → (server.leases key).state.write ≡ true
-    → Among one server.opens → has_key key one ≡ true
-    → find (λ other. other.client == client) (server.held one.file) ≡ Some held
-    → IsUnder server client held.request key → ⊥
+    → IsSound server → WaitsWell server → (server.leases key).state.write ≡ true → Among one server.opens → has_key key one ≡ true
+    → find (λ other. other.client == client) (server.held one.file) ≡ Some held → IsUnder server client held.request key → ⊥
 writers-dont-wait server key one client held s w writes a k first under =
-    writers-wait_not server key one client held.request s writes a k
-    (w.is_orderly.held_about one.file held
+    writers-wait_not server key one client held.request s writes a k (w.is_orderly.held_about one.file held
     (find_has (λ other. other.client == client) held (server.held one.file) first).0)
     (w.all_wait one.file client held first) under

@@ -18,13 +18,11 @@ use Rattle.lease_laws.proofs.server.Wants.{keys_of-has}
 
 -- first by the one number, then by what follows
 in_turn : (x y z : ℕ) (a b c : Bool) → (a ≡ true → b ≡ true → c ≡ true)
-    → (nat_lt x y || (x == y && a)) ≡ true → (nat_lt y z || (y == z && b)) ≡ true
-    → (nat_lt x z || (x == z && c)) ≡ true
+    → (nat_lt x y || (x == y && a)) ≡ true → (nat_lt y z || (y == z && b)) ≡ true → (nat_lt x z || (x == z && c)) ≡ true
 in_turn x y z a b c next h k = grind arith
 
 -- bytes before others, and these before others
-bytes_before-then : (xs ys zs : List ℕ) → bytes_before xs ys ≡ true → bytes_before ys zs ≡ true
-    → bytes_before xs zs ≡ true
+bytes_before-then : (xs ys zs : List ℕ) → bytes_before xs ys ≡ true → bytes_before ys zs ≡ true → bytes_before xs zs ≡ true
 unfolding bytes_before
 bytes_before-then [] [] zs h k = absurd (true≢false (sym h))
 bytes_before-then [] (y ∷ ys) [] h k = absurd (true≢false (sym k))
@@ -59,12 +57,10 @@ bytes_before-one (x ∷ xs) (y ∷ ys) h k =
     rw (e.0, rest) refl
 
 -- keys that aren't one stand before one another
-pub key_before-other : (one other : Key) → key_eq one other ≡ false → key_before one other ≡ false
-    → key_before other one ≡ true
+pub key_before-other : (one other : Key) → key_eq one other ≡ false → key_before one other ≡ false → key_before other one ≡ true
 unfolding key_before
 key_before-other one other differ h = not_false (key_before other one) (λ k.
-    let e = neither_first one.client other.client (bytes_before one.bytes other.bytes)
-    (bytes_before other.bytes one.bytes) h k in
+    let e = neither_first one.client other.client (bytes_before one.bytes other.bytes) (bytes_before other.bytes one.bytes) h k in
     let same : one ≡ other = key_of_parts one other e.0 (bytes_before-one one.bytes other.bytes e.1 e.2) in
     clash (key_eq one other) (subst (λ x. key_eq one x ≡ true) same (key_eq-refl one)) differ)
 
@@ -111,8 +107,7 @@ key_added-from x new (other ∷ keys) among =
 key_added-ordered : (new : Key) (keys : List Key) → AreOrdered keys → AreOrdered (key_added new keys)
 unfolding key_added
 key_added-ordered new [] o = (λ other a. absurd a, tt)
-key_added-ordered new (first ∷ keys) o =
-    if_cases AreOrdered (key_eq new first) (first ∷ keys)
+key_added-ordered new (first ∷ keys) o = if_cases AreOrdered (key_eq new first) (first ∷ keys)
     (if key_before new first then new ∷ first ∷ keys else first ∷ key_added new keys)
     (λ e. o)
     (λ e. if_cases AreOrdered (key_before new first) (new ∷ first ∷ keys) (first ∷ key_added new keys)
@@ -168,11 +163,8 @@ wants_where-exact server test lowering = record {
         is_there = z.0;
         passes = z.1;
         has_the_key = ap (λ w. has_key w.key y.0) x.2 ∙ y.2;
-        is_lowered_so = ap (λ w. w.lowered) x.2
-            ∙ ap (λ k. lowering (server.leases k).state) (sym (ap (λ w. w.key) x.2));
+        is_lowered_so = ap (λ w. w.lowered) x.2 ∙ ap (λ k. lowering (server.leases k).state) (sym (ap (λ w. w.key) x.2));
       };
-  all = λ want w.
-      subst (λ state. Among (record { key = want.key; lowered = state }) (wants_where server test lowering))
-      (sym w.is_lowered_so)
-      (wants_where-has server test lowering want.key w.one w.is_there w.passes w.has_the_key);
+  all = λ want w. subst (λ state. Among (record { key = want.key; lowered = state }) (wants_where server test lowering))
+      (sym w.is_lowered_so) (wants_where-has server test lowering want.key w.one w.is_there w.passes w.has_the_key);
 }

@@ -26,8 +26,7 @@ use Rattle.lease_laws.specs.server.SmallSteps.{IsLowered}
 use Rattle.lease_laws.proofs.server.States.{without_write-lowered, without_handle-lowered, nothing-lowered}
 
 -- a key among the keys with one more is that one, or was among them
-key_added-has : (key new : Key) (keys : List Key) → Among key (key_added new keys) → (key ≡ new)
-    ⊎ Among key keys
+key_added-has : (key new : Key) (keys : List Key) → Among key (key_added new keys) → (key ≡ new) ⊎ Among key keys
 unfolding key_added
 key_added-has key new [] (inl e) = inl e
 key_added-has key new [] (inr never) = absurd never
@@ -63,12 +62,10 @@ keys_of-has key (one ∷ opens) a = ⊎_elim
 key_added-some : (new : Key) (keys : List Key) → is_empty (key_added new keys) ≡ false
 unfolding key_added
 key_added-some new [] = refl
-key_added-some new (other ∷ keys) =
-    if_cases (λ l. is_empty l ≡ false) (key_eq new other) (other ∷ keys)
+key_added-some new (other ∷ keys) = if_cases (λ l. is_empty l ≡ false) (key_eq new other) (other ∷ keys)
     (if key_before new other then new ∷ other ∷ keys else other ∷ key_added new keys)
     (λ e. refl)
-    (λ e. if_cases (λ l. is_empty l ≡ false) (key_before new other) (new ∷ other ∷ keys)
-    (other ∷ key_added new keys)
+    (λ e. if_cases (λ l. is_empty l ≡ false) (key_before new other) (new ∷ other ∷ keys) (other ∷ key_added new keys)
     (λ b. refl) (λ b. refl))
 
 -- an open with a key adds one
@@ -88,8 +85,7 @@ pub keys_of-some : (key : Key) (one : Open) (opens : List Open) → Among one op
     → is_empty (keys_of opens) ≡ false
 unfolding keys_of
 keys_of-some key one [] a k = absurd a
-keys_of-some key one (other ∷ opens) (inl same) k =
-    open_key_added-keyed key other.client other.lease_key (keys_of opens)
+keys_of-some key one (other ∷ opens) (inl same) k = open_key_added-keyed key other.client other.lease_key (keys_of opens)
     (ap (λ o. has_key key o) (sym same) ∙ k)
 keys_of-some key one (other ∷ opens) (inr a) k =
     open_key_added-more other.client other.lease_key (keys_of opens) (keys_of-some key one opens a k)
@@ -120,8 +116,7 @@ abbrev pub AllFit : Server → List Want → Type 0
 AllFit server wants = (want : Want) → Among want wants → Fits server want
 
 -- a want fits where its lease isn't none
-fits-at : (server : Server) (lowering : State → State) (key : Key) → IsSound server
-    → ((server.leases key) ≡ no_lease → ⊥)
+fits-at : (server : Server) (lowering : State → State) (key : Key) → IsSound server → ((server.leases key) ≡ no_lease → ⊥)
     → IsLowered (server.leases key).state (lowering (server.leases key).state)
     → Fits server (record { key = key; lowered = lowering (server.leases key).state })
 fits-at server lowering key s held low = record {
@@ -131,10 +126,8 @@ fits-at server lowering key s held low = record {
 
 -- wants fit where each open that passes the test has a lease that can be so lowered
 pub wants_where-fit : (server : Server) (test : Open → Bool) (lowering : State → State) → IsSound server
-    → ((one : Open) → test one ≡ true → granted_form_of (lease_of server one).state ≡
-    (lease_of server one).state
-    → ((lease_of server one) ≡ no_lease → ⊥) × IsLowered (lease_of server one).state
-    (lowering (lease_of server one).state))
+    → ((one : Open) → test one ≡ true → granted_form_of (lease_of server one).state ≡ (lease_of server one).state
+    → ((lease_of server one) ≡ no_lease → ⊥) × IsLowered (lease_of server one).state (lowering (lease_of server one).state))
     → AllFit server (wants_where server test lowering)
 unfolding wants_where
 wants_where-fit server test lowering s good want a =
@@ -142,22 +135,18 @@ wants_where-fit server test lowering s good want a =
     (keys_of (filter test server.opens)) a in
     let y = keys_of-has x.0 (filter test server.opens) x.1 in
     let z = among_filter test y.0 server.opens y.1 in
-    let same : lease_of server y.0 ≡ server.leases x.0 = lease_by-key server x.0 (y.0).client (y.0).lease_key
-    y.2 in
+    let same : lease_of server y.0 ≡ server.leases x.0 = lease_by-key server x.0 (y.0).client (y.0).lease_key y.2 in
     let both = good y.0 z.1 (ap (λ l. granted_form_of l.state) same ∙ (s.lawful x.0).is_granted_form
     ∙ ap (λ l. l.state) (sym same)) in
     subst (λ w. Fits server w) (sym x.2) (fits-at server lowering x.0 s
-    (λ e. both.0 (same ∙ e))
-    (subst (λ l. IsLowered l.state (lowering l.state)) same both.1))
+    (λ e. both.0 (same ∙ e)) (subst (λ l. IsLowered l.state (lowering l.state)) same both.1))
 
 -- a conflicting create's wants fit
 pub handle_wants-fit : (server : Server) (own : Option Key) (file : ℕ) (access : Access) (share : Share)
     → IsSound server → AllFit server (handle_wants server own file access share)
 unfolding handle_wants
 handle_wants-fit server own file access share s = wants_where-fit server
-    (λ one. conflicts_on file access share one && is_other_on own file one &&
-    (lease_of server one).state.handle)
-    without_handle s
+    (λ one. conflicts_on file access share one && is_other_on own file one && (lease_of server one).state.handle) without_handle s
     (λ one t form. let holds = (and_parts (conflicts_on file access share one && is_other_on own file one)
     (lease_of server one).state.handle t).1 in (
       (λ e. clash (lease_of server one).state.handle holds (ap (λ l. l.state.handle) e)),
@@ -176,13 +165,11 @@ write_wants-fit server own file s = wants_where-fit server
     ))
 
 -- a write's wants fit
-pub all_wants-fit : (server : Server) (own : Option Key) (file : ℕ) → IsSound server
-    → AllFit server (all_wants server own file)
+pub all_wants-fit : (server : Server) (own : Option Key) (file : ℕ) → IsSound server → AllFit server (all_wants server own file)
 unfolding all_wants
 all_wants-fit server own file s = wants_where-fit server
     (λ one. is_other_on own file one && holds_any (lease_of server one).state) (λ state. nothing_cached) s
-    (λ one t form. let holds = (and_parts (is_other_on own file one) (holds_any (lease_of server one).state)
-    t).1 in (
+    (λ one t form. let holds = (and_parts (is_other_on own file one) (holds_any (lease_of server one).state) t).1 in (
       (λ e. clash (holds_any (lease_of server one).state) holds (ap (λ l. holds_any l.state) e)),
       nothing-lowered (lease_of server one).state holds,
     ))
@@ -196,8 +183,7 @@ FindingFits server (Finding.Needs wants) = AllFit server wants
 pub create_finding-fits : (server : Server) (own : Option Key) (file : ℕ) (access : Access) (share : Share)
     → IsSound server → FindingFits server (create_finding server own file access share)
 unfolding create_finding
-create_finding-fits server own file access share s =
-    if_cases (FindingFits server) (is_leased_elsewhere server own file) _ _
+create_finding-fits server own file access share s = if_cases (FindingFits server) (is_leased_elsewhere server own file) _ _
     (λ e. tt)
     (λ e. if_cases (FindingFits server) (list_any (conflicts_on file access share) server.opens) _ _
     (λ c. if_cases (FindingFits server) (is_empty (handle_wants server own file access share)) _ _
@@ -217,8 +203,7 @@ reconnect_finding-fits server client file own file_id =
 pub write_finding-fits : (server : Server) (one : Open) (patch : Patch) → IsSound server
     → FindingFits server (write_finding server one patch)
 unfolding write_finding
-write_finding-fits server one patch s =
-    if_cases (FindingFits server) (may_write one.access) _ _
+write_finding-fits server one patch s = if_cases (FindingFits server) (may_write one.access) _ _
     (λ e. if_cases (FindingFits server) (is_within_limit patch) _ _
     (λ i. all_wants-fit server (key_of_open one) one.file s) (λ i. tt))
     (λ e. tt)
@@ -233,16 +218,14 @@ asked_finding-fits server client file access share lease (Some file_id) s = reco
     client file (own_key client lease) file_id
 
 -- what is found by an open fits
-by_open-fits : (server : Server) (one : Option Open) (found : Open → Finding)
-    → ((x : Open) → FindingFits server (found x))
+by_open-fits : (server : Server) (one : Option Open) (found : Open → Finding) → ((x : Open) → FindingFits server (found x))
     → FindingFits server (by_open one found)
 by_open-fits server None found fits = tt
 by_open-fits server (Some one) found fits = fits one
 
 -- what is found by contexts fits
 by_contexts-fits : (server : Server) (ask : Option CreateAsk) (found : CreateAsk → Finding)
-    → ((x : CreateAsk) → FindingFits server (found x))
-    → FindingFits server (by_contexts ask found)
+    → ((x : CreateAsk) → FindingFits server (found x)) → FindingFits server (by_contexts ask found)
 by_contexts-fits server None found fits = tt
 by_contexts-fits server (Some ask) found fits = fits ask
 

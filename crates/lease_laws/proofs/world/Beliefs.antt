@@ -59,12 +59,10 @@ all_believed client file world (out ∷ outs) = all_believed client file (delive
 served_believed : (client file : ℕ) (world : World) (progress : Progress)
     → believed client file (served world progress).past ≡ believed client file world.past
 unfolding served
-served_believed client file world progress =
-    all_believed client file (record world { server = progress.server }) progress.outs
+served_believed client file world progress = all_believed client file (record world { server = progress.server }) progress.outs
 
 -- a client's notes tell its own beliefs
-noted_believed : (client file : ℕ) (world : World) (notes : List Note)
-    → believed client file (noted world client notes).past
+noted_believed : (client file : ℕ) (world : World) (notes : List Note) → believed client file (noted world client notes).past
     ≡ believed_after file (believed client file world.past) notes
 unfolding noted believed
 noted_believed client file world [] = refl
@@ -72,8 +70,7 @@ noted_believed client file world (Note.Believes f state ∷ notes) =
     noted_believed client file (happened world (fact_of client (Note.Believes f state))) notes
     ∙ ap (λ b. believed_after file (if b && f == file then state else believed client file world.past) notes)
     ((Decides-eqb client client).1 refl)
-noted_believed client file world (note ∷ notes) =
-    noted_believed client file (happened world (fact_of client note)) notes
+noted_believed client file world (note ∷ notes) = noted_believed client file (happened world (fact_of client note)) notes
 
 -- and no other's
 noted_other : (client other file : ℕ) (world : World) (notes : List Note) → (client == other) ≡ false
@@ -149,5 +146,4 @@ first_agrees setup = record {
 pub beliefs_of_runs : (setup : Setup) (events : List Event) (client file : ℕ)
     → believed client file (after (first_world setup) events).past
     ≡ belief ((after (first_world setup) events).clients client) file
-beliefs_of_runs setup events =
-    (after-kept Agrees agrees_kept (first_world setup) events (first_agrees setup)).agrees
+beliefs_of_runs setup events = (after-kept Agrees agrees_kept (first_world setup) events (first_agrees setup)).agrees

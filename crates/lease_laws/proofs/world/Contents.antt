@@ -43,8 +43,7 @@ fits_append past [] more each other = other
 fits_append past (out ∷ outs) more each other = (each.0, fits_append (fact_told out ∷ past) outs more each.1 other)
 
 -- a reply that tells no content is right everywhere
-other_fits : (client : ℕ) (place : List Fact) (reply : Reply) → IsOther (Out.Sent client reply)
-    → IsOfPlace client place reply
+other_fits : (client : ℕ) (place : List Fact) (reply : Reply) → IsOther (Out.Sent client reply) → IsOfPlace client place reply
 other_fits client place (Reply.ReadDone file_id bytes) other = absurd other
 other_fits client place reply other = tt
 
@@ -52,8 +51,7 @@ others_fit : (past : List Fact) (outs : List Out) → EachOut IsOther outs → E
 others_fit past [] each = tt
 others_fit past (Out.Sent client reply ∷ outs) each =
     (other_fits client past reply each.0, others_fit (Fact.Sent client ∷ past) outs each.1)
-others_fit past (Out.Opened file client ∷ outs) each =
-    (tt, others_fit (Fact.Opened file client ∷ past) outs each.1)
+others_fit past (Out.Opened file client ∷ outs) each = (tt, others_fit (Fact.Opened file client ∷ past) outs each.1)
 others_fit past (Out.Changed file client number patch ∷ outs) each = absurd each.0
 
 others_same : (past : List Fact) (outs : List Out) → EachOut IsOther outs → (file : ℕ)
@@ -61,21 +59,18 @@ others_same : (past : List Fact) (outs : List Out) → EachOut IsOther outs → 
 unfolding content_of
 others_same past [] each file = refl
 others_same past (Out.Sent client reply ∷ outs) each file = others_same (Fact.Sent client ∷ past) outs each.1 file
-others_same past (Out.Opened at client ∷ outs) each file =
-    others_same (Fact.Opened at client ∷ past) outs each.1 file
+others_same past (Out.Opened at client ∷ outs) each file = others_same (Fact.Opened at client ∷ past) outs each.1 file
 others_same past (Out.Changed at client number patch ∷ outs) each file = absurd each.0
 
 -- a file that is changed
 changed_contents : (contents : ℕ → List ℕ) (past : List Fact) (at client number : ℕ) (patch : Patch)
-    → ((file : ℕ) → contents file ≡ content_of file past) → (file : ℕ)
-    → put contents at (patched (contents at) patch) file
+    → ((file : ℕ) → contents file ≡ content_of file past) → (file : ℕ) → put contents at (patched (contents at) patch) file
     ≡ content_of file (Fact.Sent client ∷ Fact.Changed at client number patch ∷ past)
 unfolding content_of
 changed_contents contents past at client number patch has file = either (at == file)
     (λ same. subst (λ f. put contents at (patched (contents at) patch) f
     ≡ (if at == f then patched (content_of f past) patch else content_of f past)) (eqb-true at file same)
-    (rw (eq-eqb at at refl, put_same contents at (patched (contents at) patch))
-    (ap (λ c. patched c patch) (has at))))
+    (rw (eq-eqb at at refl, put_same contents at (patched (contents at) patch)) (ap (λ c. patched c patch) (has at))))
     (λ apart. rw (apart) (put_other contents at (patched (contents at) patch) file
     (λ e. clash (at == file) (eq-eqb at file (sym e)) apart) ∙ has file))
 
@@ -93,8 +88,7 @@ leaves_told base before after l t =
       each = subst (EachFits base) (sym (l.outs).are_more)
           (fits_append base before.outs more t.each (others_fit place more (l.outs).each));
       contents = λ file. ap (λ (c : ℕ → List ℕ). c file) l.contents ∙ t.contents file
-          ∙ sym (others_same place more (l.outs).each file)
-          ∙ ap (λ p. content_of file p) (sym (ap (told base) (l.outs).are_more
+          ∙ sym (others_same place more (l.outs).each file) ∙ ap (λ p. content_of file p) (sym (ap (told base) (l.outs).are_more
           ∙ told_append base before.outs more));
     }
 
@@ -110,13 +104,11 @@ read_told base before after c r t =
           ∙ ap (λ p. content_of file p) (sym (ap (told base) r.outs ∙ told_append base before.outs _));
     }
 
-change_told : (base : List Fact) (before after : Progress) → IsChange before after → IsToldSo base before
-    → IsToldSo base after
+change_told : (base : List Fact) (before after : Progress) → IsChange before after → IsToldSo base before → IsToldSo base after
 change_told base before after g t = record {
   each = subst (EachFits base) (sym g.outs) (fits_append base before.outs _ t.each (tt, (tt, tt)));
   contents = λ file. ap (λ (x : ℕ → List ℕ). x file) g.contents
-      ∙ changed_contents before.server.contents (told base before.outs) g.file g.client g.number g.patch
-      t.contents file
+      ∙ changed_contents before.server.contents (told base before.outs) g.file g.client g.number g.patch t.contents file
       ∙ ap (λ p. content_of file p) (sym (ap (told base) g.outs ∙ told_append base before.outs _));
 }
 
@@ -142,10 +134,8 @@ called_told past server call s w c has =
     let start = call_begun server call in
     let go = called-steps server call s w in
     let quiet = sym (call_begun-silent server call) in
-    subst (IsToldSo past) (sym go.lead)
-    (steps_told past go.steps start (call_begun-up server call s w).sound go.are_guarded
-    (subst (λ outs. IsCounted (told past outs) start.server) quiet (begun_counted past server call c))
-    (record {
+    subst (IsToldSo past) (sym go.lead) (steps_told past go.steps start (call_begun-up server call s w).sound go.are_guarded
+    (subst (λ outs. IsCounted (told past outs) start.server) quiet (begun_counted past server call c)) (record {
       each = subst (EachFits past) quiet tt;
       contents = λ file. ap (λ (x : ℕ → List ℕ). x file) (begun_contents server call) ∙ has file
           ∙ ap (λ outs. content_of file (told past outs)) quiet;

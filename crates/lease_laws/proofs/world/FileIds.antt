@@ -68,8 +68,7 @@ pub record SameOpens (past : List Fact) (new : List Fact) : Type 0 where
   pub count : opened_count new ≡ opened_count past
   pub was : (place file client : ℕ) → was_opened place file client new ≡ was_opened place file client past
 
-pub same_counted : (past new : List Fact) (server : Server) → SameOpens past new → IsCounted past server
-    → IsCounted new server
+pub same_counted : (past new : List Fact) (server : Server) → SameOpens past new → IsCounted past server → IsCounted new server
 same_counted past new server same c = record {
   last = c.last ∙ sym same.count;
   opens = λ one a. same.was one.file_id one.file one.client ∙ c.opens one a;
@@ -111,13 +110,11 @@ quiet_counted past before after s from q c = record {
   last = q.last ∙ c.last;
   opens = λ one a. ⊎_elim (old_told past before.server one c)
       (λ new. let top = (s.numbered one a).1 in let last = q.last in let low = new.is_new in
-      absurd (omega (arith, top, last, low)))
-      (from one a);
+      absurd (omega (arith, top, last, low))) (from one a);
 }
 
 -- a step that makes one
-grant_counted : (past : List Fact) (before after : Progress) → (g : IsGrant before after)
-    → IsCounted past before.server
+grant_counted : (past : List Fact) (before after : Progress) → (g : IsGrant before after) → IsCounted past before.server
     → IsCounted (Fact.Sent g.client ∷ Fact.Opened g.file g.client ∷ past) after.server
 unfolding opened_count was_opened
 grant_counted past before after g c = record {
@@ -133,8 +130,7 @@ grant_counted past before after g c = record {
         eq-eqb (opened_count past + 1) (opened_count past + 1) refl,
         eq-eqb g.file g.file refl,
         eq-eqb g.client g.client refl,
-      ) refl)
-      (g.from one a);
+      ) refl) (g.from one a);
 }
 
 pub step_counted : (base : List Fact) (step : SmallStep) (progress : Progress) → IsSound progress.server
@@ -154,8 +150,7 @@ step_counted base step progress s may c = ⊎_elim quiet grant (step-told step p
         (step-goes step progress s may).from q c)))
 
     grant : IsGrant progress next → IsCounted (told base next.outs) next.server
-    grant g = subst (λ outs. IsCounted (told base outs) next.server) (sym g.outs)
-        (subst (λ p. IsCounted p next.server)
+    grant g = subst (λ outs. IsCounted (told base outs) next.server) (sym g.outs) (subst (λ p. IsCounted p next.server)
         (sym (told_append base progress.outs (Out.Opened g.file g.client ∷ Out.Sent g.client g.reply ∷ [])))
         (grant_counted (told base progress.outs) progress next g c))
 
@@ -186,14 +181,11 @@ here server one a = record {
   same_client = refl;
 }
 
-left_same : (server : Server) (test : Open → Bool) (one : Open) → Among one (without test server.opens)
-    → IsSame server one
+left_same : (server : Server) (test : Open → Bool) (one : Open) → Among one (without test server.opens) → IsSame server one
 left_same server test one a = here server one (among_filter (λ x. not (test x)) one server.opens a).0
 
-disconnected_same : (server : Server) (client : ℕ) (one : Open) → Among one server.opens
-    → IsSame server (disconnected client one)
-disconnected_same server client one a = if_cases (IsSame server) (one.client == client)
-    (record one { connected = false }) one
+disconnected_same : (server : Server) (client : ℕ) (one : Open) → Among one server.opens → IsSame server (disconnected client one)
+disconnected_same server client one a = if_cases (IsSame server) (one.client == client) (record one { connected = false }) one
     (λ e. record { was = one; was_there = a; same_id = refl; same_file = refl; same_client = refl })
     (λ e. here server one a)
 
@@ -268,20 +260,17 @@ noted_counted : (world : World) (client : ℕ) (notes : List Note) (server : Ser
     → IsCounted (noted world client notes).past server
 unfolding noted
 noted_counted world client [] server c = c
-noted_counted world client (note ∷ notes) server c =
-    noted_counted (happened world (fact_of client note)) client notes server
+noted_counted world client (note ∷ notes) server c = noted_counted (happened world (fact_of client note)) client notes server
     (same_counted world.past (fact_of client note ∷ world.past) server (note_same world.past client note) c)
 
 stepped_counted : (world : World) (client : ℕ) (step : Step) → IsCounted world.past world.server
     → IsCounted (stepped_in world client step).past (stepped_in world client step).server
 unfolding stepped_in requests_sent
 stepped_counted world client step c =
-    subst (λ s. IsCounted (stepped_in world client step).past s) (sym (stepped_server world client step))
-    (noted_counted
+    subst (λ s. IsCounted (stepped_in world client step).past s) (sym (stepped_server world client step)) (noted_counted
     (requests_sent (record world { clients = _ }) client step.requests) client step.notes world.server c)
 
-served_counted : (world : World) (call : Call) → IsSound world.server → WaitsWell world.server
-    → IsCounted world.past world.server
+served_counted : (world : World) (call : Call) → IsSound world.server → WaitsWell world.server → IsCounted world.past world.server
     → IsCounted (served world (called world.server call)).past (served world (called world.server call)).server
 unfolding served
 served_counted world call s w c =
@@ -298,13 +287,11 @@ counted_kept = record {
   fact = λ world fact of p. record {
     sound = p.sound;
     waits = p.waits;
-    counted = same_counted world.past (fact ∷ world.past) world.server (world_fact_same world.past fact of)
-        p.counted;
+    counted = same_counted world.past (fact ∷ world.past) world.server (world_fact_same world.past fact of) p.counted;
   };
   call = λ world call p. let progress = called world.server call in record {
     sound = subst IsSound (sym (served-server world progress)) (called-sound world.server call p.sound);
-    waits = subst WaitsWell (sym (served-server world progress))
-        (called-waits-well world.server call p.sound p.waits);
+    waits = subst WaitsWell (sym (served-server world progress)) (called-waits-well world.server call p.sound p.waits);
     counted = served_counted world call p.sound p.waits p.counted;
   };
   step = λ world client call p. let step = client_called (world.clients client) call in record {

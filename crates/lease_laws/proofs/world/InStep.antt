@@ -64,16 +64,14 @@ noted_contents : (world : World) (client : ℕ) (notes : List Note) (server : Se
     → HasContents (noted world client notes).past server
 unfolding noted
 noted_contents world client [] server has = has
-noted_contents world client (note ∷ notes) server has =
-    noted_contents (happened world (fact_of client note)) client notes server
+noted_contents world client (note ∷ notes) server has = noted_contents (happened world (fact_of client note)) client notes server
     (λ file. has file ∙ sym (plain_content file world.past (fact_of client note) (note_plain client note)))
 
 stepped_contents : (world : World) (client : ℕ) (step : Step) → HasContents world.past world.server
     → HasContents (stepped_in world client step).past (stepped_in world client step).server
 unfolding stepped_in requests_sent
 stepped_contents world client step has =
-    subst (HasContents (stepped_in world client step).past) (sym (stepped_server world client step))
-    (noted_contents
+    subst (HasContents (stepped_in world client step).past) (sym (stepped_server world client step)) (noted_contents
     (requests_sent (record world { clients = put world.clients client step.client }) client step.requests) client
     step.notes world.server has)
 
@@ -94,8 +92,7 @@ served_true world call n t =
           (sym (all_delivered_past next progress.outs))
           (subst (HasContents (told world.past progress.outs)) (sym (served-server world progress))
           (called-contents world.past world.server call n.sound n.waits n.counted t.contents));
-      in_step = all_in_step next progress.outs
-          (called-fits world.past world.server call n.sound n.waits n.counted t.contents)
+      in_step = all_in_step next progress.outs (called-fits world.past world.server call n.sound n.waits n.counted t.contents)
           (λ c. carried_step world next c refl refl refl refl (t.in_step c));
     }
 
@@ -106,14 +103,12 @@ record IsReady (world : World) : Type 0 where
   counted : IsCountedWorld world
   telling : IsTrue world
 
-server_takes_true : (world : World) (client : ℕ) (queue : List Request) → IsReady world
-    → IsTrue (server_takes world client queue)
+server_takes_true : (world : World) (client : ℕ) (queue : List Request) → IsReady world → IsTrue (server_takes world client queue)
 server_takes_true world client [] r = r.telling
 server_takes_true world client (request ∷ queue) r =
     let popped : World = record world { requests = put world.requests client queue } in
     served_true popped (Call.Receive client request)
-    (counted_kept.messages world (put world.requests client queue) world.replies world.links r.counted)
-    (record {
+    (counted_kept.messages world (put world.requests client queue) world.replies world.links r.counted) (record {
       contents = (r.telling).contents;
       in_step = λ c. carried_step world popped c refl refl refl refl ((r.telling).in_step c);
     })
@@ -123,8 +118,7 @@ client_takes_true : (world : World) (client : ℕ) (queue : List Reply) → worl
 client_takes_true world client [] e r = r.telling
 client_takes_true world client (reply ∷ queue) e r =
     stepped_true (happened (record world { replies = put world.replies client queue }) (Fact.Took client)) client
-    (taken (world.clients client) reply)
-    (record {
+    (taken (world.clients client) reply) (record {
       contents = λ file. (r.telling).contents file ∙ sym (plain_content file world.past (Fact.Took client) tt);
       in_step = took_in_step world client reply queue e (r.telling).in_step;
     })
@@ -137,11 +131,9 @@ cut_true world client Link.Up r =
       requests = put world.requests client [];
       replies = put world.replies client [];
     } in
-    served_true (happened lost (Fact.Dropped client)) (Call.Cut client)
-    (counted_kept.fact lost (Fact.Dropped client) tt
+    served_true (happened lost (Fact.Dropped client)) (Call.Cut client) (counted_kept.fact lost (Fact.Dropped client) tt
     (counted_kept.messages world (put world.requests client []) (put world.replies client [])
-    (put world.links client Link.Cut) r.counted))
-    (record {
+    (put world.links client Link.Cut) r.counted)) (record {
       contents = λ file. (r.telling).contents file ∙ sym (plain_content file world.past (Fact.Dropped client) tt);
       in_step = λ c. carried_step lost (happened lost (Fact.Dropped client)) c refl refl refl refl
           (down_in_step world client Link.Cut (put world.requests client []) (put world.replies client []) refl
@@ -151,13 +143,10 @@ cut_true world client link r = r.telling
 
 notice_true : (world : World) (client : ℕ) (link : Link) → IsReady world → IsTrue (notice_over world client link)
 unfolding link_noticed
-notice_true world client Link.Cut r =
-    stepped_true (record world { links = put world.links client Link.Down }) client
-    (noticed (world.clients client))
-    (record {
+notice_true world client Link.Cut r = stepped_true (record world { links = put world.links client Link.Down }) client
+    (noticed (world.clients client)) (record {
       contents = (r.telling).contents;
-      in_step = down_in_step world client Link.Down world.requests world.replies refl (λ d ne. refl)
-          (r.telling).in_step;
+      in_step = down_in_step world client Link.Down world.requests world.replies refl (λ d ne. refl) (r.telling).in_step;
     })
 notice_true world client link r = r.telling
 
@@ -168,18 +157,15 @@ connect_true world client Link.Down e r =
     let up : World = record world { links = put world.links client Link.Up } in
     let back : World = happened up (Fact.Joined client) in
     stepped_true (served back (join world.server client)) client (connection_made (world.clients client))
-    (served_true back (Call.Join client)
-    (counted_kept.fact up (Fact.Joined client) tt
-    (counted_kept.messages world world.requests world.replies (put world.links client Link.Up) r.counted))
-    (record {
+    (served_true back (Call.Join client) (counted_kept.fact up (Fact.Joined client) tt
+    (counted_kept.messages world world.requests world.replies (put world.links client Link.Up) r.counted)) (record {
       contents = λ file. (r.telling).contents file ∙ sym (plain_content file world.past (Fact.Joined client) tt);
       in_step = joined_in_step world client (((r.linked).tied client).replies (ap is_up e)) (r.telling).in_step;
     }))
 connect_true world client link e r = r.telling
 
 -- a fact that changes no queue
-fact_in_step : (world : World) (fact : Fact) → IsTimer fact → (c : ℕ) → KeepsStep world c
-    → KeepsStep (happened world fact) c
+fact_in_step : (world : World) (fact : Fact) → IsTimer fact → (c : ℕ) → KeepsStep world c → KeepsStep (happened world fact) c
 unfolding sendings takings
 fact_in_step world (Fact.Expired client file) of c k = carried_step world _ c refl refl refl refl k
 fact_in_step world (Fact.Strayed client) of c k = carried_step world _ c refl refl refl refl k
@@ -189,8 +175,7 @@ timer_true : (world : World) (client file : ℕ) → IsReady world → IsTrue (t
 unfolding timer_expired
 timer_true world client file r =
     served_true (happened world (Fact.Expired client file)) (Call.Expire (machine_key world client file))
-    (counted_kept.fact world (Fact.Expired client file) tt r.counted)
-    (record {
+    (counted_kept.fact world (Fact.Expired client file) tt r.counted) (record {
       contents = λ f. (r.telling).contents f ∙ sym (plain_content f world.past (Fact.Expired client file) tt);
       in_step = λ c. fact_in_step world (Fact.Expired client file) tt c ((r.telling).in_step c);
     })
@@ -211,8 +196,7 @@ strayed_true world client request link r = r.telling
 
 applied_true : (world : World) (event : Event) → IsReady world → IsTrue (applied world event)
 unfolding applied
-applied_true world (Event.App client command) r =
-    stepped_true world client (commanded (world.clients client) command) r.telling
+applied_true world (Event.App client command) r = stepped_true world client (commanded (world.clients client) command) r.telling
 applied_true world (Event.ServerTakes client) r = server_takes_true world client (world.requests client) r
 applied_true world (Event.ClientTakes client) r = client_takes_true world client (world.replies client) refl r
 applied_true world (Event.Cut client) r = cut_true world client (world.links client) r
@@ -253,13 +237,11 @@ found_starts [] first file past = refl
 found_starts (bytes ∷ files) first file past = found_starts files (first + 1) file (Fact.Start first bytes ∷ past)
 
 -- not under a lower one
-found_low : (files : List (List ℕ)) (first file : ℕ) (other : List ℕ) → file < first
-    → found files first file other ≡ other
+found_low : (files : List (List ℕ)) (first file : ℕ) (other : List ℕ) → file < first → found files first file other ≡ other
 unfolding found
 found_low [] first file other low = refl
 found_low (bytes ∷ files) first file other low =
-    found_low files (first + 1) file (if first == file then bytes else other) (omega (arith, low))
-    ∙ either (first == file)
+    found_low files (first + 1) file (if first == file then bytes else other) (omega (arith, low)) ∙ either (first == file)
     (λ same. let e = eqb-true first file same in absurd (omega (arith, low, e)))
     (λ apart. rw (apart) refl)
 
@@ -272,16 +254,14 @@ found_at (bytes ∷ files) first zero other =
     ∙ rw (eq-eqb first (first + zero) (omega arith)) refl
 found_at (bytes ∷ files) first (suc place) other =
     ap (λ n. found files (first + 1) n (if first == first + suc place then bytes else other)) (omega arith)
-    ∙ found_at files (first + 1) place (if first == first + suc place then bytes else other)
-    ∙ either (first == first + suc place)
+    ∙ found_at files (first + 1) place (if first == first + suc place then bytes else other) ∙ either (first == first + suc place)
     (λ same. let e = eqb-true first (first + suc place) same in absurd (omega (arith, e)))
     (λ apart. rw (apart) refl)
 
 numbered_found : (files : List (List ℕ)) (file : ℕ) → numbered [] files file ≡ found files 1 file []
 unfolding numbered
 numbered_found files zero = sym (found_low files 1 zero [] (omega arith))
-numbered_found files (suc place) =
-    sym (ap (λ n. found files 1 n []) (next place) ∙ found_at files 1 place [])
+numbered_found files (suc place) = sym (ap (λ n. found files 1 n []) (next place) ∙ found_at files 1 place [])
   where
     next : (n : ℕ) → suc n ≡ 1 + n
     next n = omega arith
@@ -296,13 +276,11 @@ pub few_files : (files : List (List ℕ)) → nat_le (length files) files_limit 
 unfolding files_limit last_file_number
 few_files files e = grind arith
 
-first_contents : (setup : Setup) → is_allowed_setup setup ≡ true
-    → HasContents (first_world setup).past (first_world setup).server
+first_contents : (setup : Setup) → is_allowed_setup setup ≡ true → HasContents (first_world setup).past (first_world setup).server
 unfolding first_world new_server is_allowed_setup content_of
 first_contents setup allowed file =
     let few = (and_parts _ _ (and_parts _ _ (and_parts _ _ allowed).0).0).0 in
-    ap (λ (files : List (List ℕ)). numbered [] files file)
-    (take_all last_file_number setup.files (few_files setup.files few))
+    ap (λ (files : List (List ℕ)). numbered [] files file) (take_all last_file_number setup.files (few_files setup.files few))
     ∙ numbered_found setup.files file ∙ sym (found_starts setup.files 1 file [])
 
 first_idle : (setup : Setup) (c : ℕ) → KeepsStep (first_world setup) c
@@ -316,8 +294,7 @@ first_ready setup allowed = record {
   telling = record { contents = first_contents setup allowed; in_step = first_idle setup };
 }
 
-run_ready : (setup : Setup) (events : List Event) → is_allowed_setup setup ≡ true
-    → IsReady (after (first_world setup) events)
+run_ready : (setup : Setup) (events : List Event) → is_allowed_setup setup ≡ true → IsReady (after (first_world setup) events)
 run_ready setup events allowed = after_ready (first_world setup) events (first_ready setup allowed)
 
 pub contents_are_told : ContentsAreTold

@@ -79,13 +79,11 @@ client_takes-kept : (P : World → Type 0) → IsKept P → (world : World) (cli
 client_takes-kept P k world client [] p = p
 client_takes-kept P k world client (reply ∷ queue) p =
     let popped : World = record world { replies = put world.replies client queue } in
-    k.step (happened popped (Fact.Took client)) client (ClientCall.Taken reply)
-    (k.fact popped (Fact.Took client) tt
+    k.step (happened popped (Fact.Took client)) client (ClientCall.Taken reply) (k.fact popped (Fact.Took client) tt
     (k.messages world world.requests (put world.replies client queue) world.links p))
 
 -- a connection is lost
-cut-kept : (P : World → Type 0) → IsKept P → (world : World) (client : ℕ) (link : Link) → P world
-    → P (cut_over world client link)
+cut-kept : (P : World → Type 0) → IsKept P → (world : World) (client : ℕ) (link : Link) → P world → P (cut_over world client link)
 unfolding link_cut
 cut-kept P k world client Link.Up p =
     let lost : World = record world {
@@ -94,8 +92,7 @@ cut-kept P k world client Link.Up p =
       replies = put world.replies client [];
     } in
     k.call (happened lost (Fact.Dropped client)) (Call.Cut client) (k.fact lost (Fact.Dropped client) tt
-    (k.messages world (put world.requests client []) (put world.replies client [])
-    (put world.links client Link.Cut) p))
+    (k.messages world (put world.requests client []) (put world.replies client []) (put world.links client Link.Cut) p))
 cut-kept P k world client link p = p
 
 -- its client notices
@@ -103,8 +100,7 @@ notice-kept : (P : World → Type 0) → IsKept P → (world : World) (client : 
     → P (notice_over world client link)
 unfolding link_noticed
 notice-kept P k world client Link.Cut p = k.step (record world { links = put world.links client Link.Down }) client
-    ClientCall.Noticed
-    (k.messages world world.requests world.replies (put world.links client Link.Down) p)
+    ClientCall.Noticed (k.messages world world.requests world.replies (put world.links client Link.Down) p)
 notice-kept P k world client link p = p
 
 -- a client connects
@@ -115,22 +111,19 @@ connect-kept P k world client Link.Down p =
     let up : World = record world { links = put world.links client Link.Up } in
     let joined : World = served (happened up (Fact.Joined client)) (join world.server client) in
     subst (λ (c : ℕ → Client). P (stepped_in joined client (connection_made (c client))))
-    (served-clients (happened up (Fact.Joined client)) (join world.server client))
-    (k.step joined client ClientCall.Connected
+    (served-clients (happened up (Fact.Joined client)) (join world.server client)) (k.step joined client ClientCall.Connected
     (k.call (happened up (Fact.Joined client)) (Call.Join client) (k.fact up (Fact.Joined client) tt
     (k.messages world world.requests world.replies (put world.links client Link.Up) p))))
 connect-kept P k world client link p = p
 
 -- a timer runs out
-timer-kept : (P : World → Type 0) → IsKept P → (world : World) (client file : ℕ) → P world
-    → P (timer_expired world client file)
+timer-kept : (P : World → Type 0) → IsKept P → (world : World) (client file : ℕ) → P world → P (timer_expired world client file)
 unfolding timer_expired
 timer-kept P k world client file p = k.call (happened world (Fact.Expired client file))
     (Call.Expire (machine_key world client file)) (k.fact world (Fact.Expired client file) tt p)
 
 -- an open is scavenged
-scavenged-kept : (P : World → Type 0) → IsKept P → (world : World) (found : Option ℕ) → P world
-    → P (scavenged world found)
+scavenged-kept : (P : World → Type 0) → IsKept P → (world : World) (found : Option ℕ) → P world → P (scavenged world found)
 scavenged-kept P k world None p = p
 scavenged-kept P k world (Some file_id) p = k.call world (Call.Scavenge file_id) p
 
@@ -138,8 +131,7 @@ scavenged-kept P k world (Some file_id) p = k.call world (Call.Scavenge file_id)
 strayed-kept : (P : World → Type 0) → IsKept P → (world : World) (client : ℕ) (request : Request) (link : Link)
     → P world → P (strayed_over world client request link)
 unfolding strayed_over requests_sent
-strayed-kept P k world client request Link.Up p =
-    k.messages (happened world (Fact.Strayed client)) _ world.replies world.links
+strayed-kept P k world client request Link.Up p = k.messages (happened world (Fact.Strayed client)) _ world.replies world.links
     (k.fact world (Fact.Strayed client) tt p)
 strayed-kept P k world client request link p = p
 
@@ -156,8 +148,7 @@ applied-kept P k world (Event.Expire client file) p = if_either P (has_file worl
     (if breaking world.server (machine_key world client file) then timer_expired world client file else world) world
     (if_either P (breaking world.server (machine_key world client file)) (timer_expired world client file) world
     (timer-kept P k world client file p) p) p
-applied-kept P k world (Event.Scavenge client file) p =
-    scavenged-kept P k world (kept world.server client file) p
+applied-kept P k world (Event.Scavenge client file) p = scavenged-kept P k world (kept world.server client file) p
 applied-kept P k world (Event.Raw client request) p = strayed-kept P k world client request (world.links client) p
 
 -- any event
@@ -167,8 +158,7 @@ happens-kept P k world event p = if_either P (has_client world (client_of event)
     (applied-kept P k world event p) p
 
 -- any events
-pub after-kept : (P : World → Type 0) → IsKept P → (world : World) (events : List Event) → P world
-    → P (after world events)
+pub after-kept : (P : World → Type 0) → IsKept P → (world : World) (events : List Event) → P world → P (after world events)
 unfolding after
 after-kept P k world [] p = p
 after-kept P k world (event ∷ events) p = after-kept P k (happens world event) events (happens-kept P k world event p)

@@ -73,8 +73,7 @@ one_more xs x = length-append xs (x ∷ [])
 delivered_tied : (world : World) (out : Out) → Reaches world out → ((c : ℕ) → IsTied world c)
     → (c : ℕ) → IsTied (delivered world out) c
 unfolding delivered is_served sendings takings
-delivered_tied world (Out.Sent client reply) up tied c = by_client (IsTied (delivered world (Out.Sent client reply)))
-    client c
+delivered_tied world (Out.Sent client reply) up tied c = by_client (IsTied (delivered world (Out.Sent client reply))) client c
     (let t = tied client in record {
       present = t.present;
       requests = t.requests;
@@ -96,8 +95,7 @@ delivered_tied world (Out.Sent client reply) up tied c = by_client (IsTied (deli
 delivered_tied world (Out.Opened file client) up tied c =
     carried world (happened world (Fact.Opened file client)) c refl refl refl refl refl refl refl (tied c)
 delivered_tied world (Out.Changed file client number patch) up tied c =
-    carried world (happened world (Fact.Changed file client number patch)) c refl refl refl refl refl refl refl
-    (tied c)
+    carried world (happened world (Fact.Changed file client number patch)) c refl refl refl refl refl refl refl (tied c)
 
 -- outs that reach their clients
 reaching : (world : World) (server : Server) → ((c : ℕ) → server.present c ≡ is_up (world.links c)) → (out : Out)
@@ -144,20 +142,16 @@ plain_call_tied : (world : World) (call : Call) → IsAmong call → IsSound wor
     → ((c : ℕ) → IsTied world c) → (c : ℕ) → IsTied (served world (called world.server call)) c
 plain_call_tied world call among s w tied c = served_tied world call s w
     (λ d. carried world (record world { server = (called world.server call).server }) d
-    (called_present world.server call s w d ∙ begun_present world.server call among d)
-    refl refl refl refl refl refl (tied d)) c
+    (called_present world.server call s w d ∙ begun_present world.server call among d) refl refl refl refl refl refl (tied d)) c
 
 -- ---- steps of a client
 
-note_tied : (world : World) (client : ℕ) (note : Note) (c : ℕ) → IsTied world c
-    → IsTied (happened world (fact_of client note)) c
+note_tied : (world : World) (client : ℕ) (note : Note) (c : ℕ) → IsTied world c → IsTied (happened world (fact_of client note)) c
 unfolding is_served sendings takings
-note_tied world client (Note.Settled number outcome) c t =
-    carried world _ c refl refl refl refl refl refl refl t
+note_tied world client (Note.Settled number outcome) c t = carried world _ c refl refl refl refl refl refl refl t
 note_tied world client note c t = carried world _ c refl refl refl refl refl refl refl t
 
-noted_tied : (world : World) (client : ℕ) (notes : List Note) (c : ℕ) → IsTied world c
-    → IsTied (noted world client notes) c
+noted_tied : (world : World) (client : ℕ) (notes : List Note) (c : ℕ) → IsTied world c → IsTied (noted world client notes) c
 unfolding noted
 noted_tied world client [] c t = t
 noted_tied world client (note ∷ notes) c t =
@@ -177,8 +171,7 @@ sent_idle link queue requests idle e = idle e
 pub sent_tied : (world : World) (client : ℕ) (requests : List Request) (c : ℕ) → IsTied world c
     → IsTied (requests_sent world client requests) c
 unfolding requests_sent
-sent_tied world client requests c t = by_client (λ d. IsTied world d → IsTied (requests_sent world client requests) d)
-    client c
+sent_tied world client requests c t = by_client (λ d. IsTied world d → IsTied (requests_sent world client requests) d) client c
     (λ u. record {
       present = u.present;
       requests = λ down. put_same world.requests client _
@@ -201,12 +194,10 @@ stepped_tied world client step tied c =
 pub stepped_links : (world : World) (client : ℕ) (step : Step) → (stepped_in world client step).links ≡ world.links
 unfolding stepped_in requests_sent
 stepped_links world client step = noted_links
-    (requests_sent (record world { clients = put world.clients client step.client }) client step.requests) client
-    step.notes
+    (requests_sent (record world { clients = put world.clients client step.client }) client step.requests) client step.notes
 
 -- the client that steps is online as its link says, and so are the others
-pub stepped_online : (world : World) (client : ℕ) (step : Step)
-    → step.client.is_online ≡ not (is_down (world.links client))
+pub stepped_online : (world : World) (client : ℕ) (step : Step) → step.client.is_online ≡ not (is_down (world.links client))
     → ((c : ℕ) → c ≢ client → IsOnline world c) → (c : ℕ) → IsOnline (stepped_in world client step) c
 stepped_online world client step here there c = by_client (IsOnline (stepped_in world client step)) client c
     (ap (λ (t : ℕ → Client). (t client).is_online) (stepped_clients world client step)
@@ -221,8 +212,7 @@ stepped_online world client step here there c = by_client (IsOnline (stepped_in 
 -- a link that isn't up becomes another one that isn't
 pub relinked : (world : World) (client : ℕ) (link : Link) → is_up (world.links client) ≡ false → is_up link ≡ false
     → ((c : ℕ) → IsTied world c) → (c : ℕ) → IsTied (record world { links = put world.links client link }) c
-relinked world client link down idle tied c =
-    by_client (IsTied (record world { links = put world.links client link })) client c
+relinked world client link down idle tied c = by_client (IsTied (record world { links = put world.links client link })) client c
     (let t = tied client in record {
       present = t.present ∙ down ∙ sym idle ∙ sym (ap is_up (put_same world.links client link));
       requests = λ d. t.requests down;
@@ -246,25 +236,19 @@ cut_off world client = record world {
 cut_tied : (world : World) (client : ℕ) → IsSound world.server → WaitsWell world.server
     → is_up (world.links client) ≡ true → ((c : ℕ) → IsTied world c) → (c : ℕ) → IsTied (cut_off world client) c
 unfolding is_served sendings takings
-cut_tied world client s w up tied c = by_client (IsTied (cut_off world client)) client c
-    (record {
-      present = gone client ∙ put_same world.server.present client false
-          ∙ sym (ap is_up (put_same world.links client Link.Cut));
-      requests = λ d. put_same world.requests client [];
-      replies = λ d. put_same world.replies client [];
-      served = λ t. clash (is_served client (Fact.Dropped client ∷ world.past)) t
-          (rw (eq-eqb client client refl) refl);
-      counted = λ u. clash (is_up (put world.links client Link.Cut client)) u
-          (ap is_up (put_same world.links client Link.Cut));
-    })
-    (λ ne apart. carried world (cut_off world client) c
-    (gone c ∙ put_other world.server.present client false c ne)
+cut_tied world client s w up tied c = by_client (IsTied (cut_off world client)) client c (record {
+  present = gone client ∙ put_same world.server.present client false ∙ sym (ap is_up (put_same world.links client Link.Cut));
+  requests = λ d. put_same world.requests client [];
+  replies = λ d. put_same world.replies client [];
+  served = λ t. clash (is_served client (Fact.Dropped client ∷ world.past)) t (rw (eq-eqb client client refl) refl);
+  counted = λ u. clash (is_up (put world.links client Link.Cut client)) u (ap is_up (put_same world.links client Link.Cut));
+})
+    (λ ne apart. carried world (cut_off world client) c (gone c ∙ put_other world.server.present client false c ne)
     (put_other world.links client Link.Cut c ne) (put_other world.requests client [] c ne)
     (put_other world.replies client [] c ne) (rw (apart) refl) refl refl (tied c))
   where
     gone : (d : ℕ) → (cut world.server client).server.present d ≡ put world.server.present client false d
-    gone d = called_present world.server (Call.Cut client) s w d
-        ∙ cut_present world.server client ((tied client).present ∙ up) d
+    gone d = called_present world.server (Call.Cut client) s w d ∙ cut_present world.server client ((tied client).present ∙ up) d
 
 -- the world of a connect, before the client makes its step
 abbrev come_back : World → ℕ → World
@@ -277,19 +261,15 @@ come_back world client = record world {
 join_tied : (world : World) (client : ℕ) → IsSound world.server → WaitsWell world.server
     → is_up (world.links client) ≡ false → ((c : ℕ) → IsTied world c) → (c : ℕ) → IsTied (come_back world client) c
 unfolding is_served sendings takings
-join_tied world client s w down tied c = by_client (IsTied (come_back world client)) client c
-    (record {
-      present = here client ∙ put_same world.server.present client true
-          ∙ sym (ap is_up (put_same world.links client Link.Up));
-      requests = λ d. clash (is_up (put world.links client Link.Up client)) up d;
-      replies = λ d. clash (is_up (put world.links client Link.Up client)) up d;
-      served = λ t. up;
-      counted = λ u. rw (eq-eqb client client refl, (tied client).replies down) refl;
-    })
-    (λ ne apart. carried world (come_back world client) c
-    (here c ∙ put_other world.server.present client true c ne)
-    (put_other world.links client Link.Up c ne) refl refl (rw (apart) refl) (rw (apart) refl) (rw (apart) refl)
-    (tied c))
+join_tied world client s w down tied c = by_client (IsTied (come_back world client)) client c (record {
+  present = here client ∙ put_same world.server.present client true ∙ sym (ap is_up (put_same world.links client Link.Up));
+  requests = λ d. clash (is_up (put world.links client Link.Up client)) up d;
+  replies = λ d. clash (is_up (put world.links client Link.Up client)) up d;
+  served = λ t. up;
+  counted = λ u. rw (eq-eqb client client refl, (tied client).replies down) refl;
+})
+    (λ ne apart. carried world (come_back world client) c (here c ∙ put_other world.server.present client true c ne)
+    (put_other world.links client Link.Up c ne) refl refl (rw (apart) refl) (rw (apart) refl) (rw (apart) refl) (tied c))
   where
     up : is_up (put world.links client Link.Up client) ≡ true
     up = ap is_up (put_same world.links client Link.Up)
@@ -319,8 +299,7 @@ called_linked world call s w tied online =
           ∙ ap (λ (t : ℕ → Link). not (is_down (t c))) (sym (served_links world progress));
     }
 
-plain_linked : (world : World) (call : Call) → IsAmong call → IsLinked world
-    → IsLinked (served world (called world.server call))
+plain_linked : (world : World) (call : Call) → IsAmong call → IsLinked world → IsLinked (served world (called world.server call))
 plain_linked world call among l = called_linked world call l.sound l.waits
     (plain_call_tied world call among l.sound l.waits l.tied) l.online
 
@@ -343,8 +322,7 @@ taken_tied : (world : World) (client : ℕ) (request : Request) (queue : List Re
     → world.requests client ≡ request ∷ queue → ((c : ℕ) → IsTied world c) → (c : ℕ)
     → IsTied (record world { requests = put world.requests client queue }) c
 taken_tied world client request queue e tied c =
-    by_client (IsTied (record world { requests = put world.requests client queue })) client c
-    (let t = tied client in record {
+    by_client (IsTied (record world { requests = put world.requests client queue })) client c (let t = tied client in record {
       present = t.present;
       requests = λ down. absurd (not_empty request queue (sym e ∙ t.requests down));
       replies = t.replies;
@@ -358,8 +336,7 @@ server_takes_linked : (world : World) (client : ℕ) (queue : List Request) → 
     → IsLinked world → IsLinked (server_takes world client queue)
 server_takes_linked world client [] e l = l
 server_takes_linked world client (request ∷ queue) e l =
-    plain_linked (record world { requests = put world.requests client queue }) (Call.Receive client request) tt
-    (record {
+    plain_linked (record world { requests = put world.requests client queue }) (Call.Receive client request) tt (record {
       sound = l.sound;
       waits = l.waits;
       tied = taken_tied world client request queue e l.tied;
@@ -368,8 +345,7 @@ server_takes_linked world client (request ∷ queue) e l =
 
 -- a client takes a reply
 abbrev reply_taken : World → ℕ → List Reply → World
-reply_taken world client queue =
-    happened (record world { replies = put world.replies client queue }) (Fact.Took client)
+reply_taken world client queue = happened (record world { replies = put world.replies client queue }) (Fact.Took client)
 
 took_tied : (world : World) (client : ℕ) (reply : Reply) (queue : List Reply) → world.replies client ≡ reply ∷ queue
     → ((c : ℕ) → IsTied world c) → (c : ℕ) → IsTied (reply_taken world client queue) c
@@ -409,8 +385,7 @@ cut_linked world client Link.Up e l =
     }) (Fact.Dropped client) in
     called_linked lost (Call.Cut client) l.sound l.waits
     (served_tied lost (Call.Cut client) l.sound l.waits (cut_tied world client l.sound l.waits (ap is_up e) l.tied))
-    (λ c. by_client (IsOnline lost) client c
-    (l.online client ∙ ap (λ k. not (is_down k)) e
+    (λ c. by_client (IsOnline lost) client c (l.online client ∙ ap (λ k. not (is_down k)) e
     ∙ ap (λ k. not (is_down k)) (sym (put_same world.links client Link.Cut)))
     (λ ne apart. l.online c ∙ ap (λ k. not (is_down k)) (sym (put_other world.links client Link.Cut c ne))))
 cut_linked world client link e l = l
@@ -419,10 +394,8 @@ cut_linked world client link e l = l
 notice_linked : (world : World) (client : ℕ) (link : Link) → world.links client ≡ link → IsLinked world
     → IsLinked (notice_over world client link)
 unfolding link_noticed noticed all_turned
-notice_linked world client Link.Cut e l =
-    stepped_linked (record world { links = put world.links client Link.Down }) client
-    (noticed (world.clients client)) l.sound l.waits
-    (relinked world client Link.Down (ap is_up e) refl l.tied)
+notice_linked world client Link.Cut e l = stepped_linked (record world { links = put world.links client Link.Down }) client
+    (noticed (world.clients client)) l.sound l.waits (relinked world client Link.Down (ap is_up e) refl l.tied)
     (sym (ap (λ k. not (is_down k)) (put_same world.links client Link.Down)))
     (λ c ne. l.online c ∙ ap (λ k. not (is_down k)) (sym (put_other world.links client Link.Down c ne)))
 notice_linked world client link e l = l
@@ -432,15 +405,12 @@ connect_linked : (world : World) (client : ℕ) (link : Link) → world.links cl
     → IsLinked (connect_over world client link)
 unfolding link_connected connection_made all_turned
 connect_linked world client Link.Down e l =
-    let back : World =
-    happened (record world { links = put world.links client Link.Up }) (Fact.Joined client) in
+    let back : World = happened (record world { links = put world.links client Link.Up }) (Fact.Joined client) in
     let progress = join world.server client in
     stepped_linked (served back progress) client (connection_made (world.clients client))
     (subst IsSound (sym (served-server back progress)) (called-sound world.server (Call.Join client) l.sound))
-    (subst WaitsWell (sym (served-server back progress))
-    (called-waits-well world.server (Call.Join client) l.sound l.waits))
-    (served_tied back (Call.Join client) l.sound l.waits
-    (join_tied world client l.sound l.waits (ap is_up e) l.tied))
+    (subst WaitsWell (sym (served-server back progress)) (called-waits-well world.server (Call.Join client) l.sound l.waits))
+    (served_tied back (Call.Join client) l.sound l.waits (join_tied world client l.sound l.waits (ap is_up e) l.tied))
     (sym (ap (λ (t : ℕ → Link). not (is_down (t client))) (served_links back progress)
     ∙ ap (λ k. not (is_down k)) (put_same world.links client Link.Up)))
     (λ c ne. ap (λ (t : ℕ → Client). (t c).is_online) (served-clients back progress) ∙ l.online c
@@ -449,8 +419,7 @@ connect_linked world client Link.Down e l =
 connect_linked world client link e l = l
 
 -- a timer runs out
-expired_tied : (world : World) (client file c : ℕ) → IsTied world c
-    → IsTied (happened world (Fact.Expired client file)) c
+expired_tied : (world : World) (client file c : ℕ) → IsTied world c → IsTied (happened world (Fact.Expired client file)) c
 unfolding is_served sendings takings
 expired_tied world client file c t = record {
   present = t.present;
@@ -463,8 +432,7 @@ expired_tied world client file c t = record {
 timer_linked : (world : World) (client file : ℕ) → IsLinked world → IsLinked (timer_expired world client file)
 unfolding timer_expired
 timer_linked world client file l =
-    plain_linked (happened world (Fact.Expired client file)) (Call.Expire (machine_key world client file)) tt
-    (record {
+    plain_linked (happened world (Fact.Expired client file)) (Call.Expire (machine_key world client file)) tt (record {
       sound = l.sound;
       waits = l.waits;
       tied = λ c. expired_tied world client file c (l.tied c);

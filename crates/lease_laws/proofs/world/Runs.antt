@@ -51,15 +51,13 @@ noted_server world client (note ∷ notes) = noted_server (happened world (fact_
 pub stepped_server : (world : World) (client : ℕ) (step : Step) → (stepped_in world client step).server ≡ world.server
 unfolding stepped_in requests_sent
 stepped_server world client step = noted_server
-    (requests_sent (record world { clients = put world.clients client step.client }) client step.requests) client
-    step.notes
+    (requests_sent (record world { clients = put world.clients client step.client }) client step.requests) client step.notes
 
 pub stepped_clients : (world : World) (client : ℕ) (step : Step)
     → (stepped_in world client step).clients ≡ put world.clients client step.client
 unfolding stepped_in requests_sent
 stepped_clients world client step = noted_clients
-    (requests_sent (record world { clients = put world.clients client step.client }) client step.requests) client
-    step.notes
+    (requests_sent (record world { clients = put world.clients client step.client }) client step.requests) client step.notes
 
 -- ---- servers of runs
 
@@ -68,8 +66,7 @@ record IsSoundWorld (world : World) : Type 0 where
   waits : WaitsWell world.server
 
 -- by the server alone
-sound_by : (world : World) (server : Server) → world.server ≡ server → IsSound server → WaitsWell server
-    → IsSoundWorld world
+sound_by : (world : World) (server : Server) → world.server ≡ server → IsSound server → WaitsWell server → IsSoundWorld world
 sound_by world server same s w = record { sound = subst IsSound (sym same) s; waits = subst WaitsWell (sym same) w }
 
 sound_kept : IsKept IsSoundWorld
@@ -79,8 +76,7 @@ sound_kept = record {
   call = λ world call p. sound_by (served world (called world.server call)) (called world.server call).server
       (served-server world (called world.server call)) (called-sound world.server call p.sound)
       (called-waits-well world.server call p.sound p.waits);
-  step = λ world client call p. sound_by
-      (stepped_in world client (client_called (world.clients client) call)) world.server
+  step = λ world client call p. sound_by (stepped_in world client (client_called (world.clients client) call)) world.server
       (stepped_server world client (client_called (world.clients client) call)) p.sound p.waits;
 }
 
@@ -104,8 +100,7 @@ DoFit contents = (file : ℕ) → length (contents file) ≤ FILE_LIMIT
 patched_fits : (content : List ℕ) (offset : ℕ) (bytes : List ℕ) → length content ≤ FILE_LIMIT
     → nat_le (offset + length bytes) FILE_LIMIT ≡ true → length (patch_at content offset bytes) ≤ FILE_LIMIT
 patched_fits content offset [] fits e = fits
-patched_fits content offset (b ∷ bytes) fits e =
-    subst (λ n. n ≤ FILE_LIMIT) (sym (length-written content offset (b ∷ bytes)))
+patched_fits content offset (b ∷ bytes) fits e = subst (λ n. n ≤ FILE_LIMIT) (sym (length-written content offset (b ∷ bytes)))
     (both_fit (length content) (offset + length (b ∷ bytes)) FILE_LIMIT fits e)
   where
     both_fit : (a b limit : ℕ) → a ≤ limit → nat_le b limit ≡ true → max a b ≤ limit
@@ -134,8 +129,7 @@ ends_fit client progress fit = record {
   refused = λ request status may. fit;
   left = λ request outcome may. fit;
   full = λ file access share ask none may. fit;
-  granted = λ file access share ask none may.
-      subst DoFit (sym (put_contents progress.server client ask.lease _)) fit;
+  granted = λ file access share ask none may. subst DoFit (sym (put_contents progress.server client ask.lease _)) fit;
   again = λ file access share ask file_id some may. fit;
   read = λ file_id one own may. fit;
   changed = λ file_id number patch one own may. put_fits progress.server.contents one.file _ fit
@@ -153,10 +147,8 @@ concluded_fits client request progress outcome may fit =
 
 -- a write that may be served fits
 serve_fits : (server : Server) (client : ℕ) (request : FileRequest) → MayServe server client request
-    → (number : ℕ) (file_id : ℕ) (patch : Patch) → request ≡ FileRequest.Write file_id number patch
-    → is_within_limit patch ≡ true
-serve_fits server client request may number file_id patch e =
-    (subst (λ q. MayServe server client q) e may).allowed.fits
+    → (number : ℕ) (file_id : ℕ) (patch : Patch) → request ≡ FileRequest.Write file_id number patch → is_within_limit patch ≡ true
+serve_fits server client request may number file_id patch e = (subst (λ q. MayServe server client q) e may).allowed.fits
 
 -- an acknowledgment changes no content
 acknowledged_contents : (client : ℕ) (given : Option LeaseOf) (progress : Progress)
@@ -170,10 +162,8 @@ acknowledged_contents client given progress = any_judgement client progress
 step_fits : (step : SmallStep) (progress : Progress) → IsGuarded step progress.server
     → DoFit progress.server.contents → DoFit (step_taken step progress).server.contents
 unfolding held_left request_held opens_dropped with_opens lease_lowered break_begun
-step_fits (SmallStep.Answer client request outcome) progress may fit =
-    concluded_fits client request progress outcome
-    (λ ready. serve_fits progress.server client request (end_serves progress.server client request outcome may ready))
-    fit
+step_fits (SmallStep.Answer client request outcome) progress may fit = concluded_fits client request progress outcome
+    (λ ready. serve_fits progress.server client request (end_serves progress.server client request outcome may ready)) fit
 step_fits (SmallStep.AnswerHeld file before one behind outcome) progress may fit =
     concluded_fits one.client one.request (held_left file (before ++ behind) progress) outcome
     (λ ready. serve_fits progress.server one.client one.request
@@ -185,8 +175,7 @@ step_fits step progress may fit = fit
 steps_fit : (steps : List SmallStep) (progress : Progress) → AreGuarded steps progress
     → DoFit progress.server.contents → DoFit (steps_taken steps progress).server.contents
 steps_fit [] progress g fit = fit
-steps_fit (step ∷ steps) progress g fit = steps_fit steps (step_taken step progress) g.1
-    (step_fits step progress g.0 fit)
+steps_fit (step ∷ steps) progress g fit = steps_fit steps (step_taken step progress) g.1 (step_fits step progress g.0 fit)
 
 -- before them no content changes
 either_contents : (b : Bool) (x y : Progress) (contents : ℕ → List ℕ) → x.server.contents ≡ contents
@@ -199,8 +188,7 @@ unfolding join joined client_forgotten opens_disconnected opens_dropped with_ope
 begun_contents server (Call.Join client) =
     either_contents (server.present client) (begun server) (joined client (begun server)) server.contents refl refl
 begun_contents server (Call.Receive client request) = refl
-begun_contents server (Call.Cut client) =
-    either_contents (server.present client) _ (begun server) server.contents refl refl
+begun_contents server (Call.Cut client) = either_contents (server.present client) _ (begun server) server.contents refl refl
 begun_contents server (Call.Expire key) =
     either_contents (is_breaking (server.leases key)) _ (begun server) server.contents refl refl
 begun_contents server (Call.Scavenge file_id) =
@@ -210,8 +198,7 @@ called_fits : (server : Server) (call : Call) → IsSound server → WaitsWell s
     → DoFit (called server call).server.contents
 called_fits server call s w fit =
     let go = called-steps server call s w in
-    subst (λ p. DoFit p.server.contents) (sym go.lead)
-    (steps_fit go.steps (call_begun server call) go.are_guarded
+    subst (λ p. DoFit p.server.contents) (sym go.lead) (steps_fit go.steps (call_begun server call) go.are_guarded
     (subst DoFit (sym (begun_contents server call)) fit))
 
 -- in every run
@@ -231,8 +218,7 @@ fit_kept = record {
   };
   step = λ world client call p. record {
     sound = sound_kept.step world client call p.sound;
-    fit = subst (λ s. DoFit s.contents)
-        (sym (stepped_server world client (client_called (world.clients client) call))) p.fit;
+    fit = subst (λ s. DoFit s.contents) (sym (stepped_server world client (client_called (world.clients client) call))) p.fit;
   };
 }
 

@@ -65,8 +65,7 @@ pub carried_step : (world new : World) (c : ℕ) → new.links c ≡ world.links
     → KeepsStep world c → KeepsStep new c
 carried_step world new c links replies sent took keeps up =
     let is = keeps (ap is_up (sym links) ∙ up) in record {
-      low = low_by (takings c new.past) (takings c world.past) (sendings c new.past) (sendings c world.past) took sent
-          is.low;
+      low = low_by (takings c new.past) (takings c world.past) (sendings c new.past) (sendings c world.past) took sent is.low;
       in_step = step_by (takings c new.past) (takings c world.past) (sendings c new.past) (sendings c world.past)
           (new.replies c) (world.replies c) took sent replies is.in_step;
     }
@@ -87,22 +86,19 @@ sent_in_step world client reply is keeps up =
     let was = keeps up in
     let count = takings client world.past in
     let places = sendings client world.past in record {
-      low = rw (eq-eqb client client refl, length-append places (world.past ∷ []))
-          (let low = was.low in omega (arith, low));
+      low = rw (eq-eqb client client refl, length-append places (world.past ∷ [])) (let low = was.low in omega (arith, low));
       in_step = rw (
         eq-eqb client client refl,
         put_same world.replies client (world.replies client ++ reply ∷ []),
         drop_low count places (world.past ∷ []) was.low,
-      )
-          (in_step_more client (drop count places) (world.replies client) world.past reply was.in_step is);
+      ) (in_step_more client (drop count places) (world.replies client) world.past reply was.in_step is);
     }
 
 delivered_in_step : (world : World) (out : Out) → FitsThere world.past out → ((c : ℕ) → KeepsStep world c)
     → (c : ℕ) → KeepsStep (delivered world out) c
 unfolding delivered sendings takings
 delivered_in_step world (Out.Sent client reply) is keeps c =
-    by_client (KeepsStep (delivered world (Out.Sent client reply))) client c
-    (sent_in_step world client reply is (keeps client))
+    by_client (KeepsStep (delivered world (Out.Sent client reply))) client c (sent_in_step world client reply is (keeps client))
     (λ ne apart. carried_step world (delivered world (Out.Sent client reply)) c refl
     (put_other world.replies client _ c ne) (rw (apart) refl) refl (keeps c))
 delivered_in_step world (Out.Opened file client) is keeps c =
@@ -120,8 +116,7 @@ pub all_in_step : (world : World) (outs : List Out) → EachFits world.past outs
 unfolding all_delivered
 all_in_step world [] each keeps c = keeps c
 all_in_step world (out ∷ outs) each keeps c = all_in_step (delivered world out) outs
-    (subst (λ past. EachFits past outs) (sym (delivered_past world out)) each.1)
-    (delivered_in_step world out each.0 keeps) c
+    (subst (λ past. EachFits past outs) (sym (delivered_past world out)) each.1) (delivered_in_step world out each.0 keeps) c
 
 -- ---- steps of a client
 
@@ -142,10 +137,8 @@ pub stepped_in_step : (world : World) (client : ℕ) (step : Step) (c : ℕ) →
     → KeepsStep (stepped_in world client step) c
 unfolding stepped_in requests_sent
 stepped_in_step world client step c k = noted_in_step
-    (requests_sent (record world { clients = put world.clients client step.client }) client step.requests) client
-    step.notes c
-    (carried_step world
-    (requests_sent (record world { clients = put world.clients client step.client }) client step.requests) c
+    (requests_sent (record world { clients = put world.clients client step.client }) client step.requests) client step.notes c
+    (carried_step world (requests_sent (record world { clients = put world.clients client step.client }) client step.requests) c
     refl refl refl refl k)
 
 -- a reply is taken
@@ -167,8 +160,7 @@ took_in_step world client reply queue e keeps c =
         put_same world.replies client queue,
       ) less.0;
     })
-    (λ ne apart. carried_step world new c refl (put_other world.replies client queue c ne) refl (rw (apart) refl)
-    (keeps c))
+    (λ ne apart. carried_step world new c refl (put_other world.replies client queue c ne) refl (rw (apart) refl) (keeps c))
 
 -- a link that comes up: nothing was sent since, and nothing is on its way
 pub joined_in_step : (world : World) (client : ℕ) → world.replies client ≡ [] → ((c : ℕ) → KeepsStep world c) → (c : ℕ)
@@ -186,8 +178,7 @@ joined_in_step world client none keeps c =
 
 -- a link that isn't up any more
 pub down_in_step : (world : World) (client : ℕ) (link : Link) (requests : ℕ → List Request) (replies : ℕ → List Reply)
-    → is_up link ≡ false → ((c : ℕ) → c ≢ client → replies c ≡ world.replies c)
-    → ((c : ℕ) → KeepsStep world c) → (c : ℕ)
+    → is_up link ≡ false → ((c : ℕ) → c ≢ client → replies c ≡ world.replies c) → ((c : ℕ) → KeepsStep world c) → (c : ℕ)
     → KeepsStep (record world { links = put world.links client link; requests = requests; replies = replies }) c
 down_in_step world client link requests replies down same keeps c =
     let new : World = record world { links = put world.links client link; requests = requests; replies = replies } in

@@ -46,11 +46,9 @@ delivered_served world out c = refl
 all_delivered_served : (world : World) (outs : List Out) → SameServed world.past (all_delivered world outs).past
 unfolding all_delivered
 all_delivered_served world [] c = refl
-all_delivered_served world (out ∷ outs) c =
-    all_delivered_served (delivered world out) outs c ∙ delivered_served world out c
+all_delivered_served world (out ∷ outs) c = all_delivered_served (delivered world out) outs c ∙ delivered_served world out c
 
-note_served : (world : World) (client : ℕ) (note : Note)
-    → SameServed world.past (happened world (fact_of client note)).past
+note_served : (world : World) (client : ℕ) (note : Note) → SameServed world.past (happened world (fact_of client note)).past
 unfolding is_served
 note_served world client (Note.Settled number outcome) c = refl
 note_served world client note c = refl
@@ -74,8 +72,7 @@ stepped_told world client step told key e = stepped_served world client step key
     ∙ told key (ap (λ s. s.expired key) (sym (stepped_server world client step)) ∙ e)
 
 -- once its keys are told of, a call's outs change nothing
-served_told : (world : World) (call : Call)
-    → AreTold (called world.server call).server.expired world.past
+served_told : (world : World) (call : Call) → AreTold (called world.server call).server.expired world.past
     → AreTold (served world (called world.server call)).server.expired (served world (called world.server call)).past
 unfolding served
 served_told world call told key e =
@@ -132,8 +129,7 @@ notice_told world client link t = t.told
 
 -- a join forgets the client's timers
 joined_told : (expired : Key → Bool) (past : List Fact) (client : ℕ) → AreTold expired past → (key : Key)
-    → (if key.client == client then false else expired key) ≡ true
-    → is_served key.client (Fact.Joined client ∷ past) ≡ false
+    → (if key.client == client then false else expired key) ≡ true → is_served key.client (Fact.Joined client ∷ past) ≡ false
 unfolding is_served
 joined_told expired past client told key = either (client == key.client)
     (λ same. if_cases (λ b. b ≡ true → is_served key.client (Fact.Joined client ∷ past) ≡ false)
@@ -150,8 +146,7 @@ connect_told : (world : World) (client : ℕ) (link : Link) → world.links clie
     → AreToldOf (connect_over world client link)
 unfolding link_connected
 connect_told world client Link.Down down t =
-    let back : World =
-    happened (record world { links = put world.links client Link.Up }) (Fact.Joined client) in
+    let back : World = happened (record world { links = put world.links client Link.Up }) (Fact.Joined client) in
     stepped_told (served back (join world.server client)) client (connection_made (world.clients client))
     (served_told back (Call.Join client)
     (λ key e. joined_told world.server.expired world.past client t.told key
@@ -170,8 +165,7 @@ timer_told world client file t =
     (λ old. ap (λ b. not (client == key.client) && b) (t.told key old) ∙ none_of (not (client == key.client)))
     (λ new. put_key-cases (λ b. b ≡ true → is_served key.client ended.past ≡ false) world.server.expired own true key
     (λ same true_now. rw (same, eq-eqb client client refl) refl)
-    (λ other old. ap (λ b. not (client == key.client) && b) (t.told key old)
-    ∙ none_of (not (client == key.client))) new)
+    (λ other old. ap (λ b. not (client == key.client) && b) (t.told key old) ∙ none_of (not (client == key.client))) new)
     (expire-expired world.server own key (ap (λ x. x key)
     (sym (called-expired world.server (Call.Expire own) (t.linked).sound (t.linked).waits)) ∙ e)))
 
@@ -189,8 +183,7 @@ strayed_told world client request link t = t.told
 
 applied_told : (world : World) (event : Event) → IsTimely world → AreToldOf (applied world event)
 unfolding applied
-applied_told world (Event.App client command) t =
-    stepped_told world client (commanded (world.clients client) command) t.told
+applied_told world (Event.App client command) t = stepped_told world client (commanded (world.clients client) command) t.told
 applied_told world (Event.ServerTakes client) t = server_takes_told world client (world.requests client) t
 applied_told world (Event.ClientTakes client) t = client_takes_told world client (world.replies client) t
 applied_told world (Event.Cut client) t = cut_told world client (world.links client) t

@@ -42,23 +42,19 @@ pub record HasCommands (client : Client) (P : Step → Type 0) : Type 0 where
         phase = Phase.Opening terms.access terms.share;
         sent = sent_of client file;
       }) Answer.Waiting (create_request client file terms ∷ [])))
-  pub added : (file : ℕ) (live : LiveEntry) → IsEntry client file (Phase.Live live)
-      → P (turned client file
+  pub added : (file : ℕ) (live : LiveEntry) → IsEntry client file (Phase.Live live) → P (turned client file
       (turn_of (live_entry (record live { handles = live.handles + 1 }) (sent_of client file)) Answer.Done []))
   pub asked : (file : ℕ) (live : LiveEntry) (terms : OpenTerms) → IsEntry client file (Phase.Live live)
-      → is_asking live ≡ false → (live.handles == 0) ≡ false
-      → P (turned client file (turn_of
+      → is_asking live ≡ false → (live.handles == 0) ≡ false → P (turned client file (turn_of
       (live_entry (record live { asking = Some (asked_by (joint_terms live terms)) }) (sent_of client file))
       Answer.Waiting (create_request client file (joint_terms live terms) ∷ [])))
   pub anew : (file : ℕ) (live : LiveEntry) (terms : OpenTerms) → IsEntry client file (Phase.Live live)
-      → is_asking live ≡ false → (live.handles == 0) ≡ true
-      → P (opened_anew client file live (sent_of client file) terms)
+      → is_asking live ≡ false → (live.handles == 0) ≡ true → P (opened_anew client file live (sent_of client file) terms)
   pub fewer : (file : ℕ) (live : LiveEntry) → IsEntry client file (Phase.Live live) → nat_lt 1 live.handles ≡ true
       → P (turned client file (turn_of
       (live_entry (record live { handles = one_handle_less live.handles }) (sent_of client file)) Answer.Done []))
   pub parked : (file : ℕ) (live : LiveEntry) → IsEntry client file (Phase.Live live) → is_asking live ≡ false
-      → has_unanswered live (sent_of client file) ≡ false → live.belief.handle ≡ true
-      → P (turned client file
+      → has_unanswered live (sent_of client file) ≡ false → live.belief.handle ≡ true → P (turned client file
       (turn_of (live_entry (record live { handles = 0 }) (sent_of client file)) Answer.Done []))
   pub closed : (file : ℕ) (live : LiveEntry) → IsEntry client file (Phase.Live live) → is_asking live ≡ false
       → has_unanswered live (sent_of client file) ≡ false → live.belief.handle ≡ false
@@ -68,23 +64,19 @@ pub record HasCommands (client : Client) (P : Step → Type 0) : Type 0 where
       → live.belief.read ≡ true → live.base ≡ Some base
       → P (cached_read client file (view base (sent_of client file) live.unsent))
   pub read : (file : ℕ) (live : LiveEntry) → IsEntry client file (Phase.Live live) → is_asking live ≡ false
-      → P (turned client file (turn_of
-      (live_entry (record live { reads = live.reads + 1 }) (sent_of client file))
+      → P (turned client file (turn_of (live_entry (record live { reads = live.reads + 1 }) (sent_of client file))
       Answer.Waiting (Request.OnFile (FileRequest.Read live.file_id) ∷ [])))
   pub buffered : (file : ℕ) (live : LiveEntry) (patch : Patch) → IsEntry client file (Phase.Live live)
-      → is_within_limit patch ≡ true → live.belief.write ≡ true
-      → P (write_buffered client file live (sent_of client file) patch)
+      → is_within_limit patch ≡ true → live.belief.write ≡ true → P (write_buffered client file live (sent_of client file) patch)
   pub written : (file : ℕ) (live : LiveEntry) (patch : Patch) → IsEntry client file (Phase.Live live)
-      → is_within_limit patch ≡ true → live.belief.write ≡ false
-      → P (write_sent client file live (sent_of client file) patch)
+      → is_within_limit patch ≡ true → live.belief.write ≡ false → P (write_sent client file live (sent_of client file) patch)
   pub flushed : (file : ℕ) (live : LiveEntry) → IsEntry client file (Phase.Live live)
       → P (flush_on_live client file live (sent_of client file))
 
 -- ---- every command has one of them
 
 closed_command : (client : Client) (P : Step → Type 0) → HasCommands client P → (file : ℕ) (command : Command)
-    → file_of command ≡ file → IsEntry client file Phase.Closed
-    → P (on_closed client file (sent_of client file) command)
+    → file_of command ≡ file → IsEntry client file Phase.Closed → P (on_closed client file (sent_of client file) command)
 closed_command client P h file (Command.Open _ terms) same is = if_cases P client.is_online _
     (refused_step client Refusal.Offline) (λ on. h.opening file terms is on) (λ off. h.refused Refusal.Offline)
 closed_command client P h file command same is = h.refused Refusal.NotOpen
@@ -100,8 +92,7 @@ other_command client P h file live terms is idle = if_cases P (live.handles == 0
     (λ full. h.refused Refusal.UsedUp) (λ fits. h.asked file live terms is idle some))
 
 open_command : (client : Client) (P : Step → Type 0) → HasCommands client P → (file : ℕ) (live : LiveEntry)
-    (terms : OpenTerms) → IsEntry client file (Phase.Live live)
-    → P (open_on_live client file live (sent_of client file) terms)
+    (terms : OpenTerms) → IsEntry client file (Phase.Live live) → P (open_on_live client file live (sent_of client file) terms)
 unfolding open_on_live handle_added
 open_command client P h file live terms is = if_cases P (is_asking live) (refused_step client Refusal.Busy) _
     (λ asking. h.refused Refusal.Busy)
@@ -120,8 +111,7 @@ close_command : (client : Client) (P : Step → Type 0) → HasCommands client P
 unfolding close_on_live last_handle_closed
 close_command client P h file live is = if_cases P (nat_lt 1 live.handles) _ _
     (λ more. h.fewer file live is more)
-    (λ last. if_cases P (is_asking live || has_unanswered live (sent_of client file))
-    (refused_step client Refusal.Busy) _
+    (λ last. if_cases P (is_asking live || has_unanswered live (sent_of client file)) (refused_step client Refusal.Busy) _
     (λ busy. h.refused Refusal.Busy)
     (λ idle. let none = neither (is_asking live) (has_unanswered live (sent_of client file)) idle in
     if_cases P live.belief.handle _ _
@@ -155,8 +145,7 @@ not_not true e = refl
 not_not false e = let c : ⊥ = cc in absurd c
 
 write_command : (client : Client) (P : Step → Type 0) → HasCommands client P → (file : ℕ) (live : LiveEntry)
-    (patch : Patch) → IsEntry client file (Phase.Live live)
-    → P (write_on_live client file live (sent_of client file) patch)
+    (patch : Patch) → IsEntry client file (Phase.Live live) → P (write_on_live client file live (sent_of client file) patch)
 unfolding write_on_live
 write_command client P h file live patch is = if_cases P (not (may_write live.access))
     (refused_step client Refusal.Denied) _ (λ no. h.refused Refusal.Denied)
@@ -175,8 +164,7 @@ parked_command client P h live step p = if_cases P (live.handles == 0) (refused_
     (λ none. h.refused Refusal.NotOpen) (λ some. p)
 
 live_command : (client : Client) (P : Step → Type 0) → HasCommands client P → (file : ℕ) (live : LiveEntry)
-    (command : Command) → IsEntry client file (Phase.Live live)
-    → P (on_live client file live (sent_of client file) command)
+    (command : Command) → IsEntry client file (Phase.Live live) → P (on_live client file live (sent_of client file) command)
 live_command client P h file live (Command.Open _ terms) is = open_command client P h file live terms is
 live_command client P h file live (Command.Close _) is = parked_command client P h live
     (close_on_live client file live (sent_of client file)) (close_command client P h file live is)
@@ -198,8 +186,7 @@ entry_command client P h file command same phase is = h.refused Refusal.Busy
 pub any_command : (client : Client) (P : Step → Type 0) → HasCommands client P → (command : Command)
     → P (commanded client command)
 unfolding commanded
-any_command client P h command = if_cases P (knows_file client (file_of command)) _
-    (refused_step client Refusal.NotOpen)
+any_command client P h command = if_cases P (knows_file client (file_of command)) _ (refused_step client Refusal.NotOpen)
     (λ known. entry_command client P h (file_of command) command refl (client.entries (file_of command)).phase
     (record { known = known; is_so = refl }))
     (λ unknown. h.refused Refusal.NotOpen)

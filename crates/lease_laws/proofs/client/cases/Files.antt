@@ -25,8 +25,7 @@ numbers_known (suc n) file a = ⊎_elim
 -- the file that is found is known
 pub found_known : (client : Client) (test : ℕ → Bool) (file : ℕ) → file_where client test ≡ Some file
     → knows_file client file ≡ true
-found_known client test file e = numbers_known client.files file
-    (find_has test file (numbers_to client.files) e).0
+found_known client test file e = numbers_known client.files file (find_has test file (numbers_to client.files) e).0
 
 pub found_so : (client : Client) (test : ℕ → Bool) (file : ℕ) → file_where client test ≡ Some file → test file ≡ true
 found_so client test file e = (find_has test file (numbers_to client.files) e).1
@@ -41,12 +40,10 @@ among_numbers (suc n) file e = either (file == suc n)
     (λ last. among_behind file (numbers_to n) (suc n ∷ []) (inl (eqb-true file (suc n) last)))
     (λ before. among_before file (numbers_to n) (suc n ∷ []) (among_numbers n file (lower file n e before)))
   where
-    lower : (f m : ℕ) → (nat_le 1 f && nat_le f (suc m)) ≡ true → (f == suc m) ≡ false
-        → (nat_le 1 f && nat_le f m) ≡ true
+    lower : (f m : ℕ) → (nat_le 1 f && nat_le f (suc m)) ≡ true → (f == suc m) ≡ false → (nat_le 1 f && nat_le f m) ≡ true
     lower f m e g = grind arith
 
-pub find_absent : {X : Type 0} (test : X → Bool) (x : X) (xs : List X) → find test xs ≡ None → Among x xs
-    → test x ≡ false
+pub find_absent : {X : Type 0} (test : X → Bool) (x : X) (xs : List X) → find test xs ≡ None → Among x xs → test x ≡ false
 find_absent test x [] none a = absurd a
 find_absent {X} test x (y ∷ xs) none a = if_cases (λ (o : Option X). o ≡ None → test x ≡ false) (test y) (Some y)
     (find test xs) (λ found e. absurd (never y e))

@@ -41,8 +41,7 @@ PassesOver client (Reply.WriteDone file_id number) = file_where client (has_sent
 PassesOver client (Reply.WriteFailed file_id number status) = file_where client (has_sent client number) ≡ None
 PassesOver client (Reply.Break None) = ⊤
 PassesOver client (Reply.Break (Some notice)) = (file_where client (is_key_of client notice.key) ≡ None)
-    ⊎ ((file : ℕ) × (file_where client (is_key_of client notice.key) ≡ Some file)
-    × (is_live (client.entries file).phase ≡ false))
+    ⊎ ((file : ℕ) × (file_where client (is_key_of client notice.key) ≡ Some file) × (is_live (client.entries file).phase ≡ false))
 PassesOver client reply = ⊤
 
 -- ---- the forms
@@ -50,12 +49,10 @@ PassesOver client reply = ⊤
 pub record HasTakes (client : Client) (P : Reply → Step → Type 0) : Type 0 where
   pub passed : (reply : Reply) → PassesOver client reply → P reply (quiet_step client)
   pub parked_closes : (file : ℕ) (notice : BreakNotice) (live : LiveEntry)
-      → file_where client (is_key_of client notice.key) ≡ Some file
-      → (client.entries file).phase ≡ Phase.Live live
+      → file_where client (is_key_of client notice.key) ≡ Some file → (client.entries file).phase ≡ Phase.Live live
       → (live.handles == 0 && (live.belief.handle && not (meet live.belief notice.lowered).handle)) ≡ true
       → P (Reply.Break (Some notice)) (turned client file (parked_closed live (sent_of client file)))
-  pub lowered : (file : ℕ) (notice : BreakNotice) (live : LiveEntry)
-      → file_where client (is_key_of client notice.key) ≡ Some file
+  pub lowered : (file : ℕ) (notice : BreakNotice) (live : LiveEntry) → file_where client (is_key_of client notice.key) ≡ Some file
       → (client.entries file).phase ≡ Phase.Live live
       → (live.handles == 0 && (live.belief.handle && not (meet live.belief notice.lowered).handle)) ≡ false
       → P (Reply.Break (Some notice)) (turned client file
@@ -65,8 +62,7 @@ pub record HasTakes (client : Client) (P : Reply → Step → Type 0) : Type 0 w
       → P (Reply.Created file file_id (Some answer)) (turned client file
       (opened_turn file_id access share (sent_of client file) answer (first_belief client file answer)))
   pub reconnected : (file file_id : ℕ) (answer : CreateAnswer) (parted : Parted)
-      → (client.entries file).phase ≡ Phase.Reconnecting parted
-      → P (Reply.Created file file_id (Some answer)) (turned client file
+      → (client.entries file).phase ≡ Phase.Reconnecting parted → P (Reply.Created file file_id (Some answer)) (turned client file
       (reconnected_turn parted (sent_of client file) (first_belief client file answer)))
   pub promoted : (file file_id : ℕ) (answer : CreateAnswer) (live : LiveEntry) (asked : Asked)
       → (client.entries file).phase ≡ Phase.Live live → live.asking ≡ Some asked
@@ -76,10 +72,8 @@ pub record HasTakes (client : Client) (P : Reply → Step → Type 0) : Type 0 w
   pub not_opened : (file : ℕ) (status : Status) (access : Access) (share : Share)
       → (client.entries file).phase ≡ Phase.Opening access share
       → P (Reply.CreateFailed file status) (turned client file (failed_turn status (sent_of client file) []))
-  pub not_reconnected : (file : ℕ) (status : Status) (parted : Parted)
-      → (client.entries file).phase ≡ Phase.Reconnecting parted
-      → P (Reply.CreateFailed file status)
-      (turned client file (failed_turn status (sent_of client file) parted.writes))
+  pub not_reconnected : (file : ℕ) (status : Status) (parted : Parted) → (client.entries file).phase ≡ Phase.Reconnecting parted
+      → P (Reply.CreateFailed file status) (turned client file (failed_turn status (sent_of client file) parted.writes))
   pub not_promoted : (file : ℕ) (status : Status) (live : LiveEntry) (asked : Asked)
       → (client.entries file).phase ≡ Phase.Live live → live.asking ≡ Some asked
       → P (Reply.CreateFailed file status) (turned client file
@@ -89,24 +83,20 @@ pub record HasTakes (client : Client) (P : Reply → Step → Type 0) : Type 0 w
       → P (Reply.ReadDone file_id bytes) (turned client file (read_turn live (sent_of client file) bytes))
   pub read_closed : (file file_id : ℕ) (status : Status) (live : LiveEntry)
       → (client.entries file).phase ≡ Phase.Live live → live.file_id ≡ file_id → is_file_closed status ≡ true
-      → P (Reply.ReadFailed file_id status)
-      (turned client file (closed_by_server live (sent_of client file) [] status))
+      → P (Reply.ReadFailed file_id status) (turned client file (closed_by_server live (sent_of client file) [] status))
   pub not_read : (file file_id : ℕ) (status : Status) (live : LiveEntry)
       → (client.entries file).phase ≡ Phase.Live live → live.file_id ≡ file_id → (live.reads == 0) ≡ false
       → P (Reply.ReadFailed file_id status) (turned client file
       (still_open (live_entry (record live { reads = one_read_less live.reads }) (sent_of client file)) [] status))
   pub written : (file file_id number : ℕ) → has_sent client number file ≡ true → knows_file client file ≡ true
-      → P (Reply.WriteDone file_id number)
-      (turned client file (write_done_turn number (client.entries file)))
+      → P (Reply.WriteDone file_id number) (turned client file (write_done_turn number (client.entries file)))
   pub write_closed : (file file_id number : ℕ) (status : Status) (live : LiveEntry)
       → has_sent client number file ≡ true → knows_file client file ≡ true
       → (client.entries file).phase ≡ Phase.Live live → live.file_id ≡ file_id → is_file_closed status ≡ true
       → P (Reply.WriteFailed file_id number status) (turned client file
-      (closed_by_server live (sent_without number (sent_of client file))
-      (Note.Settled number Settlement.Failed ∷ []) status))
+      (closed_by_server live (sent_without number (sent_of client file)) (Note.Settled number Settlement.Failed ∷ []) status))
   pub not_written : (file file_id number : ℕ) (status : Status) → has_sent client number file ≡ true
-      → knows_file client file ≡ true
-      → P (Reply.WriteFailed file_id number status) (turned client file (still_open (record {
+      → knows_file client file ≡ true → P (Reply.WriteFailed file_id number status) (turned client file (still_open (record {
         phase = (client.entries file).phase;
         sent = sent_without number (sent_of client file);
       }) (Note.Settled number Settlement.Failed ∷ []) status))
@@ -115,8 +105,7 @@ pub record HasTakes (client : Client) (P : Reply → Step → Type 0) : Type 0 w
 
 live_break : (client : Client) (P : Reply → Step → Type 0) → HasTakes client P → (file : ℕ) (notice : BreakNotice)
     (live : LiveEntry) → file_where client (is_key_of client notice.key) ≡ Some file
-    → (client.entries file).phase ≡ Phase.Live live
-    → P (Reply.Break (Some notice)) (turned client file
+    → (client.entries file).phase ≡ Phase.Live live → P (Reply.Break (Some notice)) (turned client file
     (break_turn live (sent_of client file) notice (meet live.belief notice.lowered)))
 unfolding break_turn
 live_break client P h file notice live at e =
@@ -128,12 +117,10 @@ live_break client P h file notice live at e =
     (λ stays. h.lowered file notice live at e stays)
 
 break_take : (client : Client) (P : Reply → Step → Type 0) → HasTakes client P → (file : ℕ) (notice : BreakNotice)
-    → file_where client (is_key_of client notice.key) ≡ Some file → (phase : Phase)
-    → (client.entries file).phase ≡ phase
+    → file_where client (is_key_of client notice.key) ≡ Some file → (phase : Phase) → (client.entries file).phase ≡ phase
     → P (Reply.Break (Some notice)) (break_on client file notice (sent_of client file) phase)
 break_take client P h file notice at (Phase.Live live) e = live_break client P h file notice live at e
-break_take client P h file notice at phase e =
-    h.passed (Reply.Break (Some notice)) (inr (file, at, ap is_live e))
+break_take client P h file notice at phase e = h.passed (Reply.Break (Some notice)) (inr (file, at, ap is_live e))
 
 broken_take : (client : Client) (P : Reply → Step → Type 0) → HasTakes client P → (notice : Option BreakNotice)
     → P (Reply.Break notice) (broken client notice)
@@ -149,8 +136,7 @@ broken_take client P h (Some notice) = on_found (file_where client (is_key_of cl
 
 live_create : (client : Client) (P : Reply → Step → Type 0) → HasTakes client P → (file file_id : ℕ)
     (answer : CreateAnswer) (live : LiveEntry) → (client.entries file).phase ≡ Phase.Live live
-    → (asking : Option Asked) → live.asking ≡ asking
-    → P (Reply.Created file file_id (Some answer))
+    → (asking : Option Asked) → live.asking ≡ asking → P (Reply.Created file file_id (Some answer))
     (created_for client file live (sent_of client file) file_id answer asking)
 live_create client P h file file_id answer live e None a =
     h.passed (Reply.Created file file_id (Some answer)) (subst AwaitsNone (sym e) (idle live.asking a))
@@ -172,12 +158,10 @@ create_take client P h file file_id answer phase e =
     h.passed (Reply.Created file file_id (Some answer)) (subst AwaitsNone (sym e) tt)
 
 created_take : (client : Client) (P : Reply → Step → Type 0) → HasTakes client P → (file file_id : ℕ)
-    (contexts : Option CreateAnswer)
-    → P (Reply.Created file file_id contexts) (create_answered client file file_id contexts)
+    (contexts : Option CreateAnswer) → P (Reply.Created file file_id contexts) (create_answered client file file_id contexts)
 unfolding create_answered
 created_take client P h file file_id None = h.passed (Reply.Created file file_id None) tt
-created_take client P h file file_id (Some answer) =
-    create_take client P h file file_id answer (client.entries file).phase refl
+created_take client P h file file_id (Some answer) = create_take client P h file file_id answer (client.entries file).phase refl
 
 live_fails : (client : Client) (P : Reply → Step → Type 0) → HasTakes client P → (file : ℕ) (status : Status)
     (live : LiveEntry) → (client.entries file).phase ≡ Phase.Live live → (asking : Option Asked) → live.asking ≡ asking
@@ -204,8 +188,7 @@ reads_so : (phase : Phase) (file_id : ℕ) (P : Type 0) → reads_under file_id 
     → ((live : LiveEntry) → phase ≡ Phase.Live live → live.file_id ≡ file_id → (live.reads == 0) ≡ false → P) → P
 reads_so (Phase.Live live) file_id P e k =
     let parts = and_parts (live.file_id == file_id) (not (live.reads == 0)) e in
-    k live refl (eqb-true live.file_id file_id parts.0)
-    (not_parts (live.reads == 0) parts.1)
+    k live refl (eqb-true live.file_id file_id parts.0) (not_parts (live.reads == 0) parts.1)
 reads_so phase file_id P e k = let c : ⊥ = cc in absurd c
 
 read_take : (client : Client) (P : Reply → Step → Type 0) → HasTakes client P → (file_id : ℕ) (bytes : List ℕ)
@@ -216,8 +199,7 @@ read_take client P h file_id bytes = if_cases (P (Reply.ReadDone file_id bytes))
     (λ fits. on_found (file_where client (λ file. reads_under file_id (client.entries file).phase)) refl)
     (λ long. h.passed (Reply.ReadDone file_id bytes) (inl long))
   where
-    on_found : (found : Option ℕ)
-        → file_where client (λ file. reads_under file_id (client.entries file).phase) ≡ found
+    on_found : (found : Option ℕ) → file_where client (λ file. reads_under file_id (client.entries file).phase) ≡ found
         → P (Reply.ReadDone file_id bytes) (on_file client found
         (λ file. read_on client file bytes (client.entries file).sent (client.entries file).phase))
     on_found None e = h.passed (Reply.ReadDone file_id bytes) (inr e)
@@ -229,8 +211,7 @@ read_take client P h file_id bytes = if_cases (P (Reply.ReadDone file_id bytes))
 
 failed_read : (client : Client) (P : Reply → Step → Type 0) → HasTakes client P → (file file_id : ℕ)
     (status : Status) (live : LiveEntry) → (client.entries file).phase ≡ Phase.Live live → live.file_id ≡ file_id
-    → (live.reads == 0) ≡ false
-    → P (Reply.ReadFailed file_id status)
+    → (live.reads == 0) ≡ false → P (Reply.ReadFailed file_id status)
     (turned client file (read_failed_turn live (sent_of client file) status))
 unfolding read_failed_turn
 failed_read client P h file file_id status live is id some =
@@ -241,19 +222,16 @@ failed_read client P h file file_id status live is id some =
 fail_take : (client : Client) (P : Reply → Step → Type 0) → HasTakes client P → (file_id : ℕ) (status : Status)
     → P (Reply.ReadFailed file_id status) (read_failed client file_id status)
 unfolding read_failed
-fail_take client P h file_id status =
-    on_found (file_where client (λ file. reads_under file_id (client.entries file).phase)) refl
+fail_take client P h file_id status = on_found (file_where client (λ file. reads_under file_id (client.entries file).phase)) refl
   where
-    on_found : (found : Option ℕ)
-        → file_where client (λ file. reads_under file_id (client.entries file).phase) ≡ found
+    on_found : (found : Option ℕ) → file_where client (λ file. reads_under file_id (client.entries file).phase) ≡ found
         → P (Reply.ReadFailed file_id status) (on_file client found
         (λ file. read_failed_on client file status (client.entries file).sent (client.entries file).phase))
     on_found None e = h.passed (Reply.ReadFailed file_id status) e
     on_found (Some file) e = reads_so (client.entries file).phase file_id _
         (found_so client (λ file. reads_under file_id (client.entries file).phase) file e)
         (λ live is id some. subst
-        (λ phase. P (Reply.ReadFailed file_id status)
-        (read_failed_on client file status (client.entries file).sent phase))
+        (λ phase. P (Reply.ReadFailed file_id status) (read_failed_on client file status (client.entries file).sent phase))
         (sym is) (failed_read client P h file file_id status live is id some))
 
 done_take : (client : Client) (P : Reply → Step → Type 0) → HasTakes client P → (file_id number : ℕ)
@@ -270,20 +248,17 @@ done_take client P h file_id number = on_found (file_where client (has_sent clie
 
 still_written : (client : Client) (P : Reply → Step → Type 0) → HasTakes client P → (file file_id number : ℕ)
     (status : Status) → has_sent client number file ≡ true → knows_file client file ≡ true → (phase : Phase)
-    → (client.entries file).phase ≡ phase
-    → P (Reply.WriteFailed file_id number status) (turned client file (still_open
+    → (client.entries file).phase ≡ phase → P (Reply.WriteFailed file_id number status) (turned client file (still_open
     (record { phase = phase; sent = sent_without number (sent_of client file) })
     (Note.Settled number Settlement.Failed ∷ []) status))
 still_written client P h file file_id number status at known phase is = subst
     (λ p. P (Reply.WriteFailed file_id number status) (turned client file (still_open
     (record { phase = p; sent = sent_without number (sent_of client file) })
-    (Note.Settled number Settlement.Failed ∷ []) status)))
-    is (h.not_written file file_id number status at known)
+    (Note.Settled number Settlement.Failed ∷ []) status))) is (h.not_written file file_id number status at known)
 
 failed_write : (client : Client) (P : Reply → Step → Type 0) → HasTakes client P → (file file_id number : ℕ)
     (status : Status) → has_sent client number file ≡ true → knows_file client file ≡ true → (phase : Phase)
-    → (client.entries file).phase ≡ phase
-    → P (Reply.WriteFailed file_id number status) (turned client file
+    → (client.entries file).phase ≡ phase → P (Reply.WriteFailed file_id number status) (turned client file
     (write_failed_in file_id number status (sent_without number (sent_of client file)) phase))
 failed_write client P h file file_id number status at known (Phase.Live live) is =
     if_cases (λ turn. P (Reply.WriteFailed file_id number status) (turned client file turn))
@@ -304,16 +279,13 @@ write_take client P h file_id number status = on_found (file_where client (has_s
         (λ file. turned client file (write_failed_in file_id number status
         (sent_without number (client.entries file).sent) (client.entries file).phase)))
     on_found None e = h.passed (Reply.WriteFailed file_id number status) e
-    on_found (Some file) e =
-        failed_write client P h file file_id number status (found_so client (has_sent client number) file e)
+    on_found (Some file) e = failed_write client P h file file_id number status (found_so client (has_sent client number) file e)
         (found_known client (has_sent client number) file e) (client.entries file).phase refl
 
-pub any_reply : (client : Client) (P : Reply → Step → Type 0) → HasTakes client P → (reply : Reply)
-    → P reply (taken client reply)
+pub any_reply : (client : Client) (P : Reply → Step → Type 0) → HasTakes client P → (reply : Reply) → P reply (taken client reply)
 unfolding taken create_failed
 any_reply client P h (Reply.Created file file_id contexts) = created_take client P h file file_id contexts
-any_reply client P h (Reply.CreateFailed file status) =
-    failed_take client P h file status (client.entries file).phase refl
+any_reply client P h (Reply.CreateFailed file status) = failed_take client P h file status (client.entries file).phase refl
 any_reply client P h (Reply.ReadDone file_id bytes) = read_take client P h file_id bytes
 any_reply client P h (Reply.ReadFailed file_id status) = fail_take client P h file_id status
 any_reply client P h (Reply.WriteDone file_id number) = done_take client P h file_id number

@@ -57,10 +57,8 @@ pub record HasEnds (client : ℕ) (progress : Progress) (P : FileRequest → Out
   pub granted : (file : ℕ) (access : Access) (share : Share) (ask : CreateAsk) → ask.reconnect ≡ None
       → P (FileRequest.Create file access share (Some ask)) Outcome.Ready (granted_with client file access share ask.lease
       ask.durable (lease_after progress.server client file ask.lease) progress)
-  pub again : (file : ℕ) (access : Access) (share : Share) (ask : CreateAsk) (file_id : ℕ)
-      → ask.reconnect ≡ Some file_id
-      → P (FileRequest.Create file access share (Some ask)) Outcome.Ready
-      (reconnected client file ask.lease file_id progress)
+  pub again : (file : ℕ) (access : Access) (share : Share) (ask : CreateAsk) (file_id : ℕ) → ask.reconnect ≡ Some file_id
+      → P (FileRequest.Create file access share (Some ask)) Outcome.Ready (reconnected client file ask.lease file_id progress)
   pub read : (file_id : ℕ) (one : Open) → IsOwnOpen progress.server client file_id one
       → P (FileRequest.Read file_id) Outcome.Ready (read_done client one.file file_id progress)
   pub changed : (file_id number : ℕ) (patch : Patch) (one : Open) → IsOwnOpen progress.server client file_id one
@@ -73,8 +71,7 @@ pub record HasEnds (client : ℕ) (progress : Progress) (P : FileRequest → Out
 
 create_end : (client : ℕ) (progress : Progress) (P : FileRequest → Outcome → Progress → Type 0)
     → HasEnds client progress P → (file : ℕ) (access : Access) (share : Share) (ask : CreateAsk) (again : Option ℕ)
-    → ask.reconnect ≡ again
-    → P (FileRequest.Create file access share (Some ask)) Outcome.Ready
+    → ask.reconnect ≡ again → P (FileRequest.Create file access share (Some ask)) Outcome.Ready
     (created client file access share ask.lease ask.durable again progress)
 unfolding granted
 create_end client progress P h file access share ask None e = if_cases
@@ -88,8 +85,7 @@ open_end : (client : ℕ) (progress : Progress) (P : FileRequest → Outcome →
     → (found : Option Open) → connected_open progress.server client file_id ≡ found
     → P request Outcome.Ready (on_open found done progress)
 open_end client progress P h request file_id done each None e = h.left request Outcome.Ready
-open_end client progress P h request file_id done each (Some one) e =
-    each one (own_open progress.server client file_id one e)
+open_end client progress P h request file_id done each (Some one) e = each one (own_open progress.server client file_id one e)
 
 pub any_end : (client : ℕ) (progress : Progress) (P : FileRequest → Outcome → Progress → Type 0)
     → HasEnds client progress P → (request : FileRequest) (outcome : Outcome)

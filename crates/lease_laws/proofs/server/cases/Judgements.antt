@@ -29,6 +29,5 @@ pub any_judgement : (client : ℕ) (progress : Progress) (P : Progress → Type 
 unfolding acknowledged
 any_judgement client progress P h None = h.failed Status.InvalidParameter
 any_judgement client progress P h (Some given) = if_cases P (has_lease progress.server (key_of client given.key)) _ _
-    (λ there. known_judgement client progress P h given there
-    (progress.server.leases (key_of client given.key)).broken_to refl)
+    (λ there. known_judgement client progress P h given there (progress.server.leases (key_of client given.key)).broken_to refl)
     (λ gone. h.failed Status.ObjectNameNotFound)
