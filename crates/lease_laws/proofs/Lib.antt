@@ -1,3 +1,4 @@
+pub mod Words
 pub mod client
 pub mod messages
 pub mod records

@@ -1,15 +1,11 @@
 -- What is on its way while a lease is breaking, and what beliefs are held.
-use Rattle.std.proofs.Common.{◌≡◌, inl, inr, ⊎_elim, ℕ, ◌+◌, Bool, true, false, not, List, [], ◌∷◌, Option, Some, None, refl, sym, ap, subst, arith, true≢false}
-use Rattle.std.specs.Prelude.{◌||◌, bytes_eq, is_some}
-use Rattle.std.proofs.lemmas.Slice.Eq.{bytes_eq-Decides}
-use Rattle.lease_state.specs.State.{State, is_state_within}
-use Rattle.lease_model.specs.messages.Requests.{FileRequest, Request}
-use Rattle.lease_model.specs.records.Past.{has_strayed, is_good, is_served}
-use Rattle.lease_model.specs.world.Events.{after, machine_key}
-use Rattle.lease_model.specs.world.World.{World, first_world}
-use Rattle.lease_laws.specs.server.Laws.{Among}
+use Rattle.lease_laws.proofs.Words.{◌+◌, ◌||◌, ◌∷◌, ◌≡◌, Among, Bool, FileRequest, List, None, Option, Request, Some, State}
+use Rattle.lease_laws.proofs.Words.{World, ℕ, ⊎_elim, [], after, ap, arith, bytes_eq, bytes_eq-Decides, false, first_world}
+use Rattle.lease_laws.proofs.Words.{has_strayed, inl, inr, is_good, is_served, is_some, is_state_within, machine_key, not, refl}
+use Rattle.lease_laws.proofs.Words.{subst, sym, true, true≢false}
 use Rattle.lease_laws.proofs.server.Lists.{either, clash, and_parts, and_both, not_parts}
-use Rattle.lease_coherence.specs.Agreement.{Timely, GoodClientsAreTimely, lease_of, acknowledgment_of, asked_of, BreakingIsAnswered, IsDue, AcknowledgmentsAreDue, BeliefsAreHeld}
+use Rattle.lease_coherence.specs.Agreement.{Timely, GoodClientsAreTimely, lease_of, acknowledgment_of, asked_of}
+use Rattle.lease_coherence.specs.Agreement.{BreakingIsAnswered, IsDue, AcknowledgmentsAreDue, BeliefsAreHeld}
 use Rattle.lease_coherence.specs.Creates.{one_if}
 use Rattle.lease_coherence.specs.Names.{Each}
 use Rattle.lease_coherence.specs.Parts.{OfRuns}

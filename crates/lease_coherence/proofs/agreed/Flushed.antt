@@ -1,21 +1,12 @@
 -- Buffered writes go before what gives them up, and what was kept is untouched.
-use Rattle.std.proofs.Common.{◌≡◌, ◌⊎◌, inl, inr, ⊎_elim, ℕ, ◌+◌, true, false, not, List, [], ◌∷◌, ◌++◌, Some, None, refl, sym, ap, ◌∙◌, subst, arith, true≢false, ◌==◌}
-use Rattle.std.specs.Prelude.{bytes_eq}
-use Rattle.std.proofs.lemmas.Bool.{eqb-true}
-use Rattle.std.proofs.lemmas.Slice.Eq.{bytes_eq-Decides}
-use Rattle.lease_state.specs.State.{State}
-use Rattle.lease_state.specs.declared.patch.Patch.{Patch}
-use Rattle.lease_model.specs.client.State.{LiveEntry, Phase}
-use Rattle.lease_model.specs.messages.Requests.{FileRequest, Request}
-use Rattle.lease_model.specs.records.Past.{has_buffered, has_strayed}
-use Rattle.lease_model.specs.server.State.{Held}
-use Rattle.lease_model.specs.world.Events.{after, machine_key}
-use Rattle.lease_model.specs.world.World.{World, Link, first_world}
-use Rattle.lease_laws.specs.client.Laws.{IsSoundPhase, unsent_in}
-use Rattle.lease_laws.specs.server.Laws.{Among}
-use Rattle.lease_laws.specs.world.Links.{is_up, is_down}
+use Rattle.lease_laws.proofs.Words.{◌++◌, ◌+◌, ◌==◌, ◌∙◌, ◌∷◌, ◌≡◌, ◌⊎◌, Among, FileRequest, Held, IsSoundPhase, Link, List}
+use Rattle.lease_laws.proofs.Words.{LiveEntry, None, Patch, Phase, Request, Some, State, World, ℕ, ⊎_elim, [], after, ap, arith}
+use Rattle.lease_laws.proofs.Words.{bytes_eq, bytes_eq-Decides, eqb-true, false, first_world, has_buffered, has_strayed, inl, inr}
+use Rattle.lease_laws.proofs.Words.{is_down, is_up, machine_key, not, refl, subst, sym, true, true≢false, unsent_in}
 use Rattle.lease_laws.proofs.server.Lists.{clash, among_append, among_behind, among_filter, either, not_true}
-use Rattle.lease_coherence.specs.Agreement.{OfAllowedRuns, Timely, acknowledgment_of, as_requests, asked_of, NoneBuffered, FlushedBeforeAcknowledgments, FlushedBeforeCloses, touched_since_lost, KeptIsUntouched}
+use Rattle.lease_coherence.specs.Agreement.{OfAllowedRuns, Timely, acknowledgment_of, as_requests, asked_of, NoneBuffered}
+use Rattle.lease_coherence.specs.Agreement.{FlushedBeforeAcknowledgments, FlushedBeforeCloses, touched_since_lost}
+use Rattle.lease_coherence.specs.Agreement.{KeptIsUntouched}
 use Rattle.lease_coherence.specs.Creates.{held_by, one_if}
 use Rattle.lease_coherence.specs.Names.{Each, IsNamedAt, IsNamedRequest, WasWrittenOn}
 use Rattle.lease_coherence.specs.Parts.{OfRuns}

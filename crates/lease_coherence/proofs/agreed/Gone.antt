@@ -1,18 +1,10 @@
 -- An open that is gone never comes back: FileIds are never given again.
-use Rattle.std.proofs.Common.{◌≡◌, ◌≢◌, ⊎_elim, ℕ, ◌+◌, ◌≤◌, Bool, true, false, not, List, [], ◌∷◌, ◌++◌, map, Option, Some, None, refl, sym, ap, ◌∙◌, subst, arith, ◌==◌}
-use Rattle.lease_model.specs.client.Commanded.{commanded}
-use Rattle.lease_model.specs.client.Connection.{noticed, connection_made}
-use Rattle.lease_model.specs.client.Step.{Step}
-use Rattle.lease_model.specs.client.Taken.{taken}
-use Rattle.lease_model.specs.server.Calls.{disconnected, is_lost, joined, key_expired, opens_disconnected, client_forgotten, is_left_behind}
-use Rattle.lease_model.specs.server.Findings.{connected_open}
-use Rattle.lease_model.specs.server.Grant.{connected_again, lease_after, new_open}
-use Rattle.lease_model.specs.server.Progress.{opens_dropped, with_opens}
-use Rattle.lease_model.specs.server.State.{Server, Open, has_key}
-use Rattle.lease_model.specs.values.Lists.{without}
-use Rattle.lease_model.specs.world.Events.{after, stepped_in, machine_key}
-use Rattle.lease_model.specs.world.World.{World, first_world, requests_sent}
-use Rattle.lease_laws.specs.server.Laws.{Among}
+use Rattle.lease_laws.proofs.Words.{◌++◌, ◌+◌, ◌==◌, ◌∙◌, ◌∷◌, ◌≡◌, ◌≢◌, ◌≤◌, Among, Bool, List, None, Open, Option, Server, Some}
+use Rattle.lease_laws.proofs.Words.{Step, World, ℕ, ⊎_elim, [], after, ap, arith, client_forgotten, commanded, connected_again}
+use Rattle.lease_laws.proofs.Words.{connected_open, connection_made, disconnected, false, first_world, has_key, is_left_behind}
+use Rattle.lease_laws.proofs.Words.{is_lost, joined, key_expired, lease_after, machine_key, map, new_open, not, noticed}
+use Rattle.lease_laws.proofs.Words.{opens_disconnected, opens_dropped, refl, requests_sent, stepped_in, subst, sym, taken, true}
+use Rattle.lease_laws.proofs.Words.{with_opens, without}
 use Rattle.lease_laws.proofs.server.Lists.{if_cases, among_append, among_filter, among_map, find_has}
 use Rattle.lease_laws.proofs.world.FileIds.{run_counted}
 use Rattle.lease_laws.proofs.world.Runs.{stepped_server}

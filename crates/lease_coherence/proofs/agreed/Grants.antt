@@ -1,16 +1,11 @@
 -- A client's belief rises by a grant alone, while no break is in progress.
-use Rattle.std.proofs.Common.{◌≡◌, ◌⊎◌, inl, inr, ℕ, Bool, true, false, not, List, Option, Some, None, refl, sym, subst}
-use Rattle.std.specs.Prelude.{◌&&◌, ◌||◌, bytes_eq}
-use Rattle.lease_state.specs.State.{State, nothing_cached, is_state_within}
-use Rattle.lease_model.specs.client.Calls.{ClientCall}
-use Rattle.lease_model.specs.client.Commanded.{cached_read, opened_anew, write_buffered, write_sent, flush_on_live}
-use Rattle.lease_model.specs.client.Connection.{noticed, connection_made, all_turned, connect_turn}
-use Rattle.lease_model.specs.client.State.{Client, Entry, LiveEntry, Asked, Pending, Phase, belief, belief_in, lease_key}
-use Rattle.lease_model.specs.client.Step.{Step, turned}
-use Rattle.lease_model.specs.client.Taken.{parked_closed, belief_lowered, given_state, opened_turn, reconnected_turn, promoted_turn, promoted_belief, read_turn, closed_by_server, without_open, phase_with, write_done_turn, sent_without}
-use Rattle.lease_model.specs.messages.Replies.{Reply, CreateAnswer, LeaseGiven}
-use Rattle.lease_model.specs.values.LeaseStates.{meet}
-use Rattle.lease_model.specs.values.Tables.{put}
+use Rattle.lease_laws.proofs.Words.{◌&&◌, ◌||◌, ◌≡◌, ◌⊎◌, Asked, Bool, Client, ClientCall, CreateAnswer, Entry, LeaseGiven, List}
+use Rattle.lease_laws.proofs.Words.{LiveEntry, None, Option, Pending, Phase, Reply, Some, State, Step, ℕ, all_turned, belief}
+use Rattle.lease_laws.proofs.Words.{belief_in, belief_lowered, bytes_eq, cached_read, closed_by_server, connect_turn}
+use Rattle.lease_laws.proofs.Words.{connection_made, false, flush_on_live, given_state, inl, inr, is_state_within, lease_key}
+use Rattle.lease_laws.proofs.Words.{meet, not, nothing_cached, noticed, opened_anew, opened_turn, parked_closed, phase_with}
+use Rattle.lease_laws.proofs.Words.{promoted_belief, promoted_turn, put, read_turn, reconnected_turn, refl, sent_without, subst}
+use Rattle.lease_laws.proofs.Words.{sym, true, turned, without_open, write_buffered, write_done_turn, write_sent}
 use Rattle.lease_laws.proofs.client.Thin.{put_same, put_other}
 use Rattle.lease_laws.proofs.server.Lists.{if_cases, either, clash, and_parts, not_parts}
 use Rattle.lease_laws.proofs.world.Links.{by_client}

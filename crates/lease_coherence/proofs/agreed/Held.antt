@@ -1,19 +1,11 @@
 -- Where a client's lease holds writes, nothing that it asks of the file is held; and no write that is held was buffered.
-use Rattle.std.proofs.Common.{◌≡◌, ℕ, true, [], sym, ap, ◌∙◌, subst, ◌==◌}
-use Rattle.std.specs.List.{list_any}
-use Rattle.std.proofs.lemmas.Bool.{eqb-true}
-use Rattle.lease_state.specs.declared.patch.Patch.{Patch}
-use Rattle.lease_model.specs.messages.Requests.{FileRequest, Request}
-use Rattle.lease_model.specs.records.Past.{has_buffered}
-use Rattle.lease_model.specs.server.Passes.{is_behind}
-use Rattle.lease_model.specs.server.State.{Open, Held, Lease, has_key}
-use Rattle.lease_model.specs.world.Events.{after, machine_key}
-use Rattle.lease_model.specs.world.World.{World, first_world}
-use Rattle.lease_laws.specs.server.Laws.{Among, IsSound}
-use Rattle.lease_laws.specs.server.Waiting.{WaitsWell}
+use Rattle.lease_laws.proofs.Words.{◌==◌, ◌∙◌, ◌≡◌, Among, FileRequest, Held, IsSound, Lease, Open, Patch, Request, WaitsWell}
+use Rattle.lease_laws.proofs.Words.{World, ℕ, [], after, ap, eqb-true, first_world, has_buffered, has_key, is_behind, list_any}
+use Rattle.lease_laws.proofs.Words.{machine_key, subst, sym, true}
 use Rattle.lease_laws.proofs.server.Lists.{any_has, among_filter, clash, either, find_has, not_true}
 use Rattle.lease_laws.proofs.world.Runs.{servers_of_runs}
-use Rattle.lease_coherence.specs.Agreement.{OfAllowedRuns, Timely, lease_of, WritersAreNotHeld, BelieversAreNotHeld, HeldWritesAreThrough}
+use Rattle.lease_coherence.specs.Agreement.{OfAllowedRuns, Timely, lease_of, WritersAreNotHeld, BelieversAreNotHeld}
+use Rattle.lease_coherence.specs.Agreement.{HeldWritesAreThrough}
 use Rattle.lease_coherence.specs.Creates.{held_by}
 use Rattle.lease_coherence.specs.Names.{IsNamedAt, IsNamedOnFile, WasWrittenOn}
 use Rattle.lease_coherence.specs.Parts.{OfRuns}

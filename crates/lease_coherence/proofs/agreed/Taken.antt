@@ -1,18 +1,8 @@
 -- What holds of a client at every point of a run holds of it once it has taken its whole queue; so the bases that it then
 -- holds are current.
-use Rattle.std.proofs.Common.{◌≡◌, ℕ, Bool, true, false, List, [], ◌∷◌, Some, None, refl, sym, ap, ◌∙◌, subst}
-use Rattle.lease_model.specs.client.Commands.{Note}
-use Rattle.lease_model.specs.client.State.{Client, LiveEntry, belief_in, lease_key}
-use Rattle.lease_model.specs.client.Taken.{taken}
-use Rattle.lease_model.specs.messages.Replies.{Reply}
-use Rattle.lease_model.specs.records.Facts.{Fact}
-use Rattle.lease_model.specs.records.Past.{has_strayed}
-use Rattle.lease_model.specs.server.Naming.{key_of}
-use Rattle.lease_model.specs.server.State.{Server}
-use Rattle.lease_model.specs.world.Events.{after, machine_key}
-use Rattle.lease_model.specs.world.World.{World, Link, first_world}
-use Rattle.lease_laws.specs.records.Runs.{content_of}
-use Rattle.lease_laws.specs.world.Links.{is_up}
+use Rattle.lease_laws.proofs.Words.{◌∙◌, ◌∷◌, ◌≡◌, Bool, Client, Fact, Link, List, LiveEntry, None, Note, Reply, Server, Some}
+use Rattle.lease_laws.proofs.Words.{World, ℕ, [], after, ap, belief_in, content_of, false, first_world, has_strayed, is_up}
+use Rattle.lease_laws.proofs.Words.{key_of, lease_key, machine_key, refl, subst, sym, taken, true}
 use Rattle.lease_laws.proofs.client.Forms.{taken-stays}
 use Rattle.lease_laws.proofs.client.Thin.{put_same}
 use Rattle.lease_laws.proofs.server.Lists.{not_false}

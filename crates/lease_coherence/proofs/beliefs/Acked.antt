@@ -1,22 +1,11 @@
 -- An acknowledgment that is judged, and a request that is held, take no trust away.
-use Rattle.std.proofs.Common.{◌≡◌, ◌⊎◌, inl, inr, ⊎_elim, ℕ, ◌+◌, true, false, List, [], ◌∷◌, ◌++◌, Option, Some, None, refl, sym, ap, ◌∙◌, subst, arith, ◌==◌}
-use Rattle.std.specs.Prelude.{bytes_eq}
-use Rattle.std.proofs.lemmas.Bool.{eq-eqb}
-use Rattle.lease_state.specs.State.{State, granted_form_of}
-use Rattle.lease_state.specs.declared.status.Status.{Status}
-use Rattle.lease_model.specs.client.State.{Phase}
-use Rattle.lease_model.specs.messages.Replies.{Reply}
-use Rattle.lease_model.specs.messages.Requests.{Request, LeaseOf}
-use Rattle.lease_model.specs.server.Naming.{key_of}
-use Rattle.lease_model.specs.server.State.{Held, Lease, is_breaking}
-use Rattle.lease_model.specs.values.Keys.{Key, key_eq}
-use Rattle.lease_model.specs.values.Tables.{put, put_key}
-use Rattle.lease_model.specs.world.Events.{machine_key}
-use Rattle.lease_model.specs.world.World.{World}
+use Rattle.lease_laws.proofs.Words.{◌++◌, ◌+◌, ◌==◌, ◌∙◌, ◌∷◌, ◌≡◌, ◌⊎◌, Held, Key, Lease, LeaseOf, List, None, Option, Phase}
+use Rattle.lease_laws.proofs.Words.{Reply, Request, Some, State, Status, World, ℕ, ⊎_elim, [], ap, arith, bytes_eq}
+use Rattle.lease_laws.proofs.Words.{bytes_eq-Decides, eq-eqb, false, granted_form_of, inl, inr, is_breaking, key_eq, key_of}
+use Rattle.lease_laws.proofs.Words.{machine_key, put, put_key, refl, subst, sym, true}
 use Rattle.lease_laws.proofs.client.Thin.{put_same}
 use Rattle.lease_laws.proofs.server.Keys.{put_key-cases}
 use Rattle.lease_laws.proofs.server.Lists.{if_cases, either, clash, and_both, among_append}
-use Rattle.std.proofs.lemmas.Slice.Eq.{bytes_eq-Decides}
 use Rattle.lease_coherence.specs.Creates.{one_if}
 use Rattle.lease_coherence.specs.Names.{Each}
 use Rattle.lease_coherence.specs.Standing.{IsNoClose}
@@ -27,7 +16,8 @@ use Rattle.lease_coherence.proofs.moves.Moves.{IsOldest, rest_of, popped}
 use Rattle.lease_coherence.proofs.names.Words.{each_append}
 use Rattle.lease_coherence.proofs.beliefs.Leases.{plain_sent, asked_less, ack_served}
 use Rattle.lease_coherence.proofs.beliefs.Sent.{told_trusted}
-use Rattle.lease_coherence.proofs.beliefs.Trust.{file_key, IsAnchored, IsAnchoredBut, IsTrustedFor, HasTrust, popped_anchor, popped_trusted, trusted_by}
+use Rattle.lease_coherence.proofs.beliefs.Trust.{file_key, IsAnchored, IsAnchoredBut, IsTrustedFor, HasTrust, popped_anchor}
+use Rattle.lease_coherence.proofs.beliefs.Trust.{popped_trusted, trusted_by}
 use Rattle.lease_coherence.proofs.beliefs.Words.{acks, LowersWell, OpenTillAck, IsBelieved, met_mapped}
 
 -- ---- one that leaves its queue

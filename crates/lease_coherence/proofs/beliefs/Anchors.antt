@@ -1,15 +1,10 @@
 -- Which steps of a client send an acknowledgment, and what stands before it.
-use Rattle.std.proofs.Common.{◌≡◌, ◌⊎◌, inl, inr, ℕ, ◌+◌, true, List, [], ◌∷◌, Some, refl, ap, ap₂, ◌∙◌, arith, ◌==◌}
-use Rattle.std.specs.Prelude.{bytes_eq}
-use Rattle.std.proofs.lemmas.Bool.{eq-eqb, eqb-true}
-use Rattle.lease_state.specs.State.{State}
-use Rattle.lease_model.specs.client.Commanded.{create_request, cached_read, opened_anew, write_buffered, write_sent, flush_on_live}
-use Rattle.lease_model.specs.client.State.{Client, LiveEntry, Phase, lease_key}
-use Rattle.lease_model.specs.client.Step.{Step, Turn, turned, write_requests}
-use Rattle.lease_model.specs.client.Taken.{is_key_of, parked_closed, belief_lowered, acknowledgment, flushed, opened_turn, reconnected_turn, promoted_turn, read_turn, closed_by_server, write_done_turn}
-use Rattle.lease_model.specs.messages.Replies.{BreakNotice}
-use Rattle.lease_model.specs.messages.Requests.{FileRequest, Request}
-use Rattle.lease_model.specs.values.LeaseStates.{meet}
+use Rattle.lease_laws.proofs.Words.{◌+◌, ◌==◌, ◌∙◌, ◌∷◌, ◌≡◌, ◌⊎◌, BreakNotice, Client, FileRequest, List, LiveEntry, Phase}
+use Rattle.lease_laws.proofs.Words.{Request, Some, State, Step, Turn, ℕ, [], acknowledgment, ap, ap₂, arith, belief_lowered}
+use Rattle.lease_laws.proofs.Words.{bytes_eq, cached_read, closed_by_server, create_request, eq-eqb, eqb-true, flush_on_live}
+use Rattle.lease_laws.proofs.Words.{flushed, inl, inr, is_key_of, lease_key, meet, opened_anew, opened_turn, parked_closed}
+use Rattle.lease_laws.proofs.Words.{promoted_turn, read_turn, reconnected_turn, refl, true, turned, write_buffered}
+use Rattle.lease_laws.proofs.Words.{write_done_turn, write_requests, write_sent}
 use Rattle.lease_laws.proofs.server.Lists.{if_cases, either, clash}
 use Rattle.lease_coherence.specs.Names.{Each}
 use Rattle.lease_laws.proofs.client.cases.Commands.{HasCommands, sent_of}

@@ -1,29 +1,15 @@
 -- One write cache also between the facts of an event: where a client notes several beliefs, each is what it believes once
 -- the event is over, so that of each file all is believed that was believed before it, or all that is believed after it.
-use Rattle.std.proofs.Common.{◌≡◌, ◌≢◌, ◌⊎◌, inl, inr, ⊎_elim, ℕ, Bool, true, false, not, List, [], ◌∷◌, ◌++◌, Option, Some, None, refl, sym, ap, ◌∙◌, subst, true≢false, ◌==◌}
-use Rattle.std.specs.Prelude.{⊤, ◌&&◌, ◌||◌, if◌then◌else◌, reverse}
-use Rattle.std.specs.List.{list_all}
-use Rattle.std.proofs.lemmas.Bool.{eqb-true, eq-eqb}
-use Rattle.std.proofs.lemmas.List.{reverse-reverse}
-use Rattle.lease_state.specs.State.{State, nothing_cached}
-use Rattle.lease_model.specs.client.Calls.{ClientCall, client_called}
-use Rattle.lease_model.specs.client.Commands.{Note}
-use Rattle.lease_model.specs.client.State.{Client, Phase, belief, belief_in}
-use Rattle.lease_model.specs.messages.Replies.{Reply, Out}
-use Rattle.lease_model.specs.messages.Requests.{Request}
-use Rattle.lease_model.specs.records.Facts.{Fact}
-use Rattle.lease_model.specs.records.Past.{is_good, is_served, has_strayed, believed}
-use Rattle.lease_model.specs.records.Safe.{EachBeginning, OneWriteCache}
-use Rattle.lease_model.specs.server.Calls.{receive, join, cut, expire, scavenge}
-use Rattle.lease_model.specs.server.Progress.{Progress}
-use Rattle.lease_model.specs.server.Queries.{breaking, kept}
-use Rattle.lease_model.specs.server.State.{has_file}
-use Rattle.lease_model.specs.values.Tables.{put}
-use Rattle.lease_model.specs.world.Events.{Event, served, stepped_in, server_takes, client_takes, link_cut, cut_over, link_noticed, notice_over, link_connected, connect_over, machine_key, timer_expired, scavenged, strayed_over, applied, client_of, happens, after}
-use Rattle.lease_model.specs.world.World.{World, Setup, Link, first_world, has_client, happened, requests_sent, fact_of, starts_from}
-use Rattle.lease_laws.specs.client.Laws.{IsSoundClient, IsSoundPhase}
-use Rattle.lease_laws.specs.records.Runs.{is_start}
-use Rattle.lease_laws.specs.world.Links.{is_down}
+use Rattle.lease_laws.proofs.Words.{◌&&◌, ◌++◌, ◌==◌, ◌||◌, ◌∙◌, ◌∷◌, ◌≡◌, ◌≢◌, ◌⊎◌, Bool, Client, ClientCall, EachBeginning}
+use Rattle.lease_laws.proofs.Words.{Event, Fact, IsSoundClient, IsSoundPhase, Link, List, None, Note, OneWriteCache, Option, Out}
+use Rattle.lease_laws.proofs.Words.{Phase, Progress, Reply, Request, Setup, Some, State, World, ℕ, ⊎_elim, ⊤, [], after, ap}
+use Rattle.lease_laws.proofs.Words.{applied, belief, belief_in, believed, breaking, client_called, client_of, client_takes}
+use Rattle.lease_laws.proofs.Words.{connect_over, cut, cut_over, eq-eqb, eqb-true, expire, fact_of, false, first_world, happened}
+use Rattle.lease_laws.proofs.Words.{happens, has_client, has_file, has_strayed, if◌then◌else◌, inl, inr, is_down, is_good}
+use Rattle.lease_laws.proofs.Words.{is_served, is_start, join, kept, link_connected, link_cut, link_noticed, list_all}
+use Rattle.lease_laws.proofs.Words.{machine_key, not, nothing_cached, notice_over, put, receive, refl, requests_sent, reverse}
+use Rattle.lease_laws.proofs.Words.{reverse-reverse, scavenge, scavenged, served, server_takes, starts_from, stepped_in}
+use Rattle.lease_laws.proofs.Words.{strayed_over, subst, sym, timer_expired, true, true≢false}
 use Rattle.lease_laws.proofs.client.Thin.{put_same}
 use Rattle.lease_laws.proofs.records.Runs.{all_starts, all_reversed}
 use Rattle.lease_laws.proofs.server.Lists.{if_cases, either, clash, and_parts, and_both}

@@ -1,18 +1,12 @@
 -- Every step of a client keeps what is believed of each of its files.
-use Rattle.std.proofs.Common.{◌≡◌, ◌≢◌, ◌⊎◌, inl, inr, ℕ, ◌+◌, true, false, List, [], ◌∷◌, ◌++◌, take, Option, Some, None, refl, sym, ap, ap₂, ◌∙◌, subst, arith}
-use Rattle.std.specs.Prelude.{⊤, bytes_eq}
-use Rattle.std.proofs.lemmas.Slice.Eq.{bytes_eq-Decides}
-use Rattle.lease_state.specs.State.{State}
-use Rattle.lease_model.specs.client.Commanded.{create_request, next_write, cached_read, opened_anew, write_buffered, write_sent, flush_on_live, wrote_step}
-use Rattle.lease_model.specs.client.Commands.{Answer}
-use Rattle.lease_model.specs.client.State.{Client, Entry, LiveEntry, Asked, Pending, Phase, lease_key}
-use Rattle.lease_model.specs.client.Step.{Step, Turn, turned, quiet_step, write_requests}
-use Rattle.lease_model.specs.client.Taken.{given_state, is_key_of, parked_closed, belief_lowered, acknowledgment, flushed, opened_turn, reconnected_turn, promoted_turn, promoted_belief, read_turn, closed_by_server, without_open, phase_with, write_done_turn}
-use Rattle.lease_model.specs.messages.Replies.{Reply, BreakNotice, CreateAnswer, LeaseGiven}
-use Rattle.lease_model.specs.messages.Requests.{FileRequest, Request}
-use Rattle.lease_model.specs.server.State.{Lease}
-use Rattle.lease_model.specs.values.LeaseStates.{meet}
-use Rattle.lease_model.specs.values.Tables.{put}
+use Rattle.lease_laws.proofs.Words.{◌++◌, ◌+◌, ◌∙◌, ◌∷◌, ◌≡◌, ◌≢◌, ◌⊎◌, Answer, Asked, BreakNotice, Client, CreateAnswer, Entry}
+use Rattle.lease_laws.proofs.Words.{FileRequest, Lease, LeaseGiven, List, LiveEntry, None, Option, Pending, Phase, Reply, Request}
+use Rattle.lease_laws.proofs.Words.{Some, State, Step, Turn, ℕ, ⊤, [], acknowledgment, ap, ap₂, arith, belief_lowered, bytes_eq}
+use Rattle.lease_laws.proofs.Words.{bytes_eq-Decides, cached_read, closed_by_server, create_request, false, flush_on_live}
+use Rattle.lease_laws.proofs.Words.{flushed, given_state, inl, inr, is_key_of, lease_key, meet, next_write, opened_anew}
+use Rattle.lease_laws.proofs.Words.{opened_turn, parked_closed, phase_with, promoted_belief, promoted_turn, put, quiet_step}
+use Rattle.lease_laws.proofs.Words.{read_turn, reconnected_turn, refl, subst, sym, take, true, turned, without_open}
+use Rattle.lease_laws.proofs.Words.{write_buffered, write_done_turn, write_requests, write_sent, wrote_step}
 use Rattle.lease_laws.proofs.client.Thin.{put_same, put_other}
 use Rattle.lease_laws.proofs.server.Lists.{if_cases, either, clash, and_parts, and_both, not_true}
 use Rattle.lease_laws.proofs.world.Links.{by_client}

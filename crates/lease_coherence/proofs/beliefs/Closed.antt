@@ -1,18 +1,8 @@
 -- Opens that are closed take no trust away: a lease that stays is as it was, and of one that goes nothing is believed.
-use Rattle.std.proofs.Common.{◌≡◌, ◌⊎◌, inl, inr, ⊎_elim, ℕ, Bool, true, false, not, List, [], ◌∷◌, ◌++◌, refl, sym, ap, ◌∙◌, subst, true≢false, ◌==◌}
-use Rattle.std.specs.List.{list_any}
-use Rattle.lease_model.specs.messages.Replies.{Reply}
-use Rattle.lease_model.specs.messages.Requests.{FileRequest}
-use Rattle.lease_model.specs.records.Facts.{Fact}
-use Rattle.lease_model.specs.server.Calls.{key_expired}
-use Rattle.lease_model.specs.server.Progress.{opens_dropped, with_opens}
-use Rattle.lease_model.specs.server.State.{Server, Open, Lease, has_key, no_lease}
-use Rattle.lease_model.specs.values.Keys.{Key, key_eq}
-use Rattle.lease_model.specs.values.Lists.{without}
-use Rattle.lease_model.specs.values.Tables.{put, put_key}
-use Rattle.lease_model.specs.world.Events.{machine_key}
-use Rattle.lease_model.specs.world.World.{World}
-use Rattle.lease_laws.specs.server.Laws.{Among}
+use Rattle.lease_laws.proofs.Words.{◌++◌, ◌==◌, ◌∙◌, ◌∷◌, ◌≡◌, ◌⊎◌, Among, Bool, Fact, FileRequest, Key, Lease, List, Open, Reply}
+use Rattle.lease_laws.proofs.Words.{Server, World, ℕ, ⊎_elim, [], ap, false, has_key, inl, inr, key_eq, key_expired, list_any}
+use Rattle.lease_laws.proofs.Words.{machine_key, no_lease, not, opens_dropped, put, put_key, refl, subst, sym, true, true≢false}
+use Rattle.lease_laws.proofs.Words.{with_opens, without}
 use Rattle.lease_laws.proofs.client.Thin.{put_same}
 use Rattle.lease_laws.proofs.server.Keys.{put_key-cases, is_key-one, key_eq-refl}
 use Rattle.lease_laws.proofs.server.Lists.{if_cases, either, clash, not_true, has_any, among_filter, among_filtered}
@@ -24,7 +14,8 @@ use Rattle.lease_coherence.proofs.moves.Foreign.{apart, false_not}
 use Rattle.lease_coherence.proofs.names.Words.{each_append}
 use Rattle.lease_coherence.proofs.beliefs.Leases.{plain_sent, lease_gone}
 use Rattle.lease_coherence.proofs.beliefs.Sent.{off_fresh, off_trust}
-use Rattle.lease_coherence.proofs.beliefs.Trust.{file_key, IsAnchored, IsTrustedFor, HasTrust, nothing_stands, off_anchors, open_has_key}
+use Rattle.lease_coherence.proofs.beliefs.Trust.{file_key, IsAnchored, IsTrustedFor, HasTrust, nothing_stands, off_anchors}
+use Rattle.lease_coherence.proofs.beliefs.Trust.{open_has_key}
 use Rattle.lease_coherence.proofs.beliefs.Words.{acks, LowersWell, IsBelieved}
 
 -- ---- a world with another server, and replies that tell of no lease

@@ -1,21 +1,15 @@
 -- What a client does keeps what is believed of each file's lease.
-use Rattle.std.proofs.Common.{◌≡◌, ◌⊎◌, inl, inr, ⊎_elim, ℕ, ◌+◌, Bool, true, false, List, [], ◌∷◌, ◌++◌, Some, None, refl, sym, ap, ap₂, ◌∙◌, subst, arith, true≢false, ◌==◌}
-use Rattle.std.specs.Prelude.{◌&&◌, ◌||◌, bytes_eq}
-use Rattle.std.proofs.lemmas.Bool.{eq-eqb}
-use Rattle.lease_state.specs.State.{State}
-use Rattle.lease_model.specs.client.State.{LiveEntry, Pending, Phase}
-use Rattle.lease_model.specs.client.Step.{write_requests}
-use Rattle.lease_model.specs.client.Taken.{given_state}
-use Rattle.lease_model.specs.messages.Replies.{Reply, BreakNotice, CreateAnswer}
-use Rattle.lease_model.specs.messages.Requests.{Request}
-use Rattle.lease_model.specs.server.State.{Lease, is_breaking}
-use Rattle.lease_model.specs.values.LeaseStates.{meet}
+use Rattle.lease_laws.proofs.Words.{◌&&◌, ◌++◌, ◌+◌, ◌==◌, ◌||◌, ◌∙◌, ◌∷◌, ◌≡◌, ◌⊎◌, Bool, BreakNotice, CreateAnswer, Lease, List}
+use Rattle.lease_laws.proofs.Words.{LiveEntry, None, Pending, Phase, Reply, Request, Some, State, ℕ, ⊎_elim, [], ap, ap₂, arith}
+use Rattle.lease_laws.proofs.Words.{bytes_eq, eq-eqb, false, given_state, inl, inr, is_breaking, meet, refl, subst, sym, true}
+use Rattle.lease_laws.proofs.Words.{true≢false, write_requests}
 use Rattle.lease_laws.proofs.server.Lists.{clash, and_parts, and_both}
 use Rattle.lease_coherence.specs.Creates.{one_if}
 use Rattle.lease_coherence.specs.Names.{Each}
 use Rattle.lease_laws.proofs.client.cases.Replies.{is_live}
 use Rattle.lease_coherence.proofs.names.Words.{each_append}
-use Rattle.lease_coherence.proofs.beliefs.Words.{acks, acks_append, is_created, LowersWell, AckKeeps, met_fewer, met_mapped, met_none, IsAnswering, IsBelieved}
+use Rattle.lease_coherence.proofs.beliefs.Words.{acks, acks_append, is_created, LowersWell, AckKeeps, met_fewer, met_mapped}
+use Rattle.lease_coherence.proofs.beliefs.Words.{met_none, IsAnswering, IsBelieved}
 
 -- ---- requests that are no acknowledgments
 

@@ -1,26 +1,15 @@
 -- What a create is given keeps the trust of its client.
-use Rattle.std.proofs.Common.{◌≡◌, ℕ, true, false, [], ◌∷◌, ◌++◌, Some, refl, sym, ap, ◌∙◌, subst}
-use Rattle.lease_state.specs.State.{State}
-use Rattle.lease_state.specs.declared.access.Access.{Access}
-use Rattle.lease_state.specs.declared.access.Share.{Share}
-use Rattle.lease_model.specs.client.State.{lease_key}
-use Rattle.lease_model.specs.client.Taken.{given_state}
-use Rattle.lease_model.specs.messages.Requests.{CreateAsk, LeaseOf}
-use Rattle.lease_model.specs.server.Grant.{connected_again, lease_after, lease_granted, new_open}
-use Rattle.lease_model.specs.server.Naming.{key_of, own_key}
-use Rattle.lease_model.specs.server.State.{Lease, is_breaking}
-use Rattle.lease_model.specs.values.Keys.{Key, key_eq}
-use Rattle.lease_model.specs.world.Events.{machine_key}
-use Rattle.lease_model.specs.world.World.{World}
-use Rattle.lease_laws.specs.server.Laws.{IsSound}
-use Rattle.lease_laws.specs.server.SmallSteps.{IsFree}
+use Rattle.lease_laws.proofs.Words.{◌++◌, ◌∙◌, ◌∷◌, ◌≡◌, Access, CreateAsk, IsFree, IsSound, Key, Lease, LeaseOf, Share, Some}
+use Rattle.lease_laws.proofs.Words.{State, World, ℕ, [], ap, connected_again, false, given_state, is_breaking, key_eq, key_of}
+use Rattle.lease_laws.proofs.Words.{lease_after, lease_granted, lease_key, machine_key, new_open, own_key, refl, subst, sym, true}
 use Rattle.lease_laws.proofs.client.Thin.{put_same}
 use Rattle.lease_laws.proofs.server.Keys.{put_key-cases, key_eq-refl}
 use Rattle.lease_laws.proofs.server.Lists.{either, clash, among_before}
 use Rattle.lease_coherence.proofs.moves.Deeds.{granted_in, granted_reply, reconnected_in, reconnected_reply}
 use Rattle.lease_coherence.proofs.moves.Foreign.{map_kept}
 use Rattle.lease_coherence.proofs.standing.Servers.{again_up}
-use Rattle.lease_coherence.proofs.beliefs.Grants.{writes_read, given_holds, given_none, grant_reads, grant_settled, grant_breaking, grant_keeps}
+use Rattle.lease_coherence.proofs.beliefs.Grants.{writes_read, given_holds, given_none, grant_reads, grant_settled}
+use Rattle.lease_coherence.proofs.beliefs.Grants.{grant_breaking, grant_keeps}
 use Rattle.lease_coherence.proofs.beliefs.Leases.{plain_sent, settled_changed}
 use Rattle.lease_coherence.proofs.beliefs.Sent.{LeaseBears, sent_trusted}
 use Rattle.lease_coherence.proofs.beliefs.Trust.{file_key, HasTrust}

@@ -1,18 +1,8 @@
 -- What a grant gives is held by the lease, and takes no writes from it.
-use Rattle.std.proofs.Common.{◌≡◌, ℕ, true, false, not, List, Some, refl, sym, ap, ◌∙◌, true≢false, ◌==◌}
-use Rattle.std.specs.Prelude.{◌&&◌, bytes_eq}
-use Rattle.std.specs.List.{list_any}
-use Rattle.std.proofs.lemmas.Bool.{eqb-true}
-use Rattle.lease_state.specs.State.{State, nothing_cached, granted_form_of, is_state_within}
-use Rattle.lease_state.specs.declared.access.Access.{Access}
-use Rattle.lease_state.specs.declared.access.Share.{Share}
-use Rattle.lease_model.specs.client.Taken.{given_state}
-use Rattle.lease_model.specs.server.Allowed.{allowed, is_other_on}
-use Rattle.lease_model.specs.server.Grant.{offered, lease_granted}
-use Rattle.lease_model.specs.server.State.{Server, Lease, is_breaking, has_key}
-use Rattle.lease_model.specs.values.Keys.{Key}
-use Rattle.lease_laws.specs.server.Laws.{IsSound}
-use Rattle.lease_laws.specs.server.SmallSteps.{IsFree}
+use Rattle.lease_laws.proofs.Words.{◌&&◌, ◌==◌, ◌∙◌, ◌≡◌, Access, IsFree, IsSound, Key, Lease, List, Server, Share, Some, State}
+use Rattle.lease_laws.proofs.Words.{ℕ, allowed, ap, bytes_eq, eqb-true, false, given_state, granted_form_of, has_key, is_breaking}
+use Rattle.lease_laws.proofs.Words.{is_other_on, is_state_within, lease_granted, list_any, not, nothing_cached, offered, refl}
+use Rattle.lease_laws.proofs.Words.{sym, true, true≢false}
 use Rattle.lease_laws.proofs.server.Lists.{if_cases, either, clash, and_parts, not_parts, any_has}
 use Rattle.lease_laws.proofs.server.States.{write_of_part}
 use Rattle.lease_coherence.proofs.beliefs.Words.{GivesNothing, HoldsWrites}

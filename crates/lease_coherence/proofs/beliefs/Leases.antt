@@ -1,18 +1,13 @@
 -- What the server does to one file's lease, and sends to its client, keeps what is believed of it.
-use Rattle.std.proofs.Common.{◌≡◌, inl, inr, ⊎_elim, ℕ, ◌+◌, true, false, List, [], ◌∷◌, ◌++◌, Some, sym, ap, ◌∙◌, arith, ◌==◌}
-use Rattle.std.specs.Prelude.{bytes_eq}
-use Rattle.std.proofs.lemmas.Bool.{eq-eqb}
-use Rattle.lease_state.specs.State.{State}
-use Rattle.lease_model.specs.client.State.{Phase}
-use Rattle.lease_model.specs.messages.Replies.{Reply}
-use Rattle.lease_model.specs.messages.Requests.{Request, LeaseOf}
-use Rattle.lease_model.specs.server.State.{Lease, is_breaking}
+use Rattle.lease_laws.proofs.Words.{◌++◌, ◌+◌, ◌==◌, ◌∙◌, ◌∷◌, ◌≡◌, Lease, LeaseOf, List, Phase, Reply, Request, Some, State, ℕ}
+use Rattle.lease_laws.proofs.Words.{⊎_elim, [], ap, arith, bytes_eq, eq-eqb, false, inl, inr, is_breaking, sym, true}
 use Rattle.lease_laws.proofs.server.Lists.{clash}
 use Rattle.lease_coherence.specs.Creates.{one_if}
 use Rattle.lease_coherence.specs.Names.{Each}
 use Rattle.lease_laws.proofs.client.cases.Replies.{is_live}
 use Rattle.lease_coherence.proofs.names.Words.{each_append, each_weaker}
-use Rattle.lease_coherence.proofs.beliefs.Words.{acks, is_created, is_ack_break, OnGiven, GivesNothing, HoldsWrites, AckKeeps, met_mapped, met_last, met_nowhere, IsBelieved}
+use Rattle.lease_coherence.proofs.beliefs.Words.{acks, is_created, is_ack_break, OnGiven, GivesNothing, HoldsWrites, AckKeeps}
+use Rattle.lease_coherence.proofs.beliefs.Words.{met_mapped, met_last, met_nowhere, IsBelieved}
 
 each_last : {X : Type 0} (P : X → Type 0) (xs : List X) (x : X) → Each P xs → P x → Each P (xs ++ x ∷ [])
 each_last P xs x each last = each_append P xs (x ∷ []) each (last, tt)

@@ -1,23 +1,8 @@
 -- Every move keeps the trust of each client that hasn't strayed.
-use Rattle.std.proofs.Common.{◌≡◌, inl, inr, ⊎_elim, ℕ, true, false, List, ◌∷◌, ◌++◌, Some, refl, sym, ap, ap₂, ◌∙◌, subst, true≢false, ◌==◌}
-use Rattle.std.proofs.lemmas.Bool.{eq-eqb}
-use Rattle.lease_state.specs.declared.access.Access.{Access}
-use Rattle.lease_state.specs.declared.access.Share.{Share}
-use Rattle.lease_state.specs.declared.status.Status.{Status}
-use Rattle.lease_model.specs.client.Commanded.{commanded}
-use Rattle.lease_model.specs.client.Connection.{noticed}
-use Rattle.lease_model.specs.client.State.{Client, lease_key}
-use Rattle.lease_model.specs.client.Taken.{taken}
-use Rattle.lease_model.specs.messages.Replies.{Reply}
-use Rattle.lease_model.specs.messages.Requests.{FileRequest, CreateAsk}
-use Rattle.lease_model.specs.server.Naming.{key_of}
-use Rattle.lease_model.specs.server.Progress.{refusal_of}
-use Rattle.lease_model.specs.server.State.{Held, Lease}
-use Rattle.lease_model.specs.values.Tables.{put}
-use Rattle.lease_model.specs.world.Events.{machine_key}
-use Rattle.lease_model.specs.world.World.{World, Link}
-use Rattle.lease_laws.specs.server.Laws.{Among}
-use Rattle.lease_laws.specs.world.Links.{is_up}
+use Rattle.lease_laws.proofs.Words.{◌++◌, ◌==◌, ◌∙◌, ◌∷◌, ◌≡◌, Access, Among, Client, CreateAsk, FileRequest, Held, Lease, Link}
+use Rattle.lease_laws.proofs.Words.{List, Reply, Share, Some, Status, World, ℕ, ⊎_elim, ap, ap₂, commanded, eq-eqb, false, inl}
+use Rattle.lease_laws.proofs.Words.{inr, is_up, key_of, lease_key, machine_key, noticed, put, refl, refusal_of, subst, sym, taken}
+use Rattle.lease_laws.proofs.Words.{true, true≢false}
 use Rattle.lease_laws.proofs.client.Forms.{commanded-stays, taken-stays}
 use Rattle.lease_laws.proofs.client.Thin.{put_same}
 use Rattle.lease_laws.proofs.server.Lists.{among_filter, among_filtered}
@@ -37,7 +22,8 @@ use Rattle.lease_coherence.proofs.beliefs.Anchors.{AnchorsOn, commands_anchor, t
 use Rattle.lease_coherence.proofs.beliefs.Clients.{BelievesOn, TakesBelief, commands_believe, takes_believe}
 use Rattle.lease_coherence.proofs.beliefs.Closed.{dropped_trusted, closed_trusted, timer_trusted, left_there}
 use Rattle.lease_coherence.proofs.beliefs.Given.{granted_trusted, reconnected_trusted}
-use Rattle.lease_coherence.proofs.beliefs.Sent.{refusal_bare, told_trusted, changed_trusted, off_trust, lower_trusted, begin_trusted}
+use Rattle.lease_coherence.proofs.beliefs.Sent.{refusal_bare, told_trusted, changed_trusted, off_trust, lower_trusted}
+use Rattle.lease_coherence.proofs.beliefs.Sent.{begin_trusted}
 use Rattle.lease_coherence.proofs.beliefs.Steps.{IsKnown, step_trusted, connect_trusted}
 use Rattle.lease_coherence.proofs.beliefs.Trust.{file_key, IsAnchored, IsTrustedFor, HasTrust, IsUpTrusted, anchor_same}
 use Rattle.lease_coherence.proofs.beliefs.Words.{acks, LowersWell, OpenTillAck, IsBelieved}

@@ -1,21 +1,8 @@
 -- What the server sends to a client keeps its trust, where the lease of each file bears it.
-use Rattle.std.proofs.Common.{◌≡◌, ⊎_elim, ℕ, Bool, true, false, List, [], ◌∷◌, ◌++◌, Some, None, refl, sym, ap, ◌∙◌, subst, ◌==◌}
-use Rattle.std.specs.Prelude.{⊤, ◌&&◌, bytes_eq}
-use Rattle.std.proofs.lemmas.Bool.{eq-eqb}
-use Rattle.lease_state.specs.State.{State, granted_form_of, needs_acknowledgment}
-use Rattle.lease_state.specs.declared.patch.Patch.{Patch}
-use Rattle.lease_state.specs.declared.status.Status.{Status}
-use Rattle.lease_model.specs.client.State.{Client, lease_key}
-use Rattle.lease_model.specs.messages.Replies.{Reply}
-use Rattle.lease_model.specs.messages.Requests.{FileRequest}
-use Rattle.lease_model.specs.server.Naming.{key_of}
-use Rattle.lease_model.specs.server.Progress.{break_notice, refusal_of}
-use Rattle.lease_model.specs.server.State.{Open, Lease, is_breaking}
-use Rattle.lease_model.specs.values.Keys.{Key, key_eq}
-use Rattle.lease_model.specs.world.Events.{machine_key}
-use Rattle.lease_model.specs.world.World.{World}
-use Rattle.lease_laws.specs.server.Laws.{Among}
-use Rattle.lease_laws.specs.server.SmallSteps.{MayLower}
+use Rattle.lease_laws.proofs.Words.{◌&&◌, ◌++◌, ◌==◌, ◌∙◌, ◌∷◌, ◌≡◌, Among, Bool, Client, FileRequest, Key, Lease, List, MayLower}
+use Rattle.lease_laws.proofs.Words.{None, Open, Patch, Reply, Some, State, Status, World, ℕ, ⊎_elim, ⊤, [], ap, break_notice}
+use Rattle.lease_laws.proofs.Words.{bytes_eq, eq-eqb, false, granted_form_of, is_breaking, key_eq, key_of, lease_key, machine_key}
+use Rattle.lease_laws.proofs.Words.{needs_acknowledgment, refl, refusal_of, subst, sym, true}
 use Rattle.lease_laws.proofs.client.Thin.{put_same}
 use Rattle.lease_laws.proofs.server.Keys.{put_key-cases}
 use Rattle.lease_laws.proofs.server.Lists.{clash, and_parts, and_both, not_true, true_or}

@@ -1,20 +1,9 @@
 -- What a client does keeps its trust.
-use Rattle.std.proofs.Common.{◌≡◌, ◌⊎◌, inl, inr, ⊎_elim, ℕ, ◌+◌, true, false, not, List, [], ◌++◌, flat_map, refl, sym, ap, ap₂, ◌∙◌, subst, arith}
-use Rattle.std.specs.Prelude.{⊤}
-use Rattle.lease_model.specs.client.Connection.{connection_made, all_turned, connect_turn}
-use Rattle.lease_model.specs.client.State.{Client, LiveEntry, Pending, Phase, lease_key}
-use Rattle.lease_model.specs.client.Step.{Step}
-use Rattle.lease_model.specs.messages.Replies.{Reply}
-use Rattle.lease_model.specs.messages.Requests.{FileRequest, Request}
-use Rattle.lease_model.specs.server.Calls.{joined}
-use Rattle.lease_model.specs.server.Naming.{key_of}
-use Rattle.lease_model.specs.server.State.{Server, Held}
-use Rattle.lease_model.specs.values.Lists.{numbers_to}
-use Rattle.lease_model.specs.world.Events.{machine_key, stepped_in}
-use Rattle.lease_model.specs.world.World.{World, Link, sent_over}
-use Rattle.lease_laws.specs.client.Laws.{IsSoundPhase}
-use Rattle.lease_laws.specs.server.Laws.{Among}
-use Rattle.lease_laws.specs.world.Links.{is_up, is_down}
+use Rattle.lease_laws.proofs.Words.{◌++◌, ◌+◌, ◌∙◌, ◌≡◌, ◌⊎◌, Among, Client, FileRequest, Held, IsSoundPhase, Link, List}
+use Rattle.lease_laws.proofs.Words.{LiveEntry, Pending, Phase, Reply, Request, Server, Step, World, ℕ, ⊎_elim, ⊤, [], all_turned}
+use Rattle.lease_laws.proofs.Words.{ap, ap₂, arith, connect_turn, connection_made, false, flat_map, inl, inr, is_down, is_up}
+use Rattle.lease_laws.proofs.Words.{joined, key_of, lease_key, machine_key, not, numbers_to, refl, sent_over, stepped_in, subst}
+use Rattle.lease_laws.proofs.Words.{sym, true}
 use Rattle.lease_laws.proofs.client.Thin.{put_same}
 use Rattle.lease_laws.proofs.server.Lists.{clash}
 use Rattle.lease_laws.proofs.world.Runs.{stepped_server}

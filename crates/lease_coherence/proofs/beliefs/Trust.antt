@@ -1,18 +1,8 @@
 -- While a client's link is up, what it believes it may do with writes its lease holds, of each file whose timer didn't run
 -- out.
-use Rattle.std.proofs.Common.{◌≡◌, ◌⊎◌, inl, inr, ⊎_elim, ℕ, ◌+◌, true, false, List, [], ◌∷◌, ◌++◌, Some, refl, sym, ap, ap₂, ◌∙◌, subst, arith, ◌==◌}
-use Rattle.std.specs.List.{list_any}
-use Rattle.std.proofs.lemmas.Bool.{eqb-true}
-use Rattle.lease_model.specs.client.State.{Client, Phase, lease_key}
-use Rattle.lease_model.specs.messages.Replies.{Reply}
-use Rattle.lease_model.specs.messages.Requests.{FileRequest, Request}
-use Rattle.lease_model.specs.server.Calls.{held_of}
-use Rattle.lease_model.specs.server.Naming.{key_of}
-use Rattle.lease_model.specs.server.State.{Open, Held, has_key, is_key}
-use Rattle.lease_model.specs.world.Events.{machine_key}
-use Rattle.lease_model.specs.world.World.{World}
-use Rattle.lease_laws.specs.server.Laws.{Among}
-use Rattle.lease_laws.specs.world.Links.{is_up}
+use Rattle.lease_laws.proofs.Words.{◌++◌, ◌+◌, ◌==◌, ◌∙◌, ◌∷◌, ◌≡◌, ◌⊎◌, Among, Client, FileRequest, Held, List, Open, Phase}
+use Rattle.lease_laws.proofs.Words.{Reply, Request, Some, World, ℕ, ⊎_elim, [], ap, ap₂, arith, eqb-true, false, has_key, held_of}
+use Rattle.lease_laws.proofs.Words.{inl, inr, is_key, is_up, key_of, lease_key, list_any, machine_key, refl, subst, sym, true}
 use Rattle.lease_laws.proofs.client.Thin.{put_same}
 use Rattle.lease_laws.proofs.server.Keys.{is_key-refl}
 use Rattle.lease_laws.proofs.server.Lists.{clash, not_true, has_any}

@@ -1,12 +1,7 @@
 -- What a client believes it may do with writes, against its lease: in words of one file's lease, entry and queues.
-use Rattle.std.proofs.Common.{◌≡◌, ◌⊎◌, ⊎_elim, ℕ, ◌+◌, Bool, true, false, List, [], ◌∷◌, ◌++◌, Some, None, refl, sym, ap, ◌∙◌, arith, ◌==◌}
-use Rattle.std.specs.Prelude.{⊤, ◌&&◌, ◌||◌, bytes_eq}
-use Rattle.lease_state.specs.State.{State}
-use Rattle.lease_model.specs.client.State.{LiveEntry, Phase}
-use Rattle.lease_model.specs.client.Taken.{given_state}
-use Rattle.lease_model.specs.messages.Replies.{Reply}
-use Rattle.lease_model.specs.messages.Requests.{Request}
-use Rattle.lease_model.specs.server.State.{Lease, is_breaking}
+use Rattle.lease_laws.proofs.Words.{◌&&◌, ◌++◌, ◌+◌, ◌==◌, ◌||◌, ◌∙◌, ◌∷◌, ◌≡◌, ◌⊎◌, Bool, Lease, List, LiveEntry, None, Phase}
+use Rattle.lease_laws.proofs.Words.{Reply, Request, Some, State, ℕ, ⊎_elim, ⊤, [], ap, arith, bytes_eq, false, given_state}
+use Rattle.lease_laws.proofs.Words.{is_breaking, refl, sym, true}
 use Rattle.lease_laws.proofs.server.Lists.{clash, or_true}
 use Rattle.lease_coherence.specs.Creates.{one_if}
 use Rattle.lease_coherence.specs.Names.{Each}

@@ -1,12 +1,7 @@
 -- At every point of a run that its events reach, one client caches writes of a file.
-use Rattle.std.proofs.Common.{◌≡◌, ◌≢◌, ⊎_elim, ℕ, true, false, not, List, refl, sym, ap, ◌∙◌, subst, true≢false}
-use Rattle.lease_state.specs.State.{State, nothing_cached}
-use Rattle.lease_model.specs.client.State.{LiveEntry, Phase, belief, belief_in}
-use Rattle.lease_model.specs.records.Past.{has_strayed, is_good, is_served}
-use Rattle.lease_model.specs.records.Safe.{OneWriteCache}
-use Rattle.lease_model.specs.world.Events.{Event, after, machine_key}
-use Rattle.lease_model.specs.world.World.{World, Setup, first_world}
-use Rattle.lease_laws.specs.world.Links.{is_up}
+use Rattle.lease_laws.proofs.Words.{◌∙◌, ◌≡◌, ◌≢◌, Event, List, LiveEntry, OneWriteCache, Phase, Setup, State, World, ℕ, ⊎_elim}
+use Rattle.lease_laws.proofs.Words.{after, ap, belief, belief_in, false, first_world, has_strayed, is_good, is_served, is_up}
+use Rattle.lease_laws.proofs.Words.{machine_key, not, nothing_cached, refl, subst, sym, true, true≢false}
 use Rattle.lease_laws.proofs.server.Lists.{clash, and_parts, not_parts, not_true}
 use Rattle.lease_laws.proofs.world.Beliefs.{beliefs_of_runs}
 use Rattle.lease_laws.proofs.world.Timers.{timers_are_told}

@@ -1,14 +1,7 @@
 -- What a client asks about a file, where one of its requests leaves its place.
-use Rattle.std.proofs.Common.{◌≡◌, ◌≢◌, ⊎_elim, ℕ, true, List, [], ◌∷◌, ◌++◌, None, refl, sym, ap, ap₂, ◌∙◌, subst, ◌==◌}
-use Rattle.std.specs.Prelude.{◌&&◌, Ok}
-use Rattle.std.proofs.lemmas.Bool.{eqb-true, eq-eqb}
-use Rattle.lease_model.specs.messages.Requests.{FileRequest, Request}
-use Rattle.lease_model.specs.server.Calls.{held_of, file_asked}
-use Rattle.lease_model.specs.server.Findings.{connected_open}
-use Rattle.lease_model.specs.server.State.{Server, Open, Held}
-use Rattle.lease_model.specs.values.Tables.{put}
-use Rattle.lease_model.specs.world.World.{World}
-use Rattle.lease_laws.specs.server.Laws.{Among}
+use Rattle.lease_laws.proofs.Words.{◌&&◌, ◌++◌, ◌==◌, ◌∙◌, ◌∷◌, ◌≡◌, ◌≢◌, Among, FileRequest, Held, List, None, Ok, Open, Request}
+use Rattle.lease_laws.proofs.Words.{Server, World, ℕ, ⊎_elim, [], ap, ap₂, connected_open, eq-eqb, eqb-true, file_asked, held_of}
+use Rattle.lease_laws.proofs.Words.{put, refl, subst, sym, true}
 use Rattle.lease_laws.proofs.client.Thin.{put_same, put_other}
 use Rattle.lease_laws.proofs.server.Lists.{either, clash, and_both}
 use Rattle.lease_coherence.specs.Creates.{held_by}

@@ -1,17 +1,11 @@
 -- Every step of a client keeps its opens covered, and reads and writes under the open of a live entry.
-use Rattle.std.proofs.Common.{◌≡◌, ◌≢◌, inl, inr, ⊎_elim, ℕ, ◌+◌, ◌≤◌, true, false, List, [], ◌∷◌, ◌++◌, Option, Some, None, refl, sym, ap, ◌∙◌, subst, arith, true≢false, ◌==◌}
-use Rattle.std.specs.Prelude.{is_some}
-use Rattle.std.proofs.lemmas.Bool.{eqb-true, eq-eqb}
-use Rattle.lease_state.specs.declared.status.Status.{Status}
-use Rattle.lease_model.specs.client.Commanded.{create_request, next_write, cached_read, opened_anew, write_buffered, write_sent, flush_on_live, wrote_step, is_asking}
-use Rattle.lease_model.specs.client.Commands.{Answer}
-use Rattle.lease_model.specs.client.State.{Client, Entry, LiveEntry, Asked, Pending, Phase}
-use Rattle.lease_model.specs.client.Step.{Step, Turn, turned, quiet_step, write_requests}
-use Rattle.lease_model.specs.client.Taken.{parked_closed, belief_lowered, opened_turn, reconnected_turn, promoted_turn, read_turn, is_file_closed, closed_by_server, phase_with, write_done_turn}
-use Rattle.lease_model.specs.messages.Replies.{Reply, CreateAnswer}
-use Rattle.lease_model.specs.messages.Requests.{FileRequest, Request}
-use Rattle.lease_model.specs.values.Tables.{put}
-use Rattle.lease_laws.specs.client.Laws.{IsSoundClient}
+use Rattle.lease_laws.proofs.Words.{◌++◌, ◌+◌, ◌==◌, ◌∙◌, ◌∷◌, ◌≡◌, ◌≢◌, ◌≤◌, Answer, Asked, Client, CreateAnswer, Entry}
+use Rattle.lease_laws.proofs.Words.{FileRequest, IsSoundClient, List, LiveEntry, None, Option, Pending, Phase, Reply, Request}
+use Rattle.lease_laws.proofs.Words.{Some, Status, Step, Turn, ℕ, ⊎_elim, [], ap, arith, belief_lowered, cached_read}
+use Rattle.lease_laws.proofs.Words.{closed_by_server, create_request, eq-eqb, eqb-true, false, flush_on_live, inl, inr, is_asking}
+use Rattle.lease_laws.proofs.Words.{is_file_closed, is_some, next_write, opened_anew, opened_turn, parked_closed, phase_with}
+use Rattle.lease_laws.proofs.Words.{promoted_turn, put, quiet_step, read_turn, reconnected_turn, refl, subst, sym, true}
+use Rattle.lease_laws.proofs.Words.{true≢false, turned, write_buffered, write_done_turn, write_requests, write_sent, wrote_step}
 use Rattle.lease_laws.proofs.client.Thin.{put_same, put_other}
 use Rattle.lease_laws.proofs.server.Lists.{either, and_parts}
 use Rattle.lease_laws.proofs.world.Links.{by_client}
@@ -21,7 +15,8 @@ use Rattle.lease_laws.proofs.client.cases.Commands.{HasCommands}
 use Rattle.lease_laws.proofs.client.cases.Replies.{HasTakes, PassesOver}
 use Rattle.lease_coherence.proofs.fresh.Clients.{sound_live}
 use Rattle.lease_coherence.proofs.standing.Clients.{FitsGiven}
-use Rattle.lease_coherence.proofs.covered.Words.{ClosedBefore, closed_more, closed_behind, closed_behind_writes, IsGrantOf, IsLiveUnder, IsCovered, cover_by, NotFailed}
+use Rattle.lease_coherence.proofs.covered.Words.{ClosedBefore, closed_more, closed_behind, closed_behind_writes, IsGrantOf}
+use Rattle.lease_coherence.proofs.covered.Words.{IsLiveUnder, IsCovered, cover_by, NotFailed}
 use Rattle.lease_coherence.proofs.creates.Counts.{none_asked}
 
 -- ---- commands

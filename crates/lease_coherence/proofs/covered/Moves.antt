@@ -1,27 +1,8 @@
 -- What the server does leaves each connected open of a client covered, what it uses connected, and what fails gone.
-use Rattle.std.proofs.Common.{◌≡◌, inl, inr, ⊎_elim, ℕ, ◌+◌, ◌≤◌, true, false, List, [], ◌∷◌, ◌++◌, Some, None, refl, sym, ap, ◌∙◌, subst, arith, ◌==◌}
-use Rattle.std.specs.Prelude.{⊤}
-use Rattle.std.proofs.lemmas.Bool.{eqb-true}
-use Rattle.lease_state.specs.declared.access.Access.{Access}
-use Rattle.lease_state.specs.declared.access.Share.{Share}
-use Rattle.lease_state.specs.declared.patch.Patch.{Patch}
-use Rattle.lease_state.specs.declared.status.Status.{Status}
-use Rattle.lease_model.specs.client.State.{Client}
-use Rattle.lease_model.specs.messages.Replies.{Reply}
-use Rattle.lease_model.specs.messages.Requests.{FileRequest, Request, CreateAsk}
-use Rattle.lease_model.specs.records.Facts.{Fact}
-use Rattle.lease_model.specs.server.Findings.{connected_open}
-use Rattle.lease_model.specs.server.Grant.{connected_again, new_open}
-use Rattle.lease_model.specs.server.Progress.{refusal_of}
-use Rattle.lease_model.specs.server.State.{Open, Lease}
-use Rattle.lease_model.specs.values.Keys.{Key}
-use Rattle.lease_model.specs.values.Tables.{put}
-use Rattle.lease_model.specs.world.Events.{machine_key}
-use Rattle.lease_model.specs.world.World.{World}
-use Rattle.lease_laws.specs.server.Laws.{Among}
-use Rattle.lease_laws.specs.server.SmallSteps.{MayRefuse}
-use Rattle.lease_laws.specs.world.FileIds.{was_opened}
-use Rattle.lease_laws.specs.world.Links.{is_up}
+use Rattle.lease_laws.proofs.Words.{◌++◌, ◌+◌, ◌==◌, ◌∙◌, ◌∷◌, ◌≡◌, ◌≤◌, Access, Among, Client, CreateAsk, Fact, FileRequest, Key}
+use Rattle.lease_laws.proofs.Words.{Lease, List, MayRefuse, None, Open, Patch, Reply, Request, Share, Some, Status, World, ℕ}
+use Rattle.lease_laws.proofs.Words.{⊎_elim, ⊤, [], ap, arith, connected_again, connected_open, eqb-true, false, inl, inr, is_up}
+use Rattle.lease_laws.proofs.Words.{machine_key, new_open, put, refl, refusal_of, subst, sym, true, was_opened}
 use Rattle.lease_laws.proofs.client.Thin.{put_same}
 use Rattle.lease_laws.proofs.server.Lists.{if_cases, either, among_append, among_map}
 use Rattle.lease_coherence.specs.Names.{Each, WasOpenedOn}
@@ -30,7 +11,8 @@ use Rattle.lease_coherence.proofs.covered.Asked.{off_closed, never_lost}
 use Rattle.lease_coherence.proofs.covered.Words.{ClosedBefore, HasGrant, grant_more, grant_last, IsCovered, cover_by}
 use Rattle.lease_coherence.proofs.creates.Creates.{off_rest}
 use Rattle.lease_coherence.proofs.late.Words.{KnowsIds}
-use Rattle.lease_coherence.proofs.moves.Deeds.{IsSource, told_to, granted_in, granted_reply, reconnected_in, reconnected_reply, changed_in}
+use Rattle.lease_coherence.proofs.moves.Deeds.{IsSource, told_to, granted_in, granted_reply, reconnected_in, reconnected_reply}
+use Rattle.lease_coherence.proofs.moves.Deeds.{changed_in}
 use Rattle.lease_coherence.proofs.moves.Frames.{from_source, lease_put_rest}
 use Rattle.lease_coherence.proofs.names.Words.{each_append, each_weaker}
 use Rattle.lease_coherence.specs.Agreement.{asked_of}

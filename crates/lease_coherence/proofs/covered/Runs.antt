@@ -1,30 +1,11 @@
 -- Every move leaves the connected opens of each client that hasn't strayed covered, while its link is up.
-use Rattle.std.proofs.Common.{◌≡◌, ◌≢◌, ⊎_elim, ℕ, ◌+◌, true, false, not, List, [], ◌∷◌, ◌++◌, Option, Some, None, refl, sym, ap, ap₂, ◌∙◌, subst, arith, true≢false, ◌==◌}
-use Rattle.std.specs.Prelude.{Ok}
-use Rattle.std.proofs.lemmas.Bool.{eq-eqb}
-use Rattle.lease_state.specs.declared.status.Status.{Status}
-use Rattle.lease_model.specs.client.Commanded.{commanded}
-use Rattle.lease_model.specs.client.Connection.{noticed, connection_made}
-use Rattle.lease_model.specs.client.State.{Client, Phase, lease_key}
-use Rattle.lease_model.specs.client.Step.{Step}
-use Rattle.lease_model.specs.client.Taken.{taken}
-use Rattle.lease_model.specs.messages.Replies.{Reply}
-use Rattle.lease_model.specs.messages.Requests.{FileRequest, Request, LeaseOf}
-use Rattle.lease_model.specs.records.Facts.{Fact}
-use Rattle.lease_model.specs.records.Past.{has_strayed}
-use Rattle.lease_model.specs.server.Calls.{file_asked, file_of_open, joined, key_expired}
-use Rattle.lease_model.specs.server.Findings.{connected_open}
-use Rattle.lease_model.specs.server.Naming.{key_of}
-use Rattle.lease_model.specs.server.Progress.{opens_dropped, with_opens, break_notice, refusal_of}
-use Rattle.lease_model.specs.server.State.{Server, Open, Held, Lease, has_key}
-use Rattle.lease_model.specs.values.Keys.{Key}
-use Rattle.lease_model.specs.values.Tables.{put}
-use Rattle.lease_model.specs.world.Events.{machine_key, stepped_in}
-use Rattle.lease_model.specs.world.World.{World, Link}
-use Rattle.lease_laws.specs.server.Laws.{Among}
-use Rattle.lease_laws.specs.server.SmallSteps.{SmallStep, IsInTurn}
-use Rattle.lease_laws.specs.world.FileIds.{was_opened}
-use Rattle.lease_laws.specs.world.Links.{is_up}
+use Rattle.lease_laws.proofs.Words.{◌++◌, ◌+◌, ◌==◌, ◌∙◌, ◌∷◌, ◌≡◌, ◌≢◌, Among, Client, Fact, FileRequest, Held, IsInTurn, Key}
+use Rattle.lease_laws.proofs.Words.{Lease, LeaseOf, Link, List, None, Ok, Open, Option, Phase, Reply, Request, Server, SmallStep}
+use Rattle.lease_laws.proofs.Words.{Some, Status, Step, World, ℕ, ⊎_elim, [], ap, ap₂, arith, break_notice, commanded}
+use Rattle.lease_laws.proofs.Words.{connected_open, connection_made, eq-eqb, false, file_asked, file_of_open, has_key}
+use Rattle.lease_laws.proofs.Words.{has_strayed, is_up, joined, key_expired, key_of, lease_key, machine_key, not, noticed}
+use Rattle.lease_laws.proofs.Words.{opens_dropped, put, refl, refusal_of, stepped_in, subst, sym, taken, true, true≢false}
+use Rattle.lease_laws.proofs.Words.{was_opened, with_opens}
 use Rattle.lease_laws.proofs.client.Forms.{commanded-stays, taken-stays}
 use Rattle.lease_laws.proofs.client.Thin.{put_same}
 use Rattle.lease_laws.proofs.server.Goes.{one_id}
@@ -41,7 +22,9 @@ use Rattle.lease_laws.proofs.client.cases.Commands.{any_command}
 use Rattle.lease_laws.proofs.client.cases.Replies.{any_reply}
 use Rattle.lease_coherence.proofs.covered.Asked.{popped_closed, held_closed}
 use Rattle.lease_coherence.proofs.covered.Clients.{IsQuiet, StepCovers, commands_cover, IsMetWith, TakeCovers, takes_cover}
-use Rattle.lease_coherence.proofs.covered.Moves.{itself, KeepsOpens, IsUsed, UsesUp, uses_in, FailsGone, fails_in, HasCovered, IsUpCovered, covered_in, IsLeftCovered, off_covered, told_covered, refusal_gone, refusal_closes, changed_covered, granted_covered, reconnected_covered}
+use Rattle.lease_coherence.proofs.covered.Moves.{itself, KeepsOpens, IsUsed, UsesUp, uses_in, FailsGone, fails_in, HasCovered}
+use Rattle.lease_coherence.proofs.covered.Moves.{IsUpCovered, covered_in, IsLeftCovered, off_covered, told_covered, refusal_gone}
+use Rattle.lease_coherence.proofs.covered.Moves.{refusal_closes, changed_covered, granted_covered, reconnected_covered}
 use Rattle.lease_coherence.proofs.covered.Uses.{UsesLive, StepUses, commands_use, takes_use}
 use Rattle.lease_coherence.proofs.covered.Words.{ClosedBefore, creates_asked, HasGrant, grant_more, IsCovered, NotFailed}
 use Rattle.lease_coherence.proofs.creates.Counts.{creates_append}

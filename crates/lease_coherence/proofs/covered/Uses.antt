@@ -1,17 +1,13 @@
 -- Reads and writes are sent under the open of a live entry.
-use Rattle.std.proofs.Common.{◌≡◌, ℕ, ◌++◌, List, [], ◌∷◌, refl}
-use Rattle.std.specs.Prelude.{⊤}
-use Rattle.lease_model.specs.client.Commanded.{cached_read, opened_anew, write_buffered, write_sent, flush_on_live}
-use Rattle.lease_model.specs.client.State.{Client, LiveEntry, Pending, Phase}
-use Rattle.lease_model.specs.client.Step.{Step, turned, write_requests}
-use Rattle.lease_model.specs.client.Taken.{acknowledgment, parked_closed, belief_lowered, flushed, opened_turn, reconnected_turn, promoted_turn, read_turn, closed_by_server, write_done_turn}
-use Rattle.lease_model.specs.messages.Requests.{FileRequest, Request}
+use Rattle.lease_laws.proofs.Words.{◌++◌, ◌∷◌, ◌≡◌, Client, FileRequest, List, LiveEntry, Pending, Phase, Request, Step, ℕ, ⊤, []}
+use Rattle.lease_laws.proofs.Words.{acknowledgment, belief_lowered, cached_read, closed_by_server, flush_on_live, flushed, meet}
+use Rattle.lease_laws.proofs.Words.{opened_anew, opened_turn, parked_closed, promoted_turn, read_turn, reconnected_turn, refl}
+use Rattle.lease_laws.proofs.Words.{turned, write_buffered, write_done_turn, write_requests, write_sent}
 use Rattle.lease_laws.proofs.server.Lists.{if_cases}
 use Rattle.lease_coherence.specs.Names.{Each}
 use Rattle.lease_laws.proofs.client.cases.Commands.{HasCommands}
 use Rattle.lease_laws.proofs.client.cases.Replies.{HasTakes}
 use Rattle.lease_coherence.proofs.order.Sends.{IsUnderLive}
-use Rattle.lease_model.specs.values.LeaseStates.{meet}
 
 abbrev pub UsesLive : Client → Request → Type 0
 UsesLive client (Request.OnFile (FileRequest.Read file_id)) = IsUnderLive client file_id

@@ -1,12 +1,6 @@
 -- How many creates of a file are under way: asked, held, or answered and not yet taken.
-use Rattle.std.proofs.Common.{◌≡◌, ℕ, ◌+◌, true, List, [], ◌∷◌, ◌++◌, refl, sym, ap, ◌∙◌, arith, true≢false, ◌==◌, false}
-use Rattle.lease_state.specs.declared.status.Status.{Status}
-use Rattle.lease_model.specs.client.State.{Pending, Phase}
-use Rattle.lease_model.specs.client.Step.{write_requests}
-use Rattle.lease_model.specs.messages.Replies.{Reply}
-use Rattle.lease_model.specs.messages.Requests.{FileRequest, Request}
-use Rattle.lease_model.specs.server.Progress.{refusal_of}
-use Rattle.lease_model.specs.server.State.{Held}
+use Rattle.lease_laws.proofs.Words.{◌++◌, ◌+◌, ◌==◌, ◌∙◌, ◌∷◌, ◌≡◌, FileRequest, Held, List, Pending, Phase, Reply, Request}
+use Rattle.lease_laws.proofs.Words.{Status, ℕ, [], ap, arith, false, refl, refusal_of, sym, true, true≢false, write_requests}
 use Rattle.lease_laws.proofs.client.cases.Replies.{AwaitsNone}
 use Rattle.lease_laws.proofs.server.Lists.{if_cases}
 use Rattle.lease_coherence.proofs.moves.Events.{chosen, not_chosen}

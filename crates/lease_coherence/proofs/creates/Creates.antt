@@ -1,43 +1,27 @@
 -- While a client's link is up, a create of a file is under way exactly where its entry has asked for one.
-use Rattle.std.proofs.Common.{◌≡◌, ◌≢◌, inl, inr, ⊎_elim, ℕ, zero, suc, ◌+◌, ◌≤◌, Bool, true, false, not, List, [], ◌∷◌, ◌++◌, filter, flat_map, Option, Some, None, refl, sym, ap, ap₂, ◌∙◌, subst, arith, true≢false, ◌==◌}
-use Rattle.std.specs.Prelude.{◌&&◌, nat_le, Ok, Err, Result, if◌then◌else◌}
-use Rattle.std.proofs.lemmas.Bool.{eq-eqb, eqb-true}
-use Rattle.std.proofs.lemmas.Grind.{flat_map-append}
-use Rattle.lease_state.specs.State.{granted_form_of}
-use Rattle.lease_state.specs.declared.status.Status.{Status}
-use Rattle.lease_model.specs.client.Commanded.{is_asking, commanded}
-use Rattle.lease_model.specs.client.Connection.{all_turned, noticed, connection_made, connect_turn}
-use Rattle.lease_model.specs.client.State.{Client, Entry, LiveEntry, Pending, Phase, knows_file}
-use Rattle.lease_model.specs.client.Step.{Step}
-use Rattle.lease_model.specs.client.Taken.{taken}
-use Rattle.lease_model.specs.messages.Replies.{Reply}
-use Rattle.lease_model.specs.messages.Requests.{FileRequest, Request, CreateAsk, LeaseOf}
-use Rattle.lease_model.specs.records.Facts.{Fact}
-use Rattle.lease_model.specs.server.Calls.{held_of, file_asked, file_of_create, joined, key_expired}
-use Rattle.lease_model.specs.server.Grant.{lease_after}
-use Rattle.lease_model.specs.server.Naming.{key_of}
-use Rattle.lease_model.specs.server.Progress.{opens_dropped, with_opens, break_notice, refusal_of}
-use Rattle.lease_model.specs.server.State.{Server, Held, has_file}
-use Rattle.lease_model.specs.values.Lists.{numbers_to}
-use Rattle.lease_model.specs.values.Tables.{put}
-use Rattle.lease_model.specs.world.Events.{stepped_in}
-use Rattle.lease_model.specs.world.World.{World, Link, sent_over}
-use Rattle.lease_laws.specs.client.Laws.{IsSoundEntry, IsSoundPhase}
-use Rattle.lease_laws.specs.server.Laws.{Among}
-use Rattle.lease_laws.specs.server.SmallSteps.{SmallStep, IsInTurn}
-use Rattle.lease_laws.specs.server.Waiting.{IsAbout}
-use Rattle.lease_laws.specs.world.Links.{is_up, is_down}
+use Rattle.lease_laws.proofs.Words.{◌&&◌, ◌++◌, ◌+◌, ◌==◌, ◌∙◌, ◌∷◌, ◌≡◌, ◌≢◌, ◌≤◌, Among, Bool, Client, CreateAsk, Entry, Err}
+use Rattle.lease_laws.proofs.Words.{Fact, FileRequest, Held, IsAbout, IsInTurn, IsSoundEntry, IsSoundPhase, LeaseOf, Link, List}
+use Rattle.lease_laws.proofs.Words.{LiveEntry, None, Ok, Option, Pending, Phase, Reply, Request, Result, Server, SmallStep, Some}
+use Rattle.lease_laws.proofs.Words.{Status, Step, World, ℕ, ⊎_elim, [], all_turned, ap, ap₂, arith, break_notice, commanded}
+use Rattle.lease_laws.proofs.Words.{connect_turn, connection_made, eq-eqb, eqb-true, false, file_asked, file_of_create, filter}
+use Rattle.lease_laws.proofs.Words.{flat_map, flat_map-append, granted_form_of, has_file, held_of, if◌then◌else◌, inl, inr}
+use Rattle.lease_laws.proofs.Words.{is_asking, is_down, is_up, joined, key_expired, key_of, knows_file, lease_after, nat_le, not}
+use Rattle.lease_laws.proofs.Words.{noticed, numbers_to, opens_dropped, put, refl, refusal_of, sent_over, stepped_in, subst, suc}
+use Rattle.lease_laws.proofs.Words.{sym, taken, true, true≢false, with_opens, zero}
 use Rattle.lease_laws.proofs.client.Thin.{put_same, put_other}
 use Rattle.lease_laws.proofs.server.Lists.{if_cases, either, clash, not_true, among_behind}
 use Rattle.lease_laws.proofs.world.Links.{stepped_links}
 use Rattle.lease_laws.proofs.world.Runs.{stepped_server, stepped_clients}
-use Rattle.lease_coherence.specs.Creates.{IsCountedAt, answer_of, answers, asked_by, create_of, creates, held_by, held_creates, one_if, under_way, has_asked}
+use Rattle.lease_coherence.specs.Creates.{IsCountedAt, answer_of, answers, asked_by, create_of, creates, held_by, held_creates}
+use Rattle.lease_coherence.specs.Creates.{one_if, under_way, has_asked}
 use Rattle.lease_coherence.specs.Names.{Each, IsNamedReply}
 use Rattle.lease_laws.proofs.client.cases.Commands.{any_command}
 use Rattle.lease_laws.proofs.client.cases.Replies.{any_reply}
 use Rattle.lease_coherence.proofs.creates.Counts.{creates_append, answers_last, held_among, refusal_answers}
 use Rattle.lease_coherence.proofs.creates.Steps.{none_answered, IsCountedStep, IsCountedTake, commands_count, takes_count}
-use Rattle.lease_coherence.proofs.moves.Deeds.{IsSource, HasArrived, WasHeld, with_held, told_to, held_in, granted_in, reconnected_in, changed_in, without_opens, leased_in, granted_reply, reconnected_reply, done_reply}
+use Rattle.lease_coherence.proofs.moves.Deeds.{IsSource, HasArrived, WasHeld, with_held, told_to, held_in, granted_in}
+use Rattle.lease_coherence.proofs.moves.Deeds.{reconnected_in, changed_in, without_opens, leased_in, granted_reply}
+use Rattle.lease_coherence.proofs.moves.Deeds.{reconnected_reply, done_reply}
 use Rattle.lease_coherence.proofs.moves.Events.{Ground, timed_out, come_back, connected, reply_gone, reply_taken}
 use Rattle.lease_coherence.proofs.moves.Foreign.{IsUnmoved}
 use Rattle.lease_coherence.proofs.moves.Frames.{lease_put_rest, stepped_requests, stepped_replies}

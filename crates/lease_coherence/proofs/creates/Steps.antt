@@ -1,17 +1,11 @@
 -- What a client's step adds to the creates under way, and what it takes.
-use Rattle.std.proofs.Common.{◌≡◌, ◌≢◌, ℕ, ◌+◌, ◌≤◌, true, false, List, [], ◌∷◌, ◌++◌, Option, Some, None, refl, sym, ap, ap₂, ◌∙◌, subst, arith, ◌==◌}
-use Rattle.std.specs.Prelude.{is_some, if◌then◌else◌}
-use Rattle.std.proofs.lemmas.Bool.{eq-eqb, eqb-true}
-use Rattle.lease_state.specs.State.{State}
-use Rattle.lease_model.specs.client.Commanded.{is_asking, next_write, cached_read, opened_anew, write_buffered, write_sent, flush_on_live, wrote_step}
-use Rattle.lease_model.specs.client.Commands.{Answer}
-use Rattle.lease_model.specs.client.State.{Client, Entry, LiveEntry, Asked, Pending, Phase}
-use Rattle.lease_model.specs.client.Step.{Step, Turn, turned, write_requests}
-use Rattle.lease_model.specs.client.Taken.{parked_closed, belief_lowered, flushed, opened_turn, reconnected_turn, promoted_turn, read_turn, closed_by_server, without_open, phase_with, write_done_turn, acknowledgment, sent_without}
-use Rattle.lease_model.specs.messages.Replies.{Reply, BreakNotice}
-use Rattle.lease_model.specs.messages.Requests.{FileRequest, Request}
-use Rattle.lease_model.specs.records.Facts.{Fact}
-use Rattle.lease_model.specs.values.Tables.{put}
+use Rattle.lease_laws.proofs.Words.{◌++◌, ◌+◌, ◌==◌, ◌∙◌, ◌∷◌, ◌≡◌, ◌≢◌, ◌≤◌, Answer, Asked, BreakNotice, Client, Entry, Fact}
+use Rattle.lease_laws.proofs.Words.{FileRequest, List, LiveEntry, None, Option, Pending, Phase, Reply, Request, Some, State, Step}
+use Rattle.lease_laws.proofs.Words.{Turn, ℕ, [], acknowledgment, ap, ap₂, arith, belief_lowered, cached_read, closed_by_server}
+use Rattle.lease_laws.proofs.Words.{eq-eqb, eqb-true, false, flush_on_live, flushed, if◌then◌else◌, is_asking, is_some, meet}
+use Rattle.lease_laws.proofs.Words.{next_write, opened_anew, opened_turn, parked_closed, phase_with, promoted_turn, put}
+use Rattle.lease_laws.proofs.Words.{read_turn, reconnected_turn, refl, sent_without, subst, sym, true, turned, without_open}
+use Rattle.lease_laws.proofs.Words.{write_buffered, write_done_turn, write_requests, write_sent, wrote_step}
 use Rattle.lease_laws.proofs.client.Thin.{put_same, put_other}
 use Rattle.lease_laws.proofs.server.Lists.{if_cases, either, and_parts}
 use Rattle.lease_laws.proofs.world.Links.{by_client}
@@ -20,7 +14,6 @@ use Rattle.lease_coherence.specs.Names.{IsNamedReply}
 use Rattle.lease_laws.proofs.client.cases.Commands.{HasCommands, sent_of}
 use Rattle.lease_laws.proofs.client.cases.Replies.{HasTakes, PassesOver}
 use Rattle.lease_coherence.proofs.creates.Counts.{creates_append, writes_create, none_asked}
-use Rattle.lease_model.specs.values.LeaseStates.{meet}
 
 -- a step of the client: so many creates were answered to it
 abbrev pub IsCountedStep : Client → (ℕ → ℕ) → Step → Type 0

@@ -1,23 +1,11 @@
 -- What a client does keeps its bytes fresh.
-use Rattle.std.proofs.Common.{◌≡◌, ◌≢◌, inl, ⊎_elim, ℕ, ◌+◌, ◌≤◌, Bool, true, false, List, [], ◌∷◌, Option, Some, None, refl, sym, ap, ◌∙◌, subst, arith, true≢false, ◌==◌}
-use Rattle.std.specs.Prelude.{bytes_eq}
-use Rattle.std.specs.List.{list_any}
-use Rattle.std.proofs.lemmas.Bool.{eqb-true, eq-eqb}
-use Rattle.std.proofs.lemmas.Slice.Eq.{bytes_eq-Decides}
-use Rattle.lease_state.specs.State.{State}
-use Rattle.lease_state.specs.declared.patch.Patch.{Patch}
-use Rattle.lease_model.specs.client.Commanded.{create_request, next_write, cached_read, opened_anew, write_buffered, write_sent, flush_on_live, wrote_step}
-use Rattle.lease_model.specs.client.Commands.{Answer}
-use Rattle.lease_model.specs.client.State.{Client, Entry, LiveEntry, Pending, Phase, lease_key, knows_file, belief_in}
-use Rattle.lease_model.specs.client.Step.{Step, Turn, turned}
-use Rattle.lease_model.specs.client.Taken.{is_key_of, is_numbered, has_sent}
-use Rattle.lease_model.specs.messages.Replies.{Reply, BreakNotice, CreateAnswer}
-use Rattle.lease_model.specs.messages.Requests.{FileRequest, Request}
-use Rattle.lease_model.specs.records.Facts.{Fact}
-use Rattle.lease_model.specs.records.Past.{has_written}
-use Rattle.lease_model.specs.values.Tables.{put}
-use Rattle.lease_laws.specs.client.Laws.{IsSoundClient, IsSoundPhase, IsSoundLive}
-use Rattle.lease_laws.specs.records.Runs.{content_of}
+use Rattle.lease_laws.proofs.Words.{◌+◌, ◌==◌, ◌∙◌, ◌∷◌, ◌≡◌, ◌≢◌, ◌≤◌, Answer, Bool, BreakNotice, Client, CreateAnswer, Entry}
+use Rattle.lease_laws.proofs.Words.{Fact, FileRequest, IsSoundClient, IsSoundLive, IsSoundPhase, List, LiveEntry, None, Option}
+use Rattle.lease_laws.proofs.Words.{Patch, Pending, Phase, Reply, Request, Some, State, Step, Turn, ℕ, ⊎_elim, [], ap, arith}
+use Rattle.lease_laws.proofs.Words.{belief_in, bytes_eq, bytes_eq-Decides, cached_read, content_of, create_request, eq-eqb}
+use Rattle.lease_laws.proofs.Words.{eqb-true, false, flush_on_live, has_sent, has_written, inl, is_key_of, is_numbered}
+use Rattle.lease_laws.proofs.Words.{knows_file, lease_key, list_any, next_write, opened_anew, put, refl, subst, sym, true}
+use Rattle.lease_laws.proofs.Words.{true≢false, turned, write_buffered, write_sent, wrote_step}
 use Rattle.lease_laws.proofs.client.Thin.{put_same, put_other}
 use Rattle.lease_laws.proofs.server.Lists.{either, clash, not_true, not_false, or_true}
 use Rattle.lease_laws.proofs.world.Links.{by_client}

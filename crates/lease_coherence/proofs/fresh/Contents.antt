@@ -1,21 +1,9 @@
 -- At every point of a run the contents of the server are those of the record.
-use Rattle.std.proofs.Common.{◌≡◌, ℕ, List, [], ◌∷◌, refl, sym, ap, ◌∙◌, subst, ◌==◌}
-use Rattle.std.specs.Prelude.{if◌then◌else◌}
-use Rattle.std.proofs.lemmas.Bool.{eqb-true, eq-eqb}
+use Rattle.lease_laws.proofs.Words.{◌==◌, ◌∙◌, ◌∷◌, ◌≡◌, Fact, FileRequest, Link, List, Note, Patch, Server, Step, World, ℕ, []}
+use Rattle.lease_laws.proofs.Words.{ap, client_forgotten, content_of, eq-eqb, eqb-true, fact_of, if◌then◌else◌, joined}
+use Rattle.lease_laws.proofs.Words.{key_expired, lease_after, opens_disconnected, opens_dropped, put, refl, requests_sent}
+use Rattle.lease_laws.proofs.Words.{stepped_in, subst, sym, with_opens}
 use Rattle.lease_state.specs.Content.{patch as patched}
-use Rattle.lease_state.specs.declared.patch.Patch.{Patch}
-use Rattle.lease_model.specs.client.Commands.{Note}
-use Rattle.lease_model.specs.client.Step.{Step}
-use Rattle.lease_model.specs.messages.Requests.{FileRequest}
-use Rattle.lease_model.specs.records.Facts.{Fact}
-use Rattle.lease_model.specs.server.Calls.{joined, key_expired, opens_disconnected, client_forgotten}
-use Rattle.lease_model.specs.server.Grant.{lease_after}
-use Rattle.lease_model.specs.server.Progress.{opens_dropped, with_opens}
-use Rattle.lease_model.specs.server.State.{Server}
-use Rattle.lease_model.specs.values.Tables.{put}
-use Rattle.lease_model.specs.world.Events.{stepped_in}
-use Rattle.lease_model.specs.world.World.{World, Link, requests_sent, fact_of}
-use Rattle.lease_laws.specs.records.Runs.{content_of}
 use Rattle.lease_laws.proofs.client.Thin.{put_same, put_other}
 use Rattle.lease_laws.proofs.server.Lists.{either, clash}
 use Rattle.lease_laws.proofs.world.Runs.{stepped_server}

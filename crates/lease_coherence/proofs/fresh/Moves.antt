@@ -1,31 +1,12 @@
 -- What the server does for a client leaves what it holds of a file's bytes fresh.
-use Rattle.std.proofs.Common.{◌≡◌, inl, inr, ℕ, ◌+◌, ◌≤◌, Bool, true, false, List, [], ◌∷◌, ◌++◌, length, Option, Some, None, refl, sym, ap, ◌∙◌, subst, arith, true≢false, ◌==◌}
-use Rattle.std.specs.Prelude.{◌&&◌, if◌then◌else◌, is_some, bytes_eq}
-use Rattle.std.proofs.lemmas.Bool.{eqb-true, eq-eqb}
-use Rattle.std.proofs.lemmas.Slice.Eq.{bytes_eq-Decides}
+use Rattle.lease_laws.proofs.Words.{◌&&◌, ◌++◌, ◌+◌, ◌==◌, ◌∙◌, ◌∷◌, ◌≡◌, ◌≤◌, Access, Among, Bool, CreateAsk, Fact, FileRequest}
+use Rattle.lease_laws.proofs.Words.{Key, Lease, LeaseOf, List, None, Open, Option, Patch, Reply, Request, Share, Some, State}
+use Rattle.lease_laws.proofs.Words.{Status, World, ℕ, [], ap, arith, break_notice, bytes_eq, bytes_eq-Decides, connected_open}
+use Rattle.lease_laws.proofs.Words.{content_of, eq-eqb, eqb-true, false, granted_form_of, has_strayed, has_written, if◌then◌else◌}
+use Rattle.lease_laws.proofs.Words.{inl, inr, is_breaking, is_some, is_up, key_eq, key_of, lease_after, lease_granted, lease_key}
+use Rattle.lease_laws.proofs.Words.{length, machine_key, nothing_cached, refl, refusal_of, sendings, subst, sym, takings, true}
+use Rattle.lease_laws.proofs.Words.{true≢false, was_opened}
 use Rattle.lease_state.specs.Content.{patch as patched}
-use Rattle.lease_state.specs.State.{State, nothing_cached, granted_form_of}
-use Rattle.lease_state.specs.declared.access.Access.{Access}
-use Rattle.lease_state.specs.declared.access.Share.{Share}
-use Rattle.lease_state.specs.declared.patch.Patch.{Patch}
-use Rattle.lease_state.specs.declared.status.Status.{Status}
-use Rattle.lease_model.specs.client.State.{lease_key}
-use Rattle.lease_model.specs.messages.Replies.{Reply}
-use Rattle.lease_model.specs.messages.Requests.{FileRequest, Request, CreateAsk, LeaseOf}
-use Rattle.lease_model.specs.records.Facts.{Fact}
-use Rattle.lease_model.specs.records.Past.{has_strayed, has_written, sendings, takings}
-use Rattle.lease_model.specs.server.Findings.{connected_open}
-use Rattle.lease_model.specs.server.Grant.{lease_granted, lease_after}
-use Rattle.lease_model.specs.server.Naming.{key_of}
-use Rattle.lease_model.specs.server.Progress.{break_notice, refusal_of}
-use Rattle.lease_model.specs.server.State.{Open, Lease, is_breaking}
-use Rattle.lease_model.specs.values.Keys.{Key, key_eq}
-use Rattle.lease_model.specs.world.Events.{machine_key}
-use Rattle.lease_model.specs.world.World.{World}
-use Rattle.lease_laws.specs.records.Runs.{content_of}
-use Rattle.lease_laws.specs.server.Laws.{Among}
-use Rattle.lease_laws.specs.world.FileIds.{was_opened}
-use Rattle.lease_laws.specs.world.Links.{is_up}
 use Rattle.lease_laws.proofs.client.Thin.{put_same}
 use Rattle.lease_laws.proofs.server.Keys.{key_eq-refl, put_key-cases}
 use Rattle.lease_laws.proofs.server.Lists.{if_cases, either, clash, and_parts, find_has}
@@ -36,9 +17,11 @@ use Rattle.lease_coherence.proofs.beliefs.Leases.{settled_none}
 use Rattle.lease_coherence.proofs.beliefs.Sent.{is_bare}
 use Rattle.lease_coherence.proofs.beliefs.Trust.{file_key, HasTrust}
 use Rattle.lease_coherence.proofs.fresh.Contents.{HasContents}
-use Rattle.lease_coherence.proofs.fresh.Sent.{IsFreshIn, IsToldTo, left_reads, IsToldIn, sent_fresh, bare_reads, is_still, still_sends}
+use Rattle.lease_coherence.proofs.fresh.Sent.{IsFreshIn, IsToldTo, left_reads, IsToldIn, sent_fresh, bare_reads, is_still}
+use Rattle.lease_coherence.proofs.fresh.Sent.{still_sends}
 use Rattle.lease_coherence.proofs.fresh.Words.{given_reads, reads_by, AckReads, Follows, IsFreshFor}
-use Rattle.lease_coherence.proofs.moves.Deeds.{IsSource, told_to, granted_in, reconnected_in, changed_in, leased_in, granted_reply, reconnected_reply, done_reply}
+use Rattle.lease_coherence.proofs.moves.Deeds.{IsSource, told_to, granted_in, reconnected_in, changed_in, leased_in}
+use Rattle.lease_coherence.proofs.moves.Deeds.{granted_reply, reconnected_reply, done_reply}
 use Rattle.lease_coherence.proofs.moves.Events.{Ground}
 use Rattle.lease_coherence.proofs.moves.Frames.{from_source, lease_put_rest}
 use Rattle.lease_coherence.proofs.moves.Moves.{IsOldest, rest_of, popped}

@@ -1,29 +1,14 @@
 -- In every run a good client's cached reads are fresh.
-use Rattle.std.proofs.Common.{◌≡◌, inl, inr, ℕ, zero, suc, true, false, not, List, [], ◌∷◌, ◌++◌, Option, Some, None, refl, sym, ap, ap₂, ◌∙◌, subst}
-use Rattle.std.specs.Prelude.{if◌then◌else◌, slice_get, reverse}
-use Rattle.std.specs.List.{list_all}
-use Rattle.std.proofs.lemmas.List.{reverse-reverse}
-use Rattle.lease_state.specs.Content.{patches}
-use Rattle.lease_model.specs.client.Calls.{ClientCall, client_called}
-use Rattle.lease_model.specs.client.Commands.{Note}
-use Rattle.lease_model.specs.client.State.{Client, LiveEntry, Phase, patches_of, view}
-use Rattle.lease_model.specs.client.Step.{Step}
-use Rattle.lease_model.specs.messages.Replies.{Reply, Out}
-use Rattle.lease_model.specs.messages.Requests.{Request}
-use Rattle.lease_model.specs.records.Facts.{Fact}
-use Rattle.lease_model.specs.records.Past.{is_good, is_served, has_strayed, sendings, takings, last_of, last_sending}
-use Rattle.lease_model.specs.records.Safe.{EachFact, FreshRead}
-use Rattle.lease_model.specs.server.Calls.{receive, join, cut, expire, scavenge}
-use Rattle.lease_model.specs.server.Progress.{Progress}
-use Rattle.lease_model.specs.server.Queries.{breaking, kept}
-use Rattle.lease_model.specs.server.State.{has_file}
-use Rattle.lease_model.specs.values.Tables.{put}
-use Rattle.lease_model.specs.world.Allowed.{is_allowed_setup}
-use Rattle.lease_model.specs.world.Events.{Event, served, stepped_in, server_takes, client_takes, link_cut, cut_over, link_noticed, notice_over, link_connected, connect_over, machine_key, timer_expired, scavenged, strayed_over, applied, client_of, happens, after}
-use Rattle.lease_model.specs.world.World.{World, Setup, Link, first_world, has_client, happened, requests_sent, fact_of, starts_from}
-use Rattle.lease_laws.specs.client.Laws.{IsSoundClient, unsent_in}
-use Rattle.lease_laws.specs.records.Runs.{is_start}
-use Rattle.lease_laws.specs.server.Laws.{Among}
+use Rattle.lease_laws.proofs.Words.{◌++◌, ◌∙◌, ◌∷◌, ◌≡◌, Among, Client, ClientCall, EachFact, Event, Fact, FreshRead}
+use Rattle.lease_laws.proofs.Words.{IsSoundClient, Link, List, LiveEntry, None, Note, Option, Out, Phase, Progress, Reply}
+use Rattle.lease_laws.proofs.Words.{Request, Setup, Some, Step, World, ℕ, [], after, ap, applied, ap₂, breaking, client_called}
+use Rattle.lease_laws.proofs.Words.{client_of, client_takes, connect_over, cut, cut_over, expire, fact_of, false, first_world}
+use Rattle.lease_laws.proofs.Words.{happened, happens, has_client, has_file, has_strayed, if◌then◌else◌, inl, inr}
+use Rattle.lease_laws.proofs.Words.{is_allowed_setup, is_good, is_served, is_start, join, kept, last_of, last_sending}
+use Rattle.lease_laws.proofs.Words.{link_connected, link_cut, link_noticed, list_all, machine_key, not, notice_over, patches}
+use Rattle.lease_laws.proofs.Words.{patches_of, put, receive, refl, requests_sent, reverse, reverse-reverse, scavenge, scavenged}
+use Rattle.lease_laws.proofs.Words.{sendings, served, server_takes, slice_get, starts_from, stepped_in, strayed_over, subst, suc}
+use Rattle.lease_laws.proofs.Words.{sym, takings, timer_expired, true, unsent_in, view, zero}
 use Rattle.lease_laws.proofs.records.Content.{content_when_sent}
 use Rattle.lease_laws.proofs.records.Given.{runs_give_first}
 use Rattle.lease_laws.proofs.records.Runs.{all_starts, all_reversed, runs_start_first}

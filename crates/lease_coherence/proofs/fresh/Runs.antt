@@ -1,32 +1,12 @@
 -- Every move keeps a client's bytes fresh, of each file whose timer didn't run out, while its link is up.
-use Rattle.std.proofs.Common.{◌≡◌, inl, ℕ, zero, suc, ◌+◌, ◌≤◌, Bool, true, false, not, List, [], ◌∷◌, ◌++◌, length, Some, None, refl, sym, ap, ap₂, ◌∙◌, subst, arith, true≢false, ◌==◌}
-use Rattle.std.specs.Prelude.{if◌then◌else◌, drop, slice_get}
-use Rattle.std.specs.List.{list_any}
-use Rattle.std.proofs.lemmas.Bool.{eq-eqb}
-use Rattle.lease_state.specs.State.{State}
-use Rattle.lease_state.specs.declared.status.Status.{Status}
-use Rattle.lease_model.specs.client.Commanded.{commanded}
-use Rattle.lease_model.specs.client.Commands.{Command, Note}
-use Rattle.lease_model.specs.client.Connection.{all_turned, noticed, connection_made, connect_turn}
-use Rattle.lease_model.specs.client.State.{Client, LiveEntry, Pending, Phase, lease_key, belief_in}
-use Rattle.lease_model.specs.client.Step.{Step}
-use Rattle.lease_model.specs.client.Taken.{taken}
-use Rattle.lease_model.specs.messages.Replies.{Reply}
-use Rattle.lease_model.specs.messages.Requests.{FileRequest, Request}
-use Rattle.lease_model.specs.records.Facts.{Fact}
-use Rattle.lease_model.specs.records.Past.{has_strayed, sendings, takings, last_of, last_sending}
-use Rattle.lease_model.specs.server.Calls.{joined, key_expired}
-use Rattle.lease_model.specs.server.Naming.{key_of}
-use Rattle.lease_model.specs.server.Progress.{opens_dropped, with_opens, refusal_of}
-use Rattle.lease_model.specs.server.State.{Server, Open, Lease, is_breaking, has_key}
-use Rattle.lease_model.specs.values.Lists.{numbers_to, without}
-use Rattle.lease_model.specs.values.Tables.{put}
-use Rattle.lease_model.specs.world.Events.{stepped_in, machine_key}
-use Rattle.lease_model.specs.world.World.{World, Link, fact_of}
-use Rattle.lease_laws.specs.client.Laws.{IsSoundPhase}
-use Rattle.lease_laws.specs.records.Runs.{content_of}
-use Rattle.lease_laws.specs.server.Laws.{Among}
-use Rattle.lease_laws.specs.world.Links.{is_up, is_down}
+use Rattle.lease_laws.proofs.Words.{◌++◌, ◌+◌, ◌==◌, ◌∙◌, ◌∷◌, ◌≡◌, ◌≤◌, Among, Bool, Client, Command, Fact, FileRequest}
+use Rattle.lease_laws.proofs.Words.{IsSoundPhase, Lease, Link, List, LiveEntry, None, Note, Open, Pending, Phase, Reply, Request}
+use Rattle.lease_laws.proofs.Words.{Server, Some, State, Status, Step, World, ℕ, [], all_turned, ap, ap₂, arith, belief_in}
+use Rattle.lease_laws.proofs.Words.{commanded, connect_turn, connection_made, content_of, drop, eq-eqb, fact_of, false, has_key}
+use Rattle.lease_laws.proofs.Words.{has_strayed, if◌then◌else◌, inl, is_breaking, is_down, is_up, joined, key_expired, key_of}
+use Rattle.lease_laws.proofs.Words.{last_of, last_sending, lease_key, length, list_any, machine_key, not, noticed, numbers_to}
+use Rattle.lease_laws.proofs.Words.{opens_dropped, put, refl, refusal_of, sendings, slice_get, stepped_in, subst, suc, sym, taken}
+use Rattle.lease_laws.proofs.Words.{takings, true, true≢false, with_opens, without, zero}
 use Rattle.lease_laws.proofs.client.Forms.{commanded-stays, taken-stays}
 use Rattle.lease_laws.proofs.client.Thin.{put_same}
 use Rattle.lease_laws.proofs.server.Keys.{put_key-cases}
@@ -44,9 +24,11 @@ use Rattle.lease_laws.proofs.client.cases.Commands.{any_command}
 use Rattle.lease_laws.proofs.client.cases.Replies.{any_reply, is_live}
 use Rattle.lease_coherence.proofs.fresh.Clients.{WasSoLive, KeepsLive, commands_keep, all_about, IsDueTo, TakesFresh}
 use Rattle.lease_coherence.proofs.fresh.Contents.{noted_content}
-use Rattle.lease_coherence.proofs.fresh.Sent.{IsFreshIn, IsUpFresh, left_reads, HasMore, seen_more, base_more, unmoved_fresh, sent_fresh, still_sends, gone_reads}
+use Rattle.lease_coherence.proofs.fresh.Sent.{IsFreshIn, IsUpFresh, left_reads, HasMore, seen_more, base_more, unmoved_fresh}
+use Rattle.lease_coherence.proofs.fresh.Sent.{sent_fresh, still_sends, gone_reads}
 use Rattle.lease_coherence.proofs.fresh.Takes.{takes_fresh}
-use Rattle.lease_coherence.proofs.fresh.Words.{reads_by, reads_after, reads_last, after_fewer, AckReads, acks_fewer, Follows, TellsBytes, IsRelayed, relayed_later, relayed_fewer, places_of, IsFreshFor}
+use Rattle.lease_coherence.proofs.fresh.Words.{reads_by, reads_after, reads_last, after_fewer, AckReads, acks_fewer, Follows}
+use Rattle.lease_coherence.proofs.fresh.Words.{TellsBytes, IsRelayed, relayed_later, relayed_fewer, places_of, IsFreshFor}
 use Rattle.lease_coherence.proofs.moves.Deeds.{told_to, without_opens}
 use Rattle.lease_coherence.proofs.moves.Events.{Ground, timed_out, come_back, connected, reply_gone, reply_taken}
 use Rattle.lease_coherence.proofs.moves.Frames.{stepped_past, stepped_replies}
@@ -60,7 +42,9 @@ use Rattle.lease_coherence.proofs.standing.Runs.{link_of, was_up, each_flat, sta
 use Rattle.lease_coherence.proofs.standing.Standing.{step_of}
 use Rattle.lease_coherence.proofs.writes.Counts.{settling}
 use Rattle.lease_coherence.proofs.writes.Answered.{ground_of, names_of, known_by}
-use Rattle.lease_coherence.proofs.fresh.Moves.{own_of, low_of, popped_fresh, off_fresh_in, off_low, plain_told, told_fresh, refusal_still, read_fresh, changed_fresh, granted_was, granted_fresh, reconnected_fresh, acked_fresh, broken_fresh}
+use Rattle.lease_coherence.proofs.fresh.Moves.{own_of, low_of, popped_fresh, off_fresh_in, off_low, plain_told, told_fresh}
+use Rattle.lease_coherence.proofs.fresh.Moves.{refusal_still, read_fresh, changed_fresh, granted_was, granted_fresh}
+use Rattle.lease_coherence.proofs.fresh.Moves.{reconnected_fresh, acked_fresh, broken_fresh}
 use Rattle.lease_coherence.proofs.records.Known.{HasRecord}
 
 -- ---- opens that close

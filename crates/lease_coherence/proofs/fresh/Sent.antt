@@ -1,21 +1,9 @@
 -- What the server does keeps a client's bytes fresh.
-use Rattle.std.proofs.Common.{◌≡◌, ◌⊎◌, ⊎_elim, ℕ, zero, suc, ◌≤◌, Bool, true, false, List, [], ◌∷◌, ◌++◌, length, Some, refl, sym, ap, ap₂, ◌∙◌, subst, arith, true≢false, ◌==◌}
-use Rattle.std.specs.Prelude.{⊤, if◌then◌else◌, bytes_eq, drop, slice_get}
-use Rattle.std.specs.List.{list_any}
-use Rattle.std.proofs.lemmas.Bool.{eqb-true, eq-eqb}
-use Rattle.std.proofs.lemmas.Slice.Eq.{bytes_eq-Decides}
-use Rattle.lease_model.specs.client.State.{Client, Phase, lease_key, belief_in}
-use Rattle.lease_model.specs.messages.Replies.{Reply}
-use Rattle.lease_model.specs.records.Facts.{Fact}
-use Rattle.lease_model.specs.records.Past.{sendings, takings, last_of, last_sending}
-use Rattle.lease_model.specs.server.Naming.{key_of}
-use Rattle.lease_model.specs.server.State.{Open, Lease, no_lease, is_key, has_key}
-use Rattle.lease_model.specs.values.Keys.{Key}
-use Rattle.lease_model.specs.world.Events.{machine_key}
-use Rattle.lease_model.specs.world.World.{World}
-use Rattle.lease_laws.specs.records.Runs.{content_of}
-use Rattle.lease_laws.specs.server.Laws.{Among, IsSound}
-use Rattle.lease_laws.specs.world.Links.{is_up}
+use Rattle.lease_laws.proofs.Words.{◌++◌, ◌==◌, ◌∙◌, ◌∷◌, ◌≡◌, ◌≤◌, ◌⊎◌, Among, Bool, Client, Fact, IsSound, Key, Lease, List}
+use Rattle.lease_laws.proofs.Words.{Open, Phase, Reply, Some, World, ℕ, ⊎_elim, ⊤, [], ap, ap₂, arith, belief_in, bytes_eq}
+use Rattle.lease_laws.proofs.Words.{bytes_eq-Decides, content_of, drop, eq-eqb, eqb-true, false, has_key, if◌then◌else◌, is_key}
+use Rattle.lease_laws.proofs.Words.{is_up, key_of, last_of, last_sending, lease_key, length, list_any, machine_key, no_lease}
+use Rattle.lease_laws.proofs.Words.{refl, sendings, slice_get, subst, suc, sym, takings, true, true≢false, zero}
 use Rattle.lease_laws.proofs.server.Keys.{is_key-refl, is_key-one}
 use Rattle.lease_laws.proofs.server.Lists.{either, clash, any_has, not_false}
 use Rattle.lease_coherence.specs.Names.{IsOwnOpen}
@@ -29,7 +17,9 @@ use Rattle.lease_coherence.proofs.moves.Foreign.{IsUnmoved, key_client}
 use Rattle.lease_coherence.proofs.moves.Spared.{ends_as}
 use Rattle.lease_coherence.proofs.names.Words.{each_weaker}
 use Rattle.lease_coherence.proofs.records.Later.{IsLater, later_then, later_fact}
-use Rattle.lease_coherence.proofs.fresh.Words.{reads_by, reads_after, reads_last, after_none, AckReads, acks_fewer, no_acks_read, Follows, TellsBytes, IsRelayed, relayed_later, relayed_now, IsLastSeen, HasBase, places_of, IsFreshFor}
+use Rattle.lease_coherence.proofs.fresh.Words.{reads_by, reads_after, reads_last, after_none, AckReads, acks_fewer, no_acks_read}
+use Rattle.lease_coherence.proofs.fresh.Words.{Follows, TellsBytes, IsRelayed, relayed_later, relayed_now, IsLastSeen, HasBase}
+use Rattle.lease_coherence.proofs.fresh.Words.{places_of, IsFreshFor}
 
 -- ---- one client and one file of a world
 

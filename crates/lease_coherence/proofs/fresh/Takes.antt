@@ -1,25 +1,15 @@
 -- Each form of a reply that is taken keeps the bytes fresh.
-use Rattle.std.proofs.Common.{◌≡◌, ◌≢◌, inl, ⊎_elim, ℕ, Bool, true, false, List, [], ◌∷◌, Option, Some, None, refl, sym, ap, ◌∙◌, subst, true≢false, ◌==◌}
-use Rattle.std.specs.Prelude.{◌&&◌, not, if◌then◌else◌, bytes_eq, find}
-use Rattle.std.specs.List.{list_any}
-use Rattle.std.proofs.lemmas.Bool.{eqb-true, eq-eqb}
-use Rattle.std.proofs.lemmas.Slice.Eq.{bytes_eq-Decides}
+use Rattle.lease_laws.proofs.Words.{◌&&◌, ◌==◌, ◌∙◌, ◌∷◌, ◌≡◌, ◌≢◌, Among, Answer, Asked, Bool, BreakNotice, Client, CreateAnswer}
+use Rattle.lease_laws.proofs.Words.{Fact, IsSoundClient, LeaseGiven, List, LiveEntry, None, Option, Pending, Phase, Reply}
+use Rattle.lease_laws.proofs.Words.{Request, Some, State, Turn, ℕ, ⊎_elim, [], acknowledgment, ap, base_with, belief_in}
+use Rattle.lease_laws.proofs.Words.{belief_lowered, bytes_eq, bytes_eq-Decides, closed_by_server, content_of, eq-eqb, eqb-true}
+use Rattle.lease_laws.proofs.Words.{false, find, flushed, given_state, has_sent, has_written, if◌then◌else◌, inl, is_key_of}
+use Rattle.lease_laws.proofs.Words.{is_numbered, lease_key, list_any, meet, not, nothing_cached, opened_turn, parked_closed}
+use Rattle.lease_laws.proofs.Words.{phase_with, promoted_belief, promoted_turn, quiet_step, read_turn, reconnected_turn, refl}
+use Rattle.lease_laws.proofs.Words.{subst, sym, true, true≢false, turned, was_opened, without_open, write_done_turn}
+use Rattle.lease_laws.proofs.Words.{write_requests}
 use Rattle.lease_state.specs.Content.{patch as patched}
-use Rattle.lease_state.specs.State.{State, nothing_cached}
-use Rattle.lease_model.specs.client.State.{Client, LiveEntry, Asked, Pending, Phase, lease_key, belief_in}
-use Rattle.lease_model.specs.client.Step.{Turn, turned, quiet_step, write_requests}
-use Rattle.lease_model.specs.client.Taken.{acknowledgment, parked_closed, belief_lowered, flushed, is_key_of, given_state, opened_turn, reconnected_turn, promoted_turn, promoted_belief, read_turn, closed_by_server, without_open, is_numbered, has_sent, base_with, phase_with, write_done_turn}
-use Rattle.lease_model.specs.client.Commands.{Answer}
-use Rattle.lease_model.specs.messages.Replies.{Reply, BreakNotice, CreateAnswer, LeaseGiven}
-use Rattle.lease_model.specs.messages.Requests.{Request}
-use Rattle.lease_model.specs.records.Facts.{Fact}
-use Rattle.lease_model.specs.records.Past.{has_written}
-use Rattle.lease_model.specs.values.LeaseStates.{meet}
-use Rattle.lease_laws.specs.client.Laws.{IsSoundClient}
-use Rattle.lease_laws.specs.records.Runs.{content_of}
-use Rattle.lease_laws.specs.world.FileIds.{was_opened}
 use Rattle.lease_laws.proofs.server.Lists.{if_cases, clash, and_both, or_true, find_has}
-use Rattle.lease_laws.specs.server.Laws.{Among}
 use Rattle.lease_coherence.specs.Names.{Each, IsNamedPhase, WasWritten}
 use Rattle.lease_coherence.proofs.beliefs.Clients.{IsAboutFile, writes_about, writes_close_about, keys_apart}
 use Rattle.lease_laws.proofs.client.cases.Commands.{sent_of}
@@ -27,7 +17,9 @@ use Rattle.lease_laws.proofs.client.cases.Files.{find_absent}
 use Rattle.lease_laws.proofs.client.cases.Replies.{HasTakes, is_live}
 use Rattle.lease_laws.proofs.client.cases.Files.{found_so}
 use Rattle.lease_coherence.proofs.fresh.Words.{given_reads, reads_by, reads_after, after_nothing, AckReads, Follows, HasBytes}
-use Rattle.lease_coherence.proofs.fresh.Clients.{IsMetBy, TakesFresh, stays_so, not_live, turned_keeps, idle_keeps, plain_fresh, turn_fresh, here_fresh, base_reads, all_about, created_elsewhere, broken_elsewhere, number_elsewhere, written_elsewhere, passed_plain}
+use Rattle.lease_coherence.proofs.fresh.Clients.{IsMetBy, TakesFresh, stays_so, not_live, turned_keeps, idle_keeps, plain_fresh}
+use Rattle.lease_coherence.proofs.fresh.Clients.{turn_fresh, here_fresh, base_reads, all_about, created_elsewhere}
+use Rattle.lease_coherence.proofs.fresh.Clients.{broken_elsewhere, number_elsewhere, written_elsewhere, passed_plain}
 use Rattle.lease_coherence.proofs.names.Words.{each_append, opened_once}
 use Rattle.lease_coherence.proofs.writes.Steps.{IsKnownBy}
 

@@ -1,20 +1,11 @@
 -- What a client has of a file's bytes, against the replies on their way to it: in words of one file, its entry, and the
 -- places where the replies were sent.
-use Rattle.std.proofs.Common.{◌≡◌, ◌≢◌, ◌⊎◌, inl, inr, ⊎_elim, ℕ, ◌+◌, Bool, true, false, List, [], ◌∷◌, ◌++◌, Option, Some, None, refl, sym, ap, ◌∙◌, arith, true≢false, ◌==◌}
-use Rattle.std.specs.Prelude.{⊤, ◌&&◌, not, if◌then◌else◌, bytes_eq, drop}
-use Rattle.std.proofs.lemmas.Bool.{eqb-true}
-use Rattle.lease_state.specs.State.{nothing_cached}
+use Rattle.lease_laws.proofs.Words.{◌&&◌, ◌++◌, ◌+◌, ◌==◌, ◌∙◌, ◌∷◌, ◌≡◌, ◌≢◌, ◌⊎◌, Bool, Fact, Lease, LeaseGiven, List}
+use Rattle.lease_laws.proofs.Words.{LiveEntry, None, Option, Patch, Phase, Reply, Request, Some, ℕ, ⊎_elim, ⊤, [], ap, arith}
+use Rattle.lease_laws.proofs.Words.{belief_in, bytes_eq, content_of, drop, eqb-true, false, given_state, has_written}
+use Rattle.lease_laws.proofs.Words.{if◌then◌else◌, inl, inr, last_sending, not, nothing_cached, refl, sendings, sym, takings}
+use Rattle.lease_laws.proofs.Words.{true, true≢false, was_opened}
 use Rattle.lease_state.specs.Content.{patch as patched}
-use Rattle.lease_state.specs.declared.patch.Patch.{Patch}
-use Rattle.lease_model.specs.client.State.{LiveEntry, Phase, belief_in}
-use Rattle.lease_model.specs.client.Taken.{given_state}
-use Rattle.lease_model.specs.messages.Replies.{Reply, LeaseGiven}
-use Rattle.lease_model.specs.messages.Requests.{Request}
-use Rattle.lease_model.specs.records.Facts.{Fact}
-use Rattle.lease_model.specs.records.Past.{has_written, sendings, takings, last_sending}
-use Rattle.lease_model.specs.server.State.{Lease}
-use Rattle.lease_laws.specs.records.Runs.{content_of}
-use Rattle.lease_laws.specs.world.FileIds.{was_opened}
 use Rattle.lease_laws.proofs.server.Lists.{if_cases, clash, and_parts, and_both}
 use Rattle.lease_coherence.specs.Creates.{one_if}
 use Rattle.lease_coherence.specs.Names.{Each}

@@ -1,21 +1,8 @@
 -- An acknowledgment that is judged, and a request that is held, leave a client's writes safe.
-use Rattle.std.proofs.Common.{◌≡◌, ◌⊎◌, inl, inr, ⊎_elim, ℕ, ◌+◌, true, List, [], ◌∷◌, ◌++◌, Some, None, refl, sym, ap, ◌∙◌, subst, arith, true≢false}
-use Rattle.std.specs.Prelude.{bytes_eq}
-use Rattle.std.proofs.lemmas.Slice.Eq.{bytes_eq-Decides}
-use Rattle.lease_state.specs.State.{granted_form_of}
-use Rattle.lease_state.specs.declared.status.Status.{Status}
-use Rattle.lease_model.specs.client.State.{LiveEntry, Parted, Phase}
-use Rattle.lease_model.specs.messages.Replies.{Reply}
-use Rattle.lease_model.specs.messages.Requests.{FileRequest, Request, LeaseOf}
-use Rattle.lease_model.specs.records.Past.{has_buffered}
-use Rattle.lease_model.specs.server.Naming.{key_of}
-use Rattle.lease_model.specs.server.State.{Lease, is_breaking}
-use Rattle.lease_model.specs.values.Keys.{Key}
-use Rattle.lease_model.specs.world.Events.{machine_key}
-use Rattle.lease_model.specs.world.World.{World}
-use Rattle.lease_laws.specs.client.Laws.{IsSoundPhase}
-use Rattle.lease_laws.specs.server.Laws.{IsSound}
-use Rattle.lease_laws.specs.world.Links.{is_up}
+use Rattle.lease_laws.proofs.Words.{◌++◌, ◌+◌, ◌∙◌, ◌∷◌, ◌≡◌, ◌⊎◌, FileRequest, IsSound, IsSoundPhase, Key, Lease, LeaseOf, List}
+use Rattle.lease_laws.proofs.Words.{LiveEntry, None, Parted, Phase, Reply, Request, Some, Status, World, ℕ, ⊎_elim, [], ap, arith}
+use Rattle.lease_laws.proofs.Words.{bytes_eq, bytes_eq-Decides, granted_form_of, has_buffered, inl, inr, is_breaking, is_up}
+use Rattle.lease_laws.proofs.Words.{key_of, machine_key, refl, subst, sym, true, true≢false}
 use Rattle.lease_laws.proofs.client.Thin.{put_same}
 use Rattle.lease_laws.proofs.server.Keys.{put_key-cases}
 use Rattle.lease_laws.proofs.server.Lists.{either, clash, not_true}
@@ -27,7 +14,8 @@ use Rattle.lease_coherence.proofs.beliefs.Words.{AckKeeps, acks}
 use Rattle.lease_coherence.proofs.late.Likes.{sent_past, held_up, acks_like}
 use Rattle.lease_coherence.proofs.late.Moves.{told_late}
 use Rattle.lease_coherence.proofs.late.Servers.{EntryHolds, itself, entries_like, popped_safe, grants_more}
-use Rattle.lease_coherence.proofs.late.Words.{holds_write, WriteSafe, HeldPlain, NotBuffered, AcksKeep, IsSafeUp, IsNotLate, IsLike, KnowsIds}
+use Rattle.lease_coherence.proofs.late.Words.{holds_write, WriteSafe, HeldPlain, NotBuffered, AcksKeep, IsSafeUp, IsNotLate}
+use Rattle.lease_coherence.proofs.late.Words.{IsLike, KnowsIds}
 use Rattle.lease_coherence.proofs.moves.Deeds.{told_to, leased_in, done_reply}
 use Rattle.lease_coherence.proofs.moves.Moves.{IsOldest, rest_of, popped}
 use Rattle.lease_coherence.proofs.names.Words.{each_rest}

@@ -1,18 +1,7 @@
 -- A command, and a reply that is taken, leave a client's writes safe.
-use Rattle.std.proofs.Common.{◌≡◌, inl, inr, ⊎_elim, ℕ, ◌+◌, true, false, List, [], ◌∷◌, refl, sym, ap, ◌∙◌, subst}
-use Rattle.lease_model.specs.client.Calls.{ClientCall}
-use Rattle.lease_model.specs.client.Commanded.{commanded}
-use Rattle.lease_model.specs.client.Commands.{Command}
-use Rattle.lease_model.specs.client.State.{Client, LiveEntry, Parted, Phase, knows_file}
-use Rattle.lease_model.specs.client.Step.{Step}
-use Rattle.lease_model.specs.client.Taken.{taken}
-use Rattle.lease_model.specs.messages.Replies.{Reply}
-use Rattle.lease_model.specs.records.Facts.{Fact}
-use Rattle.lease_model.specs.world.Events.{stepped_in, machine_key}
-use Rattle.lease_model.specs.world.World.{World}
-use Rattle.lease_laws.specs.client.Laws.{IsSoundClient, TellNumbers}
-use Rattle.lease_laws.specs.world.FileIds.{was_opened, opened_count}
-use Rattle.lease_laws.specs.world.Links.{is_up}
+use Rattle.lease_laws.proofs.Words.{◌+◌, ◌∙◌, ◌∷◌, ◌≡◌, Client, ClientCall, Command, Fact, IsSoundClient, List, LiveEntry, Parted}
+use Rattle.lease_laws.proofs.Words.{Phase, Reply, Step, TellNumbers, World, ℕ, ⊎_elim, [], ap, commanded, false, inl, inr, is_up}
+use Rattle.lease_laws.proofs.Words.{knows_file, machine_key, opened_count, refl, stepped_in, subst, sym, taken, true, was_opened}
 use Rattle.lease_laws.proofs.client.Forms.{commanded-stays, taken-stays}
 use Rattle.lease_laws.proofs.client.Notes.{called_tells}
 use Rattle.lease_laws.proofs.client.Thin.{put_same}

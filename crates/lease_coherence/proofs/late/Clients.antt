@@ -1,20 +1,13 @@
 -- What a client does leaves its writes safe.
-use Rattle.std.proofs.Common.{◌≡◌, ◌≢◌, ◌⊎◌, inl, inr, ⊎_elim, ℕ, ◌+◌, Bool, true, false, List, [], ◌∷◌, ◌++◌, Option, Some, None, refl, sym, ap, ◌∙◌, subst, ◌==◌}
-use Rattle.std.specs.Prelude.{⊤, if◌then◌else◌}
-use Rattle.std.proofs.lemmas.Bool.{eqb-true, eq-eqb}
-use Rattle.lease_state.specs.State.{State}
-use Rattle.lease_state.specs.declared.patch.Patch.{Patch}
-use Rattle.lease_model.specs.client.Commanded.{next_write, cached_read, opened_anew, write_buffered, write_sent, flush_on_live, wrote_step}
-use Rattle.lease_model.specs.client.Commands.{Answer, Note}
-use Rattle.lease_model.specs.client.State.{Client, Entry, LiveEntry, Asked, Parted, Pending, Phase, knows_file}
-use Rattle.lease_model.specs.client.Step.{Step, Turn, turned, quiet_step, write_requests}
-use Rattle.lease_model.specs.client.Taken.{acknowledgment, parked_closed, belief_lowered, flushed, gives_up, opened_turn, reconnected_turn, promoted_turn, read_turn, closed_by_server, without_open, has_sent, sent_without, phase_with, write_done_turn, file_where}
-use Rattle.lease_model.specs.messages.Replies.{Reply, BreakNotice}
-use Rattle.lease_model.specs.messages.Requests.{FileRequest, Request}
-use Rattle.lease_model.specs.values.LeaseStates.{meet}
-use Rattle.lease_model.specs.values.Tables.{put}
-use Rattle.lease_laws.specs.client.Laws.{IsSoundClient, are_rising, has_number, unanswered_in, unsent_in}
-use Rattle.lease_laws.specs.server.Laws.{Among}
+use Rattle.lease_laws.proofs.Words.{◌++◌, ◌+◌, ◌==◌, ◌∙◌, ◌∷◌, ◌≡◌, ◌≢◌, ◌⊎◌, Among, Answer, Asked, Bool, BreakNotice, Client}
+use Rattle.lease_laws.proofs.Words.{Entry, FileRequest, IsSoundClient, List, LiveEntry, None, Note, Option, Parted, Patch}
+use Rattle.lease_laws.proofs.Words.{Pending, Phase, Reply, Request, Some, State, Step, Turn, ℕ, ⊎_elim, ⊤, [], acknowledgment, ap}
+use Rattle.lease_laws.proofs.Words.{are_rising, belief_lowered, cached_read, closed_by_server, eq-eqb, eqb-true, false}
+use Rattle.lease_laws.proofs.Words.{file_where, flush_on_live, flushed, gives_up, has_number, has_sent, if◌then◌else◌, inl, inr}
+use Rattle.lease_laws.proofs.Words.{knows_file, meet, next_write, opened_anew, opened_turn, parked_closed, phase_with}
+use Rattle.lease_laws.proofs.Words.{promoted_turn, put, quiet_step, read_turn, reconnected_turn, refl, sent_without, subst, sym}
+use Rattle.lease_laws.proofs.Words.{true, turned, unanswered_in, unsent_in, without_open, write_buffered, write_done_turn}
+use Rattle.lease_laws.proofs.Words.{write_requests, write_sent, wrote_step}
 use Rattle.lease_laws.proofs.client.Thin.{put_same, put_other}
 use Rattle.lease_laws.proofs.server.Lists.{if_cases, clash, not_true, among_append, true_or}
 use Rattle.lease_laws.proofs.world.Links.{by_client}

@@ -1,21 +1,13 @@
 -- Each step of a client leaves its entries safe.
-use Rattle.std.proofs.Common.{◌≡◌, ◌⊎◌, inl, inr, ⊎_elim, ℕ, ◌+◌, Bool, true, false, not, List, [], ◌∷◌, ◌++◌, filter, Option, Some, None, refl, sym, ap, ◌∙◌, subst, true≢false}
-use Rattle.std.specs.Prelude.{◌&&◌, ◌||◌, if◌then◌else◌, bytes_eq}
-use Rattle.lease_state.specs.State.{State, nothing_cached}
-use Rattle.lease_model.specs.client.Commanded.{next_write, cached_read, opened_anew, write_buffered, write_sent, flush_on_live}
-use Rattle.lease_model.specs.client.Connection.{connect_turn}
-use Rattle.lease_model.specs.client.State.{Client, Entry, LiveEntry, Asked, Parted, Pending, Phase, live_entry, knows_file, lease_key}
-use Rattle.lease_model.specs.client.Step.{Step, Turn, turned}
-use Rattle.lease_model.specs.client.Taken.{given_state, parked_closed, belief_lowered, gives_up, opened_turn, reconnected_turn, promoted_turn, promoted_belief, first_belief, read_turn, closed_by_server, without_open, sent_without, phase_with, write_done_turn}
-use Rattle.lease_model.specs.messages.Replies.{Reply, BreakNotice, CreateAnswer, LeaseGiven}
-use Rattle.lease_model.specs.records.Past.{is_touched}
-use Rattle.lease_model.specs.server.State.{Open}
-use Rattle.lease_model.specs.values.LeaseStates.{meet}
-use Rattle.lease_model.specs.values.Tables.{put}
-use Rattle.lease_model.specs.world.Events.{machine_key}
-use Rattle.lease_model.specs.world.World.{World}
-use Rattle.lease_laws.specs.client.Laws.{IsSoundClient, IsSoundPhase, IsSoundLive}
-use Rattle.lease_laws.specs.server.Laws.{Among}
+use Rattle.lease_laws.proofs.Words.{◌&&◌, ◌++◌, ◌+◌, ◌||◌, ◌∙◌, ◌∷◌, ◌≡◌, ◌⊎◌, Among, Asked, Bool, BreakNotice, Client}
+use Rattle.lease_laws.proofs.Words.{CreateAnswer, Entry, IsSoundClient, IsSoundLive, IsSoundPhase, LeaseGiven, List, LiveEntry}
+use Rattle.lease_laws.proofs.Words.{None, Open, Option, Parted, Pending, Phase, Reply, Some, State, Step, Turn, World, ℕ, ⊎_elim}
+use Rattle.lease_laws.proofs.Words.{[], ap, belief_lowered, bytes_eq, cached_read, closed_by_server, connect_turn, false, filter}
+use Rattle.lease_laws.proofs.Words.{first_belief, flush_on_live, given_state, gives_up, if◌then◌else◌, inl, inr, is_touched}
+use Rattle.lease_laws.proofs.Words.{knows_file, lease_key, live_entry, machine_key, meet, next_write, not, nothing_cached}
+use Rattle.lease_laws.proofs.Words.{opened_anew, opened_turn, parked_closed, phase_with, promoted_belief, promoted_turn, put}
+use Rattle.lease_laws.proofs.Words.{read_turn, reconnected_turn, refl, sent_without, subst, sym, true, true≢false, turned}
+use Rattle.lease_laws.proofs.Words.{without_open, write_buffered, write_done_turn, write_sent}
 use Rattle.lease_laws.proofs.client.Thin.{put_same, put_other}
 use Rattle.lease_laws.proofs.server.Lists.{if_cases, either, clash, and_parts}
 use Rattle.lease_laws.proofs.world.Links.{by_client}
@@ -25,7 +17,8 @@ use Rattle.lease_coherence.proofs.beliefs.Trust.{file_key}
 use Rattle.lease_coherence.proofs.beliefs.Words.{HoldsWrites, OnGiven}
 use Rattle.lease_laws.proofs.client.cases.Commands.{HasCommands, sent_of}
 use Rattle.lease_laws.proofs.client.cases.Replies.{HasTakes}
-use Rattle.lease_coherence.proofs.late.Words.{holds_write, IsClean, LiveSafe, KeptWrite, KeptSafe, PhaseSafe, given_writes, GrantSafe}
+use Rattle.lease_coherence.proofs.late.Words.{holds_write, IsClean, LiveSafe, KeptWrite, KeptSafe, PhaseSafe, given_writes}
+use Rattle.lease_coherence.proofs.late.Words.{GrantSafe}
 use Rattle.lease_coherence.proofs.names.Words.{each_append, each_weaker, each_without}
 use Rattle.lease_laws.proofs.client.cases.Links.{HasNotices}
 

@@ -1,24 +1,9 @@
 -- No write is accepted late: each change in a record is of a write that nobody overtook.
-use Rattle.std.proofs.Common.{◌≡◌, ℕ, ◌+◌, false, true, List, [], ◌∷◌, Some, refl, sym, ap, ◌∙◌, subst}
-use Rattle.std.proofs.lemmas.List.{reverse-reverse}
-use mathlib.Core.List.{reverse_aux}
-use Rattle.lease_state.specs.declared.patch.Patch.{Patch}
-use Rattle.lease_model.specs.client.Commanded.{commanded}
-use Rattle.lease_model.specs.client.Commands.{Note}
-use Rattle.lease_model.specs.client.Connection.{noticed, connection_made}
-use Rattle.lease_model.specs.client.Step.{Step}
-use Rattle.lease_model.specs.client.Taken.{taken}
-use Rattle.lease_model.specs.messages.Requests.{FileRequest, Request}
-use Rattle.lease_model.specs.records.Facts.{Fact}
-use Rattle.lease_model.specs.records.Past.{has_strayed, is_touched}
-use Rattle.lease_model.specs.records.Safe.{EachFact, NoLateWrite}
-use Rattle.lease_model.specs.server.Findings.{connected_open}
-use Rattle.lease_model.specs.server.State.{Open}
-use Rattle.lease_model.specs.values.Tables.{put}
-use Rattle.lease_model.specs.world.Allowed.{is_allowed_setup}
-use Rattle.lease_model.specs.world.Events.{Event, stepped_in, after}
-use Rattle.lease_model.specs.world.World.{World, Setup, Link, first_world, starts_from, requests_sent, fact_of}
-use Rattle.lease_laws.specs.server.Laws.{Among}
+use Rattle.lease_laws.proofs.Words.{◌+◌, ◌∙◌, ◌∷◌, ◌≡◌, Among, EachFact, Event, Fact, FileRequest, Link, List, NoLateWrite, Note}
+use Rattle.lease_laws.proofs.Words.{Open, Patch, Request, Setup, Some, Step, World, ℕ, [], after, ap, commanded, connected_open}
+use Rattle.lease_laws.proofs.Words.{connection_made, fact_of, false, first_world, has_strayed, is_allowed_setup, is_touched}
+use Rattle.lease_laws.proofs.Words.{noticed, put, refl, requests_sent, reverse-reverse, reverse_aux, starts_from, stepped_in}
+use Rattle.lease_laws.proofs.Words.{subst, sym, taken, true}
 use Rattle.lease_laws.proofs.server.Lists.{find_has}
 use Rattle.lease_coherence.specs.Parts.{InRuns}
 use Rattle.lease_coherence.proofs.late.Runs.{ground_in}

@@ -1,21 +1,9 @@
 -- Grants, reconnects, closed opens and timers leave a client's writes safe.
-use Rattle.std.proofs.Common.{◌≡◌, ⊎_elim, ℕ, ◌+◌, ◌≤◌, Bool, true, false, not, [], ◌∷◌, ◌++◌, Some, refl, sym, ap, ◌∙◌, subst, arith, ◌==◌}
-use Rattle.lease_state.specs.declared.access.Access.{Access}
-use Rattle.lease_state.specs.declared.access.Share.{Share}
-use Rattle.lease_model.specs.client.State.{Pending, knows_file, lease_key}
-use Rattle.lease_model.specs.messages.Replies.{Reply}
-use Rattle.lease_model.specs.messages.Requests.{FileRequest, CreateAsk, LeaseOf}
-use Rattle.lease_model.specs.records.Past.{is_touched}
-use Rattle.lease_model.specs.server.Calls.{key_expired}
-use Rattle.lease_model.specs.server.Grant.{lease_granted, lease_after, connected_again, new_open}
-use Rattle.lease_model.specs.server.Naming.{key_of, own_key}
-use Rattle.lease_model.specs.server.Progress.{opens_dropped, with_opens}
-use Rattle.lease_model.specs.server.State.{Open, Lease, has_key, is_breaking}
-use Rattle.lease_model.specs.world.Events.{machine_key}
-use Rattle.lease_model.specs.world.World.{World}
-use Rattle.lease_laws.specs.server.Laws.{Among, IsSound}
-use Rattle.lease_laws.specs.server.SmallSteps.{IsFree}
-use Rattle.lease_laws.specs.world.Links.{is_up}
+use Rattle.lease_laws.proofs.Words.{◌++◌, ◌+◌, ◌==◌, ◌∙◌, ◌∷◌, ◌≡◌, ◌≤◌, Access, Among, Bool, CreateAsk, FileRequest, IsFree}
+use Rattle.lease_laws.proofs.Words.{IsSound, Lease, LeaseOf, Open, Pending, Reply, Share, Some, World, ℕ, ⊎_elim, [], ap, arith}
+use Rattle.lease_laws.proofs.Words.{connected_again, false, has_key, is_breaking, is_touched, is_up, key_expired, key_of}
+use Rattle.lease_laws.proofs.Words.{knows_file, lease_after, lease_granted, lease_key, machine_key, new_open, not, opens_dropped}
+use Rattle.lease_laws.proofs.Words.{own_key, refl, subst, sym, true, with_opens}
 use Rattle.lease_laws.proofs.client.Thin.{put_same}
 use Rattle.lease_laws.proofs.server.Keys.{put_key-cases}
 use Rattle.lease_laws.proofs.server.Lists.{if_cases, clash, not_parts, not_true, among_append, among_filter, among_map}
@@ -27,7 +15,8 @@ use Rattle.lease_coherence.proofs.late.Likes.{sent_past, opened_past, expired_pa
 use Rattle.lease_coherence.proofs.late.Moves.{replied_late, unsent_late}
 use Rattle.lease_coherence.proofs.late.Servers.{itself, closing_holds, own_has_key, expired_nothing, gives_timely, given_so}
 use Rattle.lease_coherence.proofs.late.Words.{holds_write, given_writes, IsNotLate, IsLike, KnowsIds}
-use Rattle.lease_coherence.proofs.moves.Deeds.{IsSource, told_to, granted_in, granted_reply, reconnected_in, reconnected_reply, without_opens}
+use Rattle.lease_coherence.proofs.moves.Deeds.{IsSource, told_to, granted_in, granted_reply, reconnected_in, reconnected_reply}
+use Rattle.lease_coherence.proofs.moves.Deeds.{without_opens}
 use Rattle.lease_coherence.proofs.moves.Events.{timed_out}
 use Rattle.lease_coherence.proofs.writes.Counts.{settling}
 

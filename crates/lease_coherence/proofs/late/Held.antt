@@ -1,22 +1,9 @@
 -- A request that is held was no buffered write: where a lease holds writes, nothing is in the way of its own requests.
-use Rattle.std.proofs.Common.{◌≡◌, ⊎_elim, ℕ, Bool, true, List, [], ◌∷◌, ◌++◌, Option, Some, None, refl, sym, ap, ap₂, ◌∙◌, subst, true≢false, ◌==◌}
-use Rattle.std.specs.Prelude.{⊤, Ok, find}
-use Rattle.std.specs.List.{list_any}
-use Rattle.std.proofs.lemmas.Bool.{eqb-true}
-use Rattle.lease_state.specs.declared.status.Status.{Status}
-use Rattle.lease_model.specs.client.State.{lease_key}
-use Rattle.lease_model.specs.messages.Requests.{FileRequest, Request}
-use Rattle.lease_model.specs.records.Past.{has_buffered}
-use Rattle.lease_model.specs.server.Calls.{file_asked, file_of_open}
-use Rattle.lease_model.specs.server.Findings.{connected_open}
-use Rattle.lease_model.specs.server.Naming.{key_of, own_key, key_under, key_of_open}
-use Rattle.lease_model.specs.server.State.{Open, Held, is_breaking}
-use Rattle.lease_model.specs.server.Ready.{breaks_to_some}
-use Rattle.lease_model.specs.world.Events.{machine_key}
-use Rattle.lease_model.specs.world.World.{World}
-use Rattle.lease_laws.specs.server.Laws.{Among, IsSound, HasToWait}
-use Rattle.lease_laws.specs.server.SmallSteps.{SmallStep, MayHold, IsInTurn}
-use Rattle.lease_laws.specs.server.Waiting.{IsAbout}
+use Rattle.lease_laws.proofs.Words.{◌++◌, ◌==◌, ◌∙◌, ◌∷◌, ◌≡◌, Among, Bool, FileRequest, HasToWait, Held, IsAbout, IsInTurn}
+use Rattle.lease_laws.proofs.Words.{IsSound, List, MayHold, None, Ok, Open, Option, Request, SmallStep, Some, Status, World, ℕ}
+use Rattle.lease_laws.proofs.Words.{⊎_elim, ⊤, [], ap, ap₂, breaks_to_some, connected_open, eqb-true, file_asked, file_of_open}
+use Rattle.lease_laws.proofs.Words.{find, has_buffered, is_breaking, key_of, key_of_open, key_under, lease_key, list_any}
+use Rattle.lease_laws.proofs.Words.{machine_key, own_key, refl, subst, sym, true, true≢false}
 use Rattle.lease_laws.proofs.server.Lists.{if_cases, clash, not_true, or_true, find_has, among_append}
 use Rattle.lease_coherence.specs.Names.{IsNamedAt, IsNamedOnFile, IsNamedRequest, WasWrittenOn}
 use Rattle.lease_coherence.proofs.late.Acked.{popped_ids, popped_named}

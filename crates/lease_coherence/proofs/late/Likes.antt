@@ -1,23 +1,12 @@
 -- What moves of the server leave of the writes and grants on their way.
-use Rattle.std.proofs.Common.{◌≡◌, inl, inr, ⊎_elim, ℕ, ◌≤◌, Bool, true, false, not, List, [], ◌∷◌, ◌++◌, Some, refl, sym, ap, ◌∙◌, subst, ◌==◌}
-use Rattle.std.specs.Prelude.{◌&&◌, ◌||◌}
-use Rattle.std.proofs.lemmas.Bool.{eq-eqb}
-use Rattle.lease_state.specs.declared.patch.Patch.{Patch}
-use Rattle.lease_model.specs.client.Commands.{Note}
-use Rattle.lease_model.specs.client.State.{Pending}
-use Rattle.lease_model.specs.client.Taken.{given_state}
-use Rattle.lease_model.specs.messages.Replies.{Reply}
-use Rattle.lease_model.specs.messages.Requests.{FileRequest, Request}
-use Rattle.lease_model.specs.records.Facts.{Fact}
-use Rattle.lease_model.specs.records.Past.{has_buffered, is_touched}
-use Rattle.lease_model.specs.server.State.{Held}
-use Rattle.lease_model.specs.world.World.{World, fact_of}
-use Rattle.lease_laws.specs.server.Laws.{Among}
-use Rattle.lease_laws.specs.world.FileIds.{was_opened}
+use Rattle.lease_laws.proofs.Words.{◌&&◌, ◌++◌, ◌==◌, ◌||◌, ◌∙◌, ◌∷◌, ◌≡◌, ◌≤◌, Among, Bool, Fact, FileRequest, Held, List, Note}
+use Rattle.lease_laws.proofs.Words.{Patch, Pending, Reply, Request, Some, World, ℕ, ⊎_elim, [], ap, eq-eqb, fact_of, false}
+use Rattle.lease_laws.proofs.Words.{given_state, has_buffered, inl, inr, is_touched, not, refl, subst, sym, true, was_opened}
 use Rattle.lease_coherence.specs.Names.{Each, IsNamedAt, IsNamedRequest, IsNamedReply, WasWrittenOn}
 use Rattle.lease_coherence.specs.Standing.{AllAsked}
 use Rattle.lease_coherence.proofs.beliefs.Words.{AckKeeps}
-use Rattle.lease_coherence.proofs.late.Words.{WriteSafe, HeldPlain, NotBuffered, AcksKeep, given_writes, GrantSafe, GrantsSafe, SamePast, IsLike, StillHolds, KnowsIds, same_key, write_like, plain_like}
+use Rattle.lease_coherence.proofs.late.Words.{WriteSafe, HeldPlain, NotBuffered, AcksKeep, given_writes, GrantSafe, GrantsSafe}
+use Rattle.lease_coherence.proofs.late.Words.{SamePast, IsLike, StillHolds, KnowsIds, same_key, write_like, plain_like}
 use Rattle.lease_coherence.proofs.moves.Shift.{append_none}
 use Rattle.lease_coherence.proofs.names.Names.{IsCountedOff}
 use Rattle.lease_coherence.proofs.names.Words.{opened_within, opened_once, opened_by}

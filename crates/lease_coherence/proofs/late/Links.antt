@@ -1,18 +1,8 @@
 -- A connection that is lost, noticed or made leaves a client's writes safe.
-use Rattle.std.proofs.Common.{◌≡◌, ℕ, ◌+◌, false, not, List, [], ◌∷◌, refl, sym, ap, ◌∙◌, subst, arith, true≢false, ◌==◌}
-use Rattle.std.proofs.lemmas.Bool.{eq-eqb}
-use Rattle.lease_model.specs.client.Connection.{all_turned, noticed, connection_made}
-use Rattle.lease_model.specs.messages.Replies.{Reply}
-use Rattle.lease_model.specs.messages.Requests.{FileRequest, Request}
-use Rattle.lease_model.specs.server.Calls.{joined, disconnected, is_lost, opens_disconnected, client_forgotten}
-use Rattle.lease_model.specs.server.Progress.{opens_dropped, with_opens}
-use Rattle.lease_model.specs.server.State.{Open, Held, Lease}
-use Rattle.lease_model.specs.values.Lists.{without}
-use Rattle.lease_model.specs.values.Tables.{put}
-use Rattle.lease_model.specs.world.Events.{machine_key}
-use Rattle.lease_model.specs.world.World.{World, Link}
-use Rattle.lease_laws.specs.server.Laws.{Among}
-use Rattle.lease_laws.specs.world.Links.{is_up}
+use Rattle.lease_laws.proofs.Words.{◌+◌, ◌==◌, ◌∙◌, ◌∷◌, ◌≡◌, Among, FileRequest, Held, Lease, Link, List, Open, Reply, Request}
+use Rattle.lease_laws.proofs.Words.{World, ℕ, [], all_turned, ap, arith, client_forgotten, connection_made, disconnected, eq-eqb}
+use Rattle.lease_laws.proofs.Words.{false, is_lost, is_up, joined, machine_key, not, noticed, opens_disconnected, opens_dropped}
+use Rattle.lease_laws.proofs.Words.{put, refl, subst, sym, true≢false, with_opens, without}
 use Rattle.lease_laws.proofs.client.Thin.{put_same}
 use Rattle.lease_laws.proofs.server.Lists.{if_cases, among_filter, among_filtered, among_map}
 use Rattle.lease_laws.proofs.world.Links.{stepped_links}

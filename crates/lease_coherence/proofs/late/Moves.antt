@@ -1,24 +1,17 @@
 -- What the server does for a client leaves its writes safe: each move by itself.
-use Rattle.std.proofs.Common.{◌≡◌, ⊎_elim, ℕ, Bool, true, false, not, [], ◌∷◌, ◌++◌, Some, None, refl, sym, ap, ◌∙◌, subst}
-use Rattle.lease_state.specs.State.{State, needs_acknowledgment}
-use Rattle.lease_state.specs.declared.patch.Patch.{Patch}
-use Rattle.lease_model.specs.client.State.{knows_file}
-use Rattle.lease_model.specs.messages.Replies.{Reply}
-use Rattle.lease_model.specs.messages.Requests.{FileRequest}
-use Rattle.lease_model.specs.server.Progress.{with_opens, break_notice}
-use Rattle.lease_model.specs.server.State.{Open, Lease}
-use Rattle.lease_model.specs.values.Keys.{Key}
-use Rattle.lease_model.specs.world.Events.{machine_key}
-use Rattle.lease_model.specs.world.World.{World}
-use Rattle.lease_laws.specs.world.Links.{is_up}
+use Rattle.lease_laws.proofs.Words.{◌++◌, ◌∙◌, ◌∷◌, ◌≡◌, Bool, FileRequest, Key, Lease, None, Open, Patch, Reply, Some, State}
+use Rattle.lease_laws.proofs.Words.{World, ℕ, ⊎_elim, [], ap, break_notice, false, is_up, knows_file, machine_key}
+use Rattle.lease_laws.proofs.Words.{needs_acknowledgment, not, refl, subst, sym, true, with_opens}
 use Rattle.lease_laws.proofs.client.Thin.{put_same}
 use Rattle.lease_laws.proofs.server.Keys.{put_key-cases}
 use Rattle.lease_laws.proofs.server.Lists.{clash, true_or, among_filter}
 use Rattle.lease_coherence.specs.Names.{IsNamedAt}
 use Rattle.lease_coherence.proofs.beliefs.Sent.{is_bare}
 use Rattle.lease_coherence.proofs.late.Likes.{same_past, sent_past, changed_past, grants_like}
-use Rattle.lease_coherence.proofs.late.Servers.{all_hold, entries_like, itself, off_safe, up_like, grant_bare, closing_holds, grants_more}
-use Rattle.lease_coherence.proofs.late.Words.{holds_write, GrantSafe, GrantsSafe, IsSafeAt, IsSafeUp, IsNotLate, IsLike, StillHolds, KnowsIds}
+use Rattle.lease_coherence.proofs.late.Servers.{all_hold, entries_like, itself, off_safe, up_like, grant_bare, closing_holds}
+use Rattle.lease_coherence.proofs.late.Servers.{grants_more}
+use Rattle.lease_coherence.proofs.late.Words.{holds_write, GrantSafe, GrantsSafe, IsSafeAt, IsSafeUp, IsNotLate, IsLike}
+use Rattle.lease_coherence.proofs.late.Words.{StillHolds, KnowsIds}
 use Rattle.lease_coherence.proofs.moves.Deeds.{IsSource, told_to, changed_in, without_opens, leased_in}
 use Rattle.lease_coherence.proofs.standing.Runs.{link_of}
 

@@ -1,25 +1,17 @@
 -- What others do leaves a client's writes safe.
-use Rattle.std.proofs.Common.{◌≡◌, ◌⊎◌, inl, inr, ⊎_elim, ℕ, true, false, List, [], ◌∷◌, ◌++◌, Some, refl, sym, ap, ap₂, ◌∙◌, subst, ◌==◌}
-use Rattle.std.proofs.lemmas.Bool.{eq-eqb}
-use Rattle.lease_model.specs.client.State.{Client, LiveEntry, Parted, Pending, Phase, knows_file, lease_key}
-use Rattle.lease_model.specs.client.Taken.{given_state}
-use Rattle.lease_model.specs.messages.Replies.{Reply}
-use Rattle.lease_model.specs.messages.Requests.{FileRequest, Request}
-use Rattle.lease_model.specs.records.Past.{has_buffered, is_touched}
-use Rattle.lease_model.specs.server.Naming.{key_of}
-use Rattle.lease_model.specs.server.State.{Open, Held, Lease}
-use Rattle.lease_model.specs.world.Events.{machine_key}
-use Rattle.lease_model.specs.world.World.{World}
-use Rattle.lease_laws.specs.server.Laws.{Among}
-use Rattle.lease_laws.specs.world.FileIds.{was_opened}
-use Rattle.lease_laws.specs.world.Links.{is_up}
+use Rattle.lease_laws.proofs.Words.{◌++◌, ◌==◌, ◌∙◌, ◌∷◌, ◌≡◌, ◌⊎◌, Among, Client, FileRequest, Held, Lease, List, LiveEntry}
+use Rattle.lease_laws.proofs.Words.{Open, Parted, Pending, Phase, Reply, Request, Some, World, ℕ, ⊎_elim, [], ap, ap₂, eq-eqb}
+use Rattle.lease_laws.proofs.Words.{false, given_state, has_buffered, inl, inr, is_touched, is_up, key_of, knows_file, lease_key}
+use Rattle.lease_laws.proofs.Words.{machine_key, refl, subst, sym, true, was_opened}
 use Rattle.lease_laws.proofs.server.Lists.{among_filter, among_filtered}
 use Rattle.lease_coherence.specs.Names.{Each, IsNamedAt, IsNamedReply}
 use Rattle.lease_coherence.proofs.beliefs.Trust.{file_key}
 use Rattle.lease_coherence.proofs.beliefs.Words.{HoldsWrites, OnGiven, AckKeeps, acks}
 use Rattle.lease_coherence.proofs.late.Entries.{given_so}
 use Rattle.lease_coherence.proofs.late.Servers.{live_id, parted_id, own_has_key}
-use Rattle.lease_coherence.proofs.late.Words.{holds_write, IsClean, KeptWrite, WriteSafe, HeldPlain, NotBuffered, AcksKeep, PhaseSafe, given_writes, GrantSafe, GrantsSafe, IsSafeUp, IsNotLate, KnowsIds, same_key}
+use Rattle.lease_coherence.proofs.late.Words.{holds_write, IsClean, KeptWrite, WriteSafe, HeldPlain, NotBuffered, AcksKeep}
+use Rattle.lease_coherence.proofs.late.Words.{PhaseSafe, given_writes, GrantSafe, GrantsSafe, IsSafeUp, IsNotLate, KnowsIds}
+use Rattle.lease_coherence.proofs.late.Words.{same_key}
 use Rattle.lease_coherence.proofs.moves.Foreign.{IsUnmoved}
 use Rattle.lease_coherence.proofs.names.Words.{each_weaker}
 use Rattle.lease_coherence.proofs.standing.Words.{asked_unmoved, asked_weaker}

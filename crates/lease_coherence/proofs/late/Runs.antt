@@ -1,16 +1,7 @@
 -- Every move leaves a client's writes safe.
-use Rattle.std.proofs.Common.{◌≡◌, ℕ, true, false, not, List, [], ◌∷◌, Some, refl, sym, ap, ◌∙◌, true≢false}
-use Rattle.std.specs.Prelude.{is_some}
-use Rattle.lease_state.specs.declared.access.Access.{Access}
-use Rattle.lease_state.specs.declared.access.Share.{Share}
-use Rattle.lease_state.specs.declared.status.Status.{Status}
-use Rattle.lease_model.specs.messages.Replies.{Reply}
-use Rattle.lease_model.specs.messages.Requests.{FileRequest, Request, CreateAsk}
-use Rattle.lease_model.specs.records.Past.{has_strayed}
-use Rattle.lease_model.specs.server.Progress.{refusal_of}
-use Rattle.lease_model.specs.world.World.{World, Link}
-use Rattle.lease_laws.specs.server.Laws.{IsSound}
-use Rattle.lease_laws.specs.world.Links.{is_up, is_down}
+use Rattle.lease_laws.proofs.Words.{◌∙◌, ◌∷◌, ◌≡◌, Access, CreateAsk, FileRequest, IsSound, Link, List, Reply, Request, Share}
+use Rattle.lease_laws.proofs.Words.{Some, Status, World, ℕ, [], ap, false, has_strayed, is_down, is_some, is_up, not, refl}
+use Rattle.lease_laws.proofs.Words.{refusal_of, sym, true, true≢false}
 use Rattle.lease_laws.proofs.server.Lists.{either}
 use Rattle.lease_coherence.specs.Names.{IsNamedAt, IsOwnCreate}
 use Rattle.lease_coherence.proofs.beliefs.Sent.{refusal_bare}

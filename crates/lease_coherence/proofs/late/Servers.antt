@@ -1,25 +1,11 @@
 -- What the server does for a client leaves its writes safe.
-use Rattle.std.proofs.Common.{◌≡◌, ◌⊎◌, inl, inr, ⊎_elim, ℕ, zero, suc, ◌+◌, ◌≤◌, Bool, true, false, not, List, [], ◌∷◌, ◌++◌, Option, Some, refl, sym, ap, ap₂, ◌∙◌, subst, arith, true≢false, ◌==◌}
-use Rattle.std.specs.Prelude.{◌&&◌, ◌||◌, if◌then◌else◌, bytes_eq}
-use Rattle.std.proofs.lemmas.Bool.{eqb-true, eq-eqb}
-use Rattle.lease_state.specs.State.{State, nothing_cached, granted_form_of, is_state_within}
-use Rattle.lease_state.specs.declared.patch.Patch.{Patch}
-use Rattle.lease_model.specs.client.State.{Client, LiveEntry, Parted, Pending, Phase, knows_file, lease_key}
-use Rattle.lease_model.specs.client.Taken.{given_state}
-use Rattle.lease_model.specs.messages.Replies.{Reply}
-use Rattle.lease_model.specs.messages.Requests.{FileRequest, Request}
-use Rattle.lease_model.specs.records.Past.{has_written, is_touched}
-use Rattle.lease_model.specs.server.Allowed.{allowed}
-use Rattle.lease_model.specs.server.Calls.{held_of}
-use Rattle.lease_model.specs.server.Grant.{lease_granted, offered}
-use Rattle.lease_model.specs.server.Progress.{with_opens}
-use Rattle.lease_model.specs.server.State.{Server, Open, Held, Lease, is_breaking, is_key, has_key, has_own_key}
-use Rattle.lease_model.specs.values.Keys.{Key}
-use Rattle.lease_model.specs.values.Lists.{without}
-use Rattle.lease_model.specs.world.Events.{machine_key}
-use Rattle.lease_model.specs.world.World.{World}
-use Rattle.lease_laws.specs.server.Laws.{Among, IsSound, IsBlockedBy}
-use Rattle.lease_laws.specs.world.FileIds.{was_opened}
+use Rattle.lease_laws.proofs.Words.{◌&&◌, ◌++◌, ◌+◌, ◌==◌, ◌||◌, ◌∙◌, ◌∷◌, ◌≡◌, ◌≤◌, ◌⊎◌, Among, Bool, Client, FileRequest, Held}
+use Rattle.lease_laws.proofs.Words.{IsBlockedBy, IsSound, Key, Lease, List, LiveEntry, Open, Option, Parted, Patch, Pending}
+use Rattle.lease_laws.proofs.Words.{Phase, Reply, Request, Server, Some, State, World, ℕ, ⊎_elim, [], allowed, ap, ap₂, arith}
+use Rattle.lease_laws.proofs.Words.{bytes_eq, eq-eqb, eqb-true, false, given_state, granted_form_of, has_key, has_own_key}
+use Rattle.lease_laws.proofs.Words.{has_written, held_of, if◌then◌else◌, inl, inr, is_breaking, is_key, is_state_within}
+use Rattle.lease_laws.proofs.Words.{is_touched, knows_file, lease_granted, lease_key, machine_key, not, nothing_cached, offered}
+use Rattle.lease_laws.proofs.Words.{refl, subst, suc, sym, true, true≢false, was_opened, with_opens, without, zero}
 use Rattle.lease_laws.proofs.client.Thin.{put_same}
 use Rattle.lease_laws.proofs.server.Keys.{is_key-refl}
 use Rattle.lease_laws.proofs.server.Lists.{if_cases, either, clash, and_parts, not_true, or_true, has_any, among_filter}
@@ -31,8 +17,10 @@ use Rattle.lease_coherence.proofs.beliefs.Closed.{lease_stays}
 use Rattle.lease_coherence.proofs.beliefs.Sent.{is_bare}
 use Rattle.lease_coherence.proofs.beliefs.Trust.{file_key}
 use Rattle.lease_coherence.proofs.beliefs.Words.{acks, ack_of}
-use Rattle.lease_coherence.proofs.late.Likes.{same_past, asked_both, named_asked, writes_up, held_up, acks_like, grants_like, grants_last}
-use Rattle.lease_coherence.proofs.late.Words.{holds_write, WriteSafe, PhaseSafe, IsSafeAt, AcksKeep, given_writes, GrantSafe, GrantsSafe, IsSafeUp, WasOpen, IsLike, StillHolds, KnowsIds, same_key, phase_like}
+use Rattle.lease_coherence.proofs.late.Likes.{same_past, asked_both, named_asked, writes_up, held_up, acks_like, grants_like}
+use Rattle.lease_coherence.proofs.late.Likes.{grants_last}
+use Rattle.lease_coherence.proofs.late.Words.{holds_write, WriteSafe, PhaseSafe, IsSafeAt, AcksKeep, given_writes, GrantSafe}
+use Rattle.lease_coherence.proofs.late.Words.{GrantsSafe, IsSafeUp, WasOpen, IsLike, StillHolds, KnowsIds, same_key, phase_like}
 use Rattle.lease_coherence.proofs.moves.Deeds.{IsSource, with_held}
 use Rattle.lease_coherence.proofs.moves.Ground.{among_put}
 use Rattle.lease_coherence.proofs.moves.Moves.{rest_of, popped}

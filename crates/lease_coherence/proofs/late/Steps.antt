@@ -1,25 +1,10 @@
 -- A step of a client leaves its writes safe, in its entries and on their way.
-use Rattle.std.proofs.Common.{◌≡◌, ◌⊎◌, inl, inr, ⊎_elim, ℕ, ◌+◌, ◌≤◌, ◌<◌, Bool, true, false, List, [], ◌∷◌, ◌++◌, Some, None, refl, sym, ap, ap₂, ◌∙◌, subst, arith, ◌==◌}
-use Rattle.std.specs.Prelude.{◌&&◌, ◌||◌}
-use Rattle.std.specs.List.{list_any}
-use Rattle.std.proofs.lemmas.Bool.{eqb-true, eq-eqb}
-use Rattle.lease_state.specs.declared.patch.Patch.{Patch}
-use Rattle.lease_model.specs.client.Commands.{Note}
-use Rattle.lease_model.specs.client.State.{Client, LiveEntry, Parted, Pending, Phase, knows_file, lease_key}
-use Rattle.lease_model.specs.client.Step.{Step, write_requests}
-use Rattle.lease_model.specs.client.Taken.{given_state}
-use Rattle.lease_model.specs.messages.Replies.{Reply}
-use Rattle.lease_model.specs.messages.Requests.{FileRequest, Request}
-use Rattle.lease_model.specs.records.Facts.{Fact}
-use Rattle.lease_model.specs.records.Past.{has_buffered, is_touched}
-use Rattle.lease_model.specs.server.Naming.{key_of}
-use Rattle.lease_model.specs.server.State.{Server, Open, Held, Lease}
-use Rattle.lease_model.specs.world.Events.{stepped_in, machine_key}
-use Rattle.lease_model.specs.world.World.{World, fact_of}
-use Rattle.lease_laws.specs.client.Laws.{IsSoundClient, TellNumbers, are_buffered}
-use Rattle.lease_laws.specs.server.Laws.{Among, IsSound}
-use Rattle.lease_laws.specs.world.FileIds.{was_opened}
-use Rattle.lease_laws.specs.world.Links.{is_up}
+use Rattle.lease_laws.proofs.Words.{◌&&◌, ◌++◌, ◌+◌, ◌<◌, ◌==◌, ◌||◌, ◌∙◌, ◌∷◌, ◌≡◌, ◌≤◌, ◌⊎◌, Among, Bool, Client, Fact}
+use Rattle.lease_laws.proofs.Words.{FileRequest, Held, IsSound, IsSoundClient, Lease, List, LiveEntry, None, Note, Open, Parted}
+use Rattle.lease_laws.proofs.Words.{Patch, Pending, Phase, Reply, Request, Server, Some, Step, TellNumbers, World, ℕ, ⊎_elim, []}
+use Rattle.lease_laws.proofs.Words.{ap, ap₂, are_buffered, arith, eq-eqb, eqb-true, fact_of, false, given_state, has_buffered}
+use Rattle.lease_laws.proofs.Words.{inl, inr, is_touched, is_up, key_of, knows_file, lease_key, list_any, machine_key, refl}
+use Rattle.lease_laws.proofs.Words.{stepped_in, subst, sym, true, was_opened, write_requests}
 use Rattle.lease_laws.proofs.server.Lists.{either, clash, and_parts, and_both, not_true, any_has, has_any, among_behind}
 use Rattle.lease_laws.proofs.world.Runs.{stepped_server}
 use Rattle.lease_coherence.specs.Names.{Each, IsNamedRequest, WasWrittenOn}
@@ -32,7 +17,9 @@ use Rattle.lease_coherence.proofs.creates.Creates.{stepped_machine}
 use Rattle.lease_coherence.proofs.late.Clients.{IsOther, SendsWrites, SentFrom, EntryFrom, StepFrom}
 use Rattle.lease_coherence.proofs.late.Entries.{StepSafe, at_among, sound_live, unsent_writes, given_so}
 use Rattle.lease_coherence.proofs.late.Likes.{asked_both, noted_touched}
-use Rattle.lease_coherence.proofs.late.Words.{holds_write, IsSafeWrite, IsClean, WriteSafe, HeldPlain, LiveSafe, KeptWrite, PhaseSafe, IsSafeAt, NotBuffered, AcksKeep, given_writes, IsGrantSafe, GrantSafe, GrantsSafe, IsSafeUp, KnowsIds}
+use Rattle.lease_coherence.proofs.late.Words.{holds_write, IsSafeWrite, IsClean, WriteSafe, HeldPlain, LiveSafe, KeptWrite}
+use Rattle.lease_coherence.proofs.late.Words.{PhaseSafe, IsSafeAt, NotBuffered, AcksKeep, given_writes, IsGrantSafe, GrantSafe}
+use Rattle.lease_coherence.proofs.late.Words.{GrantsSafe, IsSafeUp, KnowsIds}
 use Rattle.lease_coherence.proofs.moves.Frames.{stepped_past, stepped_replies}
 use Rattle.lease_coherence.proofs.names.Words.{each_append, each_weaker}
 use Rattle.lease_coherence.proofs.records.Later.{past_noted}

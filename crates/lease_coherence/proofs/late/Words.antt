@@ -1,19 +1,9 @@
 -- Which writes of a client may still be accepted, and that no other client opened or changed their files: in its
 -- entries, on their way, and over a lost connection.
-use Rattle.std.proofs.Common.{◌≡◌, ◌⊎◌, inl, inr, ℕ, ◌≤◌, Bool, true, false, List, [], ◌∷◌, ◌++◌, Option, Some, None, refl, sym, ap, ◌∙◌, subst}
-use Rattle.std.specs.Prelude.{⊤, ◌&&◌, ◌||◌, bytes_eq}
-use Rattle.lease_model.specs.client.State.{Client, LiveEntry, Parted, Pending, Phase, knows_file, lease_key}
-use Rattle.lease_model.specs.client.Taken.{given_state}
-use Rattle.lease_model.specs.messages.Replies.{Reply, LeaseGiven}
-use Rattle.lease_model.specs.messages.Requests.{FileRequest, Request}
-use Rattle.lease_model.specs.records.Facts.{Fact}
-use Rattle.lease_model.specs.records.Past.{has_buffered, is_touched}
-use Rattle.lease_model.specs.server.State.{Open, Held}
-use Rattle.lease_model.specs.world.Events.{machine_key}
-use Rattle.lease_model.specs.world.World.{World}
-use Rattle.lease_laws.specs.server.Laws.{Among}
-use Rattle.lease_laws.specs.world.FileIds.{was_opened}
-use Rattle.lease_laws.specs.world.Links.{is_up}
+use Rattle.lease_laws.proofs.Words.{◌&&◌, ◌++◌, ◌||◌, ◌∙◌, ◌∷◌, ◌≡◌, ◌≤◌, ◌⊎◌, Among, Bool, Client, Fact, FileRequest, Held}
+use Rattle.lease_laws.proofs.Words.{LeaseGiven, List, LiveEntry, None, Open, Option, Parted, Pending, Phase, Reply, Request, Some}
+use Rattle.lease_laws.proofs.Words.{World, ℕ, ⊤, [], ap, bytes_eq, false, given_state, has_buffered, inl, inr, is_touched, is_up}
+use Rattle.lease_laws.proofs.Words.{knows_file, lease_key, machine_key, refl, subst, sym, true, was_opened}
 use Rattle.lease_coherence.specs.Names.{Each}
 use Rattle.lease_coherence.specs.Standing.{AllAsked}
 use Rattle.lease_coherence.proofs.beliefs.Trust.{file_key}

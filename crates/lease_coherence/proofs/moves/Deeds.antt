@@ -1,34 +1,17 @@
 -- What a step of the server does in a world: each of its forms, with what is known of it. Whatever holds after each
 -- form holds after every step.
-use Rattle.std.proofs.Common.{◌≡◌, ◌⊎◌, inl, inr, ℕ, ◌+◌, Bool, true, false, List, [], ◌∷◌, ◌++◌, Option, Some, None, refl, sym, ◌∙◌, subst}
-use Rattle.std.specs.Prelude.{⊤, if◌then◌else◌, ◌==◌, ◌&&◌, Ok, map}
+use Rattle.lease_laws.proofs.Words.{◌&&◌, ◌++◌, ◌+◌, ◌==◌, ◌∙◌, ◌∷◌, ◌≡◌, ◌⊎◌, Access, Bool, CreateAsk, Fact, FileRequest, Held}
+use Rattle.lease_laws.proofs.Words.{IsAwaitedAt, IsFree, IsInTurn, Key, Lease, LeaseOf, List, MayChange, MayCreate, MayEnd}
+use Rattle.lease_laws.proofs.Words.{MayHold, MayLower, MayRefuse, MayServe, None, Ok, Open, Option, Outcome, Patch, Progress}
+use Rattle.lease_laws.proofs.Words.{Reply, Request, Server, Share, SmallStep, Some, State, Status, World, ℕ, ⊤, [], acknowledged}
+use Rattle.lease_laws.proofs.Words.{all_delivered, answered, begun, break_begun, break_ended, break_notice, changed, closed}
+use Rattle.lease_laws.proofs.Words.{concluded, connected_again, connected_open, created, delivered, false, file_asked, granted}
+use Rattle.lease_laws.proofs.Words.{granted_form_of, granted_with, has_file, has_lease, held_left, held_of, if◌then◌else◌, inl}
+use Rattle.lease_laws.proofs.Words.{inr, is_behind, is_left_open, is_state_within, judged, key_of, last_file_id, lease_after}
+use Rattle.lease_laws.proofs.Words.{lease_given, lease_lowered, lease_put, map, may_read, needs_acknowledgment, new_open, on_open}
+use Rattle.lease_laws.proofs.Words.{opens_dropped, own_key, put, read_done, reconnected, refl, refusal_of, refused, request_held}
+use Rattle.lease_laws.proofs.Words.{served, standing_lease, subst, sym, true, with_lease, with_opens, without}
 use Rattle.lease_state.specs.Content.{patch as patched}
-use Rattle.lease_state.specs.State.{State, granted_form_of, is_state_within, needs_acknowledgment}
-use Rattle.lease_state.specs.declared.access.Access.{Access}
-use Rattle.lease_state.specs.declared.access.Share.{Share}
-use Rattle.lease_state.specs.declared.patch.Patch.{Patch}
-use Rattle.lease_state.specs.declared.status.Status.{Status}
-use Rattle.lease_model.specs.messages.Replies.{Reply}
-use Rattle.lease_model.specs.messages.Requests.{FileRequest, Request, CreateAsk, LeaseOf}
-use Rattle.lease_model.specs.records.Facts.{Fact}
-use Rattle.lease_model.specs.server.Acknowledge.{acknowledged, judged, break_ended}
-use Rattle.lease_model.specs.server.Answers.{concluded, answered, created, closed, changed, read_done, on_open}
-use Rattle.lease_model.specs.server.Attempt.{Outcome, is_left_open}
-use Rattle.lease_model.specs.server.Calls.{held_of, file_asked}
-use Rattle.lease_model.specs.server.Findings.{connected_open}
-use Rattle.lease_model.specs.server.Grant.{granted, granted_with, lease_after, lease_put, lease_given, new_open, reconnected, connected_again, standing_lease}
-use Rattle.lease_model.specs.server.Naming.{key_of, own_key}
-use Rattle.lease_model.specs.server.Passes.{is_behind}
-use Rattle.lease_model.specs.server.Progress.{Progress, begun, with_opens, with_lease, break_notice, opens_dropped, lease_lowered, break_begun, request_held, held_left, refused, refusal_of}
-use Rattle.lease_model.specs.server.State.{Server, Open, Held, Lease, has_file, has_lease}
-use Rattle.lease_model.specs.values.Keys.{Key}
-use Rattle.lease_model.specs.values.Limits.{last_file_id}
-use Rattle.lease_model.specs.values.Lists.{without}
-use Rattle.lease_model.specs.values.Sharing.{may_read}
-use Rattle.lease_model.specs.values.Tables.{put}
-use Rattle.lease_model.specs.world.Events.{served}
-use Rattle.lease_model.specs.world.World.{World, delivered, all_delivered}
-use Rattle.lease_laws.specs.server.SmallSteps.{SmallStep, IsFree, IsAwaitedAt, MayCreate, MayChange, MayServe, MayRefuse, MayEnd, MayLower, MayHold, IsInTurn}
 use Rattle.lease_laws.proofs.server.Lists.{clash}
 use Rattle.lease_coherence.proofs.moves.Moves.{IsNext, IsOldest, popped, moved}
 

@@ -1,25 +1,13 @@
 -- What the moves of worlds keep, every event keeps.
-use Rattle.std.proofs.Common.{◌≡◌, ℕ, Bool, true, false, List, [], ◌∷◌, Option, Some, None, refl, sym, ap, ◌∙◌, subst}
-use Rattle.std.specs.Prelude.{⊤, if◌then◌else◌}
-use Rattle.std.specs.List.{list_any}
-use Rattle.lease_model.specs.client.Commanded.{commanded}
-use Rattle.lease_model.specs.client.Commands.{Command}
-use Rattle.lease_model.specs.client.Connection.{noticed, connection_made}
-use Rattle.lease_model.specs.client.Taken.{taken}
-use Rattle.lease_model.specs.messages.Replies.{Reply}
-use Rattle.lease_model.specs.messages.Requests.{Request}
-use Rattle.lease_model.specs.records.Facts.{Fact}
-use Rattle.lease_model.specs.server.Calls.{Call, called, join, joined, receive, is_lost, opens_disconnected, client_forgotten, key_expired, is_left_behind}
-use Rattle.lease_model.specs.server.Progress.{Progress, begun, opens_dropped}
-use Rattle.lease_model.specs.server.Queries.{breaking, kept}
-use Rattle.lease_model.specs.server.State.{Server, has_file, has_key, is_breaking}
-use Rattle.lease_model.specs.values.Tables.{put}
-use Rattle.lease_model.specs.world.Events.{Event, served, stepped_in, server_takes, client_takes, link_cut, cut_over, link_noticed, notice_over, link_connected, connect_over, machine_key, timer_expired, scavenged, strayed_over, applied, client_of, happens, after}
-use Rattle.lease_model.specs.world.World.{World, Setup, Link, first_world, has_client, happened, all_delivered, requests_sent}
-use Rattle.lease_laws.specs.client.Laws.{IsSoundClient}
-use Rattle.lease_laws.specs.server.SmallSteps.{SmallStep, steps_taken, call_begun, own_steps}
-use Rattle.lease_laws.specs.server.Waiting.{WaitsWell}
-use Rattle.lease_laws.specs.world.Links.{IsTied, IsOnline, is_up}
+use Rattle.lease_laws.proofs.Words.{◌∙◌, ◌∷◌, ◌≡◌, Bool, Call, Command, Event, Fact, IsOnline, IsSoundClient, IsTied, Link, List}
+use Rattle.lease_laws.proofs.Words.{None, Option, Progress, Reply, Request, Server, Setup, SmallStep, Some, WaitsWell, World, ℕ}
+use Rattle.lease_laws.proofs.Words.{⊤, [], after, all_delivered, ap, applied, begun, breaking, call_begun, called}
+use Rattle.lease_laws.proofs.Words.{client_forgotten, client_of, client_takes, commanded, connect_over, connection_made, cut_over}
+use Rattle.lease_laws.proofs.Words.{false, first_world, happened, happens, has_client, has_file, has_key, if◌then◌else◌}
+use Rattle.lease_laws.proofs.Words.{is_breaking, is_left_behind, is_lost, is_up, join, joined, kept, key_expired, link_connected}
+use Rattle.lease_laws.proofs.Words.{link_cut, link_noticed, list_any, machine_key, notice_over, noticed, opens_disconnected}
+use Rattle.lease_laws.proofs.Words.{opens_dropped, own_steps, put, receive, refl, requests_sent, scavenged, served, server_takes}
+use Rattle.lease_laws.proofs.Words.{stepped_in, steps_taken, strayed_over, subst, sym, taken, timer_expired, true}
 use Rattle.lease_laws.proofs.client.Words.{if_either}
 use Rattle.lease_laws.proofs.server.Lists.{if_cases}
 use Rattle.lease_laws.proofs.server.Orderly.{IsFine}

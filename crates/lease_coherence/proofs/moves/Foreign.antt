@@ -1,36 +1,21 @@
 -- What others do leaves a client's part of a world alone: its queues, its requests that are held, its opens and its
 -- leases. So what is said of one client has to be shown for its own moves alone.
-use Rattle.std.proofs.Common.{◌≡◌, ◌≢◌, inl, inr, ⊎_elim, ℕ, Bool, true, false, not, List, [], ◌∷◌, ◌++◌, map, filter, Option, Some, None, refl, sym, ap, ◌∙◌, subst, true≢false, ◌==◌}
-use Rattle.std.specs.Prelude.{if◌then◌else◌, ◌||◌}
-use Rattle.std.specs.List.{list_any}
-use Rattle.std.proofs.lemmas.Bool.{eqb-true}
-use Rattle.lease_state.specs.State.{State, nothing_cached, is_state_within}
-use Rattle.lease_state.specs.declared.access.Access.{Access}
-use Rattle.lease_state.specs.declared.access.Share.{Share}
-use Rattle.lease_state.specs.declared.patch.Patch.{Patch}
-use Rattle.lease_model.specs.messages.Replies.{Reply}
-use Rattle.lease_model.specs.messages.Requests.{FileRequest, CreateAsk, LeaseOf}
-use Rattle.lease_model.specs.records.Facts.{Fact}
-use Rattle.lease_model.specs.server.Calls.{held_of}
-use Rattle.lease_model.specs.server.Grant.{lease_put, new_open}
-use Rattle.lease_model.specs.server.Naming.{key_of, own_key, key_under}
-use Rattle.lease_model.specs.server.Progress.{with_opens}
-use Rattle.lease_model.specs.server.State.{Server, Open, Held, Lease, no_lease, is_key, has_key, has_own_key}
-use Rattle.lease_model.specs.values.Keys.{Key}
-use Rattle.lease_model.specs.values.Lists.{without}
-use Rattle.lease_model.specs.values.Tables.{put}
-use Rattle.lease_model.specs.world.World.{World}
-use Rattle.lease_laws.specs.server.Laws.{Among, IsLawful, IsSound}
-use Rattle.lease_laws.specs.server.Outs.{CachesAlone, IsGivenUp}
-use Rattle.lease_laws.specs.server.SmallSteps.{IsFree}
+use Rattle.lease_laws.proofs.Words.{◌++◌, ◌==◌, ◌||◌, ◌∙◌, ◌∷◌, ◌≡◌, ◌≢◌, Access, Among, Bool, CachesAlone, CreateAsk, Fact}
+use Rattle.lease_laws.proofs.Words.{FileRequest, Held, IsFree, IsGivenUp, IsLawful, IsSound, Key, Lease, LeaseOf, List, None}
+use Rattle.lease_laws.proofs.Words.{Open, Option, Patch, Reply, Server, Share, Some, State, World, ℕ, ⊎_elim, [], ap, eqb-true}
+use Rattle.lease_laws.proofs.Words.{false, filter, has_key, has_own_key, held_of, if◌then◌else◌, inl, inr, is_key}
+use Rattle.lease_laws.proofs.Words.{is_state_within, key_of, key_under, lease_put, list_any, map, new_open, no_lease, not}
+use Rattle.lease_laws.proofs.Words.{nothing_cached, own_key, put, refl, subst, sym, true, true≢false, with_opens, without}
 use Rattle.lease_laws.proofs.client.Thin.{put_other}
 use Rattle.lease_laws.proofs.server.Keys.{put_key-cases}
-use Rattle.lease_laws.proofs.server.Lists.{if_cases, clash, and_parts, not_true, among_append, among_before, among_filter, among_filtered, among_map, any_has, has_any}
+use Rattle.lease_laws.proofs.server.Lists.{if_cases, clash, and_parts, not_true, among_append, among_before, among_filter}
+use Rattle.lease_laws.proofs.server.Lists.{among_filtered, among_map, any_has, has_any}
 use Rattle.lease_coherence.specs.Creates.{held_by}
 use Rattle.lease_coherence.proofs.moves.Deeds.{IsSource, with_held, told_to, granted_in, changed_in, without_opens, leased_in}
 use Rattle.lease_coherence.proofs.moves.Events.{not_chosen, Ground}
 use Rattle.lease_coherence.proofs.moves.Moves.{popped}
-use Rattle.lease_coherence.proofs.moves.Spared.{IsSpared, HasNoWriter, HasNoReader, ends_by, ends_as, spared_same, spared_then, spared_fact, spared_two}
+use Rattle.lease_coherence.proofs.moves.Spared.{IsSpared, HasNoWriter, HasNoReader, ends_by, ends_as, spared_same, spared_then}
+use Rattle.lease_coherence.proofs.moves.Spared.{spared_fact, spared_two}
 use Rattle.lease_coherence.proofs.records.Later.{IsLater, later_same, later_then, later_fact, later_two}
 
 -- a key's client is that of its open

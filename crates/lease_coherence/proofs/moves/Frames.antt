@@ -1,13 +1,7 @@
 -- What moves leave alone, in words that every part of the theorem uses.
-use Rattle.std.proofs.Common.{◌≡◌, ⊎_elim, ℕ, List, [], ◌∷◌, ◌++◌, Option, Some, None, refl, sym, subst}
-use Rattle.lease_model.specs.client.Commands.{Note}
-use Rattle.lease_model.specs.client.Step.{Step}
-use Rattle.lease_model.specs.messages.Requests.{FileRequest, LeaseOf}
-use Rattle.lease_model.specs.server.Grant.{lease_put}
-use Rattle.lease_model.specs.server.State.{Server, Held, Lease}
-use Rattle.lease_model.specs.values.Tables.{put}
-use Rattle.lease_model.specs.world.Events.{stepped_in}
-use Rattle.lease_model.specs.world.World.{World, happened, requests_sent, sent_over, noted, fact_of}
+use Rattle.lease_laws.proofs.Words.{◌++◌, ◌∷◌, ◌≡◌, FileRequest, Held, Lease, LeaseOf, List, None, Note, Option, Server, Some}
+use Rattle.lease_laws.proofs.Words.{Step, World, ℕ, ⊎_elim, [], fact_of, happened, lease_put, noted, put, refl, requests_sent}
+use Rattle.lease_laws.proofs.Words.{sent_over, stepped_in, subst, sym}
 use Rattle.lease_coherence.proofs.moves.Deeds.{IsSource, with_held}
 use Rattle.lease_coherence.proofs.moves.Moves.{popped}
 use Rattle.lease_coherence.proofs.records.Later.{past_noted}

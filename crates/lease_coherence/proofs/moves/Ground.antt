@@ -1,30 +1,13 @@
 -- What is known at every point of a run is kept by every move.
-use Rattle.std.proofs.Common.{◌≡◌, ◌≢◌, ℕ, suc, ◌+◌, true, false, not, List, [], ◌∷◌, ◌++◌, length, refl, sym, ap, ◌∙◌, subst, ◌⊎◌, inr, inl, ⊎_elim, arith, ◌==◌}
-use Rattle.std.proofs.lemmas.Bool.{eq-eqb, eqb-true}
-use Rattle.lease_model.specs.client.Calls.{ClientCall, client_called}
-use Rattle.lease_model.specs.client.Commanded.{commanded}
-use Rattle.lease_model.specs.client.Commands.{Command, Note}
-use Rattle.lease_model.specs.client.Connection.{noticed, connection_made, all_turned}
-use Rattle.lease_model.specs.client.State.{Client}
-use Rattle.lease_model.specs.messages.Replies.{Reply, Out}
-use Rattle.lease_model.specs.messages.Requests.{Request}
-use Rattle.lease_model.specs.records.Facts.{Fact}
-use Rattle.lease_model.specs.records.Past.{is_served, sendings, takings}
-use Rattle.lease_model.specs.server.Acknowledge.{acknowledged}
-use Rattle.lease_model.specs.server.Answers.{concluded}
-use Rattle.lease_model.specs.server.Calls.{Call, joined, opens_disconnected, client_forgotten, key_expired, is_left_behind}
-use Rattle.lease_model.specs.server.Progress.{Progress, begun, opens_dropped, with_opens, held_left, request_held, lease_lowered, break_begun}
-use Rattle.lease_model.specs.server.Queries.{breaking}
-use Rattle.lease_model.specs.server.State.{Server, Held}
-use Rattle.lease_model.specs.values.Tables.{put}
-use Rattle.lease_model.specs.world.Events.{served, stepped_in, machine_key}
-use Rattle.lease_model.specs.world.World.{World, Setup, Link, first_world, happened, requests_sent, noted, fact_of}
-use Rattle.lease_laws.specs.client.Laws.{IsSoundClient}
-use Rattle.lease_laws.specs.server.Laws.{Among}
-use Rattle.lease_laws.specs.server.Outs.{EachOut}
-use Rattle.lease_laws.specs.server.SmallSteps.{SmallStep, step_taken, IsGuarded, IsInTurn, call_begun}
-use Rattle.lease_laws.specs.server.StepLaws.{IsToPresent}
-use Rattle.lease_laws.specs.world.Links.{IsTied, IsOnline, is_up, is_down}
+use Rattle.lease_laws.proofs.Words.{◌++◌, ◌+◌, ◌==◌, ◌∙◌, ◌∷◌, ◌≡◌, ◌≢◌, ◌⊎◌, Among, Call, Client, ClientCall, Command, EachOut}
+use Rattle.lease_laws.proofs.Words.{Fact, Held, IsGuarded, IsInTurn, IsOnline, IsSoundClient, IsTied, IsToPresent, Link, List}
+use Rattle.lease_laws.proofs.Words.{Note, Out, Progress, Reply, Request, Server, Setup, SmallStep, World, ℕ, ⊎_elim, []}
+use Rattle.lease_laws.proofs.Words.{acknowledged, all_turned, ap, arith, begun, break_begun, breaking, call_begun, client_called}
+use Rattle.lease_laws.proofs.Words.{client_forgotten, commanded, concluded, connection_made, eq-eqb, eqb-true, fact_of, false}
+use Rattle.lease_laws.proofs.Words.{first_world, happened, held_left, inl, inr, is_down, is_left_behind, is_served, is_up, joined}
+use Rattle.lease_laws.proofs.Words.{key_expired, lease_lowered, length, machine_key, not, noted, noticed, opens_disconnected}
+use Rattle.lease_laws.proofs.Words.{opens_dropped, put, refl, request_held, requests_sent, sendings, served, step_taken}
+use Rattle.lease_laws.proofs.Words.{stepped_in, subst, suc, sym, takings, true, with_opens}
 use Rattle.lease_laws.proofs.client.Entries.{first_entries, called_entries}
 use Rattle.lease_laws.proofs.client.Forms.{commanded-stays, taken-stays}
 use Rattle.lease_laws.proofs.client.InFiles.{first_in_files, called_in_files}
@@ -39,11 +22,14 @@ use Rattle.lease_laws.proofs.server.PassWaits.{among_more}
 use Rattle.lease_laws.proofs.server.StepKeeps.{step-sound, step-goes}
 use Rattle.lease_laws.proofs.server.StepOuts as outs
 use Rattle.lease_laws.proofs.server.WaitCalls.{joined-orderly, cut-fine, expired-fine, dropped-fine}
-use Rattle.lease_laws.proofs.world.FileIds.{IsCounted, told, all_delivered_past, step_counted, begun_counted, same_counted, world_fact_same, note_same, first_counted}
+use Rattle.lease_laws.proofs.world.FileIds.{IsCounted, told, all_delivered_past, step_counted, begun_counted, same_counted}
+use Rattle.lease_laws.proofs.world.FileIds.{world_fact_same, note_same, first_counted}
 use Rattle.lease_laws.proofs.world.Kept.{IsOfWorld, served-server, served-clients}
-use Rattle.lease_laws.proofs.world.Links.{by_client, carried, all_tied, served_links, stepped_tied, stepped_online, sent_tied, relinked, first_linked}
+use Rattle.lease_laws.proofs.world.Links.{by_client, carried, all_tied, served_links, stepped_tied, stepped_online, sent_tied}
+use Rattle.lease_laws.proofs.world.Links.{relinked, first_linked}
 use Rattle.lease_laws.proofs.world.Runs.{stepped_server, stepped_clients}
-use Rattle.lease_coherence.proofs.moves.Events.{Ground, chosen, IsCarried, cut_off, timed_out, left_behind, come_back, connected, reply_gone, reply_taken, noticed_by, strayed, Move}
+use Rattle.lease_coherence.proofs.moves.Events.{Ground, chosen, IsCarried, cut_off, timed_out, left_behind, come_back, connected}
+use Rattle.lease_coherence.proofs.moves.Events.{reply_gone, reply_taken, noticed_by, strayed, Move}
 use Rattle.lease_coherence.proofs.moves.Moves.{IsNext, rest_of, popped, taken_off, moved}
 
 -- ---- steps of the server

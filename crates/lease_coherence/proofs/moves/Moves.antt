@@ -1,16 +1,8 @@
 -- Worlds move: the server takes its small steps one by one, and what each gives out is delivered at once. The
 -- request that comes stands in its queue until the step that answers, holds or judges it.
-use Rattle.std.proofs.Common.{◌≡◌, ℕ, suc, List, [], ◌∷◌, ◌++◌, refl, sym, ap, ◌∙◌, subst, arith}
-use Rattle.std.specs.Prelude.{⊤}
-use Rattle.lease_model.specs.messages.Replies.{Out}
-use Rattle.lease_model.specs.messages.Requests.{Request}
-use Rattle.lease_model.specs.server.Calls.{Call}
-use Rattle.lease_model.specs.server.Progress.{Progress, begun}
-use Rattle.lease_model.specs.server.State.{Server}
-use Rattle.lease_model.specs.values.Tables.{put}
-use Rattle.lease_model.specs.world.Events.{served}
-use Rattle.lease_model.specs.world.World.{World, delivered, all_delivered}
-use Rattle.lease_laws.specs.server.SmallSteps.{SmallStep, step_taken, steps_taken, IsGuarded, AreGuarded, IsInTurn, AreInTurn, AreOf, own_count}
+use Rattle.lease_laws.proofs.Words.{◌++◌, ◌∙◌, ◌∷◌, ◌≡◌, AreGuarded, AreInTurn, AreOf, Call, IsGuarded, IsInTurn, List, Out}
+use Rattle.lease_laws.proofs.Words.{Progress, Request, Server, SmallStep, World, ℕ, ⊤, [], all_delivered, ap, arith, begun}
+use Rattle.lease_laws.proofs.Words.{delivered, own_count, put, refl, served, step_taken, steps_taken, subst, suc, sym}
 use Rattle.lease_laws.proofs.world.Kept.{served-server}
 use Rattle.lease_coherence.proofs.moves.Shift.{step_follows}
 

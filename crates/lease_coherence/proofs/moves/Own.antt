@@ -1,44 +1,28 @@
 -- What is said of one client has to be shown for its own moves alone.
-use Rattle.std.proofs.Common.{◌≡◌, ◌≢◌, ℕ, Bool, true, false, not, List, [], ◌∷◌, ◌++◌, map, Option, Some, None, refl, sym, ap, ◌∙◌, subst, ◌==◌}
-use Rattle.std.proofs.lemmas.Bool.{eq-eqb, eqb-true}
-use Rattle.lease_state.specs.State.{State, granted_form_of, is_state_within, needs_acknowledgment}
-use Rattle.lease_state.specs.declared.access.Access.{Access}
-use Rattle.lease_state.specs.declared.access.Share.{Share}
-use Rattle.lease_state.specs.declared.patch.Patch.{Patch}
-use Rattle.lease_state.specs.declared.status.Status.{Status}
-use Rattle.lease_model.specs.client.Commanded.{commanded}
-use Rattle.lease_model.specs.client.Commands.{Command}
-use Rattle.lease_model.specs.client.Step.{Step}
-use Rattle.lease_model.specs.messages.Replies.{Reply}
-use Rattle.lease_model.specs.messages.Requests.{FileRequest, Request, CreateAsk, LeaseOf}
-use Rattle.lease_model.specs.records.Facts.{Fact}
-use Rattle.lease_model.specs.records.Past.{has_strayed}
-use Rattle.lease_model.specs.server.Attempt.{is_left_open}
-use Rattle.lease_model.specs.server.Calls.{disconnected, is_lost, joined, key_expired, opens_disconnected, client_forgotten, is_left_behind}
-use Rattle.lease_model.specs.server.Findings.{connected_open}
-use Rattle.lease_model.specs.server.Grant.{connected_again, lease_after}
-use Rattle.lease_model.specs.server.Naming.{key_of, own_key}
-use Rattle.lease_model.specs.server.Progress.{begun, opens_dropped, with_opens, break_notice, refusal_of}
-use Rattle.lease_model.specs.server.Queries.{breaking}
-use Rattle.lease_model.specs.server.State.{Server, Open, Held, has_key, has_file, has_lease}
-use Rattle.lease_model.specs.values.Keys.{Key}
-use Rattle.lease_model.specs.values.Lists.{without}
-use Rattle.lease_model.specs.values.Sharing.{may_read}
-use Rattle.lease_model.specs.values.Tables.{put}
-use Rattle.lease_model.specs.world.Events.{stepped_in, machine_key}
-use Rattle.lease_model.specs.world.World.{World, Link, requests_sent}
-use Rattle.lease_laws.specs.server.Laws.{Among}
-use Rattle.lease_laws.specs.world.FileIds.{was_opened}
-use Rattle.lease_laws.specs.server.SmallSteps.{SmallStep, step_taken, IsFree, IsAwaitedAt, MayChange, MayRefuse, MayLower, MayHold, IsInTurn}
+use Rattle.lease_laws.proofs.Words.{◌++◌, ◌==◌, ◌∙◌, ◌∷◌, ◌≡◌, ◌≢◌, Access, Among, Bool, Command, CreateAsk, Fact, FileRequest}
+use Rattle.lease_laws.proofs.Words.{Held, IsAwaitedAt, IsFree, IsInTurn, Key, LeaseOf, Link, List, MayChange, MayHold, MayLower}
+use Rattle.lease_laws.proofs.Words.{MayRefuse, None, Open, Option, Patch, Reply, Request, Server, Share, SmallStep, Some, State}
+use Rattle.lease_laws.proofs.Words.{Status, Step, World, ℕ, [], ap, begun, break_notice, breaking, client_forgotten, commanded}
+use Rattle.lease_laws.proofs.Words.{connected_again, connected_open, disconnected, eq-eqb, eqb-true, false, granted_form_of}
+use Rattle.lease_laws.proofs.Words.{has_file, has_key, has_lease, has_strayed, is_left_behind, is_left_open, is_lost}
+use Rattle.lease_laws.proofs.Words.{is_state_within, joined, key_expired, key_of, lease_after, machine_key, map, may_read}
+use Rattle.lease_laws.proofs.Words.{needs_acknowledgment, not, opens_disconnected, opens_dropped, own_key, put, refl, refusal_of}
+use Rattle.lease_laws.proofs.Words.{requests_sent, step_taken, stepped_in, subst, sym, true, was_opened, with_opens, without}
 use Rattle.lease_laws.proofs.client.Thin.{put_other}
 use Rattle.lease_laws.proofs.server.Keys.{put_key-cases}
 use Rattle.lease_laws.proofs.server.Lists.{if_cases, either, clash, and_parts, not_true, not_parts, find_has, true_or}
 use Rattle.lease_laws.proofs.world.Links.{by_client, stepped_links}
 use Rattle.lease_laws.proofs.world.Runs.{stepped_server, stepped_clients}
 use Rattle.lease_coherence.specs.Creates.{held_by}
-use Rattle.lease_coherence.proofs.moves.Deeds.{IsRefusedAck, HasDeeds, IsSource, step_deed, told_to, granted_in, reconnected_in, changed_in, without_opens, leased_in, held_in}
-use Rattle.lease_coherence.proofs.moves.Events.{Ground, IsMoved, cut_off, timed_out, come_back, connected, reply_gone, reply_taken, noticed_by, strayed, Move}
-use Rattle.lease_coherence.proofs.moves.Foreign.{free_no_writer, change_no_writer, change_no_reader, off_sound, false_not, IsUnmoved, unmoved_same, unmoved_then, apart, key_client, filter_last, filter_twice, unmoved_off, off_ground, unmoved_told, unmoved_popped, unmoved_held, unmoved_without, unmoved_leased, unmoved_granted, unmoved_mapped, unmoved_content}
+use Rattle.lease_coherence.proofs.moves.Deeds.{IsRefusedAck, HasDeeds, IsSource, step_deed, told_to, granted_in, reconnected_in}
+use Rattle.lease_coherence.proofs.moves.Deeds.{changed_in, without_opens, leased_in, held_in}
+use Rattle.lease_coherence.proofs.moves.Events.{Ground, IsMoved, cut_off, timed_out, come_back, connected, reply_gone}
+use Rattle.lease_coherence.proofs.moves.Events.{reply_taken, noticed_by, strayed, Move}
+use Rattle.lease_coherence.proofs.moves.Foreign.{free_no_writer, change_no_writer, change_no_reader, off_sound, false_not}
+use Rattle.lease_coherence.proofs.moves.Foreign.{IsUnmoved, unmoved_same, unmoved_then, apart, key_client, filter_last}
+use Rattle.lease_coherence.proofs.moves.Foreign.{filter_twice, unmoved_off, off_ground, unmoved_told, unmoved_popped}
+use Rattle.lease_coherence.proofs.moves.Foreign.{unmoved_held, unmoved_without, unmoved_leased, unmoved_granted, unmoved_mapped}
+use Rattle.lease_coherence.proofs.moves.Foreign.{unmoved_content}
 use Rattle.lease_coherence.proofs.moves.Frames.{stepped_past, stepped_requests, stepped_replies}
 use Rattle.lease_coherence.proofs.moves.Ground.{moved_past}
 use Rattle.lease_coherence.proofs.moves.Moves.{IsOldest, popped}

@@ -1,23 +1,11 @@
 -- A step of the server doesn't look at what was given out before it: it appends its own outs.
-use Rattle.std.proofs.Common.{◌≡◌, ℕ, Bool, true, false, List, [], ◌∷◌, ◌++◌, Option, Some, None, refl, sym, ap, ◌∙◌}
-use Rattle.std.specs.Prelude.{if◌then◌else◌, ◌==◌}
-use Rattle.lease_state.specs.State.{State, is_state_within}
-use Rattle.lease_state.specs.declared.access.Access.{Access}
-use Rattle.lease_state.specs.declared.access.Share.{Share}
-use Rattle.lease_state.specs.declared.status.Status.{Status}
-use Rattle.lease_model.specs.messages.Replies.{Reply, Out}
-use Rattle.lease_model.specs.messages.Requests.{FileRequest, CreateAsk, LeaseOf}
-use Rattle.lease_model.specs.server.Acknowledge.{acknowledged, judged, break_ended}
-use Rattle.lease_model.specs.server.Answers.{concluded, answered, created, closed, changed, read_done, on_open, on_contexts}
-use Rattle.lease_model.specs.server.Attempt.{Outcome}
-use Rattle.lease_model.specs.server.Findings.{connected_open}
-use Rattle.lease_model.specs.server.Grant.{granted, granted_with, reconnected}
-use Rattle.lease_model.specs.server.Naming.{key_of}
-use Rattle.lease_model.specs.server.Progress.{Progress, begun, opens_dropped, lease_lowered, break_begun, request_held, held_left, replied, refused}
-use Rattle.lease_model.specs.server.State.{Open, has_lease}
-use Rattle.lease_model.specs.values.Keys.{Key}
-use Rattle.lease_model.specs.values.Limits.{last_file_id}
-use Rattle.lease_laws.specs.server.SmallSteps.{SmallStep, step_taken}
+use Rattle.lease_laws.proofs.Words.{◌++◌, ◌==◌, ◌∙◌, ◌∷◌, ◌≡◌, Access, Bool, CreateAsk, FileRequest, Key, LeaseOf, List, None}
+use Rattle.lease_laws.proofs.Words.{Open, Option, Out, Outcome, Progress, Reply, Share, SmallStep, Some, State, Status, ℕ, []}
+use Rattle.lease_laws.proofs.Words.{acknowledged, answered, ap, begun, break_begun, break_ended, changed, closed, concluded}
+use Rattle.lease_laws.proofs.Words.{connected_open, created, false, granted, granted_with, has_lease, held_left, if◌then◌else◌}
+use Rattle.lease_laws.proofs.Words.{is_state_within, judged, key_of, last_file_id, lease_lowered, on_contexts, on_open}
+use Rattle.lease_laws.proofs.Words.{opens_dropped, read_done, reconnected, refl, refused, replied, request_held, step_taken, sym}
+use Rattle.lease_laws.proofs.Words.{true}
 
 -- what comes of a call under way, and what comes of its state alone
 pub record Follows (before : List Out) (after : Progress) (fresh : Progress) : Type 0 where

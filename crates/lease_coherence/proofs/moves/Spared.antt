@@ -1,19 +1,8 @@
 -- What others do, in a client's eyes: nothing that is sent to it or taken by it, no write of it, no open or change of a
 -- file whose writes it caches, and no change of a file that it reads from its cache.
-use Rattle.std.proofs.Common.{◌≡◌, ◌≢◌, ℕ, Bool, true, false, not, List, [], ◌∷◌, Option, Some, None, refl, sym, ap, ◌∙◌, ◌==◌}
-use Rattle.std.specs.Prelude.{⊤, ◌&&◌, ◌||◌}
-use Rattle.std.proofs.lemmas.Bool.{eqb-true}
-use Rattle.lease_state.specs.State.{State}
-use Rattle.lease_state.specs.declared.patch.Patch.{Patch}
-use Rattle.lease_model.specs.client.Commands.{Note}
-use Rattle.lease_model.specs.records.Facts.{Fact}
-use Rattle.lease_model.specs.records.Past.{sendings, takings, has_buffered, has_written, is_touched}
-use Rattle.lease_model.specs.server.State.{Open, Lease, has_key}
-use Rattle.lease_model.specs.values.Keys.{Key}
-use Rattle.lease_model.specs.values.Patches.{same_patch}
-use Rattle.lease_model.specs.world.World.{fact_of}
-use Rattle.lease_laws.specs.records.Runs.{content_of}
-use Rattle.lease_laws.specs.server.Laws.{Among}
+use Rattle.lease_laws.proofs.Words.{◌&&◌, ◌==◌, ◌||◌, ◌∙◌, ◌∷◌, ◌≡◌, ◌≢◌, Among, Bool, Fact, Key, Lease, List, None, Note, Open}
+use Rattle.lease_laws.proofs.Words.{Option, Patch, Some, State, ℕ, ⊤, [], ap, content_of, eqb-true, fact_of, false, has_buffered}
+use Rattle.lease_laws.proofs.Words.{has_key, has_written, is_touched, not, refl, same_patch, sendings, sym, takings, true}
 use Rattle.lease_laws.proofs.server.Lists.{either, clash, not_true}
 use Rattle.lease_coherence.specs.Agreement.{touched_since_lost}
 use Rattle.lease_coherence.proofs.records.Later.{past_noted}

@@ -1,26 +1,16 @@
 -- What a client's step names is in the record already, and a write that it settles as done was accepted.
-use Rattle.std.proofs.Common.{◌≡◌, ℕ, Bool, true, false, List, [], ◌∷◌, ◌++◌, flat_map, Option, Some, None, refl, sym, subst, ◌==◌}
-use Rattle.std.specs.Prelude.{⊤, bytes_eq, find, if◌then◌else◌}
-use Rattle.std.proofs.lemmas.Bool.{eq-eqb}
-use Rattle.std.proofs.lemmas.Slice.Eq.{bytes_eq-Decides}
-use Rattle.lease_state.specs.State.{State}
-use Rattle.lease_state.specs.declared.patch.Patch.{Patch}
-use Rattle.lease_model.specs.client.Calls.{ClientCall, client_called}
-use Rattle.lease_model.specs.client.Commanded.{create_request, joint_terms, wrote_step, next_write, cached_read, opened_anew, write_buffered, write_sent, flush_on_live}
-use Rattle.lease_model.specs.client.Commands.{Answer, Note, OpenTerms, Settlement}
-use Rattle.lease_model.specs.client.Connection.{all_turned, noticed, connection_made, notice_turn, connect_turn, reconnect_request, silent_turn}
-use Rattle.lease_model.specs.client.State.{Client, Entry, LiveEntry, Asked, Parted, Pending, Phase, lease_key, belief_of}
-use Rattle.lease_model.specs.client.Step.{Step, Turn, turned, believes_noted, settled_as, write_requests}
-use Rattle.lease_model.specs.client.Taken.{is_key_of, flushed, unflushed, gives_up, acknowledgment, belief_lowered, parked_closed, opened_turn, reconnected_turn, promoted_turn, promoted_belief, first_belief, read_turn, without_open, closed_by_server, is_numbered, phase_with, write_done_turn, sent_without}
-use Rattle.lease_model.specs.messages.Replies.{Reply, BreakNotice}
-use Rattle.lease_model.specs.messages.Requests.{FileRequest, Request}
-use Rattle.lease_model.specs.records.Facts.{Fact}
-use Rattle.lease_model.specs.records.Past.{has_written, is_accepted}
-use Rattle.lease_model.specs.values.LeaseStates.{same_state, meet}
-use Rattle.lease_model.specs.values.Lists.{numbers_to}
-use Rattle.lease_model.specs.values.Patches.{same_patch}
-use Rattle.lease_model.specs.values.Tables.{put}
-use Rattle.lease_laws.specs.world.FileIds.{was_opened}
+use Rattle.lease_laws.proofs.Words.{◌++◌, ◌==◌, ◌∷◌, ◌≡◌, Answer, Asked, Bool, BreakNotice, Client, ClientCall, Entry, Fact}
+use Rattle.lease_laws.proofs.Words.{FileRequest, List, LiveEntry, None, Note, OpenTerms, Option, Parted, Patch, Pending, Phase}
+use Rattle.lease_laws.proofs.Words.{Reply, Request, Settlement, Some, State, Step, Turn, ℕ, ⊤, [], acknowledgment, all_turned}
+use Rattle.lease_laws.proofs.Words.{belief_lowered, belief_of, believes_noted, bytes_eq, bytes_eq-Decides, cached_read}
+use Rattle.lease_laws.proofs.Words.{client_called, closed_by_server, connect_turn, connection_made, create_request, eq-eqb, false}
+use Rattle.lease_laws.proofs.Words.{find, first_belief, flat_map, flush_on_live, flushed, gives_up, has_written, if◌then◌else◌}
+use Rattle.lease_laws.proofs.Words.{is_accepted, is_key_of, is_numbered, joint_terms, lease_key, meet, next_write, notice_turn}
+use Rattle.lease_laws.proofs.Words.{noticed, numbers_to, opened_anew, opened_turn, parked_closed, phase_with, promoted_belief}
+use Rattle.lease_laws.proofs.Words.{promoted_turn, put, read_turn, reconnect_request, reconnected_turn, refl, same_patch}
+use Rattle.lease_laws.proofs.Words.{same_state, sent_without, settled_as, silent_turn, subst, sym, true, turned, unflushed}
+use Rattle.lease_laws.proofs.Words.{was_opened, without_open, write_buffered, write_done_turn, write_requests, write_sent}
+use Rattle.lease_laws.proofs.Words.{wrote_step}
 use Rattle.lease_laws.proofs.client.Thin.{put_same, put_other}
 use Rattle.lease_laws.proofs.server.Lists.{if_cases, true_or, and_both}
 use Rattle.lease_laws.proofs.world.Links.{by_client}
@@ -28,7 +18,8 @@ use Rattle.lease_coherence.specs.Names.{Each, IsNamedEntry, IsNamedPhase, IsName
 use Rattle.lease_laws.proofs.client.cases.Commands.{HasCommands, any_command, sent_of}
 use Rattle.lease_laws.proofs.client.cases.Replies.{HasTakes, any_reply}
 use Rattle.lease_laws.proofs.client.cases.Files.{found_so}
-use Rattle.lease_coherence.proofs.names.Words.{each_append, each_filter, each_without, each_either, request_later, writes_later, entry_later}
+use Rattle.lease_coherence.proofs.names.Words.{each_append, each_filter, each_without, each_either, request_later, writes_later}
+use Rattle.lease_coherence.proofs.names.Words.{entry_later}
 use Rattle.lease_coherence.proofs.records.Later.{IsLater, later_fact, later_noted, past_noted}
 use Rattle.lease_coherence.proofs.wellformed.Notes.{EachNote, notes_append}
 use Rattle.lease_laws.proofs.client.cases.Links.{HasNotices, any_notice}

@@ -1,37 +1,23 @@
 -- Every move keeps what clients name, and so no write is settled as done that wasn't accepted.
-use Rattle.std.proofs.Common.{◌≡◌, ◌≢◌, ℕ, ◌+◌, false, not, List, [], ◌∷◌, refl, sym, ap, ◌∙◌, subst, ◌==◌}
-use Rattle.std.proofs.lemmas.Bool.{eq-eqb}
-use Rattle.std.proofs.lemmas.List.{reverse-reverse}
-use mathlib.Core.List.{reverse_aux}
-use Rattle.lease_model.specs.client.Calls.{ClientCall, client_called}
-use Rattle.lease_model.specs.client.Commands.{Note, Settlement}
-use Rattle.lease_model.specs.client.Connection.{noticed, connection_made, all_turned}
-use Rattle.lease_model.specs.client.State.{Client, new_client}
-use Rattle.lease_model.specs.client.Step.{Step}
-use Rattle.lease_model.specs.messages.Replies.{Reply, Out}
-use Rattle.lease_model.specs.messages.Requests.{Request}
-use Rattle.lease_model.specs.records.Facts.{Fact}
-use Rattle.lease_model.specs.records.Past.{has_strayed}
-use Rattle.lease_model.specs.records.Safe.{EachFact, NoFalseDone}
-use Rattle.lease_model.specs.server.Calls.{disconnected, is_lost, joined, key_expired, opens_disconnected, client_forgotten, is_left_behind}
-use Rattle.lease_model.specs.server.Progress.{begun, opens_dropped, with_opens}
-use Rattle.lease_model.specs.server.State.{Server, Open, has_key, new_server}
-use Rattle.lease_model.specs.values.Lists.{without}
-use Rattle.lease_model.specs.values.Tables.{put}
-use Rattle.lease_model.specs.world.Events.{Event, stepped_in, after, machine_key}
-use Rattle.lease_model.specs.world.World.{World, Setup, Link, first_world, starts_from, requests_sent, sent_over}
-use Rattle.lease_laws.specs.server.Laws.{Among}
-use Rattle.lease_laws.specs.server.SmallSteps.{SmallStep, step_taken}
+use Rattle.lease_laws.proofs.Words.{◌+◌, ◌==◌, ◌∙◌, ◌∷◌, ◌≡◌, ◌≢◌, Among, Client, ClientCall, EachFact, Event, Fact, Link, List}
+use Rattle.lease_laws.proofs.Words.{NoFalseDone, Note, Open, Out, Reply, Request, Server, Settlement, Setup, SmallStep, Step}
+use Rattle.lease_laws.proofs.Words.{World, ℕ, [], after, all_turned, ap, begun, client_called, client_forgotten, connection_made}
+use Rattle.lease_laws.proofs.Words.{disconnected, eq-eqb, false, first_world, has_key, has_strayed, is_left_behind, is_lost}
+use Rattle.lease_laws.proofs.Words.{joined, key_expired, machine_key, new_client, new_server, not, noticed, opens_disconnected}
+use Rattle.lease_laws.proofs.Words.{opens_dropped, put, refl, requests_sent, reverse-reverse, reverse_aux, sent_over, starts_from}
+use Rattle.lease_laws.proofs.Words.{step_taken, stepped_in, subst, sym, with_opens, without}
 use Rattle.lease_laws.proofs.client.Forms.{commanded-stays, taken-stays}
 use Rattle.lease_laws.proofs.client.Thin.{put_same, put_other}
 use Rattle.lease_laws.proofs.server.Lists.{if_cases, either, clash, among_filter, among_map, true_or}
 use Rattle.lease_laws.proofs.world.FileIds.{told}
 use Rattle.lease_laws.proofs.world.Links.{by_client}
 use Rattle.lease_laws.proofs.world.Runs.{stepped_server, stepped_clients}
-use Rattle.lease_coherence.specs.Names.{Each, IsNamed, IsNamedAt, IsNamedEntry, IsNamedOnFile, IsNamedReply, IsNamedRequest, IsOwnOpen}
+use Rattle.lease_coherence.specs.Names.{Each, IsNamed, IsNamedAt, IsNamedEntry, IsNamedOnFile, IsNamedReply, IsNamedRequest}
+use Rattle.lease_coherence.specs.Names.{IsOwnOpen}
 use Rattle.lease_coherence.specs.Parts.{NothingIsFalselyDone}
 use Rattle.lease_coherence.proofs.moves.Deeds.{step_deed}
-use Rattle.lease_coherence.proofs.moves.Events.{Ground, IsMoved, Both, carried_both, runs_have, cut_off, timed_out, left_behind, come_back, reply_gone, strayed, Move}
+use Rattle.lease_coherence.proofs.moves.Events.{Ground, IsMoved, Both, carried_both, runs_have, cut_off, timed_out, left_behind}
+use Rattle.lease_coherence.proofs.moves.Events.{come_back, reply_gone, strayed, Move}
 use Rattle.lease_coherence.proofs.moves.Frames.{stepped_past, stepped_requests, stepped_replies}
 use Rattle.lease_coherence.proofs.moves.Ground.{ground_carried, first_ground, moved_past}
 use Rattle.lease_coherence.proofs.moves.Moves.{IsNext, moved}

@@ -1,40 +1,26 @@
 -- In every run, all that a client names that hasn't strayed is in the record already; so a write that it settles as done
 -- was accepted.
-use Rattle.std.proofs.Common.{◌≡◌, inl, ⊎_elim, ℕ, ◌+◌, true, false, not, List, [], ◌∷◌, ◌++◌, map, Option, Some, None, refl, sym, ap, ◌∙◌, subst, true≢false, ◌==◌}
-use Rattle.std.specs.Prelude.{◌&&◌}
-use Rattle.std.proofs.lemmas.Bool.{eq-eqb, eqb-true}
-use Rattle.lease_state.specs.declared.access.Access.{Access}
-use Rattle.lease_state.specs.declared.access.Share.{Share}
-use Rattle.lease_state.specs.declared.patch.Patch.{Patch}
-use Rattle.lease_state.specs.declared.status.Status.{Status}
-use Rattle.lease_model.specs.client.State.{Client, lease_key}
-use Rattle.lease_model.specs.messages.Replies.{Reply}
-use Rattle.lease_model.specs.messages.Requests.{FileRequest, Request, CreateAsk}
-use Rattle.lease_model.specs.records.Facts.{Fact}
-use Rattle.lease_model.specs.records.Past.{has_strayed, has_written, is_accepted}
-use Rattle.lease_model.specs.server.Calls.{held_of}
-use Rattle.lease_model.specs.server.Attempt.{is_left_open}
-use Rattle.lease_model.specs.server.Findings.{awaits}
-use Rattle.lease_model.specs.server.Grant.{connected_again, asked_key, lease_after, new_open}
-use Rattle.lease_model.specs.server.Naming.{own_key}
-use Rattle.lease_model.specs.server.Progress.{with_opens, refusal_of}
-use Rattle.lease_model.specs.server.State.{Open, Held}
-use Rattle.lease_model.specs.values.Keys.{Key}
-use Rattle.lease_model.specs.values.Tables.{put}
-use Rattle.lease_model.specs.world.World.{World}
-use Rattle.lease_laws.specs.server.Laws.{Among}
-use Rattle.lease_laws.specs.world.FileIds.{opened_count, was_opened}
+use Rattle.lease_laws.proofs.Words.{◌&&◌, ◌++◌, ◌+◌, ◌==◌, ◌∙◌, ◌∷◌, ◌≡◌, Access, Among, Client, CreateAsk, Fact, FileRequest}
+use Rattle.lease_laws.proofs.Words.{Held, Key, List, None, Open, Option, Patch, Reply, Request, Share, Some, Status, World, ℕ}
+use Rattle.lease_laws.proofs.Words.{⊎_elim, [], ap, asked_key, awaits, connected_again, eq-eqb, eqb-true, false, has_strayed}
+use Rattle.lease_laws.proofs.Words.{has_written, held_of, inl, is_accepted, is_left_open, lease_after, lease_key, map, new_open}
+use Rattle.lease_laws.proofs.Words.{not, opened_count, own_key, put, refl, refusal_of, subst, sym, true, true≢false, was_opened}
+use Rattle.lease_laws.proofs.Words.{with_opens}
 use Rattle.lease_laws.proofs.client.Thin.{put_same, put_other}
-use Rattle.lease_laws.proofs.server.Lists.{if_cases, and_parts, and_both, true_or, among_append, among_behind, among_filter, among_map, find_has}
+use Rattle.lease_laws.proofs.server.Lists.{if_cases, and_parts, and_both, true_or, among_append, among_behind, among_filter}
+use Rattle.lease_laws.proofs.server.Lists.{among_map, find_has}
 use Rattle.lease_laws.proofs.server.PassWaits.{among_more}
 use Rattle.lease_laws.proofs.world.Links.{by_client}
-use Rattle.lease_coherence.specs.Names.{Each, IsNamed, IsNamedAt, IsNamedEntry, IsNamedOnFile, IsNamedReply, IsNamedRequest, IsOwnCreate, IsOwnOpen}
-use Rattle.lease_coherence.proofs.moves.Deeds.{HasDeeds, IsSource, told_to, with_held, held_in, granted_in, reconnected_in, changed_in}
+use Rattle.lease_coherence.specs.Names.{Each, IsNamed, IsNamedAt, IsNamedEntry, IsNamedOnFile, IsNamedReply, IsNamedRequest}
+use Rattle.lease_coherence.specs.Names.{IsOwnCreate, IsOwnOpen}
+use Rattle.lease_coherence.proofs.moves.Deeds.{HasDeeds, IsSource, told_to, with_held, held_in, granted_in, reconnected_in}
+use Rattle.lease_coherence.proofs.moves.Deeds.{changed_in}
 use Rattle.lease_coherence.proofs.moves.Events.{Ground}
 use Rattle.lease_coherence.proofs.moves.Frames.{lease_put_rest}
 use Rattle.lease_coherence.proofs.moves.Ground.{among_put}
 use Rattle.lease_coherence.proofs.moves.Moves.{IsOldest, rest_of, popped}
-use Rattle.lease_coherence.proofs.names.Words.{each_append, each_weaker, each_rest, on_file_later, request_later, reply_later, entry_later, opened_once}
+use Rattle.lease_coherence.proofs.names.Words.{each_append, each_weaker, each_rest, on_file_later, request_later, reply_later}
+use Rattle.lease_coherence.proofs.names.Words.{entry_later, opened_once}
 use Rattle.lease_coherence.proofs.records.Later.{IsLater, later_same, later_fact, later_two}
 
 -- ---- one client's part of a world

@@ -1,14 +1,8 @@
 -- Names: FileIds, lease keys and numbers of writes, as the messages, the opens and the entries of a client have them,
 -- compared with the record.
-use Rattle.std.proofs.Common.{◌≡◌, ⊎_elim, ℕ, ◌+◌, ◌≤◌, Bool, true, false, List, [], ◌∷◌, ◌++◌, Some, None, sym, ◌∙◌, arith, true≢false, ◌==◌}
-use Rattle.std.specs.Prelude.{filter, if◌then◌else◌}
-use Rattle.std.proofs.lemmas.Bool.{eqb-true}
-use Rattle.lease_model.specs.client.State.{Entry, Pending, Phase}
-use Rattle.lease_model.specs.client.Taken.{sent_without}
-use Rattle.lease_model.specs.messages.Replies.{Reply}
-use Rattle.lease_model.specs.messages.Requests.{FileRequest, Request}
-use Rattle.lease_model.specs.records.Facts.{Fact}
-use Rattle.lease_laws.specs.world.FileIds.{opened_count, was_opened}
+use Rattle.lease_laws.proofs.Words.{◌++◌, ◌+◌, ◌==◌, ◌∙◌, ◌∷◌, ◌≡◌, ◌≤◌, Bool, Entry, Fact, FileRequest, List, None, Pending}
+use Rattle.lease_laws.proofs.Words.{Phase, Reply, Request, Some, ℕ, ⊎_elim, [], arith, eqb-true, false, filter, if◌then◌else◌}
+use Rattle.lease_laws.proofs.Words.{opened_count, sent_without, sym, true, true≢false, was_opened}
 use Rattle.lease_laws.proofs.server.Lists.{if_cases, and_parts, or_true}
 use Rattle.lease_coherence.specs.Names.{Each, IsNamedEntry, IsNamedOnFile, IsNamedPhase, IsNamedReply, IsNamedRequest, WasWritten}
 use Rattle.lease_coherence.proofs.moves.Moves.{rest_of}

@@ -1,35 +1,16 @@
 -- Every move keeps a client's requests in order.
-use Rattle.std.proofs.Common.{◌≡◌, inl, inr, ⊎_elim, ℕ, Bool, true, false, not, List, [], ◌∷◌, ◌++◌, flat_map, Some, None, refl, sym, ap, ap₂, ◌∙◌, subst, true≢false, ◌==◌}
-use Rattle.std.specs.Prelude.{⊤, ◌||◌, Ok}
-use Rattle.std.proofs.lemmas.Bool.{eqb-true, eq-eqb}
-use Rattle.lease_state.specs.State.{granted_form_of}
-use Rattle.lease_state.specs.declared.status.Status.{Status}
-use Rattle.lease_model.specs.client.Commanded.{commanded}
-use Rattle.lease_model.specs.client.Connection.{all_turned, noticed, connection_made, connect_turn}
-use Rattle.lease_model.specs.client.State.{Client, LiveEntry, Pending, Phase, lease_key}
-use Rattle.lease_model.specs.client.Step.{Step}
-use Rattle.lease_model.specs.client.Taken.{taken}
-use Rattle.lease_model.specs.messages.Replies.{Reply}
-use Rattle.lease_model.specs.messages.Requests.{FileRequest, Request}
-use Rattle.lease_model.specs.records.Facts.{Fact}
-use Rattle.lease_model.specs.server.Calls.{held_of, file_asked, file_of_open, joined, key_expired}
-use Rattle.lease_model.specs.server.Findings.{connected_open}
-use Rattle.lease_model.specs.server.Grant.{connected_again, lease_after}
-use Rattle.lease_model.specs.server.Naming.{key_of}
-use Rattle.lease_model.specs.server.Passes.{is_behind}
-use Rattle.lease_model.specs.server.Progress.{opens_dropped, with_opens, break_notice, refusal_of}
-use Rattle.lease_model.specs.server.State.{Server, Open, Held}
-use Rattle.lease_model.specs.values.Lists.{numbers_to}
-use Rattle.lease_model.specs.values.Tables.{put}
-use Rattle.lease_model.specs.world.Events.{stepped_in, machine_key}
-use Rattle.lease_model.specs.world.World.{World, Link}
-use Rattle.lease_laws.specs.server.Laws.{Among}
-use Rattle.lease_laws.specs.server.Waiting.{IsAbout, IsOpenOn}
-use Rattle.lease_laws.specs.world.FileIds.{was_opened}
-use Rattle.lease_laws.specs.world.Links.{is_up}
+use Rattle.lease_laws.proofs.Words.{◌++◌, ◌==◌, ◌||◌, ◌∙◌, ◌∷◌, ◌≡◌, Among, Bool, Client, Fact, FileRequest, Held, IsAbout}
+use Rattle.lease_laws.proofs.Words.{IsOpenOn, Link, List, LiveEntry, None, Ok, Open, Pending, Phase, Reply, Request, Server, Some}
+use Rattle.lease_laws.proofs.Words.{Status, Step, World, ℕ, ⊎_elim, ⊤, [], all_turned, ap, ap₂, break_notice, commanded}
+use Rattle.lease_laws.proofs.Words.{connect_turn, connected_again, connected_open, connection_made, eq-eqb, eqb-true, false}
+use Rattle.lease_laws.proofs.Words.{file_asked, file_of_open, flat_map, granted_form_of, held_of, inl, inr, is_behind, is_up}
+use Rattle.lease_laws.proofs.Words.{joined, key_expired, key_of, lease_after, lease_key, machine_key, not, noticed, numbers_to}
+use Rattle.lease_laws.proofs.Words.{opens_dropped, put, refl, refusal_of, stepped_in, subst, sym, taken, true, true≢false}
+use Rattle.lease_laws.proofs.Words.{was_opened, with_opens}
 use Rattle.lease_laws.proofs.client.Forms.{commanded-stays, taken-stays}
 use Rattle.lease_laws.proofs.client.Thin.{put_same, put_other}
-use Rattle.lease_laws.proofs.server.Lists.{if_cases, either, clash, not_true, true_or, find_has, among_append, among_before, among_behind, among_filtered}
+use Rattle.lease_laws.proofs.server.Lists.{if_cases, either, clash, not_true, true_or, find_has, among_append, among_before}
+use Rattle.lease_laws.proofs.server.Lists.{among_behind, among_filtered}
 use Rattle.lease_laws.proofs.world.Links.{stepped_links}
 use Rattle.lease_laws.proofs.world.Runs.{stepped_server}
 use Rattle.lease_coherence.specs.Creates.{held_by}
@@ -38,7 +19,8 @@ use Rattle.lease_coherence.specs.Standing.{AllAsked, IsNoClose, NotClosed, Stand
 use Rattle.lease_laws.proofs.client.cases.Commands.{any_command}
 use Rattle.lease_laws.proofs.client.cases.Replies.{any_reply}
 use Rattle.lease_coherence.proofs.creates.Creates.{none_held}
-use Rattle.lease_coherence.proofs.moves.Deeds.{IsSource, HasArrived, WasHeld, told_to, held_in, granted_in, reconnected_in, changed_in, without_opens, leased_in, done_reply}
+use Rattle.lease_coherence.proofs.moves.Deeds.{IsSource, HasArrived, WasHeld, told_to, held_in, granted_in, reconnected_in}
+use Rattle.lease_coherence.proofs.moves.Deeds.{changed_in, without_opens, leased_in, done_reply}
 use Rattle.lease_coherence.proofs.moves.Events.{Ground, timed_out, come_back, connected, reply_gone}
 use Rattle.lease_coherence.proofs.moves.Foreign.{IsUnmoved, apart, false_not, map_kept}
 use Rattle.lease_coherence.proofs.moves.Frames.{lease_put_rest, stepped_past}
@@ -47,14 +29,17 @@ use Rattle.lease_coherence.proofs.moves.Own.{IsOwnMoved}
 use Rattle.lease_coherence.proofs.names.Names.{open_parts}
 use Rattle.lease_coherence.proofs.names.Words.{each_append, each_weaker}
 use Rattle.lease_coherence.specs.Agreement.{as_requests, asked_of}
-use Rattle.lease_coherence.proofs.order.Words.{IsNoWrite, AreOrdered, IsOpenIn, ordered_behind, ordered_more, append_three, asked_among, popped_ordered, none_behind, held_ordered, WriteStands, IsInOrder, IsUpInOrder}
+use Rattle.lease_coherence.proofs.order.Words.{IsNoWrite, AreOrdered, IsOpenIn, ordered_behind, ordered_more, append_three}
+use Rattle.lease_coherence.proofs.order.Words.{asked_among, popped_ordered, none_behind, held_ordered, WriteStands, IsInOrder}
+use Rattle.lease_coherence.proofs.order.Words.{IsUpInOrder}
 use Rattle.lease_coherence.proofs.records.Later.{IsLater, later_same, later_fact, later_two, later_noted}
 use Rattle.lease_coherence.proofs.standing.Runs.{link_of, was_up, each_flat, gone_standing}
 use Rattle.lease_coherence.proofs.standing.Servers.{stands_by, again_up, timer_stands}
 use Rattle.lease_coherence.proofs.standing.Standing.{IsStepped, step_of, stands_after}
 use Rattle.lease_coherence.proofs.standing.Words.{asked_weaker, asked_popped, asked_held, asked_unmoved}
 use Rattle.lease_coherence.proofs.writes.Answered.{ground_of, names_of}
-use Rattle.lease_coherence.proofs.order.Sends.{UnderLive, SendsInOrder, sends, commands_send, takes_send, stands_later, same_order, off_order}
+use Rattle.lease_coherence.proofs.order.Sends.{UnderLive, SendsInOrder, sends, commands_send, takes_send, stands_later}
+use Rattle.lease_coherence.proofs.order.Sends.{same_order, off_order}
 use Rattle.lease_coherence.proofs.records.Known.{HasRecord}
 
 -- ---- an open that is closed

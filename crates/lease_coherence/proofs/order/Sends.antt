@@ -1,14 +1,9 @@
 -- What clients send stands in order, and stays so in other worlds.
-use Rattle.std.proofs.Common.{◌≡◌, ⊎_elim, ℕ, List, [], ◌∷◌, ◌++◌, refl, sym, ap, subst}
-use Rattle.std.specs.Prelude.{⊤}
-use Rattle.lease_model.specs.client.Commanded.{cached_read, opened_anew, write_buffered, write_sent, flush_on_live}
-use Rattle.lease_model.specs.client.State.{Client, LiveEntry, Pending, Phase}
-use Rattle.lease_model.specs.client.Step.{Step, turned, write_requests}
-use Rattle.lease_model.specs.client.Taken.{acknowledgment, parked_closed, belief_lowered, flushed, opened_turn, reconnected_turn, promoted_turn, read_turn, closed_by_server, write_done_turn}
-use Rattle.lease_model.specs.messages.Requests.{FileRequest, Request}
-use Rattle.lease_model.specs.server.State.{Held}
-use Rattle.lease_model.specs.world.World.{World}
-use Rattle.lease_laws.specs.server.Laws.{Among}
+use Rattle.lease_laws.proofs.Words.{◌++◌, ◌∷◌, ◌≡◌, Among, Client, FileRequest, Held, List, LiveEntry, Pending, Phase, Request}
+use Rattle.lease_laws.proofs.Words.{Step, World, ℕ, ⊎_elim, ⊤, [], acknowledgment, ap, belief_lowered, cached_read}
+use Rattle.lease_laws.proofs.Words.{closed_by_server, flush_on_live, flushed, meet, opened_anew, opened_turn, parked_closed}
+use Rattle.lease_laws.proofs.Words.{promoted_turn, read_turn, reconnected_turn, refl, subst, sym, turned, write_buffered}
+use Rattle.lease_laws.proofs.Words.{write_done_turn, write_requests, write_sent}
 use Rattle.lease_laws.proofs.server.Lists.{if_cases}
 use Rattle.lease_coherence.specs.Creates.{held_by}
 use Rattle.lease_coherence.specs.Names.{Each}
@@ -24,7 +19,6 @@ use Rattle.lease_coherence.proofs.order.Words.{AreOrdered, off_ordered, WriteSta
 use Rattle.lease_coherence.proofs.records.Later.{IsLater, later_same}
 use Rattle.lease_coherence.proofs.standing.Servers.{stands_by}
 use Rattle.lease_coherence.proofs.standing.Words.{asked_weaker, asked_off}
-use Rattle.lease_model.specs.values.LeaseStates.{meet}
 
 -- ---- what clients send
 

@@ -1,16 +1,8 @@
 -- What a client asks about a file, in its order: what is held first, then what is on its way. No write stands after a
 -- Close of its open.
-use Rattle.std.proofs.Common.{◌≡◌, ◌≢◌, ⊎_elim, ℕ, Bool, true, false, List, [], ◌∷◌, ◌++◌, refl, sym, ap, ◌∙◌, subst, true≢false, ◌==◌}
-use Rattle.std.specs.Prelude.{⊤, ◌||◌}
-use Rattle.std.proofs.lemmas.Bool.{eqb-true, eq-eqb}
-use Rattle.lease_model.specs.messages.Requests.{FileRequest, Request}
-use Rattle.lease_model.specs.server.Calls.{held_of}
-use Rattle.lease_model.specs.server.Passes.{is_behind}
-use Rattle.lease_model.specs.server.State.{Held}
-use Rattle.lease_model.specs.values.Tables.{put}
-use Rattle.lease_model.specs.world.World.{World}
-use Rattle.lease_laws.specs.world.FileIds.{was_opened}
-use Rattle.lease_laws.specs.world.Links.{is_up}
+use Rattle.lease_laws.proofs.Words.{◌++◌, ◌==◌, ◌||◌, ◌∙◌, ◌∷◌, ◌≡◌, ◌≢◌, Bool, FileRequest, Held, List, Request, World, ℕ}
+use Rattle.lease_laws.proofs.Words.{⊎_elim, ⊤, [], ap, eq-eqb, eqb-true, false, held_of, is_behind, is_up, put, refl, subst, sym}
+use Rattle.lease_laws.proofs.Words.{true, true≢false, was_opened}
 use Rattle.lease_laws.proofs.client.Thin.{put_same, put_other}
 use Rattle.lease_laws.proofs.server.Lists.{either, clash}
 use Rattle.lease_coherence.specs.Agreement.{as_requests, asked_of}

@@ -1,36 +1,13 @@
 -- Every move leaves what entries keep untouched, of each client that hasn't strayed, over any link.
-use Rattle.std.proofs.Common.{◌≡◌, ◌⊎◌, inl, inr, ⊎_elim, ℕ, ◌+◌, ◌≤◌, Bool, true, false, not, List, [], ◌∷◌, Some, None, refl, sym, ap, ◌∙◌, subst, arith, true≢false, ◌==◌}
-use Rattle.std.specs.Prelude.{◌||◌, bytes_eq}
-use Rattle.std.specs.List.{list_any}
-use Rattle.std.proofs.lemmas.Bool.{eq-eqb, eqb-true}
-use Rattle.std.proofs.lemmas.Slice.Eq.{bytes_eq-Decides}
-use Rattle.lease_state.specs.State.{State, granted_form_of, is_state_within}
-use Rattle.lease_state.specs.declared.access.Access.{Access}
-use Rattle.lease_state.specs.declared.access.Share.{Share}
-use Rattle.lease_state.specs.declared.patch.Patch.{Patch}
-use Rattle.lease_state.specs.declared.status.Status.{Status}
-use Rattle.lease_model.specs.client.Commanded.{commanded}
-use Rattle.lease_model.specs.client.Connection.{noticed, connection_made, all_turned, connect_turn}
-use Rattle.lease_model.specs.client.State.{Client, LiveEntry, Parted, Pending, Phase, lease_key, new_client}
-use Rattle.lease_model.specs.client.Step.{Step}
-use Rattle.lease_model.specs.client.Taken.{taken}
-use Rattle.lease_model.specs.messages.Replies.{Reply}
-use Rattle.lease_model.specs.messages.Requests.{FileRequest, CreateAsk, LeaseOf}
-use Rattle.lease_model.specs.records.Facts.{Fact}
-use Rattle.lease_model.specs.records.Past.{has_strayed}
-use Rattle.lease_model.specs.server.Calls.{joined, key_expired}
-use Rattle.lease_model.specs.server.Grant.{connected_again, lease_after, new_open}
-use Rattle.lease_model.specs.server.Naming.{key_of}
-use Rattle.lease_model.specs.server.Progress.{opens_dropped, with_opens, break_notice, refusal_of}
-use Rattle.lease_model.specs.server.State.{Server, Open, Lease, no_lease, has_key}
-use Rattle.lease_model.specs.values.Keys.{Key}
-use Rattle.lease_model.specs.values.Lists.{without}
-use Rattle.lease_model.specs.values.Tables.{put}
-use Rattle.lease_model.specs.world.Events.{Event, machine_key, stepped_in, after}
-use Rattle.lease_model.specs.world.World.{World, Link, Setup, first_world}
-use Rattle.lease_laws.specs.server.Laws.{Among}
-use Rattle.lease_laws.specs.world.FileIds.{was_opened}
-use Rattle.lease_laws.specs.world.Links.{is_up}
+use Rattle.lease_laws.proofs.Words.{◌+◌, ◌==◌, ◌||◌, ◌∙◌, ◌∷◌, ◌≡◌, ◌≤◌, ◌⊎◌, Access, Among, Bool, Client, CreateAsk, Event, Fact}
+use Rattle.lease_laws.proofs.Words.{FileRequest, Key, Lease, LeaseOf, Link, List, LiveEntry, None, Open, Parted, Patch, Pending}
+use Rattle.lease_laws.proofs.Words.{Phase, Reply, Server, Setup, Share, Some, State, Status, Step, World, ℕ, ⊎_elim, [], after}
+use Rattle.lease_laws.proofs.Words.{all_turned, ap, arith, break_notice, bytes_eq, bytes_eq-Decides, commanded, connect_turn}
+use Rattle.lease_laws.proofs.Words.{connected_again, connection_made, eq-eqb, eqb-true, false, first_world, granted_form_of}
+use Rattle.lease_laws.proofs.Words.{has_key, has_strayed, inl, inr, is_state_within, is_up, joined, key_expired, key_of}
+use Rattle.lease_laws.proofs.Words.{lease_after, lease_key, list_any, machine_key, new_client, new_open, no_lease, not, noticed}
+use Rattle.lease_laws.proofs.Words.{opens_dropped, put, refl, refusal_of, stepped_in, subst, sym, taken, true, true≢false}
+use Rattle.lease_laws.proofs.Words.{was_opened, with_opens, without}
 use Rattle.lease_laws.proofs.client.Forms.{commanded-stays, taken-stays}
 use Rattle.lease_laws.proofs.client.Thin.{put_same}
 use Rattle.lease_laws.proofs.server.Keys.{put_key-cases}
@@ -50,15 +27,19 @@ use Rattle.lease_coherence.proofs.creates.Creates.{left_over, source_counts, ste
 use Rattle.lease_coherence.proofs.late.Likes.{ids_of}
 use Rattle.lease_coherence.proofs.late.Servers.{live_id, parted_id, own_has_key}
 use Rattle.lease_coherence.proofs.late.Words.{holds_write, KnowsIds}
-use Rattle.lease_coherence.proofs.moves.Deeds.{IsSource, done_reply, told_to, granted_in, reconnected_in, changed_in, leased_in, without_opens}
-use Rattle.lease_coherence.proofs.moves.Events.{Ground, Both, carried_both, runs_have, cut_off, timed_out, come_back, connected, noticed_by, reply_gone}
+use Rattle.lease_coherence.proofs.moves.Deeds.{IsSource, done_reply, told_to, granted_in, reconnected_in, changed_in, leased_in}
+use Rattle.lease_coherence.proofs.moves.Deeds.{without_opens}
+use Rattle.lease_coherence.proofs.moves.Events.{Ground, Both, carried_both, runs_have, cut_off, timed_out, come_back, connected}
+use Rattle.lease_coherence.proofs.moves.Events.{noticed_by, reply_gone}
 use Rattle.lease_coherence.proofs.moves.Foreign.{IsUnmoved}
 use Rattle.lease_coherence.proofs.moves.Frames.{from_source, stepped_past}
 use Rattle.lease_coherence.proofs.moves.Moves.{rest_of, popped}
 use Rattle.lease_coherence.proofs.moves.Own.{IsOwnMoved, OfGood, own_moves}
 use Rattle.lease_coherence.proofs.names.Names.{off_named, off_counted}
 use Rattle.lease_coherence.proofs.names.Words.{each_rest}
-use Rattle.lease_coherence.proofs.parted.Words.{UntouchedUnder, PhaseUntouched, IsUntouched, own_changed, own_opened, sent_touched, expired_touched, joined_touched, took_touched, just_lost, noted_touched, under_by, phase_by, PartedBy, StepParts, commands_part, takes_part}
+use Rattle.lease_coherence.proofs.parted.Words.{UntouchedUnder, PhaseUntouched, IsUntouched, own_changed, own_opened}
+use Rattle.lease_coherence.proofs.parted.Words.{sent_touched, expired_touched, joined_touched, took_touched, just_lost}
+use Rattle.lease_coherence.proofs.parted.Words.{noted_touched, under_by, phase_by, PartedBy, StepParts, commands_part, takes_part}
 use Rattle.lease_coherence.proofs.standing.AllRuns.{structure_carried, first_structure}
 use Rattle.lease_coherence.proofs.standing.Words.{asked_off}
 use Rattle.lease_coherence.proofs.standing.Structure.{HasStructure}

@@ -1,20 +1,11 @@
 -- What an entry keeps over a lost connection: where the lease of its open still holds writes, no other client opened or changed
 -- the file since.
-use Rattle.std.proofs.Common.{◌≡◌, ◌⊎◌, inl, inr, ℕ, Bool, true, false, not, List, [], ◌∷◌, Option, Some, None, refl, sym, subst, true≢false, ◌==◌}
-use Rattle.std.specs.Prelude.{⊤, ◌&&◌, ◌||◌}
-use Rattle.std.proofs.lemmas.Bool.{eq-eqb}
-use Rattle.lease_state.specs.declared.patch.Patch.{Patch}
-use Rattle.lease_model.specs.client.Commanded.{cached_read, opened_anew, write_buffered, write_sent, flush_on_live}
-use Rattle.lease_model.specs.client.Commands.{Note}
-use Rattle.lease_model.specs.client.State.{Client, Entry, LiveEntry, Asked, Parted, Pending, Phase}
-use Rattle.lease_model.specs.client.Step.{Step, turned}
-use Rattle.lease_model.specs.client.Taken.{parked_closed, belief_lowered, opened_turn, reconnected_turn, promoted_turn, read_turn, closed_by_server, without_open, phase_with, write_done_turn, sent_without}
-use Rattle.lease_model.specs.records.Facts.{Fact}
-use Rattle.lease_model.specs.server.State.{Open}
-use Rattle.lease_model.specs.values.Tables.{put}
-use Rattle.lease_model.specs.world.World.{World, fact_of}
-use Rattle.lease_laws.specs.server.Laws.{Among}
-use Rattle.lease_laws.specs.world.Links.{is_up}
+use Rattle.lease_laws.proofs.Words.{◌&&◌, ◌==◌, ◌||◌, ◌∷◌, ◌≡◌, ◌⊎◌, Among, Asked, Bool, Client, Entry, Fact, List, LiveEntry}
+use Rattle.lease_laws.proofs.Words.{None, Note, Open, Option, Parted, Patch, Pending, Phase, Some, Step, World, ℕ, ⊤, []}
+use Rattle.lease_laws.proofs.Words.{belief_lowered, cached_read, closed_by_server, eq-eqb, fact_of, false, flush_on_live, inl}
+use Rattle.lease_laws.proofs.Words.{inr, is_up, not, opened_anew, opened_turn, parked_closed, phase_with, promoted_turn, put}
+use Rattle.lease_laws.proofs.Words.{read_turn, reconnected_turn, refl, sent_without, subst, sym, true, true≢false, turned}
+use Rattle.lease_laws.proofs.Words.{without_open, write_buffered, write_done_turn, write_sent}
 use Rattle.lease_laws.proofs.client.Thin.{put_same, put_other}
 use Rattle.lease_laws.proofs.world.Links.{by_client}
 use Rattle.lease_coherence.specs.Agreement.{touched_since_lost}

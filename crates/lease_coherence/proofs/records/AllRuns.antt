@@ -1,14 +1,7 @@
 -- What is known of the record in every run whose setup is allowed.
-use Rattle.std.proofs.Common.{◌≡◌, ℕ, true, List, [], ◌∷◌, refl, sym, true≢false}
-use Rattle.std.specs.Prelude.{reverse}
-use Rattle.std.specs.List.{list_all}
-use Rattle.lease_model.specs.client.State.{new_client}
-use Rattle.lease_model.specs.records.Facts.{Fact}
-use Rattle.lease_model.specs.server.State.{new_server}
-use Rattle.lease_model.specs.world.Allowed.{is_allowed_setup}
-use Rattle.lease_model.specs.world.Events.{Event, after}
-use Rattle.lease_model.specs.world.World.{Setup, first_world, starts_from}
-use Rattle.lease_laws.specs.records.Runs.{is_start, open_writes}
+use Rattle.lease_laws.proofs.Words.{◌∷◌, ◌≡◌, Event, Fact, List, Setup, ℕ, [], after, first_world, is_allowed_setup, is_start}
+use Rattle.lease_laws.proofs.Words.{list_all, new_client, new_server, open_writes, refl, reverse, starts_from, sym, true}
+use Rattle.lease_laws.proofs.Words.{true≢false}
 use Rattle.lease_laws.proofs.records.Runs.{all_starts, all_reversed}
 use Rattle.lease_laws.proofs.world.InStep.{contents_are_told}
 use Rattle.lease_coherence.proofs.fresh.Contents.{contents_moves}

@@ -1,5 +1,5 @@
 -- What is known of the record of every world whose setup is allowed, layer by layer.
-use Rattle.lease_model.specs.world.World.{World}
+use Rattle.lease_laws.proofs.Words.{World}
 use Rattle.lease_coherence.proofs.fresh.Contents.{HasContents}
 use Rattle.lease_coherence.proofs.fresh.Sent.{IsUpFresh}
 use Rattle.lease_coherence.proofs.late.Words.{IsNotLate}

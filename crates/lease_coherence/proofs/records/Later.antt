@@ -1,14 +1,7 @@
 -- What a record says at a place it says at every later place too.
-use Rattle.std.proofs.Common.{◌≡◌, ℕ, ◌+◌, Bool, true, false, List, [], ◌∷◌, refl, ◌==◌}
-use Rattle.std.specs.Prelude.{◌&&◌, ◌||◌}
-use Rattle.lease_state.specs.declared.patch.Patch.{Patch}
-use Rattle.lease_model.specs.client.Commands.{Note}
-use Rattle.lease_model.specs.messages.Replies.{Out}
-use Rattle.lease_model.specs.records.Facts.{Fact}
-use Rattle.lease_model.specs.records.Past.{is_started, has_joined, has_strayed, has_written, is_accepted}
-use Rattle.lease_model.specs.values.Patches.{same_patch}
-use Rattle.lease_model.specs.world.World.{fact_of}
-use Rattle.lease_laws.specs.world.FileIds.{opened_count, was_opened}
+use Rattle.lease_laws.proofs.Words.{◌&&◌, ◌+◌, ◌==◌, ◌||◌, ◌∷◌, ◌≡◌, Bool, Fact, List, Note, Out, Patch, ℕ, [], fact_of, false}
+use Rattle.lease_laws.proofs.Words.{has_joined, has_strayed, has_written, is_accepted, is_started, opened_count, refl, same_patch}
+use Rattle.lease_laws.proofs.Words.{true, was_opened}
 use Rattle.lease_laws.proofs.world.FileIds.{told, fact_told}
 
 pub record IsLater (past : List Fact) (new : List Fact) : Type 0 where

@@ -1,13 +1,9 @@
 -- In a record that is well formed a client uses the number of a write once: on one file, and with one patch.
-use Rattle.std.proofs.Common.{◌≡◌, ⊎_elim, ℕ, Bool, true, false, not, List, [], ◌∷◌, refl, sym, ap, ◌∙◌, true≢false, ◌==◌}
-use Rattle.std.specs.Prelude.{◌&&◌, ◌||◌, bytes_eq}
-use Rattle.std.proofs.lemmas.Bool.{eqb-true, eq-eqb}
-use Rattle.std.proofs.lemmas.Slice.Eq.{bytes_eq-Decides}
-use Rattle.lease_state.specs.declared.patch.Patch.{Patch}
-use Rattle.lease_model.specs.records.Facts.{Fact}
-use Rattle.lease_model.specs.records.Past.{is_started, has_number, has_written, has_buffered, is_touched}
-use Rattle.lease_model.specs.records.Safe.{EachFact, WellFormed, is_well_formed}
-use Rattle.lease_model.specs.values.Patches.{is_within_limit, same_patch}
+use Rattle.lease_laws.proofs.Words.{◌&&◌, ◌==◌, ◌||◌, ◌∙◌, ◌∷◌, ◌≡◌, Bool, EachFact, Fact, List, Patch, WellFormed, ℕ, ⊎_elim, []}
+use Rattle.lease_laws.proofs.Words.{ap, bytes_eq, bytes_eq-Decides, eq-eqb, eqb-true, false, has_buffered, has_written}
+use Rattle.lease_laws.proofs.Words.{is_started, is_touched, is_well_formed, is_within_limit, not, refl, same_patch, sym, true}
+use Rattle.lease_laws.proofs.Words.{true≢false}
+use Rattle.lease_model.specs.records.Past.{has_number}
 use Rattle.lease_laws.proofs.server.Lists.{and_parts, and_both, or_true, true_or}
 
 -- the number of a write that was given is used

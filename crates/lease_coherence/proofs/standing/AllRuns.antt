@@ -1,7 +1,5 @@
 -- Names, creates and opens in every run.
-use Rattle.std.proofs.Common.{List, sym, true≢false}
-use Rattle.lease_model.specs.world.Events.{Event, after}
-use Rattle.lease_model.specs.world.World.{Setup, first_world}
+use Rattle.lease_laws.proofs.Words.{Event, List, Setup, after, first_world, sym, true≢false}
 use Rattle.lease_coherence.specs.Creates.{IsCountedAt}
 use Rattle.lease_coherence.specs.Parts.{NamesOfRuns, CreatesOfRuns, OpensOfRuns}
 use Rattle.lease_coherence.specs.Standing.{IsUpStanding}

@@ -1,15 +1,11 @@
 -- A client closes only what it gives up with the same step, and asks as its entries say.
-use Rattle.std.proofs.Common.{◌≡◌, ◌≢◌, ◌⊎◌, inl, inr, ℕ, ◌+◌, true, List, [], ◌∷◌, ◌++◌, Option, Some, None, refl, sym, ap, ◌∙◌, subst}
-use Rattle.std.specs.Prelude.{⊤, is_some, if◌then◌else◌}
-use Rattle.lease_state.specs.State.{State}
-use Rattle.lease_model.specs.client.Commanded.{create_request, joint_terms, cached_read, opened_anew, write_buffered, write_sent, flush_on_live}
-use Rattle.lease_model.specs.client.State.{Entry, LiveEntry, Asked, Pending, Phase, lease_key}
-use Rattle.lease_model.specs.client.Step.{Step, turned, write_requests}
-use Rattle.lease_model.specs.client.Taken.{parked_closed, belief_lowered, acknowledgment, flushed, unflushed, opened_turn, reconnected_turn, promoted_turn, promoted_belief, first_belief, read_turn, closed_by_server, without_open, phase_with, write_done_turn}
-use Rattle.lease_model.specs.messages.Replies.{Reply, BreakNotice}
-use Rattle.lease_model.specs.messages.Requests.{FileRequest, Request}
-use Rattle.lease_model.specs.values.Tables.{put}
-use Rattle.lease_model.specs.world.World.{World}
+use Rattle.lease_laws.proofs.Words.{◌++◌, ◌+◌, ◌∙◌, ◌∷◌, ◌≡◌, ◌≢◌, ◌⊎◌, Asked, BreakNotice, Entry, FileRequest, List, LiveEntry}
+use Rattle.lease_laws.proofs.Words.{None, Option, Pending, Phase, Reply, Request, Some, State, Step, World, ℕ, ⊤, []}
+use Rattle.lease_laws.proofs.Words.{acknowledgment, ap, belief_lowered, cached_read, closed_by_server, create_request}
+use Rattle.lease_laws.proofs.Words.{first_belief, flush_on_live, flushed, if◌then◌else◌, inl, inr, is_some, joint_terms}
+use Rattle.lease_laws.proofs.Words.{lease_key, opened_anew, opened_turn, parked_closed, phase_with, promoted_belief}
+use Rattle.lease_laws.proofs.Words.{promoted_turn, put, read_turn, reconnected_turn, refl, subst, sym, true, turned, unflushed}
+use Rattle.lease_laws.proofs.Words.{without_open, write_buffered, write_done_turn, write_requests, write_sent}
 use Rattle.lease_laws.proofs.server.Lists.{if_cases}
 use Rattle.lease_coherence.specs.Creates.{has_asked}
 use Rattle.lease_coherence.specs.Names.{Each}

@@ -1,36 +1,19 @@
 -- Every move keeps standing what stands.
-use Rattle.std.proofs.Common.{◌≡◌, inl, inr, ⊎_elim, ℕ, ◌+◌, true, false, not, List, [], ◌∷◌, ◌++◌, flat_map, Some, refl, sym, ap, ◌∙◌, subst, arith, true≢false, ◌==◌}
-use Rattle.std.proofs.lemmas.Bool.{eq-eqb}
-use Rattle.lease_state.specs.declared.status.Status.{Status}
-use Rattle.lease_model.specs.client.Commanded.{commanded}
-use Rattle.lease_model.specs.client.Connection.{noticed, connection_made, all_turned, connect_turn}
-use Rattle.lease_model.specs.client.State.{Client, Pending, Phase}
-use Rattle.lease_model.specs.client.Step.{Step}
-use Rattle.lease_model.specs.client.Taken.{taken}
-use Rattle.lease_model.specs.messages.Replies.{Reply}
-use Rattle.lease_model.specs.messages.Requests.{FileRequest, Request}
-use Rattle.lease_model.specs.records.Facts.{Fact}
-use Rattle.lease_model.specs.records.Past.{has_strayed}
-use Rattle.lease_model.specs.server.Naming.{key_of}
-use Rattle.lease_model.specs.server.Progress.{break_notice, refusal_of}
-use Rattle.lease_model.specs.server.Calls.{joined}
-use Rattle.lease_model.specs.server.State.{Server, Held}
-use Rattle.lease_model.specs.values.Lists.{numbers_to}
-use Rattle.lease_model.specs.values.Tables.{put}
-use Rattle.lease_model.specs.world.Events.{stepped_in}
-use Rattle.lease_model.specs.world.World.{World, Link, sent_over}
-use Rattle.lease_laws.specs.client.Laws.{IsSoundPhase}
-use Rattle.lease_laws.specs.server.Laws.{Among}
-use Rattle.lease_laws.specs.server.Waiting.{IsAbout}
-use Rattle.lease_laws.specs.world.Links.{is_up, is_down}
+use Rattle.lease_laws.proofs.Words.{◌++◌, ◌+◌, ◌==◌, ◌∙◌, ◌∷◌, ◌≡◌, Among, Client, Fact, FileRequest, Held, IsAbout, IsSoundPhase}
+use Rattle.lease_laws.proofs.Words.{Link, List, Pending, Phase, Reply, Request, Server, Some, Status, Step, World, ℕ, ⊎_elim, []}
+use Rattle.lease_laws.proofs.Words.{all_turned, ap, arith, break_notice, commanded, connect_turn, connection_made, eq-eqb, false}
+use Rattle.lease_laws.proofs.Words.{flat_map, has_strayed, inl, inr, is_down, is_up, joined, key_of, not, noticed, numbers_to}
+use Rattle.lease_laws.proofs.Words.{put, refl, refusal_of, sent_over, stepped_in, subst, sym, taken, true, true≢false}
 use Rattle.lease_laws.proofs.client.Forms.{commanded-stays, taken-stays}
 use Rattle.lease_laws.proofs.client.Thin.{put_same}
 use Rattle.lease_laws.proofs.server.Lists.{clash, among_filtered}
 use Rattle.lease_laws.proofs.world.Links.{stepped_links}
 use Rattle.lease_laws.proofs.world.Runs.{stepped_server}
-use Rattle.lease_coherence.specs.Creates.{IsCountedAt, answer_of, answers, create_of, creates, held_by, held_creates, one_if, has_asked}
+use Rattle.lease_coherence.specs.Creates.{IsCountedAt, answer_of, answers, create_of, creates, held_by, held_creates, one_if}
+use Rattle.lease_coherence.specs.Creates.{has_asked}
 use Rattle.lease_coherence.specs.Names.{Each}
-use Rattle.lease_coherence.specs.Standing.{AllAsked, AskFits, FitsPhase, GivenWell, IsNoClose, IsStandingAt, IsUpStanding, NotClosed, PhaseStands, Stands, again_of}
+use Rattle.lease_coherence.specs.Standing.{AllAsked, AskFits, FitsPhase, GivenWell, IsNoClose, IsStandingAt, IsUpStanding}
+use Rattle.lease_coherence.specs.Standing.{NotClosed, PhaseStands, Stands, again_of}
 use Rattle.lease_laws.proofs.client.cases.Commands.{any_command}
 use Rattle.lease_laws.proofs.client.cases.Replies.{any_reply}
 use Rattle.lease_coherence.proofs.creates.Creates.{none_held, off_rest, stepped_machine}
@@ -42,8 +25,12 @@ use Rattle.lease_coherence.proofs.moves.Own.{IsOwnMoved}
 use Rattle.lease_coherence.proofs.names.Done.{gone_named}
 use Rattle.lease_coherence.proofs.names.Names.{off_named, off_counted}
 use Rattle.lease_coherence.proofs.names.Words.{each_append, each_weaker}
-use Rattle.lease_coherence.proofs.standing.Clients.{IsNoCreate, IsNoAnswer, IsLastCreate, AnswersLast, FitsGiven, AllEntries, StepStands, TakeStands, commands_stand, takes_stand}
-use Rattle.lease_coherence.proofs.standing.Servers.{told_standing, refusal_plain, off_standing, granted_standing, reconnected_standing, closed_standing, dropped_standing, leased_standing, changed_standing, popped_standing, held_standing, timer_standing, unmoved_standing}
+use Rattle.lease_coherence.proofs.standing.Clients.{IsNoCreate, IsNoAnswer, IsLastCreate, AnswersLast, FitsGiven, AllEntries}
+use Rattle.lease_coherence.proofs.standing.Clients.{StepStands, TakeStands, commands_stand, takes_stand}
+use Rattle.lease_coherence.proofs.standing.Servers.{told_standing, refusal_plain, off_standing, granted_standing}
+use Rattle.lease_coherence.proofs.standing.Servers.{reconnected_standing, closed_standing, dropped_standing, leased_standing}
+use Rattle.lease_coherence.proofs.standing.Servers.{changed_standing, popped_standing, held_standing, timer_standing}
+use Rattle.lease_coherence.proofs.standing.Servers.{unmoved_standing}
 use Rattle.lease_coherence.proofs.standing.Standing.{step_standing}
 use Rattle.lease_coherence.proofs.standing.Words.{asked_off, head_of}
 use Rattle.lease_coherence.proofs.standing.Structure.{HasStructure}

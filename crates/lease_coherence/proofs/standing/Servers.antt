@@ -1,40 +1,27 @@
 -- What the server does leaves the opens of a client standing that it named and doesn't close.
-use Rattle.std.proofs.Common.{◌≡◌, inl, inr, ⊎_elim, ℕ, ◌+◌, ◌≤◌, Bool, true, false, not, List, [], ◌∷◌, ◌++◌, map, Some, None, refl, sym, ap, ◌∙◌, subst, arith, ◌==◌}
-use Rattle.std.specs.Prelude.{⊤}
-use Rattle.std.proofs.lemmas.Bool.{eq-eqb}
-use Rattle.lease_state.specs.declared.access.Access.{Access}
-use Rattle.lease_state.specs.declared.access.Share.{Share}
-use Rattle.lease_state.specs.declared.patch.Patch.{Patch}
-use Rattle.lease_state.specs.declared.status.Status.{Status}
-use Rattle.lease_model.specs.client.State.{Client, LiveEntry, Phase, lease_key}
-use Rattle.lease_model.specs.messages.Replies.{Reply}
-use Rattle.lease_model.specs.messages.Requests.{FileRequest, Request, CreateAsk}
-use Rattle.lease_model.specs.server.Calls.{key_expired}
-use Rattle.lease_model.specs.server.Grant.{connected_again, lease_after, new_open}
-use Rattle.lease_model.specs.server.Naming.{key_of, own_key}
-use Rattle.lease_model.specs.server.Progress.{opens_dropped, with_opens, refusal_of}
-use Rattle.lease_model.specs.server.State.{Open, Held, Lease, has_key, is_key}
-use Rattle.lease_model.specs.values.Keys.{Key, key_eq}
-use Rattle.lease_model.specs.values.Tables.{put}
-use Rattle.lease_model.specs.world.Events.{machine_key}
-use Rattle.lease_model.specs.world.World.{World}
-use Rattle.lease_laws.specs.server.Laws.{Among}
-use Rattle.lease_laws.specs.server.SmallSteps.{IsAwaitedAt}
-use Rattle.lease_laws.specs.world.FileIds.{opened_count, was_opened}
+use Rattle.lease_laws.proofs.Words.{◌++◌, ◌+◌, ◌==◌, ◌∙◌, ◌∷◌, ◌≡◌, ◌≤◌, Access, Among, Bool, Client, CreateAsk, FileRequest}
+use Rattle.lease_laws.proofs.Words.{Held, IsAwaitedAt, Key, Lease, List, LiveEntry, None, Open, Patch, Phase, Reply, Request}
+use Rattle.lease_laws.proofs.Words.{Share, Some, Status, World, ℕ, ⊎_elim, ⊤, [], ap, arith, connected_again, eq-eqb, false}
+use Rattle.lease_laws.proofs.Words.{has_key, inl, inr, is_key, key_eq, key_expired, key_of, lease_after, lease_key, machine_key}
+use Rattle.lease_laws.proofs.Words.{map, new_open, not, opened_count, opens_dropped, own_key, put, refl, refusal_of, subst, sym}
+use Rattle.lease_laws.proofs.Words.{true, was_opened, with_opens}
 use Rattle.lease_laws.proofs.client.Thin.{put_same}
 use Rattle.lease_laws.proofs.server.Keys.{put_key-cases, is_key-one, is_key-refl, key_eq-refl}
 use Rattle.lease_laws.proofs.server.Lists.{if_cases, either, clash, not_true, among_before, among_behind, among_filtered}
 use Rattle.lease_coherence.specs.Names.{Each, IsNamedAt, IsNamedPhase, IsNamedRequest}
-use Rattle.lease_coherence.specs.Standing.{AllAsked, AskFits, FitsPhase, GivenWell, IsNoClose, IsOpenFor, IsStandingAt, NotClosed, PhaseStands, Stands, again_of}
+use Rattle.lease_coherence.specs.Standing.{AllAsked, AskFits, FitsPhase, GivenWell, IsNoClose, IsOpenFor, IsStandingAt, NotClosed}
+use Rattle.lease_coherence.specs.Standing.{PhaseStands, Stands, again_of}
 use Rattle.lease_coherence.proofs.creates.Creates.{off_rest}
-use Rattle.lease_coherence.proofs.moves.Deeds.{IsSource, told_to, with_held, granted_in, granted_reply, reconnected_in, reconnected_reply, changed_in, without_opens, leased_in, held_in}
+use Rattle.lease_coherence.proofs.moves.Deeds.{IsSource, told_to, with_held, granted_in, granted_reply, reconnected_in}
+use Rattle.lease_coherence.proofs.moves.Deeds.{reconnected_reply, changed_in, without_opens, leased_in, held_in}
 use Rattle.lease_coherence.proofs.moves.Events.{timed_out}
 use Rattle.lease_coherence.proofs.moves.Foreign.{false_not, IsUnmoved, map_kept, apart}
 use Rattle.lease_coherence.proofs.moves.Frames.{lease_put_rest}
 use Rattle.lease_coherence.proofs.moves.Moves.{IsOldest, popped}
 use Rattle.lease_coherence.proofs.names.Names.{IsCountedOff, awaits_parts}
 use Rattle.lease_coherence.proofs.names.Words.{each_append, each_weaker, opened_within}
-use Rattle.lease_coherence.proofs.standing.Words.{asked_popped, asked_off, asked_held, asked_unmoved, IsFrame, framed_given, framed_at}
+use Rattle.lease_coherence.proofs.standing.Words.{asked_popped, asked_off, asked_held, asked_unmoved, IsFrame, framed_given}
+use Rattle.lease_coherence.proofs.standing.Words.{framed_at}
 
 -- an open that stays
 pub stands_by : (world new : World) (c file file_id : ℕ) → new.clients c ≡ world.clients c

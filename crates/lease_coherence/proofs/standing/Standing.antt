@@ -1,29 +1,20 @@
 -- In every run, while a client's link is up, the opens that it names and doesn't close stand.
-use Rattle.std.proofs.Common.{◌≡◌, ◌≢◌, inl, inr, ⊎_elim, ℕ, true, List, [], ◌∷◌, ◌++◌, Some, None, refl, sym, ap, ap₂, ◌∙◌, subst, ◌==◌}
-use Rattle.std.specs.Prelude.{⊤}
-use Rattle.std.proofs.lemmas.Bool.{eq-eqb, eqb-true}
-use Rattle.lease_model.specs.client.State.{Client, Entry, LiveEntry, Parted, Phase, lease_key}
-use Rattle.lease_model.specs.client.Step.{Step}
-use Rattle.lease_model.specs.messages.Replies.{Reply}
-use Rattle.lease_model.specs.messages.Requests.{FileRequest, Request}
-use Rattle.lease_model.specs.server.Naming.{key_of}
-use Rattle.lease_model.specs.server.State.{Server}
-use Rattle.lease_model.specs.values.Tables.{put}
-use Rattle.lease_model.specs.world.Events.{stepped_in}
-use Rattle.lease_model.specs.world.World.{World, sent_over}
-use Rattle.lease_laws.specs.server.Laws.{Among}
-use Rattle.lease_laws.specs.world.FileIds.{was_opened}
-use Rattle.lease_laws.specs.world.Links.{is_up}
+use Rattle.lease_laws.proofs.Words.{◌++◌, ◌==◌, ◌∙◌, ◌∷◌, ◌≡◌, ◌≢◌, Among, Client, Entry, FileRequest, List, LiveEntry, None}
+use Rattle.lease_laws.proofs.Words.{Parted, Phase, Reply, Request, Server, Some, Step, World, ℕ, ⊎_elim, ⊤, [], ap, ap₂, eq-eqb}
+use Rattle.lease_laws.proofs.Words.{eqb-true, inl, inr, is_up, key_of, lease_key, put, refl, sent_over, stepped_in, subst, sym}
+use Rattle.lease_laws.proofs.Words.{true, was_opened}
 use Rattle.lease_laws.proofs.client.Thin.{put_same, put_other}
 use Rattle.lease_laws.proofs.server.Lists.{either, clash}
 use Rattle.lease_laws.proofs.world.Links.{by_client}
 use Rattle.lease_laws.proofs.world.Runs.{stepped_server}
 use Rattle.lease_coherence.specs.Names.{Each, IsNamedAt, IsNamedPhase, IsNamedReply}
-use Rattle.lease_coherence.specs.Standing.{AllAsked, AskFits, FitsPhase, GivenWell, IsNoClose, IsStandingAt, PhaseStands, Stands, again_of}
+use Rattle.lease_coherence.specs.Standing.{AllAsked, AskFits, FitsPhase, GivenWell, IsNoClose, IsStandingAt, PhaseStands, Stands}
+use Rattle.lease_coherence.specs.Standing.{again_of}
 use Rattle.lease_coherence.proofs.creates.Creates.{up_link, stepped_machine}
 use Rattle.lease_coherence.proofs.moves.Frames.{stepped_requests, stepped_replies}
 use Rattle.lease_coherence.proofs.names.Words.{each_append, each_weaker, opened_once}
-use Rattle.lease_coherence.proofs.standing.Clients.{IsNotUnder, FitsGiven, IsNotGiven, IsNoCreate, TurnAsks, ClosesOld, TurnStands, StepStands}
+use Rattle.lease_coherence.proofs.standing.Clients.{IsNotUnder, FitsGiven, IsNotGiven, IsNoCreate, TurnAsks, ClosesOld}
+use Rattle.lease_coherence.proofs.standing.Clients.{TurnStands, StepStands}
 use Rattle.lease_coherence.proofs.standing.Words.{asked_weaker}
 
 -- ---- what a step leaves

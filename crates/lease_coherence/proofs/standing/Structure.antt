@@ -1,7 +1,5 @@
 -- What is known of the opens of every world, layer by layer.
-use Rattle.lease_model.specs.world.World.{World}
-use Rattle.lease_model.specs.records.Safe.{EachFact}
-use Rattle.lease_model.specs.records.Safe.{NoFalseDone}
+use Rattle.lease_laws.proofs.Words.{EachFact, NoFalseDone, World}
 use Rattle.lease_coherence.specs.Creates.{IsCountedAt}
 use Rattle.lease_coherence.specs.Names.{IsNamed}
 use Rattle.lease_coherence.specs.Standing.{IsUpStanding}

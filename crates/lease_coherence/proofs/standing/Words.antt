@@ -1,14 +1,7 @@
 -- While a client's link is up, the open of each live entry stands, and that of each grant on its way; no Close of it is
 -- on its way. A create that is under way, and its answer, fit the entry that asked.
-use Rattle.std.proofs.Common.{◌≡◌, inl, ⊎_elim, ℕ, List, [], ◌∷◌, ◌++◌, refl, sym, subst, ◌==◌}
-use Rattle.std.proofs.lemmas.Bool.{eq-eqb}
-use Rattle.lease_model.specs.client.State.{Client, Phase}
-use Rattle.lease_model.specs.messages.Replies.{Reply}
-use Rattle.lease_model.specs.messages.Requests.{FileRequest, Request}
-use Rattle.lease_model.specs.server.Calls.{held_of}
-use Rattle.lease_model.specs.server.State.{Held}
-use Rattle.lease_model.specs.world.World.{World}
-use Rattle.lease_laws.specs.server.Laws.{Among}
+use Rattle.lease_laws.proofs.Words.{◌++◌, ◌==◌, ◌∷◌, ◌≡◌, Among, Client, FileRequest, Held, List, Phase, Reply, Request, World, ℕ}
+use Rattle.lease_laws.proofs.Words.{⊎_elim, [], eq-eqb, held_of, inl, refl, subst, sym}
 use Rattle.lease_laws.proofs.client.Thin.{put_same}
 use Rattle.lease_laws.proofs.server.Lists.{among_append, among_behind, among_filter, among_filtered}
 use Rattle.lease_laws.proofs.server.PassWaits.{among_more}

@@ -1,7 +1,5 @@
 -- Leases and beliefs in every run.
-use Rattle.std.proofs.Common.{List, sym, true≢false}
-use Rattle.lease_model.specs.world.Events.{Event, after}
-use Rattle.lease_model.specs.world.World.{Setup, first_world}
+use Rattle.lease_laws.proofs.Words.{Event, List, Setup, after, first_world, sym, true≢false}
 use Rattle.lease_coherence.proofs.beliefs.Runs.{trust_moves}
 use Rattle.lease_coherence.proofs.beliefs.Trust.{IsUpTrusted}
 use Rattle.lease_coherence.proofs.covered.Moves.{IsUpCovered}

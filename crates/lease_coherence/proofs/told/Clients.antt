@@ -1,20 +1,12 @@
 -- A live entry that meets a break acknowledges it or closes its open, and one that stops being live closes its open.
-use Rattle.std.proofs.Common.{◌≡◌, ◌≢◌, ◌⊎◌, inl, inr, ⊎_elim, ℕ, ◌+◌, Bool, true, false, not, List, [], ◌∷◌, ◌++◌, Option, Some, None, refl, sym, ap, ◌∙◌, subst, arith, true≢false, ◌==◌}
-use Rattle.std.specs.Prelude.{⊤, ◌&&◌, ◌||◌, bytes_eq}
-use Rattle.std.proofs.lemmas.Bool.{eqb-true, eq-eqb}
-use Rattle.std.proofs.lemmas.Slice.Eq.{bytes_eq-Decides}
-use Rattle.lease_state.specs.State.{State}
-use Rattle.lease_model.specs.client.Commanded.{create_request, next_write, cached_read, opened_anew, write_buffered, write_sent, flush_on_live, wrote_step, is_asking}
-use Rattle.lease_model.specs.client.Commands.{Answer}
-use Rattle.lease_model.specs.client.State.{Client, Entry, LiveEntry, Pending, Phase, lease_key}
-use Rattle.lease_model.specs.client.Step.{Step, Turn, turned, quiet_step, write_requests}
-use Rattle.lease_model.specs.client.Taken.{is_key_of, parked_closed, belief_lowered, acknowledgment, flushed, opened_turn, reconnected_turn, promoted_turn, read_turn, closed_by_server, phase_with, write_done_turn}
-use Rattle.lease_model.specs.messages.Replies.{Reply, BreakNotice, CreateAnswer}
-use Rattle.lease_model.specs.messages.Requests.{FileRequest, Request}
-use Rattle.lease_model.specs.records.Facts.{Fact}
-use Rattle.lease_model.specs.values.LeaseStates.{meet}
-use Rattle.lease_model.specs.values.Tables.{put}
-use Rattle.lease_laws.specs.client.Laws.{IsSoundClient}
+use Rattle.lease_laws.proofs.Words.{◌&&◌, ◌++◌, ◌+◌, ◌==◌, ◌||◌, ◌∙◌, ◌∷◌, ◌≡◌, ◌≢◌, ◌⊎◌, Answer, Bool, BreakNotice, Client}
+use Rattle.lease_laws.proofs.Words.{CreateAnswer, Entry, Fact, FileRequest, IsSoundClient, List, LiveEntry, None, Option, Pending}
+use Rattle.lease_laws.proofs.Words.{Phase, Reply, Request, Some, State, Step, Turn, ℕ, ⊎_elim, ⊤, [], acknowledgment, ap, arith}
+use Rattle.lease_laws.proofs.Words.{belief_lowered, bytes_eq, bytes_eq-Decides, cached_read, closed_by_server, create_request}
+use Rattle.lease_laws.proofs.Words.{eq-eqb, eqb-true, false, flush_on_live, flushed, inl, inr, is_asking, is_key_of, lease_key}
+use Rattle.lease_laws.proofs.Words.{meet, next_write, not, opened_anew, opened_turn, parked_closed, phase_with, promoted_turn}
+use Rattle.lease_laws.proofs.Words.{put, quiet_step, read_turn, reconnected_turn, refl, subst, sym, true, true≢false, turned}
+use Rattle.lease_laws.proofs.Words.{write_buffered, write_done_turn, write_requests, write_sent, wrote_step}
 use Rattle.lease_laws.proofs.client.Thin.{put_same, put_other}
 use Rattle.lease_laws.proofs.server.Lists.{if_cases, either, clash, and_parts, or_true, not_true}
 use Rattle.lease_laws.proofs.world.Links.{by_client}

@@ -1,5 +1,5 @@
 -- What is known of leases, and of what clients believe of them, in every world, layer by layer.
-use Rattle.lease_model.specs.world.World.{World}
+use Rattle.lease_laws.proofs.Words.{World}
 use Rattle.lease_coherence.proofs.beliefs.Trust.{IsUpTrusted}
 use Rattle.lease_coherence.proofs.covered.Moves.{IsUpCovered}
 use Rattle.lease_coherence.proofs.moves.Own.{OfGood}

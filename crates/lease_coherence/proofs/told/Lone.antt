@@ -1,31 +1,13 @@
 -- A break that asks for no acknowledgment leaves nothing to its lease: as long as it is on its way with no grant after it,
 -- the lease holds no handles.
-use Rattle.std.proofs.Common.{◌≡◌, ◌⊎◌, inl, inr, ⊎_elim, ℕ, Bool, true, false, not, List, [], ◌∷◌, ◌++◌, Some, None, refl, sym, ap, ◌∙◌, subst, true≢false, ◌==◌}
-use Rattle.std.specs.Prelude.{⊤, ◌&&◌, ◌||◌, bytes_eq}
-use Rattle.std.specs.List.{list_any}
-use Rattle.std.proofs.lemmas.Bool.{eq-eqb}
-use Rattle.std.proofs.lemmas.Slice.Eq.{bytes_eq-Decides}
-use Rattle.lease_state.specs.State.{State, nothing_cached, granted_form_of, is_state_within, needs_acknowledgment}
-use Rattle.lease_state.specs.declared.access.Access.{Access}
-use Rattle.lease_state.specs.declared.access.Share.{Share}
-use Rattle.lease_state.specs.declared.status.Status.{Status}
-use Rattle.lease_model.specs.client.Connection.{all_turned, noticed, connection_made}
-use Rattle.lease_model.specs.client.Commanded.{commanded}
-use Rattle.lease_model.specs.client.State.{Client, lease_key}
-use Rattle.lease_model.specs.client.Step.{Step}
-use Rattle.lease_model.specs.client.Taken.{taken}
-use Rattle.lease_model.specs.messages.Replies.{Reply}
-use Rattle.lease_model.specs.messages.Requests.{FileRequest, CreateAsk, LeaseOf}
-use Rattle.lease_model.specs.server.Calls.{joined, key_expired}
-use Rattle.lease_model.specs.server.Grant.{lease_after, lease_put}
-use Rattle.lease_model.specs.server.Naming.{key_of}
-use Rattle.lease_model.specs.server.Progress.{opens_dropped, with_opens, break_notice, refusal_of}
-use Rattle.lease_model.specs.server.State.{Server, Open, Lease, no_lease, has_key}
-use Rattle.lease_model.specs.values.Keys.{Key, key_eq}
-use Rattle.lease_model.specs.values.Lists.{without}
-use Rattle.lease_model.specs.values.Tables.{put}
-use Rattle.lease_model.specs.world.Events.{Event, after, machine_key, stepped_in}
-use Rattle.lease_model.specs.world.World.{World, Link, Setup, first_world}
+use Rattle.lease_laws.proofs.Words.{◌&&◌, ◌++◌, ◌==◌, ◌||◌, ◌∙◌, ◌∷◌, ◌≡◌, ◌⊎◌, Access, Bool, Client, CreateAsk, Event}
+use Rattle.lease_laws.proofs.Words.{FileRequest, Key, Lease, LeaseOf, Link, List, None, Open, Reply, Server, Setup, Share, Some}
+use Rattle.lease_laws.proofs.Words.{State, Status, Step, World, ℕ, ⊎_elim, ⊤, [], after, all_turned, ap, break_notice, bytes_eq}
+use Rattle.lease_laws.proofs.Words.{bytes_eq-Decides, commanded, connection_made, eq-eqb, false, first_world, granted_form_of}
+use Rattle.lease_laws.proofs.Words.{has_key, inl, inr, is_state_within, joined, key_eq, key_expired, key_of, lease_after}
+use Rattle.lease_laws.proofs.Words.{lease_key, lease_put, list_any, machine_key, needs_acknowledgment, no_lease, not}
+use Rattle.lease_laws.proofs.Words.{nothing_cached, noticed, opens_dropped, put, refl, refusal_of, stepped_in, subst, sym, taken}
+use Rattle.lease_laws.proofs.Words.{true, true≢false, with_opens, without}
 use Rattle.lease_laws.proofs.client.Forms.{commanded-stays, taken-stays}
 use Rattle.lease_laws.proofs.client.Thin.{put_same}
 use Rattle.lease_laws.proofs.server.Keys.{put_key-cases, key_eq-refl}
@@ -37,8 +19,10 @@ use Rattle.lease_coherence.proofs.beliefs.Runs.{own_create}
 use Rattle.lease_coherence.proofs.beliefs.Trust.{file_key}
 use Rattle.lease_coherence.proofs.beliefs.Words.{is_created}
 use Rattle.lease_coherence.proofs.creates.Creates.{stepped_machine}
-use Rattle.lease_coherence.proofs.moves.Deeds.{IsSource, told_to, without_opens, granted_in, granted_reply, reconnected_in, reconnected_reply, changed_in, leased_in, done_reply}
-use Rattle.lease_coherence.proofs.moves.Events.{Both, IsCarried, carried_both, runs_have, come_back, cut_off, timed_out, reply_gone}
+use Rattle.lease_coherence.proofs.moves.Deeds.{IsSource, told_to, without_opens, granted_in, granted_reply, reconnected_in}
+use Rattle.lease_coherence.proofs.moves.Deeds.{reconnected_reply, changed_in, leased_in, done_reply}
+use Rattle.lease_coherence.proofs.moves.Events.{Both, IsCarried, carried_both, runs_have, come_back, cut_off, timed_out}
+use Rattle.lease_coherence.proofs.moves.Events.{reply_gone}
 use Rattle.lease_coherence.proofs.moves.Frames.{from_source, stepped_replies}
 use Rattle.lease_coherence.proofs.moves.Moves.{popped}
 use Rattle.lease_coherence.proofs.moves.Own.{IsOwnMoved, OfGood, own_moves}

@@ -1,18 +1,9 @@
 -- The break that is to be met is met: a client that takes what comes before it has a live entry then, and what it tells is the
 -- state that the lease is broken to.
-use Rattle.std.proofs.Common.{◌≡◌, ◌⊎◌, ⊎_elim, ℕ, ◌+◌, Bool, true, false, not, List, [], ◌∷◌, ◌++◌, Some, None, refl, sym, ap, ◌∙◌, subst, arith, true≢false, ◌==◌}
-use Rattle.std.specs.Prelude.{◌&&◌, ◌||◌, bytes_eq}
-use Rattle.std.proofs.lemmas.Slice.Eq.{bytes_eq-Decides}
-use Rattle.lease_state.specs.State.{State}
-use Rattle.lease_model.specs.client.State.{Client, LiveEntry, Phase, lease_key}
-use Rattle.lease_model.specs.client.Taken.{taken}
-use Rattle.lease_model.specs.messages.Replies.{Reply, BreakNotice}
-use Rattle.lease_model.specs.records.Past.{has_strayed}
-use Rattle.lease_model.specs.server.Naming.{key_of}
-use Rattle.lease_model.specs.server.State.{Server}
-use Rattle.lease_model.specs.world.Events.{machine_key}
-use Rattle.lease_model.specs.world.World.{World, Link}
-use Rattle.lease_laws.specs.world.Links.{is_up}
+use Rattle.lease_laws.proofs.Words.{◌&&◌, ◌++◌, ◌+◌, ◌==◌, ◌||◌, ◌∙◌, ◌∷◌, ◌≡◌, ◌⊎◌, Bool, BreakNotice, Client, Link, List}
+use Rattle.lease_laws.proofs.Words.{LiveEntry, None, Phase, Reply, Server, Some, State, World, ℕ, ⊎_elim, [], ap, arith, bytes_eq}
+use Rattle.lease_laws.proofs.Words.{bytes_eq-Decides, false, has_strayed, is_up, key_of, lease_key, machine_key, not, refl, subst}
+use Rattle.lease_laws.proofs.Words.{sym, taken, true, true≢false}
 use Rattle.lease_laws.proofs.server.Lists.{clash, either, and_parts, and_both}
 use Rattle.lease_coherence.specs.Agreement.{taken_all, IsTold, lease_of}
 use Rattle.lease_coherence.specs.Creates.{answers, answer_of, asked_by, creates, one_if, has_asked}

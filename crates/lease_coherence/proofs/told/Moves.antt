@@ -1,19 +1,9 @@
 -- While a lease is breaking, its acknowledgment is on its way, or its break to an entry that is or will be live, or each of its
 -- opens is being closed; and what the server does leaves it so.
-use Rattle.std.proofs.Common.{◌≡◌, ◌⊎◌, inl, inr, ⊎_elim, ℕ, Bool, true, false, List, [], ◌∷◌, ◌++◌, Option, Some, None, refl, sym, ap, ◌∙◌, subst, true≢false, ◌==◌}
-use Rattle.std.specs.Prelude.{bytes_eq}
-use Rattle.std.specs.List.{list_any}
-use Rattle.std.proofs.lemmas.Bool.{eqb-true, eq-eqb}
-use Rattle.lease_model.specs.client.State.{Client, Phase, lease_key}
-use Rattle.lease_model.specs.messages.Replies.{Reply}
-use Rattle.lease_model.specs.messages.Requests.{FileRequest, Request}
-use Rattle.lease_model.specs.server.Naming.{key_of}
-use Rattle.lease_model.specs.server.State.{Server, Open, Held, Lease, is_breaking, has_key, is_key}
-use Rattle.lease_model.specs.values.Keys.{Key}
-use Rattle.lease_model.specs.world.Events.{machine_key}
-use Rattle.lease_model.specs.world.World.{World}
-use Rattle.lease_laws.specs.server.Laws.{Among, IsSound}
-use Rattle.lease_laws.specs.world.Links.{is_up}
+use Rattle.lease_laws.proofs.Words.{◌++◌, ◌==◌, ◌∙◌, ◌∷◌, ◌≡◌, ◌⊎◌, Among, Bool, Client, FileRequest, Held, IsSound, Key, Lease}
+use Rattle.lease_laws.proofs.Words.{List, None, Open, Option, Phase, Reply, Request, Server, Some, World, ℕ, ⊎_elim, [], ap}
+use Rattle.lease_laws.proofs.Words.{bytes_eq, eq-eqb, eqb-true, false, has_key, inl, inr, is_breaking, is_key, is_up, key_of}
+use Rattle.lease_laws.proofs.Words.{lease_key, list_any, machine_key, refl, subst, sym, true, true≢false}
 use Rattle.lease_laws.proofs.client.Thin.{put_same}
 use Rattle.lease_laws.proofs.server.Keys.{is_key-one}
 use Rattle.lease_laws.proofs.server.Lists.{either, clash, and_parts, any_has, not_false}

@@ -1,22 +1,9 @@
 -- Every move leaves each break told, of each client that hasn't strayed, while its link is up.
-use Rattle.std.proofs.Common.{◌≡◌, inl, inr, ⊎_elim, ℕ, ◌+◌, true, false, List, ◌∷◌, ◌++◌, Some, refl, sym, ap, ◌∙◌, subst, arith, true≢false}
-use Rattle.lease_state.specs.declared.status.Status.{Status}
-use Rattle.lease_model.specs.client.Commanded.{commanded}
-use Rattle.lease_model.specs.client.Connection.{noticed, connection_made}
-use Rattle.lease_model.specs.client.State.{Client, LiveEntry, Phase, lease_key}
-use Rattle.lease_model.specs.client.Step.{Step}
-use Rattle.lease_model.specs.client.Taken.{taken}
-use Rattle.lease_model.specs.messages.Replies.{Reply}
-use Rattle.lease_model.specs.messages.Requests.{FileRequest, Request}
-use Rattle.lease_model.specs.records.Past.{has_strayed}
-use Rattle.lease_model.specs.server.Calls.{joined}
-use Rattle.lease_model.specs.server.Naming.{key_of}
-use Rattle.lease_model.specs.server.State.{Server, Open, is_breaking, has_file, has_key}
-use Rattle.lease_model.specs.values.Tables.{put}
-use Rattle.lease_model.specs.world.Events.{machine_key, stepped_in}
-use Rattle.lease_model.specs.world.World.{World, Link}
-use Rattle.lease_laws.specs.server.Laws.{Among, IsSound}
-use Rattle.lease_laws.specs.world.Links.{is_up}
+use Rattle.lease_laws.proofs.Words.{◌++◌, ◌+◌, ◌∙◌, ◌∷◌, ◌≡◌, Among, Client, FileRequest, IsSound, Link, List, LiveEntry, Open}
+use Rattle.lease_laws.proofs.Words.{Phase, Reply, Request, Server, Some, Status, Step, World, ℕ, ⊎_elim, ap, arith, commanded}
+use Rattle.lease_laws.proofs.Words.{connection_made, false, has_file, has_key, has_strayed, inl, inr, is_breaking, is_up, joined}
+use Rattle.lease_laws.proofs.Words.{key_of, lease_key, machine_key, noticed, put, refl, stepped_in, subst, sym, taken, true}
+use Rattle.lease_laws.proofs.Words.{true≢false}
 use Rattle.lease_laws.proofs.client.Forms.{commanded-stays, taken-stays}
 use Rattle.lease_laws.proofs.client.Thin.{put_same}
 use Rattle.lease_laws.proofs.server.Lists.{clash}
@@ -43,8 +30,11 @@ use Rattle.lease_coherence.proofs.order.Words.{append_three}
 use Rattle.lease_coherence.proofs.standing.Runs.{link_of, was_up}
 use Rattle.lease_coherence.proofs.standing.Standing.{IsStepped, step_of}
 use Rattle.lease_coherence.proofs.told.Clients.{StepTold, commands_told, whole_of, TakeTold, takes_told}
-use Rattle.lease_coherence.proofs.told.Moves.{ClosedIn, ToldBy, HasTold, IsUpTold, told_map, kept_told, breaking_open, breaking_up, open_place, off_server}
-use Rattle.lease_coherence.proofs.told.Servers.{replied_told, refused_told, changed_told, closed_told, dropped_told, timer_told, granted_told, reconnected_told, lower_told, begin_told, failed_told, done_told, held_told}
+use Rattle.lease_coherence.proofs.told.Moves.{ClosedIn, ToldBy, HasTold, IsUpTold, told_map, kept_told, breaking_open}
+use Rattle.lease_coherence.proofs.told.Moves.{breaking_up, open_place, off_server}
+use Rattle.lease_coherence.proofs.told.Servers.{replied_told, refused_told, changed_told, closed_told, dropped_told, timer_told}
+use Rattle.lease_coherence.proofs.told.Servers.{granted_told, reconnected_told, lower_told, begin_told, failed_told, done_told}
+use Rattle.lease_coherence.proofs.told.Servers.{held_told}
 use Rattle.lease_coherence.proofs.told.Words.{HasMet, met_more, IsClosing}
 use Rattle.lease_coherence.proofs.told.Leases.{HasLeases}
 

@@ -1,33 +1,17 @@
 -- What the server does leaves each break told, in its forms.
-use Rattle.std.proofs.Common.{◌≡◌, inl, inr, ⊎_elim, ℕ, ◌+◌, Bool, true, false, not, List, [], ◌∷◌, ◌++◌, Option, Some, None, refl, sym, ap, ◌∙◌, subst, arith, true≢false, ◌==◌}
-use Rattle.std.specs.Prelude.{◌&&◌, Ok, bytes_eq}
-use Rattle.std.specs.List.{list_any}
-use Rattle.std.proofs.lemmas.Bool.{eqb-true, eq-eqb}
-use Rattle.std.proofs.lemmas.Slice.Eq.{bytes_eq-Decides}
-use Rattle.lease_state.specs.State.{State, granted_form_of, is_state_within, needs_acknowledgment}
-use Rattle.lease_state.specs.declared.access.Access.{Access}
-use Rattle.lease_state.specs.declared.access.Share.{Share}
-use Rattle.lease_state.specs.declared.patch.Patch.{Patch}
-use Rattle.lease_state.specs.declared.status.Status.{Status}
-use Rattle.lease_model.specs.client.State.{lease_key}
-use Rattle.lease_model.specs.messages.Replies.{Reply}
-use Rattle.lease_model.specs.messages.Requests.{FileRequest, Request, CreateAsk, LeaseOf}
-use Rattle.lease_model.specs.server.Calls.{file_asked, file_of_create, held_of, key_expired}
-use Rattle.lease_model.specs.server.Grant.{connected_again, lease_after, lease_granted, lease_put, new_open}
-use Rattle.lease_model.specs.server.Naming.{key_of}
-use Rattle.lease_model.specs.server.Progress.{opens_dropped, with_opens, break_notice, refusal_of}
-use Rattle.lease_model.specs.server.State.{Server, Open, Held, Lease, no_lease, is_breaking, has_file, has_key, has_lease}
-use Rattle.lease_model.specs.values.Keys.{Key, key_eq}
-use Rattle.lease_model.specs.values.Lists.{without}
-use Rattle.lease_model.specs.values.Tables.{put}
-use Rattle.lease_model.specs.world.Events.{machine_key}
-use Rattle.lease_model.specs.world.World.{World}
-use Rattle.lease_laws.specs.server.Laws.{Among, IsSound}
-use Rattle.lease_laws.specs.server.SmallSteps.{SmallStep, MayLower, MayRefuse, IsInTurn}
+use Rattle.lease_laws.proofs.Words.{◌&&◌, ◌++◌, ◌+◌, ◌==◌, ◌∙◌, ◌∷◌, ◌≡◌, Access, Among, Bool, CreateAsk, FileRequest, Held}
+use Rattle.lease_laws.proofs.Words.{IsInTurn, IsSound, Key, Lease, LeaseOf, List, MayLower, MayRefuse, None, Ok, Open, Option}
+use Rattle.lease_laws.proofs.Words.{Patch, Reply, Request, Server, Share, SmallStep, Some, State, Status, World, ℕ, ⊎_elim, []}
+use Rattle.lease_laws.proofs.Words.{ap, arith, break_notice, bytes_eq, bytes_eq-Decides, connected_again, eq-eqb, eqb-true, false}
+use Rattle.lease_laws.proofs.Words.{file_asked, file_of_create, granted_form_of, has_file, has_key, has_lease, held_of, inl, inr}
+use Rattle.lease_laws.proofs.Words.{is_breaking, is_state_within, key_eq, key_expired, key_of, lease_after, lease_granted}
+use Rattle.lease_laws.proofs.Words.{lease_key, lease_put, list_any, machine_key, needs_acknowledgment, new_open, no_lease, not}
+use Rattle.lease_laws.proofs.Words.{opens_dropped, put, refl, refusal_of, subst, sym, true, true≢false, with_opens, without}
 use Rattle.lease_laws.proofs.client.Thin.{put_same}
 use Rattle.lease_laws.proofs.server.Goes.{one_id}
 use Rattle.lease_laws.proofs.server.Keys.{put_key-cases}
-use Rattle.lease_laws.proofs.server.Lists.{if_cases, either, clash, among_append, among_filter, among_map, among_behind, and_parts, and_both, has_any, not_parts, not_true, true_or, or_of_true}
+use Rattle.lease_laws.proofs.server.Lists.{if_cases, either, clash, among_append, among_filter, among_map, among_behind}
+use Rattle.lease_laws.proofs.server.Lists.{and_parts, and_both, has_any, not_parts, not_true, true_or, or_of_true}
 use Rattle.lease_coherence.specs.Creates.{held_by, one_if}
 use Rattle.lease_coherence.specs.Names.{Each, IsOwnOpen}
 use Rattle.lease_coherence.specs.Standing.{IsNoClose}
@@ -41,12 +25,15 @@ use Rattle.lease_coherence.proofs.covered.Asked.{popped_closed, held_closed, fir
 use Rattle.lease_coherence.proofs.covered.Moves.{HasCovered, refusal_closes}
 use Rattle.lease_coherence.proofs.covered.Runs.{own_place}
 use Rattle.lease_coherence.proofs.covered.Words.{ClosedBefore, HasGrant, IsGrantOf}
-use Rattle.lease_coherence.proofs.moves.Deeds.{IsRefusedAck, IsSource, told_to, held_in, granted_in, granted_reply, reconnected_in, reconnected_reply, changed_in, leased_in, without_opens, done_reply}
+use Rattle.lease_coherence.proofs.moves.Deeds.{IsRefusedAck, IsSource, told_to, held_in, granted_in, granted_reply}
+use Rattle.lease_coherence.proofs.moves.Deeds.{reconnected_in, reconnected_reply, changed_in, leased_in, without_opens}
+use Rattle.lease_coherence.proofs.moves.Deeds.{done_reply}
 use Rattle.lease_coherence.proofs.moves.Events.{Ground, timed_out}
 use Rattle.lease_coherence.proofs.moves.Frames.{lease_put_rest}
 use Rattle.lease_coherence.proofs.moves.Moves.{IsOldest, rest_of, popped}
 use Rattle.lease_coherence.specs.Agreement.{as_requests, asked_of}
-use Rattle.lease_coherence.proofs.told.Moves.{ClosedIn, ToldBy, HasTold, told_map, kept_told, breaking_open, breaking_up, open_place, off_server, answered_told, plain_answered}
+use Rattle.lease_coherence.proofs.told.Moves.{ClosedIn, ToldBy, HasTold, told_map, kept_told, breaking_open, breaking_up}
+use Rattle.lease_coherence.proofs.told.Moves.{open_place, off_server, answered_told, plain_answered}
 use Rattle.lease_coherence.proofs.told.Words.{HasMet, met_behind, met_last, is_granted, met_granted}
 use Rattle.lease_coherence.proofs.within.Moves.{HasWithin}
 use Rattle.lease_coherence.proofs.within.Words.{AckFit, IsAckFit}

@@ -1,11 +1,6 @@
 -- Breaks that an entry will meet, and entries that close their open: in words of one file.
-use Rattle.std.proofs.Common.{◌≡◌, ◌⊎◌, inl, inr, ⊎_elim, ℕ, Bool, true, false, List, [], ◌∷◌, ◌++◌, refl}
-use Rattle.std.specs.Prelude.{◌||◌}
-use Rattle.lease_model.specs.client.Commanded.{is_asking}
-use Rattle.lease_model.specs.client.State.{Client, LiveEntry, Phase}
-use Rattle.lease_model.specs.client.Step.{Step}
-use Rattle.lease_model.specs.messages.Replies.{Reply}
-use Rattle.lease_model.specs.messages.Requests.{Request}
+use Rattle.lease_laws.proofs.Words.{◌++◌, ◌||◌, ◌∷◌, ◌≡◌, ◌⊎◌, Bool, Client, List, LiveEntry, Phase, Reply, Request, Step, ℕ}
+use Rattle.lease_laws.proofs.Words.{⊎_elim, [], false, inl, inr, is_asking, refl, true}
 use Rattle.lease_laws.proofs.server.Lists.{or_true, or_of_true}
 use Rattle.lease_coherence.specs.Creates.{creates}
 use Rattle.lease_coherence.proofs.beliefs.Words.{is_created, is_ack_break}

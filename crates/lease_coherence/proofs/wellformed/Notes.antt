@@ -1,22 +1,12 @@
 -- The notes of a client name files that it knows, and writes that end within the limit.
-use Rattle.std.proofs.Common.{◌≡◌, ℕ, Bool, true, false, List, [], ◌∷◌, ◌++◌, flat_map, refl, sym, ap, ◌∙◌, inl, inr}
-use Rattle.std.specs.Prelude.{⊤, if◌then◌else◌}
-use Rattle.lease_state.specs.State.{State}
-use Rattle.lease_state.specs.declared.access.Access.{Access}
-use Rattle.lease_state.specs.declared.access.Share.{Share}
-use Rattle.lease_model.specs.client.Calls.{ClientCall, client_called}
-use Rattle.lease_model.specs.client.Commands.{Note, Settlement}
-use Rattle.lease_model.specs.client.Connection.{all_turned, noticed, connection_made, notice_turn, connect_turn}
-use Rattle.lease_model.specs.client.State.{Client, Entry, LiveEntry, Parted, Pending, Phase, belief, belief_of, knows_file, lease_key}
-use Rattle.lease_model.specs.client.Step.{Step, Turn, turned, believes_noted, settled_as}
-use Rattle.lease_model.specs.client.Commanded.{cached_read, opened_anew, write_buffered, write_sent, flush_on_live}
-use Rattle.lease_model.specs.client.Taken.{closed_by_server, is_key_of, parked_closed, belief_lowered, opened_turn, reconnected_turn, promoted_turn, promoted_belief, first_belief, read_turn, write_done_turn}
-use Rattle.lease_model.specs.values.LeaseStates.{same_state}
-use Rattle.lease_model.specs.values.Lists.{numbers_to}
-use Rattle.lease_model.specs.values.Patches.{is_within_limit}
-use Rattle.lease_model.specs.values.Tables.{put}
-use Rattle.lease_laws.specs.client.Laws.{IsSoundClient}
-use Rattle.lease_laws.specs.server.Laws.{Among}
+use Rattle.lease_laws.proofs.Words.{◌++◌, ◌∙◌, ◌∷◌, ◌≡◌, Access, Among, Bool, Client, ClientCall, Entry, IsSoundClient, List}
+use Rattle.lease_laws.proofs.Words.{LiveEntry, Note, Parted, Pending, Phase, Settlement, Share, State, Step, Turn, ℕ, ⊤, []}
+use Rattle.lease_laws.proofs.Words.{all_turned, ap, belief, belief_lowered, belief_of, believes_noted, cached_read, client_called}
+use Rattle.lease_laws.proofs.Words.{closed_by_server, connect_turn, connection_made, false, first_belief, flat_map, flush_on_live}
+use Rattle.lease_laws.proofs.Words.{if◌then◌else◌, inl, inr, is_key_of, is_within_limit, knows_file, lease_key, notice_turn}
+use Rattle.lease_laws.proofs.Words.{noticed, numbers_to, opened_anew, opened_turn, parked_closed, promoted_belief, promoted_turn}
+use Rattle.lease_laws.proofs.Words.{put, read_turn, reconnected_turn, refl, same_state, settled_as, sym, true, turned}
+use Rattle.lease_laws.proofs.Words.{write_buffered, write_done_turn, write_sent}
 use Rattle.lease_laws.proofs.client.cases.Files.{numbers_known, found_known}
 use Rattle.lease_laws.proofs.client.Thin.{put_same}
 use Rattle.lease_laws.proofs.server.Lists.{if_cases, not_false}

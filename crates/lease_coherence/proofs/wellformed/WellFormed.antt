@@ -1,31 +1,14 @@
 -- Every record of a run is well formed.
-use Rattle.std.proofs.Common.{◌≡◌, ◌≢◌, ◌⊎◌, inl, inr, ⊎_elim, ℕ, suc, ◌+◌, ◌≤◌, ◌<◌, Bool, true, false, List, [], ◌∷◌, length, refl, sym, ap, ◌∙◌, subst, arith, true≢false, ◌==◌, not}
-use Rattle.std.specs.Prelude.{◌&&◌, ◌||◌, nat_le, nat_lt}
-use Rattle.std.proofs.lemmas.Bool.{eq-eqb, eqb-true}
-use Rattle.std.proofs.lemmas.List.{reverse-reverse}
-use mathlib.Core.List.{reverse_aux}
-use Rattle.lease_model.specs.client.Calls.{ClientCall, client_called}
-use Rattle.lease_model.specs.client.Commands.{Note}
-use Rattle.lease_model.specs.client.Connection.{noticed, connection_made, all_turned}
-use Rattle.lease_model.specs.client.State.{Client, knows_file, new_client}
-use Rattle.lease_model.specs.messages.Replies.{Reply}
-use Rattle.lease_model.specs.messages.Requests.{FileRequest}
-use Rattle.lease_model.specs.records.Facts.{Fact}
-use Rattle.lease_model.specs.records.Past.{is_started, has_joined, has_number, sendings, takings}
-use Rattle.lease_model.specs.records.Safe.{EachFact, WellFormed, is_well_formed}
-use Rattle.lease_model.specs.server.Calls.{joined, key_expired, opens_disconnected, client_forgotten}
-use Rattle.lease_model.specs.server.Grant.{lease_put, lease_after}
-use Rattle.lease_model.specs.server.Progress.{opens_dropped, with_opens}
-use Rattle.lease_model.specs.server.State.{Server, has_file, new_server}
-use Rattle.lease_model.specs.values.Limits.{last_file_number}
-use Rattle.lease_model.specs.values.Patches.{is_within_limit}
-use Rattle.lease_model.specs.values.Tables.{put}
-use Rattle.lease_model.specs.world.Allowed.{is_allowed_setup}
-use Rattle.lease_model.specs.world.Events.{Event, stepped_in, after}
-use Rattle.lease_model.specs.world.World.{World, Setup, Link, first_world, starts_from, requests_sent}
-use Rattle.lease_laws.specs.client.Laws.{IsSoundClient, TellNumbers}
-use Rattle.lease_laws.specs.server.Laws.{Among}
-use Rattle.lease_laws.specs.world.Links.{is_up}
+use Rattle.lease_laws.proofs.Words.{◌&&◌, ◌+◌, ◌<◌, ◌==◌, ◌||◌, ◌∙◌, ◌∷◌, ◌≡◌, ◌≢◌, ◌≤◌, ◌⊎◌, Among, Bool, Client, ClientCall}
+use Rattle.lease_laws.proofs.Words.{EachFact, Event, Fact, FileRequest, IsSoundClient, Link, List, Note, Reply, Server, Setup}
+use Rattle.lease_laws.proofs.Words.{TellNumbers, WellFormed, World, ℕ, ⊎_elim, [], after, all_turned, ap, arith, client_called}
+use Rattle.lease_laws.proofs.Words.{client_forgotten, connection_made, eq-eqb, eqb-true, false, first_world, has_file, has_joined}
+use Rattle.lease_laws.proofs.Words.{inl, inr, is_allowed_setup, is_started, is_up, is_well_formed, is_within_limit, joined}
+use Rattle.lease_laws.proofs.Words.{key_expired, knows_file, last_file_number, lease_after, lease_put, length, nat_le, nat_lt}
+use Rattle.lease_laws.proofs.Words.{new_client, new_server, not, noticed, opens_disconnected, opens_dropped, put, refl}
+use Rattle.lease_laws.proofs.Words.{requests_sent, reverse-reverse, reverse_aux, sendings, starts_from, stepped_in, subst, suc}
+use Rattle.lease_laws.proofs.Words.{sym, takings, true, true≢false, with_opens}
+use Rattle.lease_model.specs.records.Past.{has_number}
 use Rattle.lease_laws.proofs.client.Forms.{commanded-stays, taken-stays}
 use Rattle.lease_laws.proofs.client.Notes.{called_tells}
 use Rattle.lease_laws.proofs.client.Thin.{put_same, put_other}

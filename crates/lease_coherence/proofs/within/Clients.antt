@@ -1,19 +1,12 @@
 -- Every step of a client keeps what it believes of each of its files within the lease.
-use Rattle.std.proofs.Common.{◌≡◌, ◌≢◌, ◌⊎◌, inl, inr, ℕ, ◌+◌, true, false, List, [], ◌∷◌, ◌++◌, Option, Some, None, refl, sym, ap, ap₂, ◌∙◌, subst, arith}
-use Rattle.std.specs.Prelude.{bytes_eq}
-use Rattle.std.proofs.lemmas.Slice.Eq.{bytes_eq-Decides}
-use Rattle.lease_state.specs.State.{nothing_cached}
-use Rattle.lease_model.specs.client.Commanded.{create_request, next_write, cached_read, opened_anew, write_buffered, write_sent, flush_on_live, wrote_step}
-use Rattle.lease_model.specs.client.Commands.{Answer}
-use Rattle.lease_model.specs.client.State.{Client, Entry, LiveEntry, Asked, Pending, Phase, lease_key}
-use Rattle.lease_model.specs.client.Step.{Step, Turn, turned, quiet_step, write_requests}
-use Rattle.lease_model.specs.client.Taken.{given_state, is_key_of, parked_closed, belief_lowered, acknowledgment, flushed, opened_turn, reconnected_turn, promoted_turn, promoted_belief, read_turn, closed_by_server, without_open, phase_with, write_done_turn}
-use Rattle.lease_model.specs.messages.Replies.{Reply, BreakNotice, CreateAnswer, LeaseGiven}
-use Rattle.lease_model.specs.messages.Requests.{FileRequest, Request}
-use Rattle.lease_model.specs.server.State.{Lease}
-use Rattle.lease_model.specs.values.LeaseStates.{meet}
-use Rattle.lease_model.specs.values.Tables.{put}
-use Rattle.lease_laws.specs.client.Laws.{IsSoundClient}
+use Rattle.lease_laws.proofs.Words.{◌++◌, ◌+◌, ◌∙◌, ◌∷◌, ◌≡◌, ◌≢◌, ◌⊎◌, Answer, Asked, BreakNotice, Client, CreateAnswer, Entry}
+use Rattle.lease_laws.proofs.Words.{FileRequest, IsSoundClient, Lease, LeaseGiven, List, LiveEntry, None, Option, Pending, Phase}
+use Rattle.lease_laws.proofs.Words.{Reply, Request, Some, Step, Turn, ℕ, [], acknowledgment, ap, ap₂, arith, belief_lowered}
+use Rattle.lease_laws.proofs.Words.{bytes_eq, bytes_eq-Decides, cached_read, closed_by_server, create_request, false}
+use Rattle.lease_laws.proofs.Words.{flush_on_live, flushed, given_state, inl, inr, is_key_of, lease_key, meet, next_write}
+use Rattle.lease_laws.proofs.Words.{nothing_cached, opened_anew, opened_turn, parked_closed, phase_with, promoted_belief}
+use Rattle.lease_laws.proofs.Words.{promoted_turn, put, quiet_step, read_turn, reconnected_turn, refl, subst, sym, true, turned}
+use Rattle.lease_laws.proofs.Words.{without_open, write_buffered, write_done_turn, write_requests, write_sent, wrote_step}
 use Rattle.lease_laws.proofs.client.Thin.{put_same, put_other}
 use Rattle.lease_laws.proofs.server.Lists.{if_cases, either, clash}
 use Rattle.lease_laws.proofs.world.Links.{by_client}
@@ -23,7 +16,8 @@ use Rattle.lease_laws.proofs.client.cases.Commands.{HasCommands, sent_of}
 use Rattle.lease_laws.proofs.client.cases.Replies.{HasTakes, PassesOver, is_live}
 use Rattle.lease_laws.proofs.client.cases.Files.{found_so}
 use Rattle.lease_coherence.proofs.names.Words.{each_append}
-use Rattle.lease_coherence.proofs.beliefs.Clients.{IsAboutFile, file_no_acks, writes_about, writes_close_about, keys_apart, ack_elsewhere}
+use Rattle.lease_coherence.proofs.beliefs.Clients.{IsAboutFile, file_no_acks, writes_about, writes_close_about, keys_apart}
+use Rattle.lease_coherence.proofs.beliefs.Clients.{ack_elsewhere}
 use Rattle.lease_coherence.proofs.beliefs.Words.{acks, acks_append, IsBelieved}
 use Rattle.lease_coherence.proofs.fresh.Clients.{never_passed}
 use Rattle.lease_coherence.proofs.within.Entries.{IsLess, step_within, reply_within, created_within, quiet_within, break_within}

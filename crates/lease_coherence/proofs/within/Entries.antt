@@ -1,21 +1,15 @@
 -- What a client does keeps what it believes of a file's lease within it.
-use Rattle.std.proofs.Common.{◌≡◌, ◌⊎◌, inl, inr, ⊎_elim, ℕ, Bool, true, false, List, [], ◌∷◌, ◌++◌, Some, refl, sym, ap, ◌∙◌, subst, true≢false}
-use Rattle.std.specs.Prelude.{◌&&◌, ◌||◌, not, bytes_eq}
-use Rattle.std.proofs.lemmas.Bool.{eq-eqb}
-use Rattle.lease_state.specs.State.{State, nothing_cached, is_state_within}
-use Rattle.lease_model.specs.client.State.{LiveEntry, Phase}
-use Rattle.lease_model.specs.client.Taken.{given_state}
-use Rattle.lease_model.specs.messages.Replies.{Reply, BreakNotice, CreateAnswer}
-use Rattle.lease_model.specs.messages.Requests.{Request}
-use Rattle.lease_model.specs.server.State.{Lease}
-use Rattle.lease_model.specs.values.LeaseStates.{meet}
+use Rattle.lease_laws.proofs.Words.{◌&&◌, ◌++◌, ◌||◌, ◌∙◌, ◌∷◌, ◌≡◌, ◌⊎◌, Bool, BreakNotice, CreateAnswer, Lease, List, LiveEntry}
+use Rattle.lease_laws.proofs.Words.{Phase, Reply, Request, Some, State, ℕ, ⊎_elim, [], ap, bytes_eq, eq-eqb, false, given_state}
+use Rattle.lease_laws.proofs.Words.{inl, inr, is_state_within, meet, not, nothing_cached, refl, subst, sym, true, true≢false}
 use Rattle.lease_laws.proofs.server.Lists.{clash, and_parts, and_both}
 use Rattle.lease_coherence.specs.Agreement.{lone_break}
 use Rattle.lease_coherence.specs.Names.{Each}
 use Rattle.lease_coherence.proofs.beliefs.Words.{acks, is_created, IsBelieved}
 use Rattle.lease_laws.proofs.client.cases.Replies.{is_live}
 use Rattle.lease_coherence.proofs.names.Words.{each_append, each_weaker}
-use Rattle.lease_coherence.proofs.within.Words.{IsWithin, LowersFormed, tell_fewer, no_acks_fit, fit_less, IsAckFit, AckFit, within_rest, IsWithinFor}
+use Rattle.lease_coherence.proofs.within.Words.{IsWithin, LowersFormed, tell_fewer, no_acks_fit, fit_less, IsAckFit, AckFit}
+use Rattle.lease_coherence.proofs.within.Words.{within_rest, IsWithinFor}
 
 -- an entry that is live was, and believes no more
 pub record IsLess (phase : Phase) (belief : State) : Type 0 where

@@ -1,19 +1,16 @@
 -- What the server does to one file's lease, and sends to its client, keeps beliefs within it.
-use Rattle.std.proofs.Common.{◌≡◌, inl, inr, ⊎_elim, ℕ, true, false, List, [], ◌∷◌, ◌++◌, Some, None, refl, sym, ap, ◌∙◌, true≢false}
-use Rattle.std.specs.Prelude.{bytes_eq}
-use Rattle.lease_state.specs.State.{State, granted_form_of}
-use Rattle.lease_model.specs.client.State.{Phase}
-use Rattle.lease_model.specs.messages.Replies.{Reply}
-use Rattle.lease_model.specs.messages.Requests.{Request, LeaseOf}
-use Rattle.lease_model.specs.server.State.{Lease, is_breaking}
-use Rattle.lease_laws.specs.server.Laws.{Among}
+use Rattle.lease_laws.proofs.Words.{◌++◌, ◌∙◌, ◌∷◌, ◌≡◌, Among, Lease, LeaseOf, List, None, Phase, Reply, Request, Some, State, ℕ}
+use Rattle.lease_laws.proofs.Words.{⊎_elim, [], ap, bytes_eq, false, granted_form_of, inl, inr, is_breaking, refl, sym, true}
+use Rattle.lease_laws.proofs.Words.{true≢false}
 use Rattle.lease_laws.proofs.server.Lists.{if_cases, clash, among_before}
 use Rattle.lease_coherence.specs.Agreement.{lone_break}
 use Rattle.lease_coherence.specs.Names.{Each}
 use Rattle.lease_coherence.proofs.beliefs.Leases.{settled_none}
 use Rattle.lease_coherence.proofs.beliefs.Words.{acks, is_created, OnGiven, GivesNothing, IsMet, IsAnswering, IsBelieved}
 use Rattle.lease_laws.proofs.client.cases.Replies.{is_live}
-use Rattle.lease_coherence.proofs.within.Words.{IsWithin, AreGiven, within_in, given_last, given_changed, given_nowhere, TellsState, tell_none, tell_last, tell_nowhere, no_acks_fit, IsAckFit, AckFit, IsWithinFor}
+use Rattle.lease_coherence.proofs.within.Words.{IsWithin, AreGiven, within_in, given_last, given_changed, given_nowhere}
+use Rattle.lease_coherence.proofs.within.Words.{TellsState, tell_none, tell_last, tell_nowhere, no_acks_fit, IsAckFit, AckFit}
+use Rattle.lease_coherence.proofs.within.Words.{IsWithinFor}
 
 -- one more reply: a lease that is as it was
 pub plain_more : (key : List ℕ) (file : ℕ) (lease : Lease) (phase : Phase) (asked : List Request) (queue : List Reply)

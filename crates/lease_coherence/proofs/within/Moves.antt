@@ -1,30 +1,11 @@
 -- What the server does keeps the beliefs of a client within its leases.
-use Rattle.std.proofs.Common.{◌≡◌, inl, ⊎_elim, ℕ, ◌+◌, Bool, true, false, not, List, [], ◌∷◌, ◌++◌, Option, Some, None, refl, sym, ap, ◌∙◌, subst, arith, true≢false, ◌==◌}
-use Rattle.std.specs.Prelude.{◌&&◌, ◌||◌, bytes_eq}
-use Rattle.std.specs.List.{list_any}
-use Rattle.std.proofs.lemmas.Bool.{eq-eqb}
-use Rattle.std.proofs.lemmas.Slice.Eq.{bytes_eq-Decides}
-use Rattle.lease_state.specs.State.{State, nothing_cached, granted_form_of, is_state_within, needs_acknowledgment}
-use Rattle.lease_state.specs.declared.access.Access.{Access}
-use Rattle.lease_state.specs.declared.access.Share.{Share}
-use Rattle.lease_state.specs.declared.patch.Patch.{Patch}
-use Rattle.lease_model.specs.client.State.{Client, Phase, lease_key}
-use Rattle.lease_model.specs.client.Taken.{given_state}
-use Rattle.lease_model.specs.messages.Replies.{Reply}
-use Rattle.lease_model.specs.messages.Requests.{FileRequest, Request, CreateAsk, LeaseOf}
-use Rattle.lease_model.specs.server.Grant.{connected_again, lease_after, lease_granted, new_open, offered}
-use Rattle.lease_model.specs.server.Allowed.{allowed, is_other_on}
-use Rattle.lease_model.specs.server.Naming.{key_of}
-use Rattle.lease_model.specs.server.Progress.{break_notice}
-use Rattle.lease_model.specs.server.State.{Server, Held, Lease, is_breaking}
-use Rattle.lease_model.specs.values.Keys.{Key, key_eq}
-use Rattle.lease_model.specs.values.LeaseStates.{same_state}
-use Rattle.lease_model.specs.values.Tables.{put_key}
-use Rattle.lease_model.specs.world.Events.{machine_key}
-use Rattle.lease_model.specs.world.World.{World}
-use Rattle.lease_laws.specs.server.Laws.{IsSound}
-use Rattle.lease_laws.specs.server.SmallSteps.{IsLowered, MayLower}
-use Rattle.lease_laws.specs.world.Links.{is_up}
+use Rattle.lease_laws.proofs.Words.{◌&&◌, ◌++◌, ◌+◌, ◌==◌, ◌||◌, ◌∙◌, ◌∷◌, ◌≡◌, Access, Bool, Client, CreateAsk, FileRequest}
+use Rattle.lease_laws.proofs.Words.{Held, IsLowered, IsSound, Key, Lease, LeaseOf, List, MayLower, None, Option, Patch, Phase}
+use Rattle.lease_laws.proofs.Words.{Reply, Request, Server, Share, Some, State, World, ℕ, ⊎_elim, [], allowed, ap, arith}
+use Rattle.lease_laws.proofs.Words.{break_notice, bytes_eq, bytes_eq-Decides, connected_again, eq-eqb, false, given_state}
+use Rattle.lease_laws.proofs.Words.{granted_form_of, inl, is_breaking, is_other_on, is_state_within, is_up, key_eq, key_of}
+use Rattle.lease_laws.proofs.Words.{lease_after, lease_granted, lease_key, list_any, machine_key, needs_acknowledgment, new_open}
+use Rattle.lease_laws.proofs.Words.{not, nothing_cached, offered, put_key, refl, same_state, subst, sym, true, true≢false}
 use Rattle.lease_laws.proofs.client.Thin.{put_same}
 use Rattle.lease_laws.proofs.server.Keys.{put_key-cases, key_eq-refl}
 use Rattle.lease_laws.proofs.server.Lists.{if_cases, either, clash, and_parts, and_both, among_before}
@@ -37,7 +18,8 @@ use Rattle.lease_coherence.proofs.beliefs.Given.{own_named}
 use Rattle.lease_coherence.proofs.beliefs.Sent.{IsSentTo, is_bare}
 use Rattle.lease_coherence.proofs.beliefs.Trust.{file_key, HasTrust}
 use Rattle.lease_coherence.proofs.beliefs.Words.{acks, OnGiven, IsAnswering, IsBelieved}
-use Rattle.lease_coherence.proofs.moves.Deeds.{IsSource, with_held, told_to, granted_in, granted_reply, reconnected_in, reconnected_reply, changed_in, leased_in, done_reply}
+use Rattle.lease_coherence.proofs.moves.Deeds.{IsSource, with_held, told_to, granted_in, granted_reply, reconnected_in}
+use Rattle.lease_coherence.proofs.moves.Deeds.{reconnected_reply, changed_in, leased_in, done_reply}
 use Rattle.lease_coherence.proofs.moves.Foreign.{map_kept}
 use Rattle.lease_coherence.proofs.moves.Moves.{IsOldest, rest_of, popped}
 use Rattle.lease_coherence.proofs.names.Words.{each_append, each_rest}

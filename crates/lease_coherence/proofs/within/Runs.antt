@@ -1,26 +1,9 @@
 -- Every move keeps the beliefs of each client that hasn't strayed within its leases.
-use Rattle.std.proofs.Common.{◌≡◌, ℕ, true, false, not, Bool, List, [], ◌∷◌, ◌++◌, Option, Some, refl, sym, ap, ap₂, ◌∙◌, subst, true≢false, ◌==◌}
-use Rattle.std.specs.List.{list_any}
-use Rattle.lease_state.specs.declared.status.Status.{Status}
-use Rattle.lease_model.specs.client.Commanded.{commanded}
-use Rattle.lease_model.specs.client.Connection.{noticed}
-use Rattle.lease_model.specs.client.State.{Client, lease_key}
-use Rattle.lease_model.specs.client.Step.{Step}
-use Rattle.lease_model.specs.client.Taken.{taken}
-use Rattle.lease_model.specs.messages.Replies.{Reply}
-use Rattle.lease_model.specs.messages.Requests.{FileRequest, Request, LeaseOf}
-use Rattle.lease_model.specs.server.Calls.{key_expired}
-use Rattle.lease_model.specs.server.Naming.{key_of}
-use Rattle.lease_model.specs.server.Progress.{opens_dropped, with_opens, refusal_of}
-use Rattle.lease_model.specs.server.State.{Server, Open, Held, Lease, no_lease, is_breaking, has_key}
-use Rattle.lease_model.specs.values.Keys.{Key}
-use Rattle.lease_model.specs.values.Lists.{without}
-use Rattle.lease_model.specs.values.Tables.{put, put_key}
-use Rattle.lease_model.specs.world.Events.{machine_key, stepped_in}
-use Rattle.lease_model.specs.world.World.{World, Link}
-use Rattle.lease_model.specs.records.Past.{has_strayed}
-use Rattle.lease_laws.specs.server.Laws.{Among}
-use Rattle.lease_laws.specs.world.Links.{is_up}
+use Rattle.lease_laws.proofs.Words.{◌++◌, ◌==◌, ◌∙◌, ◌∷◌, ◌≡◌, Among, Bool, Client, FileRequest, Held, Key, Lease, LeaseOf, Link}
+use Rattle.lease_laws.proofs.Words.{List, Open, Option, Reply, Request, Server, Some, Status, Step, World, ℕ, [], ap, ap₂}
+use Rattle.lease_laws.proofs.Words.{commanded, false, has_key, has_strayed, is_breaking, is_up, key_expired, key_of, lease_key}
+use Rattle.lease_laws.proofs.Words.{list_any, machine_key, no_lease, not, noticed, opens_dropped, put, put_key, refl, refusal_of}
+use Rattle.lease_laws.proofs.Words.{stepped_in, subst, sym, taken, true, true≢false, with_opens, without}
 use Rattle.lease_laws.proofs.client.Forms.{commanded-stays, taken-stays}
 use Rattle.lease_laws.proofs.client.Thin.{put_same}
 use Rattle.lease_laws.proofs.server.Keys.{put_key-cases}
@@ -50,7 +33,8 @@ use Rattle.lease_coherence.proofs.standing.Runs.{link_of, standing_moves, was_up
 use Rattle.lease_coherence.proofs.standing.Standing.{step_of}
 use Rattle.lease_coherence.proofs.within.Clients.{StaysWithin, commands_stay, TakesWithin, takes_stay}
 use Rattle.lease_coherence.proofs.within.Leases.{plain_more, gone_more}
-use Rattle.lease_coherence.proofs.within.Moves.{HasWithin, IsUpWithin, told_within, changed_within, popped_within, off_within, granted_within, reconnected_within, lower_within, begin_within, done_within}
+use Rattle.lease_coherence.proofs.within.Moves.{HasWithin, IsUpWithin, told_within, changed_within, popped_within, off_within}
+use Rattle.lease_coherence.proofs.within.Moves.{granted_within, reconnected_within, lower_within, begin_within, done_within}
 use Rattle.lease_coherence.proofs.within.Words.{LowersFormed, IsWithinFor}
 use Rattle.lease_coherence.proofs.told.Leases.{HasLeases}
 

@@ -1,14 +1,8 @@
 -- What a client believes of reads and handles, and what breaks and acknowledgments on their way say of the lease: in words
 -- of one file's lease, entry and queues.
-use Rattle.std.proofs.Common.{◌≡◌, ◌⊎◌, inl, inr, ⊎_elim, ℕ, ◌+◌, Bool, true, false, List, [], ◌∷◌, ◌++◌, Option, Some, None, refl, sym, ap, ◌∙◌, arith, ◌==◌}
-use Rattle.std.specs.Prelude.{⊤, ◌&&◌, ◌||◌, bytes_eq}
-use Rattle.std.proofs.lemmas.Bool.{eq-eqb}
-use Rattle.lease_state.specs.State.{State, is_state_within}
-use Rattle.lease_model.specs.client.State.{LiveEntry, Phase}
-use Rattle.lease_model.specs.messages.Replies.{Reply}
-use Rattle.lease_model.specs.messages.Requests.{Request}
-use Rattle.lease_model.specs.server.State.{Lease}
-use Rattle.lease_laws.specs.server.Laws.{Among}
+use Rattle.lease_laws.proofs.Words.{◌&&◌, ◌++◌, ◌+◌, ◌==◌, ◌||◌, ◌∙◌, ◌∷◌, ◌≡◌, ◌⊎◌, Among, Bool, Lease, List, LiveEntry, None}
+use Rattle.lease_laws.proofs.Words.{Option, Phase, Reply, Request, Some, State, ℕ, ⊎_elim, ⊤, [], ap, arith, bytes_eq, eq-eqb}
+use Rattle.lease_laws.proofs.Words.{false, inl, inr, is_state_within, refl, sym, true}
 use Rattle.lease_laws.proofs.server.Lists.{clash, or_true, among_before, among_behind}
 use Rattle.lease_coherence.specs.Agreement.{lone_break}
 use Rattle.lease_coherence.specs.Creates.{one_if}

@@ -1,16 +1,7 @@
 -- What is known of a client's writes before they are followed, and that a request that is answered leaves each sent write once.
-use Rattle.std.proofs.Common.{◌≡◌, ◌≢◌, inl, inr, ⊎_elim, ℕ, ◌+◌, ◌≤◌, ◌<◌, true, false, List, [], ◌∷◌, ◌++◌, Option, refl, sym, ap, ◌∙◌, subst, arith, ◌==◌}
-use Rattle.std.proofs.lemmas.Bool.{eq-eqb, eqb-true}
-use Rattle.lease_state.specs.declared.patch.Patch.{Patch}
-use Rattle.lease_model.specs.client.State.{Client, knows_file}
-use Rattle.lease_model.specs.messages.Replies.{Reply}
-use Rattle.lease_model.specs.messages.Requests.{FileRequest, Request, LeaseOf}
-use Rattle.lease_model.specs.records.Past.{has_strayed, has_written}
-use Rattle.lease_model.specs.server.Calls.{held_of}
-use Rattle.lease_model.specs.server.State.{Held}
-use Rattle.lease_model.specs.values.Tables.{put}
-use Rattle.lease_model.specs.world.World.{World}
-use Rattle.lease_laws.specs.server.Laws.{Among}
+use Rattle.lease_laws.proofs.Words.{◌++◌, ◌+◌, ◌<◌, ◌==◌, ◌∙◌, ◌∷◌, ◌≡◌, ◌≢◌, ◌≤◌, Among, Client, FileRequest, Held, LeaseOf}
+use Rattle.lease_laws.proofs.Words.{List, Option, Patch, Reply, Request, World, ℕ, ⊎_elim, [], ap, arith, eq-eqb, eqb-true, false}
+use Rattle.lease_laws.proofs.Words.{has_strayed, has_written, held_of, inl, inr, knows_file, put, refl, subst, sym, true}
 use Rattle.lease_laws.proofs.client.Thin.{put_same, put_other}
 use Rattle.lease_laws.proofs.server.Lists.{either, clash, not_true, among_behind}
 use Rattle.lease_laws.proofs.server.PassWaits.{among_more}
@@ -22,7 +13,8 @@ use Rattle.lease_coherence.proofs.moves.Events.{Ground}
 use Rattle.lease_coherence.proofs.moves.Ground.{among_put}
 use Rattle.lease_coherence.proofs.moves.Moves.{IsOldest, rest_of, popped}
 use Rattle.lease_coherence.proofs.records.Once.{written_once, written_number}
-use Rattle.lease_coherence.proofs.writes.Counts.{write_of, writes, held_writes, settles_of, settling, numbered_in, writes_left, writes_under_way, settling_last, held_writes_among}
+use Rattle.lease_coherence.proofs.writes.Counts.{write_of, writes, held_writes, settles_of, settling, numbered_in, writes_left}
+use Rattle.lease_coherence.proofs.writes.Counts.{writes_under_way, settling_last, held_writes_among}
 use Rattle.lease_coherence.proofs.writes.Steps.{IsKnownBy, IsOwnNumber, IsSentOnce}
 use Rattle.lease_coherence.proofs.records.Known.{HasRecord}
 

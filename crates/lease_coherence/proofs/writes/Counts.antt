@@ -1,17 +1,7 @@
 -- How many writes of a number are under way: asked, held, or answered and not yet taken.
-use Rattle.std.proofs.Common.{◌≡◌, ℕ, ◌+◌, Bool, true, false, List, [], ◌∷◌, ◌++◌, refl, sym, ap, ap₂, ◌∙◌, arith, true≢false, ◌==◌}
-use Rattle.std.specs.Prelude.{◌||◌}
-use Rattle.std.specs.List.{list_any}
-use Rattle.std.proofs.lemmas.Bool.{eqb-true}
-use Rattle.lease_state.specs.declared.status.Status.{Status}
-use Rattle.lease_model.specs.client.State.{Pending}
-use Rattle.lease_model.specs.client.Step.{write_requests}
-use Rattle.lease_model.specs.client.Taken.{is_numbered, sent_without}
-use Rattle.lease_model.specs.messages.Replies.{Reply}
-use Rattle.lease_model.specs.messages.Requests.{FileRequest, Request}
-use Rattle.lease_model.specs.server.Progress.{refusal_of}
-use Rattle.lease_model.specs.server.State.{Held}
-use Rattle.lease_model.specs.world.World.{World}
+use Rattle.lease_laws.proofs.Words.{◌++◌, ◌+◌, ◌==◌, ◌||◌, ◌∙◌, ◌∷◌, ◌≡◌, Bool, FileRequest, Held, List, Pending, Reply, Request}
+use Rattle.lease_laws.proofs.Words.{Status, World, ℕ, [], ap, ap₂, arith, eqb-true, false, is_numbered, list_any, refl}
+use Rattle.lease_laws.proofs.Words.{refusal_of, sent_without, sym, true, true≢false, write_requests}
 use Rattle.lease_laws.proofs.server.Lists.{if_cases}
 use Rattle.lease_coherence.specs.Creates.{held_by, one_if}
 use Rattle.lease_coherence.proofs.moves.Events.{chosen, not_chosen}

@@ -1,26 +1,17 @@
 -- What the notes of a client's step make of the unanswered writes of the record.
-use Rattle.std.proofs.Common.{◌≡◌, ◌≢◌, ℕ, Bool, true, false, not, List, [], ◌∷◌, ◌++◌, Some, refl, sym, ap, ap₂, ◌∙◌, subst, true≢false, ◌==◌}
-use Rattle.std.specs.Prelude.{⊤, ◌&&◌, ◌||◌, if◌then◌else◌}
-use Rattle.std.proofs.lemmas.Bool.{eq-eqb}
-use Rattle.lease_state.specs.State.{State}
-use Rattle.lease_state.specs.declared.patch.Patch.{Patch}
-use Rattle.lease_model.specs.client.Commands.{Answer, Note, Settlement}
-use Rattle.lease_model.specs.client.State.{Client, Entry, LiveEntry, Pending, Phase, belief_of, knows_file, view}
-use Rattle.lease_model.specs.client.Step.{Step, Turn, turned, believes_noted, settled_as}
-use Rattle.lease_model.specs.client.Taken.{is_numbered}
-use Rattle.lease_model.specs.records.Facts.{Fact}
-use Rattle.lease_model.specs.values.LeaseStates.{same_state}
-use Rattle.lease_model.specs.values.Lists.{without}
-use Rattle.lease_model.specs.values.Tables.{put}
-use Rattle.lease_laws.specs.client.Laws.{IsSoundClient, are_rising, has_number, unanswered_in}
-use Rattle.lease_laws.specs.records.Runs.{open_writes}
+use Rattle.lease_laws.proofs.Words.{◌&&◌, ◌++◌, ◌==◌, ◌||◌, ◌∙◌, ◌∷◌, ◌≡◌, ◌≢◌, Answer, Bool, Client, Entry, Fact, IsSoundClient}
+use Rattle.lease_laws.proofs.Words.{List, LiveEntry, Note, Patch, Pending, Phase, Settlement, Some, State, Step, Turn, ℕ, ⊤, []}
+use Rattle.lease_laws.proofs.Words.{ap, ap₂, are_rising, belief_of, believes_noted, eq-eqb, false, has_number, if◌then◌else◌}
+use Rattle.lease_laws.proofs.Words.{is_numbered, knows_file, not, open_writes, put, refl, same_state, settled_as, subst, sym}
+use Rattle.lease_laws.proofs.Words.{true, true≢false, turned, unanswered_in, view, without}
 use Rattle.lease_laws.proofs.client.Thin.{put_same, put_other}
 use Rattle.lease_laws.proofs.server.Lists.{if_cases, clash, not_true}
 use Rattle.lease_laws.proofs.world.Links.{by_client}
 use Rattle.lease_laws.proofs.client.cases.Commands.{IsEntry, sent_of}
 use Rattle.lease_coherence.proofs.records.Later.{past_noted}
 use Rattle.lease_coherence.proofs.wellformed.Notes.{EachNote, notes_append, IsSettling, settles}
-use Rattle.lease_coherence.proofs.writes.Settled.{or_later, filter_same, filter_alike, filter_again, number_there, number_append, settles_in, settles_append, settles_these, left_of, left_all, left_front}
+use Rattle.lease_coherence.proofs.writes.Settled.{or_later, filter_same, filter_alike, filter_again, number_there, number_append}
+use Rattle.lease_coherence.proofs.writes.Settled.{settles_in, settles_append, settles_these, left_of, left_all, left_front}
 
 -- ---- notes in the record
 

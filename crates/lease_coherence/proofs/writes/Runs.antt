@@ -1,35 +1,13 @@
 -- While a client's link is up, each write that it has sent is under way once: asked, held, or answered and not yet taken.
-use Rattle.std.proofs.Common.{◌≡◌, ◌≢◌, ⊎_elim, ℕ, ◌+◌, ◌≤◌, Bool, true, false, not, List, [], ◌∷◌, ◌++◌, flat_map, Option, Some, None, refl, sym, ap, ap₂, ◌∙◌, subst, arith, true≢false, ◌==◌}
-use Rattle.std.specs.Prelude.{Result, Ok, Err}
-use Rattle.std.proofs.lemmas.Bool.{eq-eqb, eqb-true}
-use Rattle.lease_state.specs.State.{granted_form_of}
-use Rattle.lease_state.specs.declared.patch.Patch.{Patch}
-use Rattle.lease_state.specs.declared.status.Status.{Status}
-use Rattle.lease_model.specs.client.Calls.{ClientCall}
-use Rattle.lease_model.specs.client.Commanded.{commanded}
-use Rattle.lease_model.specs.client.Commands.{Command}
-use Rattle.lease_model.specs.client.Connection.{all_turned, noticed, connection_made, connect_turn}
-use Rattle.lease_model.specs.client.State.{Client, Entry, Pending, Phase, knows_file}
-use Rattle.lease_model.specs.client.Step.{Step}
-use Rattle.lease_model.specs.client.Taken.{taken}
-use Rattle.lease_model.specs.messages.Replies.{Reply}
-use Rattle.lease_model.specs.messages.Requests.{FileRequest, Request}
-use Rattle.lease_model.specs.records.Facts.{Fact}
-use Rattle.lease_model.specs.records.Past.{has_number, has_written}
-use Rattle.lease_model.specs.server.Calls.{file_asked, file_of_open, joined, key_expired}
-use Rattle.lease_model.specs.server.Findings.{connected_open}
-use Rattle.lease_model.specs.server.Grant.{lease_after}
-use Rattle.lease_model.specs.server.Naming.{key_of}
-use Rattle.lease_model.specs.server.Progress.{opens_dropped, with_opens, break_notice, refusal_of}
-use Rattle.lease_model.specs.server.State.{Server, Open, Held}
-use Rattle.lease_model.specs.values.Lists.{numbers_to}
-use Rattle.lease_model.specs.values.Tables.{put}
-use Rattle.lease_model.specs.world.Events.{stepped_in}
-use Rattle.lease_model.specs.world.World.{World, Link, sent_over}
-use Rattle.lease_laws.specs.client.Laws.{IsSoundEntry, IsSoundPhase, TellNumbers}
-use Rattle.lease_laws.specs.server.Laws.{Among}
-use Rattle.lease_laws.specs.world.FileIds.{was_opened}
-use Rattle.lease_laws.specs.world.Links.{is_up, is_down}
+use Rattle.lease_laws.proofs.Words.{◌++◌, ◌+◌, ◌==◌, ◌∙◌, ◌∷◌, ◌≡◌, ◌≢◌, ◌≤◌, Among, Bool, Client, ClientCall, Command, Entry}
+use Rattle.lease_laws.proofs.Words.{Err, Fact, FileRequest, Held, IsSoundEntry, IsSoundPhase, Link, List, None, Ok, Open, Option}
+use Rattle.lease_laws.proofs.Words.{Patch, Pending, Phase, Reply, Request, Result, Server, Some, Status, Step, TellNumbers, World}
+use Rattle.lease_laws.proofs.Words.{ℕ, ⊎_elim, [], all_turned, ap, ap₂, arith, break_notice, commanded, connect_turn}
+use Rattle.lease_laws.proofs.Words.{connected_open, connection_made, eq-eqb, eqb-true, false, file_asked, file_of_open, flat_map}
+use Rattle.lease_laws.proofs.Words.{granted_form_of, has_written, is_down, is_up, joined, key_expired, key_of, knows_file}
+use Rattle.lease_laws.proofs.Words.{lease_after, not, noticed, numbers_to, opens_dropped, put, refl, refusal_of, sent_over}
+use Rattle.lease_laws.proofs.Words.{stepped_in, subst, sym, taken, true, true≢false, was_opened, with_opens}
+use Rattle.lease_model.specs.records.Past.{has_number}
 use Rattle.lease_laws.proofs.client.Forms.{commanded-stays, taken-stays}
 use Rattle.lease_laws.proofs.client.Notes.{called_tells}
 use Rattle.lease_laws.proofs.client.Thin.{put_same, put_other}
@@ -41,7 +19,8 @@ use Rattle.lease_coherence.specs.Names.{IsNamedOnFile, IsNamedRequest, WasWritte
 use Rattle.lease_laws.proofs.client.cases.Commands.{any_command}
 use Rattle.lease_laws.proofs.client.cases.Replies.{any_reply}
 use Rattle.lease_coherence.proofs.creates.Creates.{up_link, stepped_machine, none_held}
-use Rattle.lease_coherence.proofs.moves.Deeds.{told_to, held_in, granted_in, reconnected_in, changed_in, without_opens, leased_in, granted_reply, reconnected_reply, done_reply}
+use Rattle.lease_coherence.proofs.moves.Deeds.{told_to, held_in, granted_in, reconnected_in, changed_in, without_opens, leased_in}
+use Rattle.lease_coherence.proofs.moves.Deeds.{granted_reply, reconnected_reply, done_reply}
 use Rattle.lease_coherence.proofs.moves.Events.{Ground, timed_out, come_back, connected, reply_gone, reply_taken}
 use Rattle.lease_coherence.proofs.moves.Foreign.{IsUnmoved}
 use Rattle.lease_coherence.proofs.moves.Frames.{lease_put_rest, stepped_past, stepped_requests, stepped_replies}
@@ -54,9 +33,12 @@ use Rattle.lease_coherence.proofs.names.Words.{entry_later, opened_once}
 use Rattle.lease_coherence.proofs.records.Later.{later_fact, later_noted, past_noted}
 use Rattle.lease_coherence.proofs.standing.Runs.{link_of, was_up}
 use Rattle.lease_coherence.proofs.standing.Words.{head_of}
-use Rattle.lease_coherence.proofs.writes.Counts.{write_of, writes, held_writes, settles_of, settling, numbered_in, writes_under_way, writes_append, held_writes_among, refusal_settles}
-use Rattle.lease_coherence.proofs.writes.Steps.{IsKnownBy, IsOwnNumber, AddsUpWell, AddsUpTaken, no_answers, own_before, commands_add, takes_add, IsSentOnce, IsUpSentOnce}
-use Rattle.lease_coherence.proofs.writes.Answered.{ground_of, names_of, known_by, own_counts, first_off, not_counted, same_once, answered_once, told_once, ack_off}
+use Rattle.lease_coherence.proofs.writes.Counts.{write_of, writes, held_writes, settles_of, settling, numbered_in}
+use Rattle.lease_coherence.proofs.writes.Counts.{writes_under_way, writes_append, held_writes_among, refusal_settles}
+use Rattle.lease_coherence.proofs.writes.Steps.{IsKnownBy, IsOwnNumber, AddsUpWell, AddsUpTaken, no_answers, own_before}
+use Rattle.lease_coherence.proofs.writes.Steps.{commands_add, takes_add, IsSentOnce, IsUpSentOnce}
+use Rattle.lease_coherence.proofs.writes.Answered.{ground_of, names_of, known_by, own_counts, first_off, not_counted, same_once}
+use Rattle.lease_coherence.proofs.writes.Answered.{answered_once, told_once, ack_off}
 use Rattle.lease_coherence.proofs.records.Known.{HasRecord}
 
 -- ---- a request is held

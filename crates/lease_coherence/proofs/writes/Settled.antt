@@ -1,14 +1,7 @@
 -- Which writes are left once some are settled, by their numbers.
-use Rattle.std.proofs.Common.{◌≡◌, inl, inr, ⊎_elim, ℕ, ◌≤◌, ◌<◌, Bool, true, false, not, List, [], ◌∷◌, ◌++◌, filter, refl, sym, ap, ap₂, ◌∙◌, arith, true≢false, ◌==◌}
-use Rattle.std.specs.Prelude.{◌&&◌, ◌||◌, nat_lt, nat_le}
-use Rattle.std.proofs.lemmas.Bool.{eqb-true, eq-eqb}
-use Rattle.lease_model.specs.client.Commands.{Note, Settlement}
-use Rattle.lease_model.specs.client.State.{Pending}
-use Rattle.lease_model.specs.client.Step.{settled_as}
-use Rattle.lease_model.specs.client.Taken.{sent_without}
-use Rattle.lease_model.specs.values.Lists.{without}
-use Rattle.lease_laws.specs.client.Laws.{are_rising, has_number}
-use Rattle.lease_laws.specs.server.Laws.{Among}
+use Rattle.lease_laws.proofs.Words.{◌&&◌, ◌++◌, ◌<◌, ◌==◌, ◌||◌, ◌∙◌, ◌∷◌, ◌≡◌, ◌≤◌, Among, Bool, List, Note, Pending, Settlement}
+use Rattle.lease_laws.proofs.Words.{ℕ, ⊎_elim, [], ap, ap₂, are_rising, arith, eq-eqb, eqb-true, false, filter, has_number, inl}
+use Rattle.lease_laws.proofs.Words.{inr, nat_le, nat_lt, not, refl, sent_without, settled_as, sym, true, true≢false, without}
 use Rattle.lease_laws.proofs.server.Lists.{either, clash, and_parts, or_true, true_or, not_true}
 
 -- ---- words

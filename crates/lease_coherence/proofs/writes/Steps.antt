@@ -1,22 +1,14 @@
 -- What a client's step adds to the writes under way, and what it takes.
-use Rattle.std.proofs.Common.{◌≡◌, ◌≢◌, ◌⊎◌, inl, inr, ⊎_elim, ℕ, ◌+◌, ◌≤◌, ◌<◌, Bool, true, false, List, [], ◌∷◌, ◌++◌, Option, Some, None, refl, sym, ap, ap₂, ◌∙◌, subst, arith, true≢false, ◌==◌}
-use Rattle.std.specs.Prelude.{◌&&◌, if◌then◌else◌, nat_le}
-use Rattle.std.specs.List.{list_any}
-use Rattle.std.proofs.lemmas.Bool.{eqb-true}
-use Rattle.lease_state.specs.State.{State}
-use Rattle.lease_state.specs.declared.patch.Patch.{Patch}
-use Rattle.lease_model.specs.client.Commanded.{next_write, cached_read, opened_anew, write_buffered, write_sent, flush_on_live, wrote_step}
-use Rattle.lease_model.specs.client.Commands.{Answer, Note}
-use Rattle.lease_model.specs.client.State.{Client, Entry, LiveEntry, Asked, Pending, Phase, knows_file}
-use Rattle.lease_model.specs.client.Step.{Step, Turn, turned, quiet_step, write_requests}
-use Rattle.lease_model.specs.client.Taken.{parked_closed, belief_lowered, flushed, gives_up, opened_turn, reconnected_turn, promoted_turn, read_turn, closed_by_server, without_open, is_numbered, has_sent, sent_without, write_done_turn, file_where}
-use Rattle.lease_model.specs.messages.Replies.{Reply, BreakNotice}
-use Rattle.lease_model.specs.messages.Requests.{FileRequest, Request}
-use Rattle.lease_model.specs.records.Facts.{Fact}
-use Rattle.lease_model.specs.records.Past.{has_number, has_written}
-use Rattle.lease_model.specs.values.Tables.{put}
-use Rattle.lease_model.specs.world.World.{fact_of, World}
-use Rattle.lease_laws.specs.client.Laws.{TellNumbers}
+use Rattle.lease_laws.proofs.Words.{◌&&◌, ◌++◌, ◌+◌, ◌<◌, ◌==◌, ◌∙◌, ◌∷◌, ◌≡◌, ◌≢◌, ◌≤◌, ◌⊎◌, Among, Answer, Asked, Bool}
+use Rattle.lease_laws.proofs.Words.{BreakNotice, Client, Entry, Fact, FileRequest, Held, List, LiveEntry, None, Note, Option}
+use Rattle.lease_laws.proofs.Words.{Patch, Pending, Phase, Reply, Request, Some, State, Step, TellNumbers, Turn, World, ℕ, ⊎_elim}
+use Rattle.lease_laws.proofs.Words.{[], ap, ap₂, arith, belief_lowered, cached_read, closed_by_server, eqb-true, fact_of, false}
+use Rattle.lease_laws.proofs.Words.{file_where, flush_on_live, flushed, gives_up, has_sent, has_written, if◌then◌else◌, inl, inr}
+use Rattle.lease_laws.proofs.Words.{is_numbered, is_up, knows_file, list_any, nat_le, next_write, opened_anew, opened_turn}
+use Rattle.lease_laws.proofs.Words.{parked_closed, promoted_turn, put, quiet_step, read_turn, reconnected_turn, refl}
+use Rattle.lease_laws.proofs.Words.{sent_without, subst, sym, true, true≢false, turned, without_open, write_buffered}
+use Rattle.lease_laws.proofs.Words.{write_done_turn, write_requests, write_sent, wrote_step}
+use Rattle.lease_model.specs.records.Past.{has_number}
 use Rattle.lease_laws.proofs.client.Thin.{put_same, put_other}
 use Rattle.lease_laws.proofs.server.Lists.{either, clash, or_true, and_parts, not_true}
 use Rattle.lease_laws.proofs.world.Links.{by_client}
@@ -29,10 +21,8 @@ use Rattle.lease_coherence.proofs.moves.Shift.{append_none}
 use Rattle.lease_coherence.proofs.names.Clients.{HasNames}
 use Rattle.lease_coherence.proofs.records.Later.{past_noted}
 use Rattle.lease_coherence.proofs.records.Once.{IsOneWrite, written_number}
-use Rattle.lease_coherence.proofs.writes.Counts.{writes, settles_of, numbered_in, writes_append, numbered_append, writes_asked, numbered_without, none_numbered, writes_under_way}
-use Rattle.lease_model.specs.server.State.{Held}
-use Rattle.lease_laws.specs.world.Links.{is_up}
-use Rattle.lease_laws.specs.server.Laws.{Among}
+use Rattle.lease_coherence.proofs.writes.Counts.{writes, settles_of, numbered_in, writes_append, numbered_append, writes_asked}
+use Rattle.lease_coherence.proofs.writes.Counts.{numbered_without, none_numbered, writes_under_way}
 
 -- what is known of a client by its record
 pub record IsKnownBy (c : ℕ) (client : Client) (past : List Fact) : Type 0 where

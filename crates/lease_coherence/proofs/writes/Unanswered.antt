@@ -1,27 +1,15 @@
 -- The record has the unanswered writes of each client, in the order in which its entries have them.
-use Rattle.std.proofs.Common.{◌≡◌, ◌≢◌, ⊎_elim, ℕ, Bool, true, false, not, List, [], ◌∷◌, ◌++◌, flat_map, Option, Some, None, refl, sym, ap, ap₂, ◌∙◌, subst, true≢false, ◌==◌, filter}
-use Rattle.std.specs.Prelude.{◌&&◌, ◌||◌, if◌then◌else◌}
-use Rattle.std.proofs.lemmas.Bool.{eqb-true, eq-eqb}
-use Rattle.lease_model.specs.client.Calls.{ClientCall, client_called}
-use Rattle.lease_model.specs.client.Commanded.{next_write, cached_read, opened_anew, write_buffered, write_sent, flush_on_live, wrote_step}
-use Rattle.lease_model.specs.client.Commands.{Answer, Note, Settlement}
-use Rattle.lease_model.specs.client.Connection.{all_turned, noticed, connection_made, notice_turn, connect_turn, offline_turn, parted_from}
-use Rattle.lease_model.specs.client.State.{Client, Entry, LiveEntry, Asked, Pending, Phase, belief_of, knows_file, lease_key}
-use Rattle.lease_model.specs.client.Step.{Step, Turn, settled_as}
-use Rattle.lease_model.specs.client.Taken.{sent_without, parked_closed, belief_lowered, gives_up, opened_turn, reconnected_turn, promoted_turn, promoted_belief, first_belief, read_turn, closed_by_server, without_open, write_done_turn, phase_with}
-use Rattle.lease_model.specs.messages.Replies.{Out}
-use Rattle.lease_model.specs.records.Facts.{Fact}
-use Rattle.lease_model.specs.server.Calls.{joined}
-use Rattle.lease_model.specs.server.Progress.{begun}
-use Rattle.lease_model.specs.values.LeaseStates.{meet}
-use Rattle.lease_model.specs.values.Lists.{numbers_to, without}
-use Rattle.lease_model.specs.values.Tables.{put}
-use Rattle.lease_model.specs.world.Events.{stepped_in}
-use Rattle.lease_model.specs.world.World.{World, Link, requests_sent, fact_of}
-use Rattle.lease_laws.specs.client.Laws.{IsSoundClient, IsSoundPhase, IsSoundLive, are_rising, has_number, unanswered_in, unsent_in}
-use Rattle.lease_laws.specs.records.Runs.{open_writes}
-use Rattle.lease_laws.specs.server.Laws.{Among}
-use Rattle.lease_laws.specs.server.SmallSteps.{step_taken}
+use Rattle.lease_laws.proofs.Words.{◌&&◌, ◌++◌, ◌==◌, ◌||◌, ◌∙◌, ◌∷◌, ◌≡◌, ◌≢◌, Among, Answer, Asked, Bool, Client, ClientCall}
+use Rattle.lease_laws.proofs.Words.{Entry, Fact, IsSoundClient, IsSoundLive, IsSoundPhase, Link, List, LiveEntry, None, Note}
+use Rattle.lease_laws.proofs.Words.{Option, Out, Pending, Phase, Settlement, Some, Step, Turn, World, ℕ, ⊎_elim, [], all_turned}
+use Rattle.lease_laws.proofs.Words.{ap, ap₂, are_rising, begun, belief_lowered, belief_of, cached_read, client_called}
+use Rattle.lease_laws.proofs.Words.{closed_by_server, connect_turn, connection_made, eq-eqb, eqb-true, fact_of, false, filter}
+use Rattle.lease_laws.proofs.Words.{first_belief, flat_map, flush_on_live, gives_up, has_number, if◌then◌else◌, joined}
+use Rattle.lease_laws.proofs.Words.{knows_file, lease_key, meet, next_write, not, notice_turn, noticed, numbers_to, offline_turn}
+use Rattle.lease_laws.proofs.Words.{open_writes, opened_anew, opened_turn, parked_closed, parted_from, phase_with}
+use Rattle.lease_laws.proofs.Words.{promoted_belief, promoted_turn, put, read_turn, reconnected_turn, refl, requests_sent}
+use Rattle.lease_laws.proofs.Words.{sent_without, settled_as, step_taken, stepped_in, subst, sym, true, true≢false, unanswered_in}
+use Rattle.lease_laws.proofs.Words.{unsent_in, without, without_open, write_buffered, write_done_turn, write_sent, wrote_step}
 use Rattle.lease_laws.proofs.client.Forms.{commanded-stays, taken-stays}
 use Rattle.lease_laws.proofs.client.Thin.{put_same, put_other}
 use Rattle.lease_laws.proofs.server.Lists.{if_cases, either, clash, or_true, true_or, not_true}
@@ -37,8 +25,11 @@ use Rattle.lease_coherence.proofs.moves.Ground.{moved_clients, moved_past}
 use Rattle.lease_coherence.proofs.moves.Shift.{append_none}
 use Rattle.lease_coherence.proofs.records.Later.{past_noted}
 use Rattle.lease_coherence.proofs.wellformed.Notes.{EachNote, notes_append, IsSettling, settles}
-use Rattle.lease_coherence.proofs.writes.Settled.{same_bool, or_later, filter_alike, number_there, number_append, settles_in, settles_append, settles_these, left_of, left_one, left_one_front, left_buffered}
-use Rattle.lease_coherence.proofs.writes.Noted.{IsPlainNote, noted_left, LeavesWrites, TellsWrites, TurnLeaves, settling_none, believed_none, turn_notes, turn_settles, turned_leaves, turned_tells, quiet_leaves, front_leaves, same_leaves}
+use Rattle.lease_coherence.proofs.writes.Settled.{same_bool, or_later, filter_alike, number_there, number_append, settles_in}
+use Rattle.lease_coherence.proofs.writes.Settled.{settles_append, settles_these, left_of, left_one, left_one_front, left_buffered}
+use Rattle.lease_coherence.proofs.writes.Noted.{IsPlainNote, noted_left, LeavesWrites, TellsWrites, TurnLeaves, settling_none}
+use Rattle.lease_coherence.proofs.writes.Noted.{believed_none, turn_notes, turn_settles, turned_leaves, turned_tells}
+use Rattle.lease_coherence.proofs.writes.Noted.{quiet_leaves, front_leaves, same_leaves}
 use Rattle.lease_laws.proofs.client.cases.Links.{HasNotices, any_notice}
 use Rattle.lease_laws.proofs.client.Words.{sound_as}
 

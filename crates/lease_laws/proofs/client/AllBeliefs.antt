@@ -1,18 +1,12 @@
 -- Where all entries of a client have their turn, the notes tell what it then believes.
-use Rattle.std.proofs.Common.{◌≡◌, ◌≢◌, ℕ, zero, suc, Bool, true, false, List, [], ◌∷◌, ◌++◌, refl, sym, ap, ◌∙◌, subst, arith, append-nil}
-use Rattle.std.specs.Prelude.{◌&&◌, ◌==◌, if◌then◌else◌, nat_le, flat_map}
-use Rattle.std.proofs.lemmas.Grind.{flat_map-append}
-use Rattle.std.proofs.lemmas.Bool.Decides.{Decides-eqb}
-use Rattle.lease_state.specs.State.{State}
-use Rattle.lease_model.specs.client.Calls.{ClientCall, client_called}
-use Rattle.lease_model.specs.client.Commands.{Note, Settlement}
-use Rattle.lease_model.specs.client.Connection.{all_turned, notice_turn, noticed, connect_turn, connection_made}
-use Rattle.lease_model.specs.client.State.{Client, Entry, Pending, Phase, knows_file, belief, belief_in, belief_of}
-use Rattle.lease_model.specs.client.Step.{Turn, believes_noted}
-use Rattle.lease_model.specs.values.Lists.{numbers_to, without}
-use Rattle.lease_laws.specs.client.Laws.{believed_after}
+use Rattle.lease_laws.proofs.Words.{◌&&◌, ◌++◌, ◌==◌, ◌∙◌, ◌∷◌, ◌≡◌, ◌≢◌, Bool, Client, ClientCall, Decides-eqb, Entry, List}
+use Rattle.lease_laws.proofs.Words.{Note, Pending, Phase, Settlement, State, Turn, ℕ, [], all_turned, ap, append-nil, arith}
+use Rattle.lease_laws.proofs.Words.{belief, belief_in, belief_of, believed_after, believes_noted, client_called, connect_turn}
+use Rattle.lease_laws.proofs.Words.{connection_made, false, flat_map, flat_map-append, if◌then◌else◌, knows_file, nat_le}
+use Rattle.lease_laws.proofs.Words.{notice_turn, noticed, numbers_to, refl, subst, suc, sym, true, without, zero}
 use Rattle.lease_laws.proofs.client.cases.Links.{HasNotices, any_notice}
-use Rattle.lease_laws.proofs.client.Beliefs.{AreSettlements, settled_settle, settle_pass, noted_own, noted_other, commanded_behaves, taken_tells}
+use Rattle.lease_laws.proofs.client.Beliefs.{AreSettlements, settled_settle, settle_pass, noted_own, noted_other}
+use Rattle.lease_laws.proofs.client.Beliefs.{commanded_behaves, taken_tells}
 use Rattle.lease_laws.proofs.client.InFiles.{InFiles}
 use Rattle.lease_laws.proofs.server.Lists.{either, clash}
 

@@ -1,20 +1,12 @@
 -- The notes of every call tell what the client then believes, and refused commands do nothing.
-use Rattle.std.proofs.Common.{◌≡◌, ◌≢◌, ℕ, Bool, true, false, List, [], ◌∷◌, ◌++◌, refl, sym, ap, ◌∙◌, subst, true≢false}
-use Rattle.std.specs.Prelude.{◌&&◌, ◌==◌, if◌then◌else◌}
-use Rattle.std.proofs.lemmas.Bool.Decides.{Decides-eqb}
-use mathlib.Core.Bool.{beq}
-use Rattle.lease_state.specs.State.{State}
-use Rattle.lease_model.specs.client.Commanded.{cached_read, opened_anew, wrote_step, next_write, write_buffered, write_sent, flush_on_live, commanded}
-use Rattle.lease_model.specs.client.Commands.{Command, Answer, Refusal, Note, Settlement}
-use Rattle.lease_model.specs.client.State.{Client, LiveEntry, Pending, Phase, belief, belief_of, lease_key, belief_in}
-use Rattle.lease_model.specs.client.Step.{Step, Turn, turned, refused_step, settled_as, believes_noted}
-use Rattle.lease_model.specs.client.Taken.{belief_lowered, parked_closed, opened_turn, reconnected_turn, promoted_turn, promoted_belief, first_belief, read_turn, closed_by_server, write_done_turn, taken}
-use Rattle.lease_model.specs.messages.Replies.{Reply}
-use Rattle.lease_model.specs.messages.Requests.{Request}
-use Rattle.lease_model.specs.values.LeaseStates.{same_state}
-use Rattle.lease_model.specs.values.Lists.{is_empty}
-use Rattle.lease_model.specs.values.Tables.{put}
-use Rattle.lease_laws.specs.client.Laws.{believed_after}
+use Rattle.lease_laws.proofs.Words.{◌&&◌, ◌++◌, ◌==◌, ◌∙◌, ◌∷◌, ◌≡◌, ◌≢◌, Answer, Bool, Client, Command, Decides-eqb, List}
+use Rattle.lease_laws.proofs.Words.{LiveEntry, Note, Pending, Phase, Refusal, Reply, Request, Settlement, State, Step, Turn, ℕ}
+use Rattle.lease_laws.proofs.Words.{[], ap, belief, belief_in, belief_lowered, belief_of, believed_after, believes_noted, beq}
+use Rattle.lease_laws.proofs.Words.{cached_read, closed_by_server, commanded, false, first_belief, flush_on_live, if◌then◌else◌}
+use Rattle.lease_laws.proofs.Words.{is_empty, lease_key, next_write, opened_anew, opened_turn, parked_closed, promoted_belief}
+use Rattle.lease_laws.proofs.Words.{promoted_turn, put, read_turn, reconnected_turn, refl, refused_step, same_state, settled_as}
+use Rattle.lease_laws.proofs.Words.{subst, sym, taken, true, true≢false, turned, write_buffered, write_done_turn, write_sent}
+use Rattle.lease_laws.proofs.Words.{wrote_step}
 use Rattle.lease_laws.proofs.client.Thin.{put_same, put_other}
 use Rattle.lease_laws.proofs.client.Words.{if_either}
 use Rattle.lease_laws.proofs.client.cases.Commands.{HasCommands, any_command}

@@ -1,14 +1,14 @@
 -- The laws of the entries of a client hold of a new one, and every call keeps them.
-use Rattle.std.proofs.Common.{◌≡◌, ◌≤◌, arith, ℕ, ◌+◌, Bool, true, false, List, [], ◌++◌, Option, Some, None, refl, if◌then◌else◌}
-use Rattle.lease_model.specs.client.Calls.{ClientCall, client_called}
-use Rattle.lease_model.specs.client.Commanded.{is_asking, one_handle_less, cached_read, opened_anew, write_buffered, write_sent, flush_on_live}
-use Rattle.lease_model.specs.client.Connection.{all_turned, noticed, connect_turn, connection_made}
-use Rattle.lease_model.specs.client.State.{Client, LiveEntry, Asked, Pending, Phase, new_client, lease_key}
-use Rattle.lease_model.specs.client.Step.{Step, Turn, turned}
-use Rattle.lease_model.specs.client.Taken.{first_belief, promoted_belief, promoted_turn, without_open, belief_lowered, parked_closed, opened_turn, reconnected_turn, read_turn, closed_by_server, sent_without, write_done_turn, one_read_less, gives_up}
-use Rattle.lease_model.specs.values.LeaseStates.{meet}
-use Rattle.lease_laws.specs.client.Laws.{are_buffered, IsSoundLive, IsSoundPhase, IsSoundEntry}
-use Rattle.lease_laws.proofs.client.Words.{some_handle, one_less_still, if_either, put_each, joined_buffered, filter_buffered, sent_without-none, HasSoundEntries, sound_as, kept_under, read_under, unflushed-none, again_under, done_sound}
+use Rattle.lease_laws.proofs.Words.{◌++◌, ◌+◌, ◌≡◌, ◌≤◌, Asked, Bool, Client, ClientCall, IsSoundEntry, IsSoundLive, IsSoundPhase}
+use Rattle.lease_laws.proofs.Words.{List, LiveEntry, None, Option, Pending, Phase, Some, Step, Turn, ℕ, [], all_turned}
+use Rattle.lease_laws.proofs.Words.{are_buffered, arith, belief_lowered, cached_read, client_called, closed_by_server}
+use Rattle.lease_laws.proofs.Words.{connect_turn, connection_made, false, first_belief, flush_on_live, gives_up, if◌then◌else◌}
+use Rattle.lease_laws.proofs.Words.{is_asking, lease_key, meet, new_client, noticed, one_handle_less, one_read_less, opened_anew}
+use Rattle.lease_laws.proofs.Words.{opened_turn, parked_closed, promoted_belief, promoted_turn, read_turn, reconnected_turn, refl}
+use Rattle.lease_laws.proofs.Words.{sent_without, true, turned, without_open, write_buffered, write_done_turn, write_sent}
+use Rattle.lease_laws.proofs.client.Words.{some_handle, one_less_still, if_either, put_each, joined_buffered, filter_buffered}
+use Rattle.lease_laws.proofs.client.Words.{sent_without-none, HasSoundEntries, sound_as, kept_under, read_under, unflushed-none}
+use Rattle.lease_laws.proofs.client.Words.{again_under, done_sound}
 use Rattle.lease_laws.proofs.client.cases.Commands.{HasCommands, any_command, sent_of}
 use Rattle.lease_laws.proofs.client.cases.Links.{HasNotices, any_notice}
 use Rattle.lease_laws.proofs.client.cases.Replies.{HasTakes, any_reply}

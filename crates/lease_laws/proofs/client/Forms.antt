@@ -1,13 +1,8 @@
 -- What a command or a message makes of a client has one of a few forms; so whatever these forms have,
 -- every such step has.
-use Rattle.std.proofs.Common.{◌≡◌, ℕ, List, refl}
-use Rattle.lease_model.specs.client.Commanded.{commanded, cached_read, opened_anew, wrote_step, write_buffered, write_sent, flush_on_live}
-use Rattle.lease_model.specs.client.Commands.{Answer, Command, Refusal}
-use Rattle.lease_model.specs.client.State.{Client, Entry, Pending}
-use Rattle.lease_model.specs.client.Step.{Step, Turn, turned, refused_step, quiet_step}
-use Rattle.lease_model.specs.client.Taken.{taken}
-use Rattle.lease_model.specs.messages.Replies.{Reply}
-use Rattle.lease_model.specs.messages.Requests.{Request}
+use Rattle.lease_laws.proofs.Words.{◌≡◌, Answer, Client, Command, Entry, List, Pending, Refusal, Reply, Request, Step, Turn, ℕ}
+use Rattle.lease_laws.proofs.Words.{cached_read, commanded, flush_on_live, opened_anew, quiet_step, refl, refused_step, taken}
+use Rattle.lease_laws.proofs.Words.{turned, write_buffered, write_sent, wrote_step}
 use Rattle.lease_laws.proofs.client.cases.Commands.{HasCommands, any_command}
 use Rattle.lease_laws.proofs.client.cases.Replies.{HasTakes, any_reply}
 

@@ -1,12 +1,8 @@
 -- Entries of files that a client doesn't know stay closed.
-use Rattle.std.proofs.Common.{◌≡◌, ◌≢◌, ℕ, true, false, List, refl, sym, ap, ◌∙◌}
-use Rattle.lease_model.specs.client.Calls.{ClientCall, client_called}
-use Rattle.lease_model.specs.client.Commanded.{cached_read, opened_anew, write_buffered, write_sent, flush_on_live}
-use Rattle.lease_model.specs.client.Connection.{all_turned, notice_turn, noticed, connect_turn, connection_made}
-use Rattle.lease_model.specs.client.State.{Client, Entry, Phase, new_client, knows_file}
-use Rattle.lease_model.specs.client.Step.{Step, Turn, turned}
-use Rattle.lease_model.specs.client.Taken.{is_key_of}
-use Rattle.lease_model.specs.values.Tables.{put}
+use Rattle.lease_laws.proofs.Words.{◌∙◌, ◌≡◌, ◌≢◌, Client, ClientCall, Entry, List, Phase, Step, Turn, ℕ, all_turned, ap}
+use Rattle.lease_laws.proofs.Words.{cached_read, client_called, connect_turn, connection_made, false, flush_on_live, is_key_of}
+use Rattle.lease_laws.proofs.Words.{knows_file, new_client, notice_turn, noticed, opened_anew, put, refl, sym, true, turned}
+use Rattle.lease_laws.proofs.Words.{write_buffered, write_sent}
 use Rattle.lease_laws.proofs.client.Beliefs.{by_place}
 use Rattle.lease_laws.proofs.client.cases.Commands.{HasCommands, any_command}
 use Rattle.lease_laws.proofs.client.cases.Files.{found_known}

@@ -1,17 +1,12 @@
 -- What a client notes of writes agrees with their numbers.
-use Rattle.std.proofs.Common.{◌≡◌, ◌≤◌, arith, subst, ℕ, ◌+◌, Bool, true, false, List, [], ◌∷◌, ◌++◌, refl, ◌<◌}
-use Rattle.std.specs.Prelude.{◌&&◌, not, flat_map, nat_lt, nat_le, if◌then◌else◌}
-use Rattle.lease_state.specs.State.{State}
-use Rattle.lease_model.specs.client.Calls.{ClientCall, client_called}
-use Rattle.lease_model.specs.client.Commanded.{next_write, cached_read, opened_anew, write_buffered, write_sent, flush_on_live}
-use Rattle.lease_model.specs.client.Commands.{Note, Settlement}
-use Rattle.lease_model.specs.client.Connection.{all_turned, noticed, connect_turn, connection_made}
-use Rattle.lease_model.specs.client.State.{Client, Entry, Pending, Phase, belief_of, lease_key}
-use Rattle.lease_model.specs.client.Step.{Step, Turn, turned, believes_noted, settled_as}
-use Rattle.lease_model.specs.client.Taken.{belief_lowered, closed_by_server, first_belief, has_sent, opened_turn, parked_closed, promoted_belief, promoted_turn, read_turn, reconnected_turn, write_done_turn}
-use Rattle.lease_model.specs.values.LeaseStates.{same_state}
-use Rattle.lease_model.specs.values.Lists.{numbers_to, without}
-use Rattle.lease_laws.specs.client.Laws.{IsSoundClient, TellNumbers, unsent_in, are_rising, has_number}
+use Rattle.lease_laws.proofs.Words.{◌&&◌, ◌++◌, ◌+◌, ◌<◌, ◌∷◌, ◌≡◌, ◌≤◌, Bool, Client, ClientCall, Entry, IsSoundClient, List}
+use Rattle.lease_laws.proofs.Words.{Note, Pending, Phase, Settlement, State, Step, TellNumbers, Turn, ℕ, [], all_turned}
+use Rattle.lease_laws.proofs.Words.{are_rising, arith, belief_lowered, belief_of, believes_noted, cached_read, client_called}
+use Rattle.lease_laws.proofs.Words.{closed_by_server, connect_turn, connection_made, false, first_belief, flat_map, flush_on_live}
+use Rattle.lease_laws.proofs.Words.{has_number, has_sent, if◌then◌else◌, lease_key, nat_le, nat_lt, next_write, not, noticed}
+use Rattle.lease_laws.proofs.Words.{numbers_to, opened_anew, opened_turn, parked_closed, promoted_belief, promoted_turn}
+use Rattle.lease_laws.proofs.Words.{read_turn, reconnected_turn, refl, same_state, settled_as, subst, true, turned, unsent_in}
+use Rattle.lease_laws.proofs.Words.{without, write_buffered, write_done_turn, write_sent}
 use Rattle.lease_laws.proofs.client.Numbers.{Numbers}
 use Rattle.lease_laws.proofs.client.Thin.{IsThinner, thin_front, thin_behind, thin_filter, beyond}
 use Rattle.lease_laws.proofs.client.Words.{if_either}

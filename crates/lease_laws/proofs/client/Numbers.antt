@@ -1,17 +1,14 @@
 -- The unanswered writes of a client have their own numbers, and every call keeps it so.
-use Rattle.std.proofs.Common.{◌≡◌, ℕ, ◌+◌, Bool, true, false, List, [], ◌∷◌, ◌++◌, Some, None, refl, ap, sym, subst, ◌∙◌, append_assoc, Option}
-use Rattle.std.specs.Prelude.{if◌then◌else◌}
-use Rattle.std.proofs.lemmas.List.{append-nil}
-use Rattle.lease_laws.specs.client.Laws.{HaveOwnNumbers, unanswered_in, unsent_in}
-use Rattle.lease_model.specs.client.Calls.{ClientCall, client_called}
-use Rattle.lease_model.specs.client.Commanded.{next_write, cached_read, opened_anew, write_buffered, write_sent, flush_on_live}
-use Rattle.lease_model.specs.client.Connection.{all_turned, notice_turn, noticed, connect_turn, connection_made}
-use Rattle.lease_model.specs.client.State.{Client, Entry, LiveEntry, Pending, Phase, Asked, new_client, lease_key}
-use Rattle.lease_model.specs.client.Step.{Turn, turned}
-use Rattle.lease_model.specs.client.Taken.{belief_lowered, parked_closed, opened_turn, reconnected_turn, promoted_turn, promoted_belief, first_belief, read_turn, closed_by_server, sent_without, phase_with, write_done_turn, gives_up, without_open}
-use Rattle.lease_model.specs.values.LeaseStates.{meet}
-use Rattle.lease_model.specs.values.Tables.{put}
-use Rattle.lease_laws.proofs.client.Thin.{IsThinner, thin_same, thin_equal, thin_none, thin_then, thin_after, thin_behind, thin_without, thin_filter, thin_table, grown_table, put_at, put_same, put_other}
+use Rattle.lease_laws.proofs.Words.{◌++◌, ◌+◌, ◌∙◌, ◌∷◌, ◌≡◌, Asked, Bool, Client, ClientCall, Entry, HaveOwnNumbers, List}
+use Rattle.lease_laws.proofs.Words.{LiveEntry, None, Option, Pending, Phase, Some, Turn, ℕ, [], all_turned, ap, append-nil}
+use Rattle.lease_laws.proofs.Words.{append_assoc, belief_lowered, cached_read, client_called, closed_by_server, connect_turn}
+use Rattle.lease_laws.proofs.Words.{connection_made, false, first_belief, flush_on_live, gives_up, if◌then◌else◌, lease_key, meet}
+use Rattle.lease_laws.proofs.Words.{new_client, next_write, notice_turn, noticed, opened_anew, opened_turn, parked_closed}
+use Rattle.lease_laws.proofs.Words.{phase_with, promoted_belief, promoted_turn, put, read_turn, reconnected_turn, refl}
+use Rattle.lease_laws.proofs.Words.{sent_without, subst, sym, true, turned, unanswered_in, unsent_in, without_open}
+use Rattle.lease_laws.proofs.Words.{write_buffered, write_done_turn, write_sent}
+use Rattle.lease_laws.proofs.client.Thin.{IsThinner, thin_same, thin_equal, thin_none, thin_then, thin_after, thin_behind}
+use Rattle.lease_laws.proofs.client.Thin.{thin_without, thin_filter, thin_table, grown_table, put_at, put_same, put_other}
 use Rattle.lease_laws.proofs.client.Words.{HasSoundEntries, sound_as}
 use Rattle.lease_laws.proofs.client.cases.Commands.{HasCommands, any_command, sent_of}
 use Rattle.lease_laws.proofs.client.cases.Links.{HasNotices, any_notice}

@@ -1,12 +1,7 @@
 -- Lists of unanswered writes: with some of them gone, or one more, they keep their own numbers.
-use Rattle.std.proofs.Common.{◌≡◌, ◌≢◌, ◌⊎◌, ◌≤◌, ◌<◌, inl, inr, ⊎_elim, ℕ, ◌+◌, Bool, true, false, List, [], ◌∷◌, ◌++◌, refl, arith, sym, subst, ◌∙◌}
-use Rattle.std.specs.Prelude.{◌&&◌, ◌||◌, ◌==◌, nat_lt, nat_le, filter}
-use Rattle.std.proofs.lemmas.Bool.{eq-eqb, eqb-true}
-use Rattle.std.proofs.lemmas.List.Folds.{list_any-append}
-use Rattle.lease_laws.specs.client.Laws.{are_rising, has_number, HaveOwnNumbers}
-use Rattle.lease_model.specs.client.Taken.{is_numbered, sent_without}
-use Rattle.lease_model.specs.client.State.{Pending}
-use Rattle.lease_model.specs.values.Tables.{put}
+use Rattle.lease_laws.proofs.Words.{◌&&◌, ◌++◌, ◌+◌, ◌<◌, ◌==◌, ◌||◌, ◌∙◌, ◌∷◌, ◌≡◌, ◌≢◌, ◌≤◌, ◌⊎◌, Bool, HaveOwnNumbers, List}
+use Rattle.lease_laws.proofs.Words.{Pending, ℕ, ⊎_elim, [], are_rising, arith, eq-eqb, eqb-true, false, filter, has_number, inl}
+use Rattle.lease_laws.proofs.Words.{inr, is_numbered, list_any-append, nat_le, nat_lt, put, refl, sent_without, subst, sym, true}
 use Rattle.lease_laws.proofs.server.Lists.{if_cases, either, clash, and_parts, and_both, or_true, not_true}
 
 -- ---- words on tests and tables

@@ -1,13 +1,9 @@
 -- Words on tests, tables and writes, and what becomes of one entry of a client.
-use Rattle.std.proofs.Common.{◌≡◌, ◌≤◌, ℕ, zero, suc, Bool, true, false, List, [], ◌∷◌, ◌++◌, Option, Some, None, refl, arith, subst}
-use Rattle.std.specs.Prelude.{◌&&◌, ◌||◌, not, ◌==◌, if◌then◌else◌, filter, nat_lt}
+use Rattle.lease_laws.proofs.Words.{◌&&◌, ◌++◌, ◌==◌, ◌||◌, ◌∷◌, ◌≡◌, ◌≤◌, Bool, Client, IsSoundEntry, IsSoundPhase, List, None}
+use Rattle.lease_laws.proofs.Words.{Option, Pending, Phase, Some, State, ℕ, [], are_buffered, arith, base_with, false, filter}
+use Rattle.lease_laws.proofs.Words.{gives_up, if◌then◌else◌, nat_lt, not, one_handle_less, phase_with, put, refl, sent_without}
+use Rattle.lease_laws.proofs.Words.{subst, suc, true, zero}
 use Rattle.lease_laws.proofs.server.Lists.{if_cases, clash, and_parts, and_both}
-use Rattle.lease_state.specs.State.{State}
-use Rattle.lease_model.specs.client.Commanded.{one_handle_less}
-use Rattle.lease_model.specs.client.Taken.{sent_without, base_with, phase_with, gives_up}
-use Rattle.lease_laws.specs.client.Laws.{are_buffered, IsSoundPhase, IsSoundEntry}
-use Rattle.lease_model.specs.client.State.{Client, Pending, Phase}
-use Rattle.lease_model.specs.values.Tables.{put}
 
 -- ---- words on tables, tests and lists
 

@@ -1,28 +1,18 @@
 -- Every request of a client machine has bytes.
-use Rattle.std.proofs.Common.{◌≡◌, ℕ, ◌+◌, Bool, List, [], ◌∷◌, ◌++◌, length, take, Option, Some, None, sym, ap, ◌∙◌, subst, arith, length-append, true, false}
-use Rattle.std.specs.Prelude.{flat_map}
-use Rattle.std.proofs.lemmas.Slice.Eq.{bytes_eq-Decides}
-use Rattle.std.proofs.lemmas.List.{length-take-le}
-use Rattle.lease_state.specs.State.{State}
-use Rattle.lease_model.specs.client.Calls.{ClientCall, client_called}
-use Rattle.lease_model.specs.client.Commanded.{create_request, opened_anew, joint_terms, cached_read, write_buffered, write_sent, flush_on_live}
-use Rattle.lease_model.specs.client.Commands.{OpenTerms}
-use Rattle.lease_model.specs.client.Connection.{all_turned, notice_turn, noticed, connect_turn, connection_made}
-use Rattle.lease_model.specs.client.State.{Client, Entry, Asked, Pending, Phase, lease_key}
-use Rattle.lease_model.specs.client.Step.{Step, Turn, turned, write_requests}
-use Rattle.lease_model.specs.client.Taken.{is_key_of, flushed, acknowledgment, belief_lowered, parked_closed, opened_turn, reconnected_turn, promoted_turn, read_turn, without_open, closed_by_server, phase_with, write_done_turn}
-use Rattle.lease_model.specs.messages.Replies.{BreakNotice}
-use Rattle.lease_model.specs.messages.Requests.{FileRequest, Request}
-use Rattle.lease_model.specs.messages.ToBytes.{HasRequestBytes}
-use Rattle.lease_model.specs.values.LeaseStates.{meet}
-use Rattle.lease_model.specs.values.Lists.{numbers_to}
-use Rattle.lease_laws.specs.messages.Written.{HasFileId, IsWriting, CallHasFileId, EachRequest}
+use Rattle.lease_laws.proofs.Words.{◌++◌, ◌+◌, ◌∙◌, ◌∷◌, ◌≡◌, Asked, Bool, BreakNotice, CallHasFileId, Client, ClientCall}
+use Rattle.lease_laws.proofs.Words.{EachRequest, Entry, FileRequest, HasFileId, HasRequestBytes, IsWriting, List, None, OpenTerms}
+use Rattle.lease_laws.proofs.Words.{Option, Pending, Phase, Request, Some, State, Step, Turn, ℕ, [], acknowledgment, all_turned}
+use Rattle.lease_laws.proofs.Words.{ap, arith, belief_lowered, bytes_eq-Decides, cached_read, client_called, closed_by_server}
+use Rattle.lease_laws.proofs.Words.{connect_turn, connection_made, create_request, false, flat_map, flush_on_live, flushed}
+use Rattle.lease_laws.proofs.Words.{is_key_of, joint_terms, lease_key, length, length-append, length-take-le, meet, notice_turn}
+use Rattle.lease_laws.proofs.Words.{noticed, numbers_to, opened_anew, opened_turn, parked_closed, phase_with, promoted_turn, put}
+use Rattle.lease_laws.proofs.Words.{read_turn, reconnected_turn, subst, sym, take, true, turned, without_open, write_buffered}
+use Rattle.lease_laws.proofs.Words.{write_done_turn, write_requests, write_sent}
 use Rattle.lease_laws.proofs.client.Words.{if_either, put_each}
 use Rattle.lease_laws.proofs.client.cases.Commands.{HasCommands, any_command}
 use Rattle.lease_laws.proofs.client.cases.Files.{found_so}
 use Rattle.lease_laws.proofs.client.cases.Links.{HasNotices, any_notice}
 use Rattle.lease_laws.proofs.client.cases.Replies.{HasTakes, any_reply}
-use Rattle.lease_model.specs.values.Tables.{put}
 
 -- ---- lists of requests
 

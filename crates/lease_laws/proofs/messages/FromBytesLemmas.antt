@@ -1,18 +1,12 @@
 -- The map from bytes finds what the layouts say.
-use Rattle.std.proofs.Common.{◌≡◌, ◌≢◌, ◌≤◌, ◌<◌, ◌==◌, ◌&&◌, ℕ, Bool, true, false, nat_le, List, length, take, refl, arith, sym, ◌∙◌, ap, subst, inl, inr}
-use Rattle.std.proofs.Math.Seq.{take-length}
-use Rattle.std.proofs.lemmas.List.{length-take}
-use Rattle.std.proofs.lemmas.Bool.Decides.{nat_tests}
-use Rattle.lease_wire.specs.Acknowledgment.{KeyAndState, IsAcknowledgment, acknowledgment_bytes}
-use Rattle.lease_wire.specs.Field.{number_at}
-use Rattle.lease_wire.specs.Notification.{Notice, IsNotification, notification_bytes}
-use Rattle.lease_wire.specs.declared.create.Direction.{Direction}
-use Rattle.lease_wire.proofs.CanonicalLaws.{written_reads_back}
-use Rattle.lease_wire.proofs.ReadingLaws.{value_is_read}
-use Rattle.lease_wire.proofs.Messages.{acknowledgment_layout, notification_layout}
-use Rattle.lease_wire.proofs.Pieces.{number_at-taken, bytes_at-taken}
-use Rattle.lease_model.specs.messages.FromBytes.{ask_found, answer_found, acknowledged_in, notice_in}
-use Rattle.lease_laws.specs.messages.Bytes.{AcknowledgmentIsFound, NotificationIsFound, NoAcknowledgmentIsFound, NoNotificationIsFound, ContextsAreFound, FaultyContextsAreNotFound, WrittenMessagesAreFound, WrittenContextsAreFound}
+use Rattle.lease_laws.proofs.Words.{◌&&◌, ◌<◌, ◌==◌, ◌∙◌, ◌≡◌, ◌≢◌, ◌≤◌, AcknowledgmentIsFound, Bool, ContextsAreFound, Direction}
+use Rattle.lease_laws.proofs.Words.{FaultyContextsAreNotFound, IsAcknowledgment, IsNotification, KeyAndState, List}
+use Rattle.lease_laws.proofs.Words.{NoAcknowledgmentIsFound, NoNotificationIsFound, Notice, NotificationIsFound}
+use Rattle.lease_laws.proofs.Words.{WrittenContextsAreFound, WrittenMessagesAreFound, ℕ, acknowledged_in, acknowledgment_bytes}
+use Rattle.lease_laws.proofs.Words.{acknowledgment_layout, answer_found, ap, arith, ask_found, bytes_at-taken, false, inl, inr}
+use Rattle.lease_laws.proofs.Words.{length, length-take, nat_le, nat_tests, notice_in, notification_bytes, notification_layout}
+use Rattle.lease_laws.proofs.Words.{number_at, number_at-taken, refl, subst, sym, take, take-length, true, value_is_read}
+use Rattle.lease_laws.proofs.Words.{written_reads_back}
 
 -- bytes whose first ones are so many are as many
 reaches : (size : ℕ) (bytes : List ℕ) → length (take size bytes) ≡ size → size ≤ length bytes

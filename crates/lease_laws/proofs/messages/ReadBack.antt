@@ -1,13 +1,9 @@
 -- What has bytes is read back.
-use Rattle.std.proofs.Common.{◌≡◌, ℕ, Option, Some, None, refl, ap, ◌∙◌}
-use Rattle.std.specs.Prelude.{Ok}
-use Rattle.lease_wire.specs.Canonical.{IsWritable}
-use Rattle.lease_wire.specs.Gathering.{value_of}
-use Rattle.lease_wire.specs.declared.create.Direction.{Direction}
-use Rattle.lease_model.specs.messages.FromBytes.{request_of, reply_of, ask_found, answer_found}
-use Rattle.lease_model.specs.messages.Replies.{Reply, LeaseGiven, CreateAnswer}
-use Rattle.lease_model.specs.messages.Requests.{FileRequest, Request, LeaseOf, CreateAsk}
-use Rattle.lease_model.specs.messages.ToBytes.{request_written, reply_written, HasRequestBytes, HasReplyBytes, HasAskBytes, HasAnswerBytes, view_of_ask, view_of_answer, ask_bytes, answer_bytes, key_and_state, notice_view}
+use Rattle.lease_laws.proofs.Words.{◌∙◌, ◌≡◌, CreateAnswer, CreateAsk, Direction, FileRequest, HasAnswerBytes, HasAskBytes}
+use Rattle.lease_laws.proofs.Words.{HasReplyBytes, HasRequestBytes, IsWritable, LeaseGiven, LeaseOf, None, Ok, Option, Reply}
+use Rattle.lease_laws.proofs.Words.{Request, Some, ℕ, answer_bytes, answer_found, ap, ask_bytes, ask_found, key_and_state}
+use Rattle.lease_laws.proofs.Words.{notice_view, refl, reply_of, reply_written, request_of, request_written, value_of}
+use Rattle.lease_laws.proofs.Words.{view_of_answer, view_of_ask}
 use Rattle.lease_laws.proofs.messages.FromBytesLemmas.{written_messages_found, written_contexts_found}
 
 -- the lease of an ask is found as it was

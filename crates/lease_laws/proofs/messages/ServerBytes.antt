@@ -1,30 +1,17 @@
 -- Every reply of a server whose keys have 16 bytes has bytes.
-use Rattle.std.proofs.Common.{◌≡◌, inl, inr, ⊎_elim, refl, sym, ap, ◌∙◌, subst, ℕ, Bool, true, false, not, List, [], ◌∷◌, ◌++◌, length, ◌==◌}
-use Rattle.std.specs.Prelude.{⊤, if◌then◌else◌, bytes_eq, Option, Some, None, IfSome}
-use Rattle.std.specs.List.{list_any}
-use Rattle.std.proofs.lemmas.Slice.Eq.{bytes_eq-Decides}
-use Rattle.lease_state.specs.declared.access.Access.{Access}
-use Rattle.lease_state.specs.declared.access.Share.{Share}
-use Rattle.lease_state.specs.declared.status.Status.{Status}
-use Rattle.lease_model.specs.messages.Replies.{Reply, Out}
-use Rattle.lease_model.specs.messages.Requests.{FileRequest, LeaseOf}
-use Rattle.lease_model.specs.messages.ToBytes.{HasReplyBytes}
-use Rattle.lease_model.specs.server.Acknowledge.{acknowledged, break_ended}
-use Rattle.lease_model.specs.server.Answers.{concluded, changed}
-use Rattle.lease_model.specs.server.Attempt.{Outcome, is_left_open}
-use Rattle.lease_model.specs.server.Calls.{Call, called, join, joined, is_lost, disconnected, opens_disconnected, client_forgotten, key_expired, is_left_behind}
-use Rattle.lease_model.specs.server.Grant.{granted_with, lease_after, lease_put, lease_given, asked_key, standing_lease, reconnected, connected_again}
-use Rattle.lease_model.specs.server.Naming.{key_of}
-use Rattle.lease_model.specs.server.Progress.{Progress, begun, opens_dropped, with_opens, lease_lowered, break_begun, request_held, held_left, replied, refusal_of}
-use Rattle.lease_model.specs.server.State.{Server, Open, Lease, Held, is_key, has_key, has_lease, is_breaking}
-use Rattle.lease_model.specs.values.Keys.{Key}
-use Rattle.lease_model.specs.values.Tables.{put}
-use Rattle.lease_laws.specs.messages.Written.{HasFullKey, HaveFullKeys, CallHasFullKey, OutHasBytes}
-use Rattle.lease_laws.specs.server.Laws.{Among, IsSound}
-use Rattle.lease_laws.specs.server.Outs.{EachOut, GoOn}
-use Rattle.lease_laws.specs.server.SmallSteps.{SmallStep, step_taken, steps_taken, IsGuarded, AreGuarded, IsOfCall, AreOf, call_begun}
-use Rattle.lease_laws.specs.server.Waiting.{WaitsWell}
-use Rattle.lease_laws.proofs.server.Lists.{if_cases, clash, and_parts, any_has, among_append, among_filter, among_map, among_behind}
+use Rattle.lease_laws.proofs.Words.{◌++◌, ◌==◌, ◌∙◌, ◌∷◌, ◌≡◌, Access, Among, AreGuarded, AreOf, Bool, Call, CallHasFullKey}
+use Rattle.lease_laws.proofs.Words.{EachOut, FileRequest, GoOn, HasFullKey, HasReplyBytes, HaveFullKeys, Held, IfSome, IsGuarded}
+use Rattle.lease_laws.proofs.Words.{IsOfCall, IsSound, Key, Lease, LeaseOf, List, None, Open, Option, Out, OutHasBytes, Outcome}
+use Rattle.lease_laws.proofs.Words.{Progress, Reply, Server, Share, SmallStep, Some, Status, WaitsWell, ℕ, ⊎_elim, ⊤, []}
+use Rattle.lease_laws.proofs.Words.{acknowledged, ap, asked_key, begun, break_begun, break_ended, bytes_eq, bytes_eq-Decides}
+use Rattle.lease_laws.proofs.Words.{call_begun, called, changed, client_forgotten, concluded, connected_again, disconnected}
+use Rattle.lease_laws.proofs.Words.{false, granted_with, has_key, has_lease, held_left, if◌then◌else◌, inl, inr, is_breaking}
+use Rattle.lease_laws.proofs.Words.{is_key, is_left_behind, is_left_open, is_lost, join, joined, key_expired, key_of, lease_after}
+use Rattle.lease_laws.proofs.Words.{lease_given, lease_lowered, lease_put, length, list_any, not, opens_disconnected}
+use Rattle.lease_laws.proofs.Words.{opens_dropped, put, reconnected, refl, refusal_of, replied, request_held, standing_lease}
+use Rattle.lease_laws.proofs.Words.{step_taken, steps_taken, subst, sym, true, with_opens}
+use Rattle.lease_laws.proofs.server.Lists.{if_cases, clash, and_parts, any_has, among_append, among_filter, among_map}
+use Rattle.lease_laws.proofs.server.Lists.{among_behind}
 use Rattle.lease_laws.proofs.server.OutLists.{each_append, go_on-same}
 use Rattle.lease_laws.proofs.server.OutSteps.{opens_dropped-outs}
 use Rattle.lease_laws.proofs.server.OutCalls.{request_held-outs, held_left-outs}

@@ -1,13 +1,8 @@
 -- Where files are started first, a file's content is found fact by fact.
-use Rattle.std.proofs.Common.{◌≡◌, ⊎_elim, refl, sym, ap, ◌∙◌, subst, ℕ, true, false, List, [], ◌∷◌, ◌++◌}
-use Rattle.std.specs.Prelude.{◌==◌}
-use Rattle.std.specs.List.{list_all}
-use Rattle.lease_state.specs.declared.patch.Patch.{Patch}
-use Rattle.lease_state.specs.Content.{patch as patched, patches}
-use Rattle.lease_model.specs.records.Facts.{Fact}
-use Rattle.lease_model.specs.records.Past.{start_of, changes_of, content_at, sendings}
-use Rattle.lease_laws.specs.records.Runs.{is_start, starts_first, content_of, ContentNow, ContentWhenSent}
-use Rattle.lease_laws.specs.server.Laws.{Among}
+use Rattle.lease_laws.proofs.Words.{◌++◌, ◌==◌, ◌∙◌, ◌∷◌, ◌≡◌, Among, ContentNow, ContentWhenSent, Fact, List, Patch, ℕ, ⊎_elim}
+use Rattle.lease_laws.proofs.Words.{[], ap, changes_of, content_at, content_of, false, is_start, list_all, patches, refl}
+use Rattle.lease_laws.proofs.Words.{sendings, start_of, starts_first, subst, sym, true}
+use Rattle.lease_state.specs.Content.{patch as patched}
 use Rattle.lease_laws.proofs.server.Lists.{if_cases, either, clash, among_append}
 
 -- a last patch is put into what the others give

@@ -1,36 +1,22 @@
 -- In the record of a run every client is sound, and no write is settled before it is given.
-use Rattle.std.proofs.Common.{◌≡◌, Bool, ◌≢◌, ◌≤◌, ◌<◌, ⊎_elim, arith, refl, sym, subst, ◌∙◌, not, false, length, ℕ, true, List, [], ◌∷◌, reverse}
-use Rattle.std.specs.Prelude.{Option, Some, None, if◌then◌else◌, ◌==◌, ◌&&◌}
-use Rattle.std.specs.List.{list_all}
-use Rattle.lease_model.specs.server.Calls.{receive, join, cut, expire, scavenge}
-use Rattle.lease_model.specs.client.Calls.{ClientCall, client_called}
-use Rattle.lease_model.specs.client.Connection.{connection_made}
-use Rattle.lease_model.specs.client.Step.{Step}
-use Rattle.lease_model.specs.client.Commands.{Note, Settlement}
-use Rattle.lease_model.specs.world.Events.{Event, served, stepped_in, server_takes, client_takes, link_cut, cut_over, link_noticed, notice_over, link_connected, connect_over, machine_key, timer_expired, scavenged, strayed_over, applied, client_of, happens, after}
-use Rattle.lease_model.specs.records.Facts.{Fact}
-use Rattle.lease_laws.specs.records.Runs.{is_start, gives_first, RunsGiveFirst, ClientsOfRunsAreSound}
-use Rattle.lease_model.specs.server.Progress.{Progress}
-use Rattle.lease_model.specs.server.Queries.{breaking, kept}
-use Rattle.lease_model.specs.messages.Replies.{Reply, Out}
-use Rattle.lease_model.specs.messages.Requests.{Request}
-use Rattle.lease_model.specs.server.State.{has_file}
-use Rattle.lease_model.specs.world.World.{World, Setup, Link, starts_from, first_world, has_client, delivered, all_delivered, requests_sent, noted, happened, fact_of}
+use Rattle.lease_laws.proofs.Words.{◌&&◌, ◌<◌, ◌==◌, ◌∙◌, ◌∷◌, ◌≡◌, ◌≢◌, ◌≤◌, Bool, Client, ClientCall, ClientsOfRunsAreSound}
+use Rattle.lease_laws.proofs.Words.{Event, Fact, IsSoundClient, Link, List, None, Note, Option, Out, Patch, Progress, Reply}
+use Rattle.lease_laws.proofs.Words.{Request, RunsGiveFirst, Settlement, Setup, Some, Step, TellNumbers, World, ℕ, ⊎_elim, []}
+use Rattle.lease_laws.proofs.Words.{after, all_delivered, applied, arith, breaking, client_called, client_of, client_takes}
+use Rattle.lease_laws.proofs.Words.{connect_over, connection_made, cut, cut_over, delivered, eq-eqb, eqb-true, expire, fact_of}
+use Rattle.lease_laws.proofs.Words.{false, first_world, gives_first, happened, happens, has_client, has_file, if◌then◌else◌}
+use Rattle.lease_laws.proofs.Words.{is_settled, is_start, join, kept, length, link_connected, link_cut, link_noticed, list_all}
+use Rattle.lease_laws.proofs.Words.{machine_key, new_client, not, noted, notice_over, put, receive, refl, requests_sent, reverse}
+use Rattle.lease_laws.proofs.Words.{scavenge, scavenged, served, server_takes, starts_from, stepped_in, strayed_over, subst, sym}
+use Rattle.lease_laws.proofs.Words.{timer_expired, true}
 use Rattle.lease_laws.proofs.client.Words.{if_either, put_each}
 use Rattle.lease_laws.proofs.records.Runs.{all_starts, all_reversed}
-use Rattle.std.proofs.lemmas.Bool.{eq-eqb, eqb-true}
-use Rattle.lease_laws.specs.client.Laws.{IsSoundClient, TellNumbers}
-use Rattle.lease_model.specs.client.State.{Client}
-use Rattle.lease_state.specs.declared.patch.Patch.{Patch}
-use Rattle.lease_model.specs.records.Past.{is_settled}
-use Rattle.lease_model.specs.values.Tables.{put}
 use Rattle.lease_laws.proofs.client.Entries.{first_entries, called_entries}
 use Rattle.lease_laws.proofs.client.InFiles.{first_in_files, called_in_files}
 use Rattle.lease_laws.proofs.client.Notes.{called_tells}
 use Rattle.lease_laws.proofs.client.Numbers.{first_numbers, called_numbers}
 use Rattle.lease_laws.proofs.client.Thin.{put_same, put_other}
 use Rattle.lease_laws.proofs.server.Lists.{either, clash, and_parts, and_both, or_true, not_true}
-use Rattle.lease_model.specs.client.State.{new_client}
 
 -- a new client is sound
 new_sound : (guid : List ℕ) (files : ℕ) → IsSoundClient (new_client guid files)

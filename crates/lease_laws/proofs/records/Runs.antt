@@ -1,23 +1,11 @@
 -- In the record of a run the files are started first.
-use Rattle.std.proofs.Common.{◌≡◌, refl, ℕ, ◌+◌, true, List, [], ◌∷◌, reverse}
-use Rattle.std.specs.Prelude.{Option, Some, None, if◌then◌else◌}
-use Rattle.std.specs.List.{list_all}
-use mathlib.Core.List.{reverse_aux}
-use Rattle.lease_model.specs.server.Calls.{receive, join, cut, expire, scavenge}
-use Rattle.lease_model.specs.client.Commanded.{commanded}
-use Rattle.lease_model.specs.client.Connection.{noticed, connection_made}
-use Rattle.lease_model.specs.client.Taken.{taken}
-use Rattle.lease_model.specs.client.Step.{Step}
-use Rattle.lease_model.specs.client.Commands.{Note}
-use Rattle.lease_model.specs.world.Events.{Event, served, stepped_in, server_takes, client_takes, link_cut, cut_over, link_noticed, notice_over, link_connected, connect_over, machine_key, timer_expired, scavenged, strayed_over, applied, client_of, happens, after}
-use Rattle.lease_model.specs.records.Facts.{Fact}
-use Rattle.lease_laws.specs.records.Runs.{is_start, starts_first, RunsStartFirst}
-use Rattle.lease_model.specs.server.Progress.{Progress}
-use Rattle.lease_model.specs.server.Queries.{breaking, kept}
-use Rattle.lease_model.specs.messages.Replies.{Reply, Out}
-use Rattle.lease_model.specs.messages.Requests.{Request}
-use Rattle.lease_model.specs.server.State.{has_file}
-use Rattle.lease_model.specs.world.World.{World, Setup, Link, starts_from, first_world, has_client, delivered, all_delivered, requests_sent, noted}
+use Rattle.lease_laws.proofs.Words.{◌+◌, ◌∷◌, ◌≡◌, Event, Fact, Link, List, None, Note, Option, Out, Progress, Reply, Request}
+use Rattle.lease_laws.proofs.Words.{RunsStartFirst, Setup, Some, Step, World, ℕ, [], after, all_delivered, applied, breaking}
+use Rattle.lease_laws.proofs.Words.{client_of, client_takes, commanded, connect_over, connection_made, cut, cut_over, delivered}
+use Rattle.lease_laws.proofs.Words.{expire, first_world, happens, has_client, has_file, if◌then◌else◌, is_start, join, kept}
+use Rattle.lease_laws.proofs.Words.{link_connected, link_cut, link_noticed, list_all, machine_key, noted, notice_over, noticed}
+use Rattle.lease_laws.proofs.Words.{receive, refl, requests_sent, reverse, reverse_aux, scavenge, scavenged, served, server_takes}
+use Rattle.lease_laws.proofs.Words.{starts_first, starts_from, stepped_in, strayed_over, taken, timer_expired, true}
 use Rattle.lease_laws.proofs.client.Words.{if_either}
 use Rattle.lease_laws.proofs.records.Content.{all_first}
 

@@ -1,20 +1,14 @@
 -- The verdict, which computes, against what is promised.
-use Rattle.std.proofs.Common.{◌≡◌, ◌≢◌, inl, inr, ℕ, ◌+◌, Bool, true, false, List, [], ◌∷◌, Option, Some, None, refl, ap, arith, sym, subst, ◌∙◌, reverse, length}
-use Rattle.std.specs.Prelude.{◌&&◌, ◌||◌, not, ◌==◌, if◌then◌else◌}
-use Rattle.std.proofs.lemmas.Bool.{and_parts, and_from, or_cases, eqb-true, eq-eqb, cases_Bool, both_ways, not-true}
-use mathlib.Core.List.{reverse_aux, reverse_aux-eq}
-use Rattle.std.proofs.lemmas.List.{reverse-reverse, length-reverse}
-use Rattle.lease_laws.specs.records.Verdicts.{IsFirstBad, IsMalformed, MakesTwoCaches, IsStaleRead, IsLateWrite, IsFalseDone, Says}
-use lib.Pointwise.{bytes_decides}
-use Rattle.std.specs.List.{list_any}
-use Rattle.lease_state.specs.State.{State, nothing_cached}
-use Rattle.lease_model.specs.client.Commands.{Settlement}
-use Rattle.lease_state.specs.Content.{patches}
-use Rattle.lease_model.specs.records.Facts.{Fact}
-use Rattle.lease_model.specs.values.LeaseStates.{holds_any}
-use Rattle.lease_model.specs.records.Past.{is_good, believed, last_sending, content_at, unanswered}
-use Rattle.lease_model.specs.records.Safe.{is_well_formed, WellFormed, OneWriteCache, FreshRead, NoLateWrite, NoFalseDone, EachFact, EachBeginning, Safe}
-use Rattle.lease_model.specs.records.Verdict.{Verdict, Believer, believers, caches, caches_writes, is_rival, has_two_caches, is_fresh, is_stale_read, is_late_write, is_false_done, flaw_at, or_else, verdict_from, verdict}
+use Rattle.lease_laws.proofs.Words.{◌&&◌, ◌+◌, ◌==◌, ◌||◌, ◌∙◌, ◌∷◌, ◌≡◌, ◌≢◌, Believer, Bool, EachBeginning, EachFact, Fact}
+use Rattle.lease_laws.proofs.Words.{FreshRead, IsFalseDone, IsFirstBad, IsLateWrite, IsMalformed, IsStaleRead, List}
+use Rattle.lease_laws.proofs.Words.{MakesTwoCaches, NoFalseDone, NoLateWrite, None, OneWriteCache, Option, Safe, Says, Settlement}
+use Rattle.lease_laws.proofs.Words.{Some, State, Verdict, WellFormed, ℕ, [], and_from, and_parts, ap, arith, believed, believers}
+use Rattle.lease_laws.proofs.Words.{both_ways, bytes_decides, caches, caches_writes, cases_Bool, content_at, eq-eqb, eqb-true}
+use Rattle.lease_laws.proofs.Words.{false, flaw_at, has_two_caches, holds_any, if◌then◌else◌, inl, inr, is_false_done, is_fresh}
+use Rattle.lease_laws.proofs.Words.{is_good, is_late_write, is_rival, is_stale_read, is_well_formed, last_sending, length}
+use Rattle.lease_laws.proofs.Words.{length-reverse, list_any, not, not-true, nothing_cached, or_cases, or_else, patches, refl}
+use Rattle.lease_laws.proofs.Words.{reverse, reverse-reverse, reverse_aux, reverse_aux-eq, subst, sym, true, unanswered, verdict}
+use Rattle.lease_laws.proofs.Words.{verdict_from}
 
 -- ---- tests
 

@@ -1,13 +1,7 @@
 -- Where no write is settled before it is given, unanswered writes are found fact by fact.
-use Rattle.std.proofs.Common.{◌≡◌, refl, sym, ap, arith, ◌∙◌, ℕ, Bool, true, false, not, List, [], ◌∷◌, ◌++◌}
-use Rattle.std.specs.Prelude.{◌==◌, ◌&&◌, ◌||◌, if◌then◌else◌, filter}
-use Rattle.lease_model.specs.client.Taken.{is_numbered}
-use Rattle.lease_model.specs.client.State.{Pending, patches_of}
-use Rattle.lease_state.specs.declared.patch.Patch.{Patch}
-use Rattle.lease_model.specs.records.Facts.{Fact}
-use Rattle.lease_model.specs.values.Lists.{without}
-use Rattle.lease_model.specs.records.Past.{is_settled, unsettled}
-use Rattle.lease_laws.specs.records.Runs.{open_writes, gives_first, WritesNow}
+use Rattle.lease_laws.proofs.Words.{◌&&◌, ◌++◌, ◌==◌, ◌||◌, ◌∙◌, ◌∷◌, ◌≡◌, Bool, Fact, List, Patch, Pending, WritesNow, ℕ, [], ap}
+use Rattle.lease_laws.proofs.Words.{arith, false, filter, gives_first, if◌then◌else◌, is_numbered, is_settled, not, open_writes}
+use Rattle.lease_laws.proofs.Words.{patches_of, refl, sym, true, unsettled, without}
 use Rattle.lease_laws.proofs.server.Lists.{either, and_parts, and_both}
 
 -- ---- filters

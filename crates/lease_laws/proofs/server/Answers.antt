@@ -1,18 +1,9 @@
 -- To answer a request that is ready, or an acknowledgment, keeps a server's laws.
-use Rattle.std.proofs.Common.{◌≡◌, refl, sym, ap, ap₂, ◌∙◌, subst, ℕ, Bool, true, false, cond, List, [], ◌∷◌, map, true≢false, ◌==◌}
-use Rattle.std.specs.Prelude.{if◌then◌else◌, Option, Some, None, is_some}
-use Rattle.lease_state.specs.State.{State, granted_form_of, nothing_cached, is_state_within}
-use Rattle.lease_state.specs.declared.status.Status.{Status}
-use Rattle.lease_model.specs.server.Acknowledge.{break_ended, acknowledged}
-use Rattle.lease_model.specs.server.Answers.{changed, concluded}
-use Rattle.lease_model.specs.server.Attempt.{Outcome}
-use Rattle.lease_model.specs.server.Grant.{reconnected, connected_again}
-use Rattle.lease_model.specs.values.Keys.{Key}
-use Rattle.lease_model.specs.server.Progress.{Progress, refused}
-use Rattle.lease_model.specs.messages.Requests.{FileRequest, LeaseOf}
-use Rattle.lease_laws.specs.server.Laws.{Among, AreSound, IsSound}
-use Rattle.lease_model.specs.server.State.{Open, Lease, has_key, is_breaking, has_lease}
-use Rattle.lease_model.specs.server.Naming.{key_of}
+use Rattle.lease_laws.proofs.Words.{◌==◌, ◌∙◌, ◌∷◌, ◌≡◌, Among, AreSound, Bool, FileRequest, IsSound, Key, Lease, LeaseOf, List}
+use Rattle.lease_laws.proofs.Words.{None, Open, Option, Outcome, Progress, Some, State, Status, ℕ, [], acknowledged, ap, ap₂}
+use Rattle.lease_laws.proofs.Words.{break_ended, changed, concluded, cond, connected_again, false, granted_form_of, has_key}
+use Rattle.lease_laws.proofs.Words.{has_lease, if◌then◌else◌, is_breaking, is_some, is_state_within, key_of, map, nothing_cached}
+use Rattle.lease_laws.proofs.Words.{reconnected, refl, refused, subst, sym, true, true≢false}
 use Rattle.lease_laws.proofs.server.Grants.{granted_with-sound}
 use Rattle.lease_laws.proofs.server.Keys.{is_key-one}
 use Rattle.lease_laws.proofs.server.Leases.{put_sound}

@@ -1,26 +1,12 @@
 -- A request that comes lets no first held request wait for nothing.
-use Rattle.std.proofs.Common.{◌≡◌, inl, ⊎_elim, refl, sym, ap, ◌∙◌, subst, ℕ, ◌≤◌, Bool, true, false, cond, List, [], ◌∷◌, ◌++◌, arith, ◌==◌}
-use Rattle.std.specs.Prelude.{Option, Some, None, find, Result, Ok, Err}
-use Rattle.std.specs.List.{list_any}
-use Rattle.std.proofs.lemmas.Bool.Decides.{Decides-eqb}
-use Rattle.lease_state.specs.State.{State, is_state_within}
-use Rattle.lease_state.specs.declared.status.Status.{Status}
-use Rattle.lease_model.specs.server.Acknowledge.{acknowledged, judged, break_ended}
-use Rattle.lease_model.specs.server.Answers.{concluded}
-use Rattle.lease_model.specs.server.Attempt.{Outcome, Tried, tried}
-use Rattle.lease_model.specs.server.Calls.{file_request_arrived, receive, arrived, arrived_on, after_first_try, held_of, file_asked, file_of_open, file_of_create}
-use Rattle.lease_model.specs.values.Keys.{Key}
-use Rattle.lease_model.specs.server.Passes.{is_behind}
-use Rattle.lease_model.specs.server.Progress.{Progress, begun, request_held, refused, replied}
-use Rattle.lease_model.specs.messages.Replies.{Reply}
-use Rattle.lease_model.specs.messages.Requests.{FileRequest, Request, CreateAsk, LeaseOf}
-use Rattle.lease_laws.specs.server.Laws.{Among, IsSound, HasToWait}
-use Rattle.lease_laws.specs.server.Outs.{IsAlone}
-use Rattle.lease_model.specs.server.State.{Server, Open, Held, new_server, has_file, has_lease}
-use Rattle.lease_laws.specs.server.Waiting.{IsAbout, IsOpenOn, IsOrderly}
-use Rattle.lease_model.specs.values.Tables.{put}
-use Rattle.lease_model.specs.server.Findings.{connected_open}
-use Rattle.lease_model.specs.server.Naming.{key_of}
+use Rattle.lease_laws.proofs.Words.{◌++◌, ◌==◌, ◌∙◌, ◌∷◌, ◌≡◌, ◌≤◌, Among, Bool, CreateAsk, Decides-eqb, Err, FileRequest}
+use Rattle.lease_laws.proofs.Words.{HasToWait, Held, IsAbout, IsAlone, IsOpenOn, IsOrderly, IsSound, Key, LeaseOf, List, None, Ok}
+use Rattle.lease_laws.proofs.Words.{Open, Option, Outcome, Progress, Reply, Request, Result, Server, Some, State, Status, Tried}
+use Rattle.lease_laws.proofs.Words.{ℕ, ⊎_elim, [], acknowledged, after_first_try, ap, arith, arrived, arrived_on, begun}
+use Rattle.lease_laws.proofs.Words.{break_ended, concluded, cond, connected_open, false, file_asked, file_of_create, file_of_open}
+use Rattle.lease_laws.proofs.Words.{file_request_arrived, find, has_file, has_lease, held_of, inl, is_behind, is_state_within}
+use Rattle.lease_laws.proofs.Words.{judged, key_of, list_any, new_server, put, receive, refl, refused, replied, request_held}
+use Rattle.lease_laws.proofs.Words.{subst, sym, tried, true}
 use Rattle.lease_laws.proofs.server.Answers.{acknowledged-sound}
 use Rattle.lease_laws.proofs.server.Calls.{new_server-sound}
 use Rattle.lease_laws.proofs.server.FileReady.{ready-file}
@@ -28,7 +14,8 @@ use Rattle.lease_laws.proofs.server.Goes.{file_frame, GoesOn, Goes, still_there,
 use Rattle.lease_laws.proofs.server.Held.{SameHeld, concluded-held}
 use Rattle.lease_laws.proofs.server.Keeps.{Kept, Anywhere, connected_has, waits_keep, concluded-open}
 use Rattle.lease_laws.proofs.server.Lists.{if_cases, clash, among_append, find_has}
-use Rattle.lease_laws.proofs.server.Orderly.{IsHeldWell, held_well, IsFine, IsTry, any_try, fine_try, fine_concluded, orderly_goes, all_wait-keep, about_goes}
+use Rattle.lease_laws.proofs.server.Orderly.{IsHeldWell, held_well, IsFine, IsTry, any_try, fine_try, fine_concluded}
+use Rattle.lease_laws.proofs.server.Orderly.{orderly_goes, all_wait-keep, about_goes}
 use Rattle.lease_laws.proofs.server.PassWaits.{EveryoneWaits, all_passes-wait, find_more}
 use Rattle.lease_laws.proofs.server.Progress.{request_held-sound}
 use Rattle.lease_laws.proofs.server.Ready.{ready-free}

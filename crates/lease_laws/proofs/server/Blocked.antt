@@ -1,32 +1,17 @@
 -- Where a round has to wait, another key on the request's file is breaking.
-use Rattle.std.proofs.Common.{◌≡◌, refl, sym, ap, ◌∙◌, subst, ℕ, Bool, true, false, not, List, [], true≢false, ◌==◌}
-use Rattle.std.specs.Prelude.{if◌then◌else◌, ◌&&◌, filter, Option, Some, None}
-use Rattle.std.specs.List.{list_any}
-use Rattle.std.proofs.lemmas.Bool.Decides.{Decides-eqb}
-use Rattle.lease_state.specs.State.{State, nothing_cached}
-use Rattle.lease_state.specs.declared.access.Access.{Access}
-use Rattle.lease_state.specs.declared.access.Share.{Share}
-use Rattle.lease_state.specs.declared.status.Status.{Status}
-use Rattle.lease_model.specs.server.Allowed.{is_other_on, conflicts_on}
-use Rattle.lease_model.specs.server.Attempt.{must_wait, wants_met}
-use Rattle.lease_state.specs.declared.patch.Patch.{Patch}
-use Rattle.lease_model.specs.values.Patches.{is_within_limit}
-use Rattle.lease_model.specs.values.Keys.{Key}
-use Rattle.lease_model.specs.values.LeaseStates.{holds_any, without_write, without_handle}
-use Rattle.lease_model.specs.values.Lists.{is_empty}
-use Rattle.lease_model.specs.server.Progress.{Progress}
-use Rattle.lease_model.specs.server.Ready.{breaks_to_some, waits_for}
-use Rattle.lease_model.specs.messages.Requests.{FileRequest, CreateAsk, LeaseOf}
-use Rattle.lease_laws.specs.server.Laws.{Among, IsSound, IsBlockedBy, IsOpenBlocked, HasToWait}
-use Rattle.lease_model.specs.server.State.{Server, Open, Lease, has_key, has_own_key, has_file, has_lease, is_breaking}
-use Rattle.lease_model.specs.values.Sharing.{may_read, may_write}
-use Rattle.lease_model.specs.server.Wants.{Want, wants_where, handle_wants, write_wants, all_wants}
-use Rattle.lease_model.specs.server.Findings.{Finding, finding, create_finding, reconnect_finding, write_finding, asked_finding, read_finding, by_open, connected_open, is_leased_elsewhere, awaits}
-use Rattle.lease_model.specs.server.Naming.{lease_of, own_key, key_of_open}
-use Rattle.lease_model.specs.server.KeyOrder.{keys_of}
+use Rattle.lease_laws.proofs.Words.{◌&&◌, ◌==◌, ◌∙◌, ◌≡◌, Access, Among, Bool, CreateAsk, Decides-eqb, FileRequest, Finding}
+use Rattle.lease_laws.proofs.Words.{HasToWait, IsBlockedBy, IsOpenBlocked, IsSound, Key, Lease, LeaseOf, List, None, Open, Option}
+use Rattle.lease_laws.proofs.Words.{Patch, Progress, Server, Share, Some, State, Status, Want, ℕ, [], all_wants, ap}
+use Rattle.lease_laws.proofs.Words.{asked_finding, awaits, breaks_to_some, by_open, conflicts_on, connected_open, create_finding}
+use Rattle.lease_laws.proofs.Words.{false, filter, finding, handle_wants, has_file, has_key, has_lease, has_own_key, holds_any}
+use Rattle.lease_laws.proofs.Words.{if◌then◌else◌, is_breaking, is_empty, is_leased_elsewhere, is_other_on, is_within_limit}
+use Rattle.lease_laws.proofs.Words.{key_of_open, keys_of, lease_of, list_any, may_read, may_write, must_wait, not, nothing_cached}
+use Rattle.lease_laws.proofs.Words.{own_key, read_finding, reconnect_finding, refl, subst, sym, true, true≢false, waits_for}
+use Rattle.lease_laws.proofs.Words.{wants_met, wants_where, without_handle, without_write, write_finding, write_wants}
 use Rattle.lease_laws.proofs.server.Breaking.{some_breaks}
 use Rattle.lease_laws.proofs.server.Keys.{is_key-one}
-use Rattle.lease_laws.proofs.server.Lists.{if_cases, clash, and_parts, not_parts, not_true, not_false, any_has, among_map, among_filter}
+use Rattle.lease_laws.proofs.server.Lists.{if_cases, clash, and_parts, not_parts, not_true, not_false, any_has, among_map}
+use Rattle.lease_laws.proofs.server.Lists.{among_filter}
 use Rattle.lease_laws.proofs.server.Met.{wants_met-were, wants_met-found}
 use Rattle.lease_laws.proofs.server.Wants.{keys_of-has}
 

@@ -1,8 +1,6 @@
 -- Leases that are breaking to something, and to nothing.
-use Rattle.std.proofs.Common.{◌≡◌, refl, ap, true, false, not}
-use Rattle.std.specs.Prelude.{Option, Some, None, is_some}
-use Rattle.lease_state.specs.State.{State}
-use Rattle.lease_model.specs.server.Ready.{leaves_something, leaves_nothing}
+use Rattle.lease_laws.proofs.Words.{◌≡◌, None, Option, Some, State, ap, false, is_some, leaves_nothing, leaves_something, not}
+use Rattle.lease_laws.proofs.Words.{refl, true}
 use Rattle.lease_laws.proofs.server.Lists.{clash}
 
 -- what is breaking to something is breaking

@@ -1,24 +1,16 @@
 -- The laws hold of the first server, and every call keeps them.
-use Rattle.std.proofs.Common.{◌≡◌, refl, sym, ap, ◌∙◌, subst, ℕ, Bool, true, false, not, cond, List, true≢false, ◌==◌}
-use Rattle.std.specs.Prelude.{if◌then◌else◌, ◌&&◌, Option, Some, None, Result, Ok, Err}
-use Rattle.std.specs.List.{list_any}
-use Rattle.std.proofs.lemmas.Bool.Decides.{Decides-eqb}
-use Rattle.lease_state.specs.declared.status.Status.{Status}
-use Rattle.lease_model.specs.server.Acknowledge.{acknowledged}
-use Rattle.lease_model.specs.server.Attempt.{Outcome, tried}
-use Rattle.lease_model.specs.server.Calls.{file_request_arrived, Call, called, join, joined, receive, arrived, arrived_on, after_first_try, held_of, file_asked, cut, outlives_connection, is_lost, disconnected, opens_disconnected, client_forgotten, key_expired, expire, scavenge, is_left_behind}
-use Rattle.lease_model.specs.values.Keys.{Key}
-use Rattle.lease_model.specs.values.Lists.{without}
-use Rattle.lease_model.specs.server.Passes.{all_passes, is_behind}
-use Rattle.lease_model.specs.server.Progress.{Progress, begun, opens_dropped, with_opens, request_held}
-use Rattle.lease_model.specs.messages.Requests.{FileRequest, Request}
-use Rattle.lease_laws.specs.server.Laws.{Among, AreSound, IsSound, IsLasting}
-use Rattle.lease_model.specs.server.State.{Server, Open, no_lease, new_server, has_key, is_key, is_breaking}
-use Rattle.lease_model.specs.values.Tables.{put_key}
-use Rattle.lease_model.specs.server.Naming.{lease_of, lease_by, key_of}
+use Rattle.lease_laws.proofs.Words.{◌&&◌, ◌==◌, ◌∙◌, ◌≡◌, Among, AreSound, Bool, Call, Decides-eqb, Err, FileRequest, IsLasting}
+use Rattle.lease_laws.proofs.Words.{IsSound, Key, List, None, Ok, Open, Option, Outcome, Progress, Request, Result, Server, Some}
+use Rattle.lease_laws.proofs.Words.{Status, ℕ, acknowledged, after_first_try, all_passes, ap, arrived, arrived_on, begun, called}
+use Rattle.lease_laws.proofs.Words.{client_forgotten, cond, cut, disconnected, expire, false, file_asked, file_request_arrived}
+use Rattle.lease_laws.proofs.Words.{has_key, held_of, if◌then◌else◌, is_behind, is_breaking, is_key, is_left_behind, is_lost}
+use Rattle.lease_laws.proofs.Words.{join, joined, key_expired, key_of, lease_by, lease_of, list_any, new_server, no_lease, not}
+use Rattle.lease_laws.proofs.Words.{opens_disconnected, opens_dropped, outlives_connection, put_key, receive, refl, request_held}
+use Rattle.lease_laws.proofs.Words.{scavenge, subst, sym, tried, true, true≢false, with_opens, without}
 use Rattle.lease_laws.proofs.server.Answers.{acknowledged-sound, refused-sound, concluded-sound, map_same, choose_connection}
 use Rattle.lease_laws.proofs.server.Keys.{put_key-cases, is_key-refl, lease_by-key}
-use Rattle.lease_laws.proofs.server.Lists.{if_cases, either, clash, and_both, and_parts, not_parts, not_false, among_filter, any_has}
+use Rattle.lease_laws.proofs.server.Lists.{if_cases, either, clash, and_both, and_parts, not_parts, not_false, among_filter}
+use Rattle.lease_laws.proofs.server.Lists.{any_has}
 use Rattle.lease_laws.proofs.server.Passes.{all_passes-sound}
 use Rattle.lease_laws.proofs.server.Progress.{opens_dropped-sound, request_held-sound}
 use Rattle.lease_laws.proofs.server.Ready.{ready-free}

@@ -1,27 +1,13 @@
 -- A Break stands before the Changed that needed it.
-use Rattle.std.proofs.Common.{◌≡◌, ◌⊎◌, inl, inr, ⊎_elim, refl, sym, ap, ◌∙◌, subst, ℕ, Bool, true, false, not, List, [], ◌∷◌, ◌++◌, append-nil, append_assoc, true≢false, ◌==◌}
-use Rattle.std.specs.Prelude.{◌&&◌, ◌||◌, Option, Some, None, is_some, ⊤}
-use Rattle.std.proofs.lemmas.Bool.Decides.{Decides-eqb}
-use Rattle.lease_state.specs.State.{State, nothing_cached, granted_form_of, is_state_within}
-use Rattle.lease_state.specs.declared.patch.Patch.{Patch}
-use Rattle.lease_state.specs.declared.status.Status.{Status}
-use Rattle.lease_model.specs.messages.Replies.{Reply, Out}
-use Rattle.lease_model.specs.messages.Requests.{FileRequest, Request, LeaseOf}
-use Rattle.lease_model.specs.server.Acknowledge.{acknowledged, judged, break_ended}
-use Rattle.lease_model.specs.server.Answers.{concluded, answered, changed, on_open}
-use Rattle.lease_model.specs.server.Attempt.{Outcome, is_left_open}
-use Rattle.lease_model.specs.server.Calls.{Call, called}
-use Rattle.lease_model.specs.server.Findings.{connected_open}
-use Rattle.lease_model.specs.server.Naming.{key_of}
-use Rattle.lease_model.specs.server.Progress.{Progress, break_notice, held_left, replied, refused, refusal_of}
-use Rattle.lease_model.specs.server.State.{Server, Open, Lease, has_lease, is_breaking}
-use Rattle.lease_model.specs.values.Keys.{Key}
-use Rattle.lease_laws.specs.server.Changes.{IsCaching, HasGivenUp, ComesBehindBreaks}
-use Rattle.lease_laws.specs.server.Laws.{Among, IsSound}
-use Rattle.lease_laws.specs.server.Outs.{EachOut, GoOn, IsGivenUp, CachesAlone}
-use Rattle.lease_laws.specs.server.SmallSteps.{SmallStep, step_taken, steps_taken, IsGuarded, AreGuarded, AreOf, IsOfCall, MayEnd, call_begun}
-use Rattle.lease_laws.specs.server.StepLaws.{BecomesBy, IsRaised, StaysOrRises}
-use Rattle.lease_laws.specs.server.Waiting.{WaitsWell}
+use Rattle.lease_laws.proofs.Words.{◌&&◌, ◌++◌, ◌==◌, ◌||◌, ◌∙◌, ◌∷◌, ◌≡◌, ◌⊎◌, Among, AreGuarded, AreOf, BecomesBy, Bool}
+use Rattle.lease_laws.proofs.Words.{CachesAlone, Call, ComesBehindBreaks, Decides-eqb, EachOut, FileRequest, GoOn, HasGivenUp}
+use Rattle.lease_laws.proofs.Words.{IsCaching, IsGivenUp, IsGuarded, IsOfCall, IsRaised, IsSound, Key, Lease, LeaseOf, List}
+use Rattle.lease_laws.proofs.Words.{MayEnd, None, Open, Option, Out, Outcome, Patch, Progress, Reply, Request, Server, SmallStep}
+use Rattle.lease_laws.proofs.Words.{Some, State, Status, StaysOrRises, WaitsWell, ℕ, ⊎_elim, ⊤, [], acknowledged, answered, ap}
+use Rattle.lease_laws.proofs.Words.{append-nil, append_assoc, break_ended, break_notice, call_begun, called, changed, concluded}
+use Rattle.lease_laws.proofs.Words.{connected_open, false, granted_form_of, has_lease, held_left, inl, inr, is_breaking}
+use Rattle.lease_laws.proofs.Words.{is_left_open, is_some, is_state_within, judged, key_of, not, nothing_cached, on_open, refl}
+use Rattle.lease_laws.proofs.Words.{refusal_of, refused, replied, step_taken, steps_taken, subst, sym, true, true≢false}
 use Rattle.lease_laws.proofs.server.Keys.{put_key-cases}
 use Rattle.lease_laws.proofs.server.Lists.{if_cases, either, clash, and_parts, among_behind, find_has}
 use Rattle.lease_laws.proofs.server.OutCalls.{request_held-outs, held_left-outs}

@@ -1,23 +1,10 @@
 -- What small steps do to contents, and tell of them: a read tells a file's content, a write changes it.
-use Rattle.std.proofs.Common.{List, ◌≡◌, ℕ, Bool, [], ◌∷◌, ◌++◌, Option, Some, None, refl, sym, ap, ◌∙◌, subst, ◌==◌}
-use Rattle.std.specs.Prelude.{⊤}
-use Rattle.lease_state.specs.declared.access.Access.{Access}
-use Rattle.lease_state.specs.declared.access.Share.{Share}
-use Rattle.lease_state.specs.declared.patch.Patch.{Patch}
-use Rattle.lease_state.specs.declared.status.Status.{Status}
-use Rattle.lease_model.specs.messages.Replies.{Reply, Out}
-use Rattle.lease_model.specs.messages.Requests.{FileRequest, LeaseOf}
-use Rattle.lease_model.specs.server.Acknowledge.{acknowledged, break_ended}
-use Rattle.lease_model.specs.server.Answers.{concluded, changed, read_done}
-use Rattle.lease_model.specs.server.Attempt.{Outcome, is_left_open}
-use Rattle.lease_model.specs.server.Grant.{granted_with, lease_after, reconnected}
-use Rattle.lease_model.specs.server.Progress.{Progress, opens_dropped, with_opens, lease_lowered, break_begun, request_held, held_left, replied, refusal_of}
-use Rattle.lease_model.specs.server.State.{Open, Lease}
+use Rattle.lease_laws.proofs.Words.{◌++◌, ◌==◌, ◌∙◌, ◌∷◌, ◌≡◌, Access, Among, Bool, FileRequest, GoOn, Lease, LeaseOf, List, None}
+use Rattle.lease_laws.proofs.Words.{Open, Option, Out, Outcome, Patch, Progress, Reply, Share, SmallStep, Some, Status, ℕ, ⊤, []}
+use Rattle.lease_laws.proofs.Words.{acknowledged, ap, break_begun, break_ended, changed, concluded, granted_with, held_left}
+use Rattle.lease_laws.proofs.Words.{is_left_open, lease_after, lease_lowered, opens_dropped, put, read_done, reconnected, refl}
+use Rattle.lease_laws.proofs.Words.{refusal_of, replied, request_held, step_taken, subst, sym, with_opens}
 use Rattle.lease_state.specs.Content.{patch as patched}
-use Rattle.lease_model.specs.values.Tables.{put}
-use Rattle.lease_laws.specs.server.Laws.{Among}
-use Rattle.lease_laws.specs.server.Outs.{GoOn}
-use Rattle.lease_laws.specs.server.SmallSteps.{SmallStep, step_taken}
 use Rattle.lease_laws.proofs.server.OutCalls.{held_left-outs, request_held-outs}
 use Rattle.lease_laws.proofs.server.OutLists.{go_on-same}
 use Rattle.lease_laws.proofs.server.OutSteps.{opens_dropped-outs}

@@ -1,8 +1,6 @@
 -- The passes over a file end by themselves: each that answers a request leaves fewer held.
-use Rattle.std.proofs.Common.{◌≡◌, ◌<◌, refl, arith, ◌+◌, ℕ, zero, suc, false, length}
-use Rattle.lease_model.specs.server.Passes.{one_pass, passes_for}
-use Rattle.lease_model.specs.server.Progress.{Progress}
-use Rattle.lease_laws.specs.server.Enough.{PassesEnd, PassesAreEnough}
+use Rattle.lease_laws.proofs.Words.{◌+◌, ◌<◌, ◌≡◌, PassesAreEnough, PassesEnd, Progress, ℕ, arith, false, length, one_pass}
+use Rattle.lease_laws.proofs.Words.{passes_for, refl, suc, zero}
 use Rattle.lease_laws.proofs.server.Held.{one_pass-fewer}
 use Rattle.lease_laws.proofs.server.Lists.{either}
 

@@ -1,20 +1,15 @@
 -- What is wanted and doesn't keep a request waiting is gone after one round.
-use Rattle.std.proofs.Common.{◌≡◌, ◌⊎◌, inl, inr, ⊎_elim, arith, refl, sym, ap, ◌∙◌, subst, ℕ, Bool, true, false, not, List, [], ◌∷◌, map}
-use Rattle.std.specs.Prelude.{if◌then◌else◌, ◌&&◌, filter, find, Option, Some, None}
-use Rattle.std.specs.List.{list_any, list_all}
-use Rattle.lease_state.specs.State.{State, nothing_cached, needs_acknowledgment}
-use Rattle.lease_model.specs.server.Attempt.{is_left_open, lease_broken, want_met, wants_met}
-use Rattle.lease_model.specs.values.Keys.{Key, key_eq, key_before}
-use Rattle.lease_model.specs.server.Progress.{Progress, opens_dropped, with_opens, lease_lowered, break_begun}
-use Rattle.lease_model.specs.server.Ready.{breaks_to_some, breaks_to_none}
-use Rattle.lease_laws.specs.server.Laws.{Among}
-use Rattle.lease_model.specs.server.State.{Server, Open, Lease, no_lease, has_key, is_key, is_breaking, has_lease}
-use Rattle.lease_model.specs.server.Wants.{Want, wants_where}
-use Rattle.lease_model.specs.server.KeyOrder.{key_added, open_key_added, keys_of}
-use Rattle.lease_model.specs.server.Naming.{key_of, lease_by, lease_of}
+use Rattle.lease_laws.proofs.Words.{◌&&◌, ◌∙◌, ◌∷◌, ◌≡◌, ◌⊎◌, Among, Bool, Key, Lease, List, None, Open, Option, Progress, Server}
+use Rattle.lease_laws.proofs.Words.{Some, State, Want, ℕ, ⊎_elim, [], ap, arith, break_begun, breaks_to_none, breaks_to_some}
+use Rattle.lease_laws.proofs.Words.{false, filter, find, has_key, has_lease, if◌then◌else◌, inl, inr, is_breaking, is_key}
+use Rattle.lease_laws.proofs.Words.{is_left_open, key_added, key_before, key_eq, key_of, keys_of, lease_broken, lease_by}
+use Rattle.lease_laws.proofs.Words.{lease_lowered, lease_of, list_all, list_any, map, needs_acknowledgment, no_lease, not}
+use Rattle.lease_laws.proofs.Words.{nothing_cached, open_key_added, opens_dropped, refl, subst, sym, true, want_met, wants_met}
+use Rattle.lease_laws.proofs.Words.{wants_where, with_opens}
 use Rattle.lease_laws.proofs.server.Breaking.{to_nothing}
 use Rattle.lease_laws.proofs.server.Keys.{key_eq-same, is_key-refl, is_key-one, put_key-cases, put_key-here}
-use Rattle.lease_laws.proofs.server.Lists.{if_cases, clash, and_parts, and_both, not_true, not_false, among_filter, among_filtered, among_map, any_has, has_any, none_has, each_all}
+use Rattle.lease_laws.proofs.server.Lists.{if_cases, clash, and_parts, and_both, not_true, not_false, among_filter}
+use Rattle.lease_laws.proofs.server.Lists.{among_filtered, among_map, any_has, has_any, none_has, each_all}
 use Rattle.lease_laws.proofs.server.Wants.{keys_of-has}
 
 -- ---- words on lists

@@ -1,29 +1,15 @@
 -- A try ends by itself within three rounds.
-use Rattle.std.proofs.Common.{◌≡◌, ◌≤◌, refl, sym, ap, arith, ◌∙◌, subst, ℕ, zero, suc, Bool, true, false, List, []}
-use Rattle.std.specs.Prelude.{if◌then◌else◌, ◌&&◌, ◌==◌, nat_le, Option, Some, None}
-use Rattle.std.specs.List.{list_any}
-use Rattle.lease_state.specs.State.{State, nothing_cached}
-use Rattle.lease_state.specs.declared.access.Access.{Access}
-use Rattle.lease_state.specs.declared.access.Share.{Share}
-use Rattle.lease_state.specs.declared.status.Status.{Status}
-use Rattle.lease_model.specs.server.Allowed.{is_other_on, conflicts_on}
-use Rattle.lease_model.specs.server.Attempt.{Outcome, Tried, ended, must_wait, after_breaks, after_finding, tried_for, wants_met}
-use Rattle.lease_state.specs.declared.patch.Patch.{Patch}
-use Rattle.lease_model.specs.values.Patches.{is_within_limit}
-use Rattle.lease_laws.specs.server.Enough.{EndsFor, TriesEnd, ThreeRoundsAreEnough}
-use Rattle.lease_model.specs.values.Keys.{Key}
-use Rattle.lease_model.specs.values.LeaseStates.{holds_any, without_write, without_handle}
-use Rattle.lease_model.specs.values.Lists.{is_empty}
-use Rattle.lease_model.specs.server.Progress.{Progress}
-use Rattle.lease_model.specs.server.Ready.{is_ready, waits_for, breaks_to_some}
-use Rattle.lease_model.specs.messages.Requests.{FileRequest, CreateAsk, LeaseOf}
-use Rattle.lease_laws.specs.server.Laws.{Among}
-use Rattle.lease_model.specs.server.State.{Server, Open, Lease, has_file, is_breaking}
-use Rattle.lease_model.specs.values.Sharing.{may_read, may_write}
-use Rattle.lease_model.specs.server.Wants.{Want, handle_wants, write_wants, all_wants}
-use Rattle.lease_model.specs.server.Findings.{Finding, finding, create_finding, reconnect_finding, write_finding, read_finding, by_open, connected_open, is_leased_elsewhere, awaits}
-use Rattle.lease_model.specs.server.Naming.{own_key, key_of_open}
-use Rattle.lease_laws.proofs.server.EnoughRounds.{IsAfterBreaks, IsRoundDone, NoneIs, IsRoundBroken, AllBreakToNone, is_wanted, nothing_wanted, round_done, round_broken}
+use Rattle.lease_laws.proofs.Words.{◌&&◌, ◌==◌, ◌∙◌, ◌≡◌, ◌≤◌, Access, Among, Bool, CreateAsk, EndsFor, FileRequest, Finding, Key}
+use Rattle.lease_laws.proofs.Words.{Lease, LeaseOf, List, None, Open, Option, Outcome, Patch, Progress, Server, Share, Some}
+use Rattle.lease_laws.proofs.Words.{State, Status, ThreeRoundsAreEnough, Tried, TriesEnd, Want, ℕ, [], after_breaks}
+use Rattle.lease_laws.proofs.Words.{after_finding, all_wants, ap, arith, awaits, breaks_to_some, by_open, conflicts_on}
+use Rattle.lease_laws.proofs.Words.{connected_open, create_finding, ended, false, finding, handle_wants, has_file, holds_any}
+use Rattle.lease_laws.proofs.Words.{if◌then◌else◌, is_breaking, is_empty, is_leased_elsewhere, is_other_on, is_ready}
+use Rattle.lease_laws.proofs.Words.{is_within_limit, key_of_open, list_any, may_read, may_write, must_wait, nat_le}
+use Rattle.lease_laws.proofs.Words.{nothing_cached, own_key, read_finding, reconnect_finding, refl, subst, suc, sym, tried_for}
+use Rattle.lease_laws.proofs.Words.{true, waits_for, wants_met, without_handle, without_write, write_finding, write_wants, zero}
+use Rattle.lease_laws.proofs.server.EnoughRounds.{IsAfterBreaks, IsRoundDone, NoneIs, IsRoundBroken, AllBreakToNone, is_wanted}
+use Rattle.lease_laws.proofs.server.EnoughRounds.{nothing_wanted, round_done, round_broken}
 use Rattle.lease_laws.proofs.server.Lists.{if_cases, either, clash, and_parts, not_true, any_has, has_any}
 
 -- ---- so many rounds are enough for a try

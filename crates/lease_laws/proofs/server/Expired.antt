@@ -1,20 +1,11 @@
 -- Small steps leave alone which keys are expired.
-use Rattle.std.proofs.Common.{◌≡◌, ◌⊎◌, inl, inr, ℕ, Bool, true, false, List, [], ◌∷◌, ◌++◌, Option, Some, None, refl, sym, ◌∙◌, subst, ◌==◌}
-use Rattle.std.specs.Prelude.{if◌then◌else◌}
-use Rattle.std.specs.List.{list_any}
-use Rattle.lease_model.specs.messages.Requests.{FileRequest, LeaseOf}
-use Rattle.lease_model.specs.server.Acknowledge.{acknowledged, break_ended}
-use Rattle.lease_model.specs.server.Answers.{concluded, changed}
-use Rattle.lease_model.specs.server.Attempt.{Outcome}
-use Rattle.lease_model.specs.server.Calls.{Call, called, join, joined, opens_disconnected, client_forgotten, key_expired, is_left_behind}
-use Rattle.lease_model.specs.server.Grant.{granted_with, lease_after, lease_put, reconnected}
-use Rattle.lease_model.specs.server.Progress.{Progress, begun, opens_dropped, with_opens, lease_lowered, break_begun, request_held, held_left}
-use Rattle.lease_model.specs.server.State.{Server, Lease, is_breaking}
-use Rattle.lease_model.specs.values.Keys.{Key}
-use Rattle.lease_model.specs.values.Tables.{put_key}
-use Rattle.lease_laws.specs.server.Laws.{IsSound}
-use Rattle.lease_laws.specs.server.SmallSteps.{SmallStep, step_taken, steps_taken, call_begun}
-use Rattle.lease_laws.specs.server.Waiting.{WaitsWell}
+use Rattle.lease_laws.proofs.Words.{◌++◌, ◌==◌, ◌∙◌, ◌∷◌, ◌≡◌, ◌⊎◌, Bool, Call, FileRequest, IsSound, Key, Lease, LeaseOf, List}
+use Rattle.lease_laws.proofs.Words.{None, Option, Outcome, Progress, Server, SmallStep, Some, WaitsWell, ℕ, [], acknowledged}
+use Rattle.lease_laws.proofs.Words.{begun, break_begun, break_ended, call_begun, called, changed, client_forgotten, concluded}
+use Rattle.lease_laws.proofs.Words.{false, granted_with, held_left, if◌then◌else◌, inl, inr, is_breaking, is_left_behind, join}
+use Rattle.lease_laws.proofs.Words.{joined, key_expired, lease_after, lease_lowered, lease_put, list_any, opens_disconnected}
+use Rattle.lease_laws.proofs.Words.{opens_dropped, put_key, reconnected, refl, request_held, step_taken, steps_taken, subst, sym}
+use Rattle.lease_laws.proofs.Words.{true, with_opens}
 use Rattle.lease_laws.proofs.server.Lists.{if_cases}
 use Rattle.lease_laws.proofs.server.StepCalls.{called-steps}
 use Rattle.lease_laws.proofs.server.cases.Ends.{HasEnds, any_end}

@@ -1,19 +1,8 @@
 -- What is known of the file of a request that is ready, and of the open that it is to have again.
-use Rattle.std.proofs.Common.{◌≡◌, sym, ℕ, true, not, List, [], true≢false, ◌==◌}
-use Rattle.std.specs.Prelude.{◌&&◌, Option, Some, None}
-use Rattle.std.specs.List.{list_any}
-use Rattle.std.proofs.lemmas.Bool.Decides.{Decides-eqb}
-use Rattle.lease_state.specs.declared.access.Access.{Access}
-use Rattle.lease_state.specs.declared.access.Share.{Share}
-use Rattle.lease_state.specs.declared.status.Status.{Status}
-use Rattle.lease_model.specs.values.Keys.{Key}
-use Rattle.lease_model.specs.server.Progress.{Progress}
-use Rattle.lease_model.specs.messages.Requests.{FileRequest, CreateAsk, LeaseOf}
-use Rattle.lease_laws.specs.server.Laws.{Among}
-use Rattle.lease_model.specs.server.State.{Server, Open, has_file, has_key}
-use Rattle.lease_model.specs.server.Wants.{Want}
-use Rattle.lease_model.specs.server.Findings.{Finding, finding, asked_finding, reconnect_finding, awaits}
-use Rattle.lease_model.specs.server.Naming.{own_key}
+use Rattle.lease_laws.proofs.Words.{◌&&◌, ◌==◌, ◌≡◌, Access, Among, CreateAsk, Decides-eqb, FileRequest, Finding, Key, LeaseOf}
+use Rattle.lease_laws.proofs.Words.{List, None, Open, Option, Progress, Server, Share, Some, Status, Want, ℕ, [], asked_finding}
+use Rattle.lease_laws.proofs.Words.{awaits, finding, has_file, has_key, list_any, not, own_key, reconnect_finding, sym, true}
+use Rattle.lease_laws.proofs.Words.{true≢false}
 use Rattle.lease_laws.proofs.server.Lists.{if_cases, and_parts, any_has}
 use Rattle.lease_laws.proofs.server.Tries.{IsFoundReady}
 

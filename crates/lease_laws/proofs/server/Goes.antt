@@ -1,17 +1,10 @@
 -- How opens come and go: what the small steps but a cut and a join do to them.
-use Rattle.std.proofs.Common.{◌≡◌, ◌⊎◌, inl, inr, ⊎_elim, refl, sym, ap, ◌∙◌, subst, ℕ, ◌+◌, ◌≤◌, ◌<◌, Bool, true, false, not, cond, List, [], ◌∷◌, ◌++◌, arith, ◌==◌}
-use Rattle.std.specs.Prelude.{Option, Some, None}
-use Rattle.std.proofs.lemmas.Bool.Decides.{Decides-eqb}
-use Rattle.lease_state.specs.declared.access.Access.{Access}
-use Rattle.lease_state.specs.declared.access.Share.{Share}
-use Rattle.lease_model.specs.server.Acknowledge.{break_ended, acknowledged}
-use Rattle.lease_model.specs.server.Answers.{changed, concluded}
-use Rattle.lease_model.specs.server.Attempt.{Outcome, is_left_open, tried_for}
-use Rattle.lease_model.specs.server.Grant.{granted_with, reconnected, lease_after, connected_again, new_open}
-use Rattle.lease_model.specs.server.Progress.{Progress, opens_dropped, with_opens, lease_lowered, break_begun}
-use Rattle.lease_model.specs.messages.Requests.{FileRequest, LeaseOf}
-use Rattle.lease_laws.specs.server.Laws.{Among, AreInOrder, IsSound}
-use Rattle.lease_model.specs.server.State.{Server, Open, Lease, has_file}
+use Rattle.lease_laws.proofs.Words.{◌++◌, ◌+◌, ◌<◌, ◌==◌, ◌∙◌, ◌∷◌, ◌≡◌, ◌≤◌, ◌⊎◌, Access, Among, AreInOrder, Bool, Decides-eqb}
+use Rattle.lease_laws.proofs.Words.{FileRequest, IsSound, Lease, LeaseOf, List, None, Open, Option, Outcome, Progress, Server}
+use Rattle.lease_laws.proofs.Words.{Share, Some, ℕ, ⊎_elim, [], acknowledged, ap, arith, break_begun, break_ended, changed}
+use Rattle.lease_laws.proofs.Words.{concluded, cond, connected_again, false, granted_with, has_file, inl, inr, is_left_open}
+use Rattle.lease_laws.proofs.Words.{lease_after, lease_lowered, new_open, not, opens_dropped, reconnected, refl, subst, sym}
+use Rattle.lease_laws.proofs.Words.{tried_for, true, with_opens}
 use Rattle.lease_laws.proofs.server.FileReady.{IsAwaited, AgainReady, FileReady}
 use Rattle.lease_laws.proofs.server.Lists.{among_append, among_filter, among_map}
 use Rattle.lease_laws.proofs.server.cases.Tries.{HasTries, any_try}

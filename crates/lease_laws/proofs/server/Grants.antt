@@ -1,25 +1,14 @@
 -- A grant keeps a server's laws.
-use Rattle.std.proofs.Common.{◌≡◌, ◌⊎◌, inl, inr, ⊎_elim, refl, sym, ap, ◌∙◌, ℕ, ◌+◌, Bool, true, false, not, List, [], ◌∷◌, ◌++◌, true≢false, ◌==◌}
-use Rattle.std.specs.Prelude.{◌&&◌, Option, Some, None}
-use Rattle.std.specs.List.{list_any}
-use Rattle.std.proofs.lemmas.Bool.Decides.{Decides-eqb}
-use Rattle.lease_state.specs.Access.{conflict}
-use Rattle.lease_state.specs.State.{State, granted_form_of, nothing_cached, is_state_within}
-use Rattle.lease_state.specs.declared.access.Access.{Access}
-use Rattle.lease_state.specs.declared.access.Share.{Share}
-use Rattle.lease_model.specs.server.Allowed.{allowed, is_other_on}
-use Rattle.lease_model.specs.server.Grant.{offered, lease_granted, lease_after, new_open, granted_with}
-use Rattle.lease_model.specs.values.Keys.{Key}
-use Rattle.lease_model.specs.values.LeaseStates.{without_write}
-use Rattle.lease_model.specs.server.Progress.{Progress}
-use Rattle.lease_model.specs.messages.Requests.{LeaseOf}
-use Rattle.lease_laws.specs.server.Laws.{Among, AreSound, IsSound}
-use Rattle.lease_model.specs.server.State.{Server, Open, Lease, no_lease, has_key, has_own_key, is_key, is_breaking}
-use Rattle.lease_model.specs.server.Naming.{key_of, own_key}
+use Rattle.lease_laws.proofs.Words.{◌&&◌, ◌++◌, ◌+◌, ◌==◌, ◌∙◌, ◌∷◌, ◌≡◌, ◌⊎◌, Access, Among, AreSound, Bool, Decides-eqb, IsFree}
+use Rattle.lease_laws.proofs.Words.{IsSound, Key, Lease, LeaseOf, List, None, Open, Option, Progress, Server, Share, Some, State}
+use Rattle.lease_laws.proofs.Words.{ℕ, ⊎_elim, [], allowed, ap, conflict, false, granted_form_of, granted_with, has_key}
+use Rattle.lease_laws.proofs.Words.{has_own_key, inl, inr, is_breaking, is_key, is_other_on, is_state_within, key_of, lease_after}
+use Rattle.lease_laws.proofs.Words.{lease_granted, list_any, new_open, no_lease, not, nothing_cached, offered, own_key, refl, sym}
+use Rattle.lease_laws.proofs.Words.{true, true≢false, without_write}
 use Rattle.lease_laws.proofs.server.Keys.{is_key-refl, is_key-one}
 use Rattle.lease_laws.proofs.server.Leases.{MayBecome, MayOpen, put_sound, open_sound}
-use Rattle.lease_laws.proofs.server.Lists.{if_cases, either, clash, and_both, not_true, not_false, none_has, has_any, among_append, among_behind}
-use Rattle.lease_laws.specs.server.SmallSteps.{IsFree}
+use Rattle.lease_laws.proofs.server.Lists.{if_cases, either, clash, and_both, not_true, not_false, none_has, has_any}
+use Rattle.lease_laws.proofs.server.Lists.{among_append, among_behind}
 use Rattle.lease_laws.proofs.server.States.{settled-lawful, granted_form_of-again, without_write-form, handle_of_part}
 
 -- what is allowed is a granted form

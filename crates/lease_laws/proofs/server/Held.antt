@@ -1,15 +1,10 @@
 -- The passes end: each but the last answers a held request, so that one more than are held is enough.
-use Rattle.std.proofs.Common.{◌≡◌, refl, sym, ap, ◌∙◌, ℕ, ◌+◌, ◌≤◌, ◌<◌, Bool, true, false, List, [], ◌∷◌, ◌++◌, length, append-nil, append_assoc, length-append, arith, true≢false}
-use Rattle.std.specs.Prelude.{Option, Some, None}
-use Rattle.std.proofs.lemmas.Bool.Decides.{Decides-eqb}
-use Rattle.lease_model.specs.server.Answers.{changed, concluded}
-use Rattle.lease_model.specs.server.Attempt.{Outcome, Tried, tried, is_left_open, tried_for}
-use Rattle.lease_model.specs.server.Grant.{granted_with, reconnected, lease_put}
-use Rattle.lease_model.specs.server.Passes.{Pass, is_behind, left_waiting, pass_answered, after_try, tried_again, pass_over, one_pass}
-use Rattle.lease_model.specs.server.Progress.{Progress, opens_dropped, with_opens, lease_lowered, break_begun, held_left}
-use Rattle.lease_model.specs.messages.Requests.{FileRequest, LeaseOf}
-use Rattle.lease_model.specs.server.State.{Open, Lease, Held, Server}
-use Rattle.lease_model.specs.values.Tables.{put}
+use Rattle.lease_laws.proofs.Words.{◌++◌, ◌+◌, ◌<◌, ◌∙◌, ◌∷◌, ◌≡◌, ◌≤◌, Bool, Decides-eqb, FileRequest, Held, Lease, LeaseOf}
+use Rattle.lease_laws.proofs.Words.{List, None, Open, Option, Outcome, Pass, Progress, Server, Some, Tried, ℕ, [], after_try, ap}
+use Rattle.lease_laws.proofs.Words.{append-nil, append_assoc, arith, break_begun, changed, concluded, false, granted_with}
+use Rattle.lease_laws.proofs.Words.{held_left, is_behind, is_left_open, lease_lowered, lease_put, left_waiting, length}
+use Rattle.lease_laws.proofs.Words.{length-append, one_pass, opens_dropped, pass_answered, pass_over, put, reconnected, refl, sym}
+use Rattle.lease_laws.proofs.Words.{tried, tried_again, tried_for, true, true≢false, with_opens}
 use Rattle.lease_laws.proofs.server.Lists.{if_cases}
 use Rattle.lease_laws.proofs.server.cases.Tries.{HasTries, any_try}
 use Rattle.lease_laws.proofs.server.cases.Ends.{HasEnds, any_end}

@@ -1,34 +1,21 @@
 -- What has to wait goes on having to: breaks and answers end no break of another file, and close no
 -- open there.
-use Rattle.std.proofs.Common.{◌≡◌, ◌≢◌, inl, inr, refl, sym, ap, ◌∙◌, subst, ℕ, Bool, true, false, not, cond, List, [], ◌∷◌, ◌++◌, map, arith, ◌==◌}
-use Rattle.std.specs.Prelude.{◌&&◌, find, Option, Some, None}
-use Rattle.std.proofs.lemmas.Bool.Decides.{Decides-eqb}
-use Rattle.lease_state.specs.State.{State}
-use Rattle.lease_state.specs.declared.access.Access.{Access}
-use Rattle.lease_state.specs.declared.access.Share.{Share}
-use Rattle.lease_model.specs.server.Answers.{changed, concluded}
-use Rattle.lease_model.specs.server.Attempt.{Outcome, is_left_open, tried_for}
-use Rattle.lease_model.specs.server.Grant.{granted_with, reconnected, lease_after, lease_granted, connected_again}
-use Rattle.lease_model.specs.values.Keys.{Key}
-use Rattle.lease_model.specs.values.Lists.{without}
-use Rattle.lease_model.specs.server.Progress.{Progress, opens_dropped, with_opens, lease_lowered, break_begun}
-use Rattle.lease_model.specs.server.Ready.{breaks_to_some}
-use Rattle.lease_model.specs.messages.Requests.{FileRequest, CreateAsk, LeaseOf}
-use Rattle.lease_laws.specs.server.Laws.{Among, AreInOrder, IsSound, IsBlockedBy, HasToWait}
-use Rattle.lease_model.specs.server.State.{Server, Open, Lease, has_key, is_breaking}
-use Rattle.lease_laws.specs.server.Outs.{IsAlone}
-use Rattle.lease_laws.specs.server.Waiting.{IsAbout}
-use Rattle.lease_model.specs.server.Findings.{connected_open}
-use Rattle.lease_model.specs.server.Naming.{own_key, key_of, key_of_open}
+use Rattle.lease_laws.proofs.Words.{◌&&◌, ◌++◌, ◌==◌, ◌∙◌, ◌∷◌, ◌≡◌, ◌≢◌, Access, Among, AreInOrder, Bool, CreateAsk, Decides-eqb}
+use Rattle.lease_laws.proofs.Words.{FileRequest, HasToWait, IsAbout, IsAlone, IsBlockedBy, IsSound, Key, Lease, LeaseOf, List}
+use Rattle.lease_laws.proofs.Words.{None, Open, Option, Outcome, Progress, Server, Share, Some, State, ℕ, [], ap, arith}
+use Rattle.lease_laws.proofs.Words.{break_begun, breaks_to_some, changed, concluded, cond, connected_again, connected_open, false}
+use Rattle.lease_laws.proofs.Words.{find, granted_with, has_key, inl, inr, is_breaking, is_left_open, key_of, key_of_open}
+use Rattle.lease_laws.proofs.Words.{lease_after, lease_granted, lease_lowered, map, not, opens_dropped, own_key, put_key}
+use Rattle.lease_laws.proofs.Words.{reconnected, refl, subst, sym, tried_for, true, with_opens, without}
 use Rattle.lease_laws.proofs.server.Answers.{breaking_present}
 use Rattle.lease_laws.proofs.server.Breaking.{some_breaks}
 use Rattle.lease_laws.proofs.server.Goes.{one_id}
 use Rattle.lease_laws.proofs.server.Keys.{put_key-cases}
-use Rattle.lease_laws.proofs.server.Lists.{if_cases, clash, and_parts, not_parts, not_true, among_filtered, among_before, find_has}
+use Rattle.lease_laws.proofs.server.Lists.{if_cases, clash, and_parts, not_parts, not_true, among_filtered, among_before}
+use Rattle.lease_laws.proofs.server.Lists.{find_has}
 use Rattle.lease_laws.proofs.server.Met.{find_kept}
 use Rattle.lease_laws.proofs.server.Steps.{left_here}
 use Rattle.lease_laws.proofs.server.cases.Ends.{own_open, HasEnds, any_end}
-use Rattle.lease_model.specs.values.Tables.{put_key}
 use Rattle.lease_laws.proofs.server.cases.Tries.{HasTries, any_try}
 
 -- On the files of a kind, connected opens of breaking keys stay, and the leases of these keys stay as they

@@ -1,13 +1,7 @@
 -- The keys of opens: each open's key is among them, once, and they stand in order.
-use Rattle.std.proofs.Common.{◌≡◌, inl, inr, ⊎_elim, refl, sym, ap, ◌∙◌, subst, ℕ, Bool, true, List, [], ◌∷◌, map, filter, true≢false}
-use Rattle.std.specs.Prelude.{if◌then◌else◌, Option, Some, None}
-use Rattle.lease_state.specs.State.{State}
-use Rattle.lease_model.specs.server.KeyOrder.{key_added, open_key_added, keys_of}
-use Rattle.lease_model.specs.server.Naming.{key_of}
-use Rattle.lease_model.specs.server.State.{Server, Open, has_key, is_key}
-use Rattle.lease_model.specs.server.Wants.{wants_where}
-use Rattle.lease_model.specs.values.Keys.{Key, key_eq, key_before}
-use Rattle.lease_laws.specs.server.Laws.{Among}
+use Rattle.lease_laws.proofs.Words.{◌∙◌, ◌∷◌, ◌≡◌, Among, Bool, Key, List, None, Open, Option, Server, Some, State, ℕ, ⊎_elim, []}
+use Rattle.lease_laws.proofs.Words.{ap, filter, has_key, if◌then◌else◌, inl, inr, is_key, key_added, key_before, key_eq, key_of}
+use Rattle.lease_laws.proofs.Words.{keys_of, map, open_key_added, refl, subst, sym, true, true≢false, wants_where}
 use Rattle.lease_laws.proofs.server.Keys.{key_eq-same, is_key-refl, is_key-one}
 use Rattle.lease_laws.proofs.server.Lists.{if_cases, among_filtered}
 

@@ -1,13 +1,8 @@
 -- Keys: one key is another where they are equal, and an open has at most one.
-use Rattle.std.proofs.Common.{◌≡◌, refl, sym, ap, ap₂, ◌∙◌, ℕ, true, false, List, true≢false, ◌==◌}
-use Rattle.std.specs.Prelude.{Option, Some, None, bytes_eq}
-use Rattle.std.proofs.lemmas.Bool.Decides.{Decides-eqb}
-use Rattle.std.proofs.lemmas.Slice.Eq.{bytes_eq-Decides}
+use Rattle.lease_laws.proofs.Words.{◌==◌, ◌∙◌, ◌≡◌, Decides-eqb, Key, List, None, Option, Server, Some, ℕ, ap, ap₂, bytes_eq}
+use Rattle.lease_laws.proofs.Words.{bytes_eq-Decides, false, is_key, key_eq, key_of, lease_by, put_key, refl, sym, true}
+use Rattle.lease_laws.proofs.Words.{true≢false}
 use Rattle.lease_laws.proofs.server.Lists.{if_cases, and_parts, and_both}
-use Rattle.lease_model.specs.values.Keys.{Key, key_eq}
-use Rattle.lease_model.specs.server.State.{is_key, Server}
-use Rattle.lease_model.specs.values.Tables.{put_key}
-use Rattle.lease_model.specs.server.Naming.{key_of, lease_by}
 
 -- keys of one client and the same bytes are one
 pub key_of_parts : (one other : Key) → one.client ≡ other.client → one.bytes ≡ other.bytes → one ≡ other

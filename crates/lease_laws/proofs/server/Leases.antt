@@ -1,12 +1,7 @@
 -- The small steps that change a lease or add an open keep a server's laws.
-use Rattle.std.proofs.Common.{◌≡◌, ◌⊎◌, inl, inr, ⊎_elim, refl, sym, ap, ◌∙◌, subst, ℕ, ◌+◌, ◌<◌, Bool, true, false, not, List, [], ◌∷◌, ◌++◌, arith}
-use Rattle.std.specs.Prelude.{◌||◌}
-use Rattle.std.specs.List.{list_any}
-use Rattle.lease_state.specs.Access.{conflict, is_within, uses_of, allowed_by}
-use Rattle.lease_model.specs.values.Keys.{Key}
-use Rattle.lease_laws.specs.server.Laws.{Among, AreInOrder, IsLawful, AreSound}
-use Rattle.lease_model.specs.server.State.{Open, Lease, no_lease, has_key, is_breaking}
-use Rattle.lease_model.specs.values.Tables.{put_key}
+use Rattle.lease_laws.proofs.Words.{◌++◌, ◌+◌, ◌<◌, ◌||◌, ◌∙◌, ◌∷◌, ◌≡◌, ◌⊎◌, Among, AreInOrder, AreSound, Bool, IsLawful, Key}
+use Rattle.lease_laws.proofs.Words.{Lease, List, Open, ℕ, ⊎_elim, [], allowed_by, ap, arith, conflict, false, has_key, inl, inr}
+use Rattle.lease_laws.proofs.Words.{is_breaking, is_within, list_any, no_lease, not, put_key, refl, subst, sym, true, uses_of}
 use Rattle.lease_laws.proofs.server.Keys.{put_key-cases}
 use Rattle.lease_laws.proofs.server.Lists.{clash, among_append, among_before, any_has, none_has, has_none, not_false}
 

@@ -1,8 +1,6 @@
 -- What is on a list: after an append, a filter and a map; and what `list_any` says of it.
-use Rattle.std.proofs.Common.{◌≡◌, ◌⊎◌, inl, inr, ⊎_elim, refl, sym, ap, ◌∙◌, Bool, true, false, not, cond, List, [], ◌∷◌, ◌++◌, map, true≢false}
-use Rattle.std.specs.Prelude.{◌||◌, ◌&&◌, filter, Some, find}
-use Rattle.std.specs.List.{list_any, list_all}
-use Rattle.lease_laws.specs.server.Laws.{Among}
+use Rattle.lease_laws.proofs.Words.{◌&&◌, ◌++◌, ◌||◌, ◌∙◌, ◌∷◌, ◌≡◌, ◌⊎◌, Among, Bool, List, Some, ⊎_elim, [], ap, cond, false}
+use Rattle.lease_laws.proofs.Words.{filter, find, inl, inr, list_all, list_any, map, not, refl, sym, true, true≢false}
 
 -- to choose by a test keeps what holds of both
 pub if_cases : {X : Type 0} (P : X → Type 0) (b : Bool) (x y : X) → (b ≡ true → P x) → (b ≡ false → P y) → P (cond b x y)

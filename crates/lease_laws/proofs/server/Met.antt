@@ -1,14 +1,8 @@
 -- What is left once wants are met and none of their leases is breaking: no open passes the test any more.
-use Rattle.std.proofs.Common.{◌≡◌, refl, ap, ◌∙◌, subst, ℕ, Bool, true, not, List, [], ◌∷◌, ◌==◌}
-use Rattle.std.specs.Prelude.{if◌then◌else◌, ◌&&◌, filter, find, Some}
-use Rattle.lease_state.specs.State.{State, needs_acknowledgment}
-use Rattle.lease_model.specs.server.Attempt.{is_left_open, lease_broken, want_met, wants_met}
-use Rattle.lease_model.specs.values.Keys.{Key}
-use Rattle.lease_model.specs.server.Progress.{Progress, opens_dropped, with_opens, lease_lowered, break_begun}
-use Rattle.lease_laws.specs.server.Laws.{Among}
-use Rattle.lease_model.specs.server.State.{Open, has_key, is_breaking, has_lease}
-use Rattle.lease_model.specs.server.Wants.{Want}
-use Rattle.lease_model.specs.server.Findings.{connected_open}
+use Rattle.lease_laws.proofs.Words.{◌&&◌, ◌==◌, ◌∙◌, ◌∷◌, ◌≡◌, Among, Bool, Key, List, Open, Progress, Some, State, Want, ℕ, []}
+use Rattle.lease_laws.proofs.Words.{ap, break_begun, connected_open, filter, find, has_key, has_lease, if◌then◌else◌, is_breaking}
+use Rattle.lease_laws.proofs.Words.{is_left_open, lease_broken, lease_lowered, needs_acknowledgment, not, opens_dropped, refl}
+use Rattle.lease_laws.proofs.Words.{subst, true, want_met, wants_met, with_opens}
 use Rattle.lease_laws.proofs.server.Lists.{if_cases, clash, and_parts, not_parts, not_true, among_filter}
 
 -- opens are only dropped

@@ -1,19 +1,9 @@
 -- Small steps tell of each open that they make: its FileId is the next one.
-use Rattle.std.proofs.Common.{◌≡◌, ◌⊎◌, inl, inr, ⊎_elim, ℕ, ◌+◌, Bool, [], ◌∷◌, ◌++◌, Option, refl, sym, ap, ◌∙◌, subst, ◌==◌}
-use Rattle.std.specs.Prelude.{⊤}
-use Rattle.lease_state.specs.declared.access.Access.{Access}
-use Rattle.lease_state.specs.declared.access.Share.{Share}
-use Rattle.lease_model.specs.messages.Replies.{Reply, Out}
-use Rattle.lease_model.specs.messages.Requests.{FileRequest, LeaseOf}
-use Rattle.lease_model.specs.server.Acknowledge.{acknowledged, break_ended}
-use Rattle.lease_model.specs.server.Answers.{concluded, changed}
-use Rattle.lease_model.specs.server.Attempt.{Outcome, is_left_open}
-use Rattle.lease_model.specs.server.Grant.{granted_with, lease_after, new_open, reconnected}
-use Rattle.lease_model.specs.server.Progress.{Progress, opens_dropped, with_opens, lease_lowered, break_begun, request_held, held_left, replied}
-use Rattle.lease_model.specs.server.State.{Server, Open, Lease}
-use Rattle.lease_laws.specs.server.Laws.{Among}
-use Rattle.lease_laws.specs.server.Outs.{GoOn}
-use Rattle.lease_laws.specs.server.SmallSteps.{SmallStep, step_taken}
+use Rattle.lease_laws.proofs.Words.{◌++◌, ◌+◌, ◌==◌, ◌∙◌, ◌∷◌, ◌≡◌, ◌⊎◌, Access, Among, Bool, FileRequest, GoOn, Lease, LeaseOf}
+use Rattle.lease_laws.proofs.Words.{Open, Option, Out, Outcome, Progress, Reply, Server, Share, SmallStep, ℕ, ⊎_elim, ⊤, []}
+use Rattle.lease_laws.proofs.Words.{acknowledged, ap, break_begun, break_ended, changed, concluded, granted_with, held_left, inl}
+use Rattle.lease_laws.proofs.Words.{inr, is_left_open, lease_after, lease_lowered, new_open, opens_dropped, reconnected, refl}
+use Rattle.lease_laws.proofs.Words.{replied, request_held, step_taken, subst, sym, with_opens}
 use Rattle.lease_laws.proofs.server.Goes.{IsOld, still_there}
 use Rattle.lease_laws.proofs.server.Lists.{among_append}
 use Rattle.lease_laws.proofs.server.OutCalls.{held_left-outs, request_held-outs}

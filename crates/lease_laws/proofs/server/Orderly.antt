@@ -1,13 +1,7 @@
 -- Tries and their ends keep opens and held requests where they belong.
-use Rattle.std.proofs.Common.{◌≡◌, ⊎_elim, sym, ap, ◌∙◌, subst, ℕ, true, List, arith, ◌==◌}
-use Rattle.std.specs.Prelude.{Option, Some, None, find}
-use Rattle.lease_model.specs.server.Answers.{concluded}
-use Rattle.lease_model.specs.server.Attempt.{Outcome, Tried, tried}
-use Rattle.lease_model.specs.server.Progress.{Progress, held_left}
-use Rattle.lease_model.specs.messages.Requests.{FileRequest, CreateAsk}
-use Rattle.lease_laws.specs.server.Laws.{Among, IsSound, HasToWait}
-use Rattle.lease_model.specs.server.State.{Server, Held, has_file}
-use Rattle.lease_laws.specs.server.Waiting.{IsAbout, IsOpenOn, IsOrderly, AllWait}
+use Rattle.lease_laws.proofs.Words.{◌==◌, ◌∙◌, ◌≡◌, AllWait, Among, CreateAsk, FileRequest, HasToWait, Held, IsAbout, IsOpenOn}
+use Rattle.lease_laws.proofs.Words.{IsOrderly, IsSound, List, None, Option, Outcome, Progress, Server, Some, Tried, ℕ, ⊎_elim, ap}
+use Rattle.lease_laws.proofs.Words.{arith, concluded, find, has_file, held_left, subst, sym, tried, true}
 use Rattle.lease_laws.proofs.server.Answers.{concluded-sound}
 use Rattle.lease_laws.proofs.server.FileReady.{AgainReady, ContextsReady, FileReady}
 use Rattle.lease_laws.proofs.server.Goes.{GoesOn, Goes, file_frame, tried_for-goes, concluded-goes}

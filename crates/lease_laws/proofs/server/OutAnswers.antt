@@ -1,28 +1,13 @@
 -- The breaks for a request stand before its answer; and once a write is ready, no other key on its
 -- file caches anything but what it is giving up.
-use Rattle.std.proofs.Common.{◌≡◌, inl, inr, refl, sym, ap, ◌∙◌, subst, ℕ, Bool, true, false, not, List, [], ◌++◌, append-nil, ◌==◌}
-use Rattle.std.specs.Prelude.{◌||◌, ◌&&◌, Result, Ok, Err, Option, Some, None}
-use Rattle.std.proofs.lemmas.Bool.Decides.{Decides-eqb}
-use Rattle.lease_state.specs.State.{State, nothing_cached}
-use Rattle.lease_state.specs.declared.status.Status.{Status}
-use Rattle.lease_model.specs.server.Allowed.{is_other_on}
-use Rattle.lease_model.specs.server.Attempt.{Outcome, tried}
-use Rattle.lease_model.specs.server.Calls.{receive, arrived, file_request_arrived, arrived_on, after_first_try, held_of, file_asked}
-use Rattle.lease_state.specs.declared.patch.Patch.{Patch}
-use Rattle.lease_model.specs.values.Patches.{is_within_limit}
-use Rattle.lease_model.specs.values.LeaseStates.{holds_any}
-use Rattle.lease_model.specs.server.Passes.{is_behind}
-use Rattle.lease_model.specs.server.Progress.{Progress, begun, request_held, refused}
-use Rattle.lease_model.specs.server.Ready.{is_ready, leaves_nothing, breaks_to_none}
-use Rattle.lease_model.specs.messages.Replies.{Out}
-use Rattle.lease_model.specs.messages.Requests.{FileRequest, Request}
-use Rattle.lease_laws.specs.server.Laws.{IsSound}
-use Rattle.lease_laws.specs.server.Outs.{IsBreak, IsNoBreak, GoOn, AreBreaksFirst, IsAlone, CachesAlone}
-use Rattle.lease_model.specs.server.State.{Server, Open, has_own_key}
-use Rattle.lease_model.specs.values.Sharing.{may_write}
-use Rattle.lease_model.specs.server.Wants.{Want, all_wants}
-use Rattle.lease_model.specs.server.Findings.{Finding, finding, by_open, write_finding, connected_open}
-use Rattle.lease_model.specs.server.Naming.{key_of_open, lease_of}
+use Rattle.lease_laws.proofs.Words.{◌&&◌, ◌++◌, ◌==◌, ◌||◌, ◌∙◌, ◌≡◌, AreBreaksFirst, Bool, CachesAlone, Decides-eqb, Err}
+use Rattle.lease_laws.proofs.Words.{FileRequest, Finding, GoOn, IsAlone, IsBreak, IsNoBreak, IsSound, List, None, Ok, Open}
+use Rattle.lease_laws.proofs.Words.{Option, Out, Outcome, Patch, Progress, Request, Result, Server, Some, State, Status, Want, ℕ}
+use Rattle.lease_laws.proofs.Words.{[], after_first_try, all_wants, ap, append-nil, arrived, arrived_on, begun, breaks_to_none}
+use Rattle.lease_laws.proofs.Words.{by_open, connected_open, false, file_asked, file_request_arrived, finding, has_own_key}
+use Rattle.lease_laws.proofs.Words.{held_of, holds_any, inl, inr, is_behind, is_other_on, is_ready, is_within_limit, key_of_open}
+use Rattle.lease_laws.proofs.Words.{lease_of, leaves_nothing, may_write, not, nothing_cached, receive, refl, refused}
+use Rattle.lease_laws.proofs.Words.{request_held, subst, sym, tried, true, write_finding}
 use Rattle.lease_laws.proofs.server.Keys.{lease_by-key}
 use Rattle.lease_laws.proofs.server.EnoughRounds.{AllBreakToNone}
 use Rattle.lease_laws.proofs.server.KeyOrder.{wants_where-has}

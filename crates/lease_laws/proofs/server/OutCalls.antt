@@ -1,23 +1,17 @@
 -- Every call gives out fair outs.
-use Rattle.std.proofs.Common.{◌≡◌, sym, subst, ℕ, ◌+◌, zero, suc, Bool, false, cond, List, [], ◌∷◌, ◌++◌, length, append-nil}
-use Rattle.std.specs.Prelude.{Result, Ok, Err}
-use Rattle.std.specs.List.{list_any}
-use Rattle.lease_state.specs.declared.status.Status.{Status}
-use Rattle.lease_model.specs.server.Acknowledge.{acknowledged}
-use Rattle.lease_model.specs.server.Answers.{concluded}
-use Rattle.lease_model.specs.server.Attempt.{Outcome, Tried, tried}
-use Rattle.lease_model.specs.server.Calls.{file_request_arrived, Call, called, join, joined, receive, arrived, arrived_on, after_first_try, held_of, file_asked, cut, is_lost, opens_disconnected, client_forgotten, key_expired, expire, scavenge, is_left_behind}
-use Rattle.lease_model.specs.values.Keys.{Key}
-use Rattle.lease_model.specs.values.Lists.{numbers_to}
-use Rattle.lease_model.specs.server.Passes.{Pass, is_behind, left_waiting, pass_answered, after_try, tried_again, pass_over, one_pass, passes_for, passes, passes_over, all_passes}
-use Rattle.lease_model.specs.server.Progress.{Progress, begun, opens_dropped, request_held, held_left, refused}
-use Rattle.lease_model.specs.messages.Replies.{Out}
-use Rattle.lease_model.specs.messages.Requests.{FileRequest, Request}
-use Rattle.lease_laws.specs.server.Outs.{IsBreak, IsNoBreak, GoOn}
-use Rattle.lease_model.specs.server.State.{Server, Held, has_key, is_breaking}
+use Rattle.lease_laws.proofs.Words.{◌++◌, ◌+◌, ◌∷◌, ◌≡◌, Bool, Call, Err, FileRequest, GoOn, Held, IsBreak, IsNoBreak, Key, List}
+use Rattle.lease_laws.proofs.Words.{Ok, Out, Outcome, Pass, Progress, Request, Result, Server, Status, Tried, ℕ, [], acknowledged}
+use Rattle.lease_laws.proofs.Words.{after_first_try, after_try, all_passes, append-nil, arrived, arrived_on, begun, called}
+use Rattle.lease_laws.proofs.Words.{client_forgotten, concluded, cond, cut, expire, false, file_asked, file_request_arrived}
+use Rattle.lease_laws.proofs.Words.{has_key, held_left, held_of, is_behind, is_breaking, is_left_behind, is_lost, join, joined}
+use Rattle.lease_laws.proofs.Words.{key_expired, left_waiting, length, list_any, numbers_to, one_pass, opens_disconnected}
+use Rattle.lease_laws.proofs.Words.{opens_dropped, pass_answered, pass_over, passes, passes_for, passes_over, receive, refused}
+use Rattle.lease_laws.proofs.Words.{request_held, scavenge, subst, suc, sym, tried, tried_again, zero}
 use Rattle.lease_laws.proofs.server.Lists.{if_cases}
-use Rattle.lease_laws.proofs.server.OutLists.{AreFair, IsGoodBreak, breaks_fair, answers_fair, answers_go_on, none_fair, go_on-weaker}
-use Rattle.lease_laws.proofs.server.OutSteps.{opens_dropped-outs, tried_for-broken, concluded-answered, acknowledged-answered, refused-answered}
+use Rattle.lease_laws.proofs.server.OutLists.{AreFair, IsGoodBreak, breaks_fair, answers_fair, answers_go_on, none_fair}
+use Rattle.lease_laws.proofs.server.OutLists.{go_on-weaker}
+use Rattle.lease_laws.proofs.server.OutSteps.{opens_dropped-outs, tried_for-broken, concluded-answered, acknowledged-answered}
+use Rattle.lease_laws.proofs.server.OutSteps.{refused-answered}
 
 -- for calls under way
 abbrev pub Fair : Progress → Type 0

@@ -1,8 +1,6 @@
 -- Lists of outs: what holds of two holds of both together.
-use Rattle.std.proofs.Common.{◌≡◌, refl, sym, ap, ◌∙◌, subst, List, [], ◌∷◌, ◌++◌, append_assoc, append-nil}
-use Rattle.std.specs.Prelude.{Option, Some, None}
-use Rattle.lease_model.specs.messages.Replies.{Reply, Out}
-use Rattle.lease_laws.specs.server.Outs.{EachOut, IsFlaggedRightly, Done, ArePaired, IsBreak, IsNoBreak, GoOn}
+use Rattle.lease_laws.proofs.Words.{◌++◌, ◌∙◌, ◌∷◌, ◌≡◌, ArePaired, Done, EachOut, GoOn, IsBreak, IsFlaggedRightly, IsNoBreak}
+use Rattle.lease_laws.proofs.Words.{List, None, Option, Out, Reply, Some, [], ap, append-nil, append_assoc, refl, subst, sym}
 
 -- what holds of each out of two lists holds of each of both
 pub each_append : (Holds : Out → Type 0) (xs ys : List Out) → EachOut Holds xs → EachOut Holds ys → EachOut Holds (xs ++ ys)

@@ -1,17 +1,10 @@
 -- A try gives out breaks alone, flagged rightly; and the end of a try gives out an answer without one.
-use Rattle.std.proofs.Common.{◌≡◌, refl, sym, subst, ℕ, Bool, [], ◌∷◌, ◌==◌, append-nil}
-use Rattle.std.specs.Prelude.{Option}
-use Rattle.lease_state.specs.declared.status.Status.{Status}
-use Rattle.lease_model.specs.server.Acknowledge.{break_ended, acknowledged}
-use Rattle.lease_model.specs.server.Answers.{changed, concluded}
-use Rattle.lease_model.specs.server.Attempt.{Outcome, is_left_open, tried_for}
-use Rattle.lease_model.specs.server.Grant.{granted_with, reconnected}
-use Rattle.lease_model.specs.server.Progress.{Progress, opens_dropped, lease_lowered, break_begun, replied, refused, refusal_of}
-use Rattle.lease_model.specs.messages.Replies.{Reply, Out}
-use Rattle.lease_model.specs.messages.Requests.{FileRequest, LeaseOf}
-use Rattle.lease_laws.specs.server.Outs.{EachOut, IsNoBreak, GoOn}
-use Rattle.lease_model.specs.server.State.{Open}
-use Rattle.lease_laws.proofs.server.OutLists.{AreFair, IsGoodBreak, AreAnswered, answered_by, answered_nothing, go_on-same, go_on-twice}
+use Rattle.lease_laws.proofs.Words.{◌==◌, ◌∷◌, ◌≡◌, Bool, EachOut, FileRequest, GoOn, IsNoBreak, LeaseOf, Open, Option, Out}
+use Rattle.lease_laws.proofs.Words.{Outcome, Progress, Reply, Status, ℕ, [], acknowledged, append-nil, break_begun, break_ended}
+use Rattle.lease_laws.proofs.Words.{changed, concluded, granted_with, is_left_open, lease_lowered, opens_dropped, reconnected}
+use Rattle.lease_laws.proofs.Words.{refl, refusal_of, refused, replied, subst, sym, tried_for}
+use Rattle.lease_laws.proofs.server.OutLists.{AreFair, IsGoodBreak, AreAnswered, answered_by, answered_nothing, go_on-same}
+use Rattle.lease_laws.proofs.server.OutLists.{go_on-twice}
 use Rattle.lease_laws.proofs.server.cases.Tries.{HasTries, any_try}
 use Rattle.lease_laws.proofs.server.cases.Ends.{HasEnds, any_end}
 use Rattle.lease_laws.proofs.server.cases.Judgements.{any_judgement}

@@ -1,23 +1,18 @@
 -- After the passes each first held request has to wait.
-use Rattle.std.proofs.Common.{◌≡◌, ◌≢◌, ◌⊎◌, inl, inr, ⊎_elim, refl, sym, ap, ◌∙◌, subst, ℕ, ◌+◌, ◌≤◌, ◌<◌, zero, suc, Bool, true, false, cond, List, [], ◌∷◌, ◌++◌, length, append-nil, arith, true≢false, ◌==◌, leb→le, T}
-use Rattle.std.specs.Prelude.{◌||◌, nat_le, Some, None, find}
-use Rattle.std.specs.List.{list_any}
-use Rattle.std.proofs.lemmas.Bool.Decides.{Decides-eqb}
-use Rattle.lease_model.specs.server.Answers.{concluded}
-use Rattle.lease_model.specs.server.Attempt.{Outcome, Tried, tried}
-use Rattle.lease_model.specs.values.Lists.{numbers_to}
-use Rattle.lease_model.specs.server.Passes.{Pass, is_behind, left_waiting, pass_answered, after_try, tried_again, pass_over, one_pass, passes_for, passes, passes_over, all_passes}
-use Rattle.lease_model.specs.server.Progress.{Progress, held_left}
-use Rattle.lease_laws.specs.server.Laws.{Among, HasToWait}
-use Rattle.lease_model.specs.server.State.{Server, Held, has_file}
-use Rattle.lease_laws.specs.server.Waiting.{AllWait}
-use Rattle.lease_model.specs.values.Tables.{put}
+use Rattle.lease_laws.proofs.Words.{◌++◌, ◌+◌, ◌<◌, ◌==◌, ◌||◌, ◌∙◌, ◌∷◌, ◌≡◌, ◌≢◌, ◌≤◌, ◌⊎◌, AllWait, Among, Bool, Decides-eqb}
+use Rattle.lease_laws.proofs.Words.{HasToWait, Held, List, None, Outcome, Pass, Progress, Server, Some, T, Tried, ℕ, ⊎_elim, []}
+use Rattle.lease_laws.proofs.Words.{after_try, all_passes, ap, append-nil, arith, concluded, cond, false, find, has_file}
+use Rattle.lease_laws.proofs.Words.{held_left, inl, inr, is_behind, leb→le, left_waiting, length, list_any, nat_le, numbers_to}
+use Rattle.lease_laws.proofs.Words.{one_pass, pass_answered, pass_over, passes, passes_for, passes_over, put, refl, subst, suc}
+use Rattle.lease_laws.proofs.Words.{sym, tried, tried_again, true, true≢false, zero}
 use Rattle.lease_laws.proofs.server.FileReady.{ready-file}
 use Rattle.lease_laws.proofs.server.Goes.{file_frame, Goes, still_there, concluded-goes, goes-same}
-use Rattle.lease_laws.proofs.server.Held.{one_pass-fewer, SameHeld, InPass, left_waiting-in, pass_answered-in, concluded-held, all_counted}
+use Rattle.lease_laws.proofs.server.Held.{one_pass-fewer, SameHeld, InPass, left_waiting-in, pass_answered-in, concluded-held}
+use Rattle.lease_laws.proofs.server.Held.{all_counted}
 use Rattle.lease_laws.proofs.server.Keeps.{Kept, Anywhere, Elsewhere, waits_keep, concluded-kept, keeps-same}
 use Rattle.lease_laws.proofs.server.Lists.{if_cases, either, clash, and_parts, among_append, among_before, among_behind, find_has}
-use Rattle.lease_laws.proofs.server.Orderly.{IsHeldWell, held_well, IsFine, IsTry, any_try, fine_try, fine_concluded, orderly_goes, all_wait-keep, held_left-ready, about_goes}
+use Rattle.lease_laws.proofs.server.Orderly.{IsHeldWell, held_well, IsFine, IsTry, any_try, fine_try, fine_concluded}
+use Rattle.lease_laws.proofs.server.Orderly.{orderly_goes, all_wait-keep, held_left-ready, about_goes}
 use Rattle.lease_laws.proofs.server.Passes.{held_left-free}
 use Rattle.lease_laws.proofs.server.Progress.{held_left-sound}
 use Rattle.lease_laws.proofs.server.Ready.{ready-free}

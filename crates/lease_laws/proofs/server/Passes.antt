@@ -1,15 +1,8 @@
 -- Passes over held requests keep a server's laws.
-use Rattle.std.specs.Prelude.{Option, Some, None}
-use Rattle.lease_state.specs.declared.access.Access.{Access}
-use Rattle.lease_state.specs.declared.access.Share.{Share}
-use Rattle.std.proofs.Common.{ℕ, ◌+◌, zero, suc, false, List, [], ◌∷◌, ◌++◌, length}
-use Rattle.lease_model.specs.server.Attempt.{Outcome, Tried, tried}
-use Rattle.lease_model.specs.values.Lists.{numbers_to}
-use Rattle.lease_model.specs.server.Passes.{Pass, is_behind, left_waiting, pass_answered, after_try, tried_again, pass_over, one_pass, passes_for, passes, passes_over, all_passes}
-use Rattle.lease_model.specs.server.Progress.{Progress, held_left}
-use Rattle.lease_model.specs.messages.Requests.{FileRequest, CreateAsk, LeaseOf}
-use Rattle.lease_laws.specs.server.Laws.{IsSound}
-use Rattle.lease_model.specs.server.State.{Held}
+use Rattle.lease_laws.proofs.Words.{◌++◌, ◌+◌, ◌∷◌, Access, CreateAsk, FileRequest, Held, IsSound, LeaseOf, List, None, Option}
+use Rattle.lease_laws.proofs.Words.{Outcome, Pass, Progress, Share, Some, Tried, ℕ, [], after_try, all_passes, false, held_left}
+use Rattle.lease_laws.proofs.Words.{is_behind, left_waiting, length, numbers_to, one_pass, pass_answered, pass_over, passes}
+use Rattle.lease_laws.proofs.Words.{passes_for, passes_over, suc, tried, tried_again, zero}
 use Rattle.lease_laws.proofs.server.Answers.{concluded-sound}
 use Rattle.lease_laws.proofs.server.Lists.{if_cases}
 use Rattle.lease_laws.proofs.server.Progress.{held_left-sound}

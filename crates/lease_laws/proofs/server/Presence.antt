@@ -1,14 +1,8 @@
 -- Which clients a call leaves connected.
-use Rattle.std.proofs.Common.{◌≡◌, ℕ, Bool, true, false, List, [], ◌∷◌, refl, sym, ◌∙◌, subst}
-use Rattle.std.specs.Prelude.{if◌then◌else◌, ⊤}
-use Rattle.std.specs.List.{list_any}
-use Rattle.lease_model.specs.server.Calls.{Call, called, join, joined, opens_disconnected, client_forgotten, key_expired, is_left_behind}
-use Rattle.lease_model.specs.server.Progress.{Progress, begun, opens_dropped, with_opens}
-use Rattle.lease_model.specs.server.State.{Server, is_breaking}
-use Rattle.lease_model.specs.values.Tables.{put}
-use Rattle.lease_laws.specs.server.Laws.{IsSound}
-use Rattle.lease_laws.specs.server.SmallSteps.{SmallStep, step_taken, steps_taken, AreGuarded, call_begun}
-use Rattle.lease_laws.specs.server.Waiting.{WaitsWell}
+use Rattle.lease_laws.proofs.Words.{◌∙◌, ◌∷◌, ◌≡◌, AreGuarded, Bool, Call, IsSound, List, Progress, Server, SmallStep, WaitsWell}
+use Rattle.lease_laws.proofs.Words.{ℕ, ⊤, [], begun, call_begun, called, client_forgotten, false, if◌then◌else◌, is_breaking}
+use Rattle.lease_laws.proofs.Words.{is_left_behind, join, joined, key_expired, list_any, opens_disconnected, opens_dropped, put}
+use Rattle.lease_laws.proofs.Words.{refl, step_taken, steps_taken, subst, sym, true, with_opens}
 use Rattle.lease_laws.proofs.server.StepCalls.{called-steps, call_begun-up}
 use Rattle.lease_laws.proofs.server.StepKeeps.{step-sound, step-goes}
 

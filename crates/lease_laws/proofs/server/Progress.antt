@@ -1,14 +1,9 @@
 -- The small steps of a call keep a server's laws.
-use Rattle.std.proofs.Common.{◌≡◌, ℕ, Bool, true, false, not, List}
-use Rattle.std.specs.Prelude.{Some, None}
-use Rattle.lease_state.specs.State.{State, granted_form_of, needs_acknowledgment}
-use Rattle.lease_model.specs.values.Keys.{Key}
-use Rattle.lease_model.specs.server.Progress.{Progress, opens_dropped, with_opens, lease_lowered, break_begun, request_held, held_left}
-use Rattle.lease_laws.specs.server.Laws.{Among, IsSound}
-use Rattle.lease_model.specs.server.State.{Server, Open, Held, has_key, has_lease}
+use Rattle.lease_laws.proofs.Words.{◌≡◌, Among, Bool, Held, IsLowered, IsSound, Key, List, None, Open, Progress, Server, Some}
+use Rattle.lease_laws.proofs.Words.{State, ℕ, break_begun, false, granted_form_of, has_key, has_lease, held_left, lease_lowered}
+use Rattle.lease_laws.proofs.Words.{needs_acknowledgment, not, opens_dropped, request_held, true, with_opens}
 use Rattle.lease_laws.proofs.server.Leases.{put_sound}
 use Rattle.lease_laws.proofs.server.Lists.{clash}
-use Rattle.lease_laws.specs.server.SmallSteps.{IsLowered}
 use Rattle.lease_laws.proofs.server.States.{settled-lawful, breaking-lawful}
 use Rattle.lease_laws.proofs.server.Steps.{drop_sound}
 

@@ -1,26 +1,10 @@
 -- What stands once a create is ready: its key is at home on the file, no open there conflicts with it,
 -- and no other key there holds W.
-use Rattle.std.proofs.Common.{◌≡◌, sym, ap, ◌∙◌, ℕ, true, false, not, List, true≢false, ◌==◌}
-use Rattle.std.specs.Prelude.{◌&&◌, Option, Some, None}
-use Rattle.std.specs.List.{list_any}
-use Rattle.std.proofs.lemmas.Bool.Decides.{Decides-eqb}
-use Rattle.lease_state.specs.Access.{conflict}
-use Rattle.lease_state.specs.declared.access.Access.{Access}
-use Rattle.lease_state.specs.declared.access.Share.{Share}
-use Rattle.lease_state.specs.declared.status.Status.{Status}
-use Rattle.lease_model.specs.server.Allowed.{is_other_on, conflicts_on}
-use Rattle.lease_model.specs.values.Keys.{Key}
-use Rattle.lease_model.specs.values.LeaseStates.{without_write}
-use Rattle.lease_model.specs.values.Lists.{is_empty}
-use Rattle.lease_model.specs.server.Progress.{Progress}
-use Rattle.lease_model.specs.server.Ready.{is_ready}
-use Rattle.lease_model.specs.messages.Requests.{FileRequest, CreateAsk, LeaseOf}
-use Rattle.lease_laws.specs.server.Laws.{Among}
-use Rattle.lease_laws.specs.server.SmallSteps.{IsFree}
-use Rattle.lease_model.specs.server.State.{Server, Open, Lease, has_key, has_own_key, has_file}
-use Rattle.lease_model.specs.server.Wants.{Want, handle_wants, write_wants}
-use Rattle.lease_model.specs.server.Findings.{Finding, finding, create_finding, asked_finding, is_leased_elsewhere}
-use Rattle.lease_model.specs.server.Naming.{lease_of, own_key}
+use Rattle.lease_laws.proofs.Words.{◌&&◌, ◌==◌, ◌∙◌, ◌≡◌, Access, Among, CreateAsk, Decides-eqb, FileRequest, Finding, IsFree}
+use Rattle.lease_laws.proofs.Words.{Key, Lease, LeaseOf, List, None, Open, Option, Progress, Server, Share, Some, Status, Want, ℕ}
+use Rattle.lease_laws.proofs.Words.{ap, asked_finding, conflict, conflicts_on, create_finding, false, finding, handle_wants}
+use Rattle.lease_laws.proofs.Words.{has_file, has_key, has_own_key, is_empty, is_leased_elsewhere, is_other_on, is_ready}
+use Rattle.lease_laws.proofs.Words.{lease_of, list_any, not, own_key, sym, true, true≢false, without_write, write_wants}
 use Rattle.lease_laws.proofs.server.Keys.{lease_by-key}
 use Rattle.lease_laws.proofs.server.Lists.{if_cases, clash, and_both, not_true, not_false, none_has}
 use Rattle.lease_laws.proofs.server.Tries.{IsFoundReady}

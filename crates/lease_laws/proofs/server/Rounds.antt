@@ -1,11 +1,7 @@
 -- A try waits only where the request has to.
-use Rattle.std.proofs.Common.{◌≡◌, refl, ℕ, zero, suc}
-use Rattle.lease_model.specs.messages.Requests.{FileRequest}
-use Rattle.lease_model.specs.server.Attempt.{Outcome, Tried, ended, must_wait, after_breaks, after_finding, tried_for, tried, wants_met}
-use Rattle.lease_model.specs.server.Findings.{Finding, finding}
-use Rattle.lease_model.specs.server.Progress.{Progress}
-use Rattle.lease_model.specs.server.Ready.{is_ready}
-use Rattle.lease_laws.specs.server.Laws.{IsSound, HasToWait}
+use Rattle.lease_laws.proofs.Words.{◌≡◌, FileRequest, Finding, HasToWait, IsSound, Outcome, Progress, Tried, ℕ, after_breaks}
+use Rattle.lease_laws.proofs.Words.{after_finding, ended, finding, is_ready, must_wait, refl, suc, tried, tried_for, wants_met}
+use Rattle.lease_laws.proofs.Words.{zero}
 use Rattle.lease_laws.proofs.server.Blocked.{round_waits}
 use Rattle.lease_laws.proofs.server.Breaks.{wants_met-sound}
 use Rattle.lease_laws.proofs.server.EnoughTries.{Ends, EndsAfter, tries_settle}

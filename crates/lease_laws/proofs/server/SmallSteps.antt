@@ -1,31 +1,17 @@
 -- Tries and their ends go by guarded small steps.
-use Rattle.std.proofs.Common.{◌≡◌, inl, inr, refl, sym, ap, ap₂, ◌∙◌, subst, ℕ, ◌+◌, zero, suc, Bool, true, false, not, List, [], ◌∷◌, ◌++◌, arith}
-use Rattle.std.specs.Prelude.{⊤, if◌then◌else◌, ◌&&◌, Option, Some, None}
-use Rattle.std.specs.List.{list_any}
-use Rattle.lease_state.specs.State.{State, needs_acknowledgment}
-use Rattle.lease_state.specs.declared.access.Access.{Access}
-use Rattle.lease_state.specs.declared.access.Share.{Share}
-use Rattle.lease_state.specs.declared.patch.Patch.{Patch}
-use Rattle.lease_state.specs.declared.status.Status.{Status}
-use Rattle.lease_model.specs.messages.Requests.{FileRequest, CreateAsk, LeaseOf}
-use Rattle.lease_model.specs.server.Allowed.{conflicts_on}
-use Rattle.lease_model.specs.server.Attempt.{Outcome, Tried, ended, must_wait, after_breaks, after_finding, tried_for, tried, is_left_open, lease_broken, want_met, wants_met}
-use Rattle.lease_model.specs.server.Calls.{Call}
-use Rattle.lease_model.specs.server.Findings.{Finding, finding, create_finding, reconnect_finding, write_finding, asked_finding, read_finding, by_open, connected_open, is_leased_elsewhere, awaits}
-use Rattle.lease_model.specs.server.Naming.{own_key}
-use Rattle.lease_model.specs.server.Progress.{Progress, opens_dropped, with_opens, lease_lowered, break_begun}
-use Rattle.lease_model.specs.server.Ready.{is_ready}
-use Rattle.lease_model.specs.server.State.{Server, Open, Lease, has_key, has_lease, has_file, is_breaking}
-use Rattle.lease_model.specs.server.Wants.{Want, handle_wants, write_wants, all_wants}
-use Rattle.lease_model.specs.values.Keys.{Key, key_eq, key_before}
-use Rattle.lease_model.specs.values.Lists.{is_empty, without}
-use Rattle.lease_model.specs.values.Patches.{is_within_limit}
-use Rattle.lease_model.specs.values.Sharing.{may_read, may_write}
-use Rattle.lease_laws.specs.server.Enough.{EndsFor}
-use Rattle.lease_laws.specs.server.Laws.{Among, IsSound}
-use Rattle.lease_laws.specs.server.SmallSteps.{SmallStep, step_taken, steps_taken, IsGuarded, AreGuarded, IsInTurn, AreInTurn, IsOfCall, AreOf, own_count, GoesBySteps, IsLowered, MayLower, IsAwaitedAt, MayCreate, HasOpen, MayChange, MayServe, IsGone, MayRefuse, MayEnd}
-use Rattle.lease_laws.specs.server.Outs.{CachesAlone}
-use Rattle.lease_laws.specs.server.Wanted.{AreInKeyOrder}
+use Rattle.lease_laws.proofs.Words.{◌&&◌, ◌++◌, ◌+◌, ◌∙◌, ◌∷◌, ◌≡◌, Access, Among, AreGuarded, AreInKeyOrder, AreInTurn, AreOf}
+use Rattle.lease_laws.proofs.Words.{Bool, CachesAlone, Call, CreateAsk, EndsFor, FileRequest, Finding, GoesBySteps, HasOpen}
+use Rattle.lease_laws.proofs.Words.{IsAwaitedAt, IsGone, IsGuarded, IsInTurn, IsLowered, IsOfCall, IsSound, Key, Lease, LeaseOf}
+use Rattle.lease_laws.proofs.Words.{List, MayChange, MayCreate, MayEnd, MayLower, MayRefuse, MayServe, None, Open, Option}
+use Rattle.lease_laws.proofs.Words.{Outcome, Patch, Progress, Server, Share, SmallStep, Some, State, Status, Tried, Want, ℕ, ⊤}
+use Rattle.lease_laws.proofs.Words.{[], after_breaks, after_finding, all_wants, ap, ap₂, arith, asked_finding, awaits}
+use Rattle.lease_laws.proofs.Words.{break_begun, by_open, conflicts_on, connected_open, create_finding, ended, false, finding}
+use Rattle.lease_laws.proofs.Words.{handle_wants, has_file, has_key, has_lease, if◌then◌else◌, inl, inr, is_breaking, is_empty}
+use Rattle.lease_laws.proofs.Words.{is_leased_elsewhere, is_left_open, is_ready, is_within_limit, key_before, key_eq}
+use Rattle.lease_laws.proofs.Words.{lease_broken, lease_lowered, list_any, may_read, may_write, must_wait, needs_acknowledgment}
+use Rattle.lease_laws.proofs.Words.{not, opens_dropped, own_count, own_key, read_finding, reconnect_finding, refl, step_taken}
+use Rattle.lease_laws.proofs.Words.{steps_taken, subst, suc, sym, tried, tried_for, true, want_met, wants_met, with_opens}
+use Rattle.lease_laws.proofs.Words.{without, write_finding, write_wants, zero}
 use Rattle.lease_laws.proofs.server.Breaks.{left_present, wants_met-sound}
 use Rattle.lease_laws.proofs.server.EnoughTries.{tries_end}
 use Rattle.lease_laws.proofs.server.Keys.{put_key-cases, key_eq-same, key_eq-refl}

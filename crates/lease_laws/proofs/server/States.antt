@@ -1,11 +1,7 @@
 -- States by their three rights: parts, granted forms, and what may be broken to.
-use Rattle.std.proofs.Common.{◌≡◌, refl, sym, ap, subst, Bool, true, false, true≢false, arith}
-use Rattle.std.specs.Prelude.{◌||◌, Some, None}
-use Rattle.lease_state.specs.State.{State, granted_form_of, nothing_cached, needs_acknowledgment, is_state_within}
-use Rattle.lease_laws.specs.server.SmallSteps.{IsLowered}
-use Rattle.lease_model.specs.values.LeaseStates.{holds_any, same_state, without_write, without_handle}
-use Rattle.lease_laws.specs.server.Laws.{IsBrokenTo, IsLawful}
-use Rattle.lease_model.specs.server.State.{no_lease}
+use Rattle.lease_laws.proofs.Words.{◌||◌, ◌≡◌, Bool, IsBrokenTo, IsLawful, IsLowered, None, Some, State, ap, arith, false}
+use Rattle.lease_laws.proofs.Words.{granted_form_of, holds_any, is_state_within, needs_acknowledgment, no_lease, nothing_cached}
+use Rattle.lease_laws.proofs.Words.{refl, same_state, subst, sym, true, true≢false, without_handle, without_write}
 use Rattle.lease_laws.proofs.server.Lists.{if_cases}
 
 -- a state by its letters

@@ -1,21 +1,14 @@
 -- Passes and calls go by guarded small steps.
-use Rattle.std.proofs.Common.{◌≡◌, inl, inr, refl, sym, ap, ◌∙◌, subst, ℕ, ◌+◌, zero, suc, Bool, true, false, List, [], ◌∷◌, length, arith}
-use Rattle.std.specs.Prelude.{if◌then◌else◌, Option, Some, None, Result, Ok, Err}
-use Rattle.std.specs.List.{list_any}
-use Rattle.lease_state.specs.declared.status.Status.{Status}
-use Rattle.lease_model.specs.messages.Requests.{FileRequest, Request, CreateAsk}
-use Rattle.lease_model.specs.server.Acknowledge.{acknowledged}
-use Rattle.lease_model.specs.server.Answers.{concluded}
-use Rattle.lease_model.specs.server.Attempt.{Outcome, tried}
-use Rattle.lease_model.specs.server.Calls.{Call, called, join, joined, receive, arrived, arrived_on, file_request_arrived, after_first_try, held_of, file_asked, file_of_open, file_of_create, cut, is_lost, opens_disconnected, client_forgotten, key_expired, expire, scavenge, is_left_behind}
-use Rattle.lease_model.specs.server.Findings.{connected_open}
-use Rattle.lease_model.specs.server.Passes.{Pass, is_behind, left_waiting, after_try, tried_again, pass_over, one_pass, passes_for, passes, passes_over, all_passes}
-use Rattle.lease_model.specs.server.Progress.{Progress, begun, opens_dropped, request_held}
-use Rattle.lease_model.specs.server.State.{Server, Open, Held, has_file, has_key, is_breaking}
-use Rattle.lease_model.specs.values.Lists.{numbers_to}
-use Rattle.lease_laws.specs.server.Laws.{Among, IsSound}
-use Rattle.lease_laws.specs.server.SmallSteps.{SmallStep, GoesBySteps, MayEnd, MayRefuse, IsGone, call_begun, own_steps}
-use Rattle.lease_laws.specs.server.Waiting.{WaitsWell}
+use Rattle.lease_laws.proofs.Words.{◌+◌, ◌∙◌, ◌∷◌, ◌≡◌, Among, Bool, Call, CreateAsk, Err, FileRequest, GoesBySteps, Held, IsGone}
+use Rattle.lease_laws.proofs.Words.{IsSound, List, MayEnd, MayRefuse, None, Ok, Open, Option, Outcome, Pass, Progress, Request}
+use Rattle.lease_laws.proofs.Words.{Result, Server, SmallStep, Some, Status, WaitsWell, ℕ, [], acknowledged, after_first_try}
+use Rattle.lease_laws.proofs.Words.{after_try, all_passes, ap, arith, arrived, arrived_on, begun, call_begun, called}
+use Rattle.lease_laws.proofs.Words.{client_forgotten, concluded, connected_open, cut, expire, false, file_asked, file_of_create}
+use Rattle.lease_laws.proofs.Words.{file_of_open, file_request_arrived, has_file, has_key, held_of, if◌then◌else◌, inl, inr}
+use Rattle.lease_laws.proofs.Words.{is_behind, is_breaking, is_left_behind, is_lost, join, joined, key_expired, left_waiting}
+use Rattle.lease_laws.proofs.Words.{length, list_any, numbers_to, one_pass, opens_disconnected, opens_dropped, own_steps}
+use Rattle.lease_laws.proofs.Words.{pass_over, passes, passes_for, passes_over, receive, refl, request_held, scavenge, subst, suc}
+use Rattle.lease_laws.proofs.Words.{sym, tried, tried_again, true, zero}
 use Rattle.lease_laws.proofs.server.Answers.{acknowledged-sound}
 use Rattle.lease_laws.proofs.server.Calls.{joined-sound}
 use Rattle.lease_laws.proofs.server.Arrivals.{arrived_on-fine, asked_well, acknowledged-held, fine_goes}

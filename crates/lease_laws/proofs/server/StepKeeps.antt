@@ -1,19 +1,9 @@
 -- Guarded small steps keep the laws of servers, and opens go on.
-use Rattle.std.proofs.Common.{◌≡◌, inl, ⊎_elim, refl, sym, ap, ◌∙◌, subst, ℕ, Bool, true, false, ◌++◌, true≢false, arith}
-use Rattle.std.specs.Prelude.{Option, Some, None}
-use Rattle.lease_state.specs.State.{State, nothing_cached, is_state_within}
-use Rattle.lease_state.specs.declared.access.Access.{Access}
-use Rattle.lease_state.specs.declared.access.Share.{Share}
-use Rattle.lease_model.specs.messages.Requests.{FileRequest, LeaseOf}
-use Rattle.lease_model.specs.server.Answers.{concluded}
-use Rattle.lease_model.specs.server.Attempt.{Outcome, is_left_open}
-use Rattle.lease_model.specs.server.Naming.{own_key}
-use Rattle.lease_model.specs.server.Progress.{Progress, lease_lowered, break_begun, held_left}
-use Rattle.lease_model.specs.server.State.{Server, Open}
-use Rattle.lease_model.specs.values.Keys.{Key}
-use Rattle.lease_model.specs.values.LeaseStates.{same_state}
-use Rattle.lease_laws.specs.server.Laws.{Among, IsSound}
-use Rattle.lease_laws.specs.server.SmallSteps.{SmallStep, step_taken, IsGuarded, IsLowered, MayLower, MayCreate, MayServe, MayEnd}
+use Rattle.lease_laws.proofs.Words.{◌++◌, ◌∙◌, ◌≡◌, Access, Among, Bool, FileRequest, IsGuarded, IsLowered, IsSound, Key, LeaseOf}
+use Rattle.lease_laws.proofs.Words.{MayCreate, MayEnd, MayLower, MayServe, None, Open, Option, Outcome, Progress, Server, Share}
+use Rattle.lease_laws.proofs.Words.{SmallStep, Some, State, ℕ, ⊎_elim, ap, arith, break_begun, concluded, false, held_left, inl}
+use Rattle.lease_laws.proofs.Words.{is_left_open, is_state_within, lease_lowered, nothing_cached, own_key, refl, same_state}
+use Rattle.lease_laws.proofs.Words.{step_taken, subst, sym, true, true≢false}
 use Rattle.lease_laws.proofs.server.Answers.{acknowledged-sound, concluded-sound}
 use Rattle.lease_laws.proofs.server.Arrivals.{request_held-goes}
 use Rattle.lease_laws.proofs.server.FileReady.{FileReady, AgainReady, awaits_own}
@@ -22,7 +12,8 @@ use Rattle.lease_laws.proofs.server.Lists.{not_true}
 use Rattle.lease_laws.proofs.server.Orderly.{held_left-ready}
 use Rattle.lease_laws.proofs.server.Passes.{held_left-free}
 use Rattle.lease_laws.proofs.server.PassWaits.{held_left-goes}
-use Rattle.lease_laws.proofs.server.Progress.{MayBreak, opens_dropped-sound, held_left-sound, request_held-sound, lease_lowered-sound, break_begun-sound}
+use Rattle.lease_laws.proofs.server.Progress.{MayBreak, opens_dropped-sound, held_left-sound, request_held-sound}
+use Rattle.lease_laws.proofs.server.Progress.{lease_lowered-sound, break_begun-sound}
 use Rattle.lease_laws.proofs.server.Breaks.{light_part, light_writeless}
 use Rattle.lease_laws.proofs.server.Ready.{CreateFree, RequestFree}
 use Rattle.lease_laws.proofs.server.States.{rights}

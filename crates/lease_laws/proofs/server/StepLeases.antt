@@ -1,30 +1,17 @@
 -- What guarded small steps make of leases.
-use Rattle.std.proofs.Common.{◌≡◌, ◌⊎◌, inl, inr, ⊎_elim, refl, sym, ap, ◌∙◌, subst, ℕ, Bool, true, false, not, List, [], ◌∷◌, ◌++◌, arith, append-nil, append_assoc, ◌==◌}
-use Rattle.std.specs.Prelude.{◌&&◌, ◌||◌, is_some, Option, Some, None}
-use Rattle.std.specs.List.{list_any}
-use Rattle.std.proofs.lemmas.Bool.Decides.{Decides-eqb}
-use Rattle.lease_state.specs.State.{State, nothing_cached, granted_form_of, is_state_within}
-use Rattle.lease_state.specs.declared.access.Access.{Access}
-use Rattle.lease_state.specs.declared.access.Share.{Share}
-use Rattle.lease_model.specs.messages.Replies.{Out}
-use Rattle.lease_model.specs.messages.Requests.{FileRequest, LeaseOf}
-use Rattle.lease_model.specs.server.Acknowledge.{acknowledged, break_ended}
-use Rattle.lease_model.specs.server.Allowed.{is_other_on, allowed}
-use Rattle.lease_model.specs.server.Answers.{concluded, changed}
-use Rattle.lease_model.specs.server.Attempt.{Outcome, is_left_open}
-use Rattle.lease_model.specs.server.Grant.{granted_with, lease_after, lease_granted, offered, reconnected}
-use Rattle.lease_model.specs.server.Naming.{key_of, own_key}
-use Rattle.lease_model.specs.server.Progress.{Progress, opens_dropped, with_opens, lease_lowered, break_begun, request_held, held_left, break_notice}
-use Rattle.lease_model.specs.server.State.{Server, Open, Lease, Held, no_lease, has_key, has_own_key, has_lease, is_breaking}
-use Rattle.lease_model.specs.values.Keys.{Key}
-use Rattle.lease_model.specs.values.LeaseStates.{without_write}
-use Rattle.lease_model.specs.values.Lists.{without}
-use Rattle.lease_model.specs.values.Tables.{put}
-use Rattle.lease_laws.specs.server.Laws.{Among, IsSound}
-use Rattle.lease_laws.specs.server.SmallSteps.{SmallStep, step_taken, steps_taken, IsGuarded, AreGuarded, IsFree, MayCreate, MayServe}
-use Rattle.lease_laws.specs.server.StepLaws.{IsRaised, IsEnded, StaysOrRises, BecomesBy, IsBreakTold}
+use Rattle.lease_laws.proofs.Words.{◌&&◌, ◌++◌, ◌==◌, ◌||◌, ◌∙◌, ◌∷◌, ◌≡◌, ◌⊎◌, Access, Among, AreGuarded, BecomesBy, Bool}
+use Rattle.lease_laws.proofs.Words.{Decides-eqb, FileRequest, Held, IsBreakTold, IsEnded, IsFree, IsGuarded, IsRaised, IsSound}
+use Rattle.lease_laws.proofs.Words.{Key, Lease, LeaseOf, List, MayCreate, MayServe, None, Open, Option, Out, Outcome, Progress}
+use Rattle.lease_laws.proofs.Words.{Server, Share, SmallStep, Some, State, StaysOrRises, ℕ, ⊎_elim, [], acknowledged, allowed, ap}
+use Rattle.lease_laws.proofs.Words.{append-nil, append_assoc, arith, break_begun, break_ended, break_notice, changed, concluded}
+use Rattle.lease_laws.proofs.Words.{false, granted_form_of, granted_with, has_key, has_lease, has_own_key, held_left, inl, inr}
+use Rattle.lease_laws.proofs.Words.{is_breaking, is_left_open, is_other_on, is_some, is_state_within, key_of, lease_after}
+use Rattle.lease_laws.proofs.Words.{lease_granted, lease_lowered, list_any, no_lease, not, nothing_cached, offered, opens_dropped}
+use Rattle.lease_laws.proofs.Words.{own_key, put, reconnected, refl, request_held, step_taken, steps_taken, subst, sym, true}
+use Rattle.lease_laws.proofs.Words.{with_opens, without, without_write}
 use Rattle.lease_laws.proofs.server.Keys.{put_key-cases}
-use Rattle.lease_laws.proofs.server.Lists.{if_cases, either, clash, and_parts, not_true, not_parts, any_has, among_before, among_behind}
+use Rattle.lease_laws.proofs.server.Lists.{if_cases, either, clash, and_parts, not_true, not_parts, any_has, among_before}
+use Rattle.lease_laws.proofs.server.Lists.{among_behind}
 use Rattle.lease_laws.proofs.server.StepKeeps.{step-sound, end_serves}
 use Rattle.lease_laws.proofs.server.Progress.{held_left-sound}
 use Rattle.lease_laws.proofs.server.StepOuts.{step-tells}

@@ -1,25 +1,11 @@
 -- What guarded small steps give out.
-use Rattle.std.proofs.Common.{◌≡◌, refl, sym, ap, ◌∙◌, subst, ℕ, true, List, [], ◌∷◌, ◌++◌, true≢false, ◌==◌}
-use Rattle.std.specs.Prelude.{bytes_eq, Option, Some, None}
-use Rattle.std.proofs.lemmas.Bool.Decides.{Decides-eqb}
-use Rattle.lease_state.specs.State.{State}
-use Rattle.lease_state.specs.declared.status.Status.{Status}
-use Rattle.lease_model.specs.messages.Replies.{Reply, Out}
-use Rattle.lease_model.specs.messages.Requests.{FileRequest, LeaseOf}
-use Rattle.lease_model.specs.server.Acknowledge.{acknowledged, break_ended}
-use Rattle.lease_model.specs.server.Answers.{concluded, changed}
-use Rattle.lease_model.specs.server.Attempt.{Outcome, is_left_open}
-use Rattle.lease_model.specs.server.Calls.{Call, called}
-use Rattle.lease_model.specs.server.Grant.{granted_with, reconnected}
-use Rattle.lease_model.specs.server.Progress.{Progress, opens_dropped, lease_lowered, break_begun, held_left, replied, refused, refusal_of}
-use Rattle.lease_model.specs.server.State.{Server, Open, is_key, has_key}
-use Rattle.lease_model.specs.values.Keys.{Key}
-use Rattle.lease_model.specs.values.Patches.{is_within_limit}
-use Rattle.lease_laws.specs.server.Laws.{IsSound}
-use Rattle.lease_laws.specs.server.Outs.{EachOut, IsNoBreak, GoOn}
-use Rattle.lease_laws.specs.server.SmallSteps.{SmallStep, step_taken, steps_taken, IsGuarded, AreGuarded, MayLower, MayServe, MayEnd, call_begun}
-use Rattle.lease_laws.specs.server.StepLaws.{TellsBreaks, IsToPresent, IsShort}
-use Rattle.lease_laws.specs.server.Waiting.{WaitsWell}
+use Rattle.lease_laws.proofs.Words.{◌++◌, ◌==◌, ◌∙◌, ◌∷◌, ◌≡◌, AreGuarded, Call, Decides-eqb, EachOut, FileRequest, GoOn}
+use Rattle.lease_laws.proofs.Words.{IsGuarded, IsNoBreak, IsShort, IsSound, IsToPresent, Key, LeaseOf, List, MayEnd, MayLower}
+use Rattle.lease_laws.proofs.Words.{MayServe, None, Open, Option, Out, Outcome, Progress, Reply, Server, SmallStep, Some, State}
+use Rattle.lease_laws.proofs.Words.{Status, TellsBreaks, WaitsWell, ℕ, [], acknowledged, ap, break_begun, break_ended, bytes_eq}
+use Rattle.lease_laws.proofs.Words.{call_begun, called, changed, concluded, granted_with, has_key, held_left, is_key}
+use Rattle.lease_laws.proofs.Words.{is_left_open, is_within_limit, lease_lowered, opens_dropped, reconnected, refl, refusal_of}
+use Rattle.lease_laws.proofs.Words.{refused, replied, step_taken, steps_taken, subst, sym, true, true≢false}
 use Rattle.lease_laws.proofs.server.Lists.{and_parts, any_has}
 use Rattle.lease_laws.proofs.server.OutCalls.{concluded-answers, request_held-outs, held_left-outs}
 use Rattle.lease_laws.proofs.server.OutLists.{each_append, each_weaker, go_on-same, go_on-weaker, answers_go_on}

@@ -1,12 +1,8 @@
 -- The small steps of a server keep its laws: opens dropped, opens connected or not, a lease changed,
 -- an open added.
-use Rattle.std.proofs.Common.{◌≡◌, refl, sym, ap, ap₂, ◌∙◌, subst, ℕ, ◌≤◌, ◌<◌, Bool, true, false, List, [], ◌∷◌, map}
-use Rattle.std.specs.Prelude.{if◌then◌else◌, ◌||◌, filter}
-use Rattle.std.specs.List.{list_any}
-use Rattle.lease_state.specs.Access.{conflict}
-use Rattle.lease_model.specs.values.Keys.{Key}
-use Rattle.lease_laws.specs.server.Laws.{Among, AreInOrder, IsLawful, IsLasting, AreSound}
-use Rattle.lease_model.specs.server.State.{Open, Lease, no_lease, has_key, is_breaking}
+use Rattle.lease_laws.proofs.Words.{◌<◌, ◌||◌, ◌∙◌, ◌∷◌, ◌≡◌, ◌≤◌, Among, AreInOrder, AreSound, Bool, IsLasting, IsLawful, Key}
+use Rattle.lease_laws.proofs.Words.{Lease, List, Open, ℕ, [], ap, ap₂, conflict, false, filter, has_key, if◌then◌else◌}
+use Rattle.lease_laws.proofs.Words.{is_breaking, list_any, map, no_lease, refl, subst, sym, true}
 use Rattle.lease_laws.proofs.server.Lists.{if_cases, among_filter, among_map, has_any}
 use Rattle.lease_laws.proofs.server.States.{no_lease-lawful}
 

@@ -1,12 +1,7 @@
 -- A try keeps a server's laws, and where it ends ready a look at the request finds nothing left to do.
-use Rattle.std.proofs.Common.{◌≡◌, refl, ℕ, zero, suc, true, List}
-use Rattle.lease_model.specs.server.Attempt.{Outcome, Tried, ended, must_wait, after_breaks, after_finding, tried_for, wants_met}
-use Rattle.lease_model.specs.server.Progress.{Progress}
-use Rattle.lease_model.specs.server.Ready.{is_ready}
-use Rattle.lease_model.specs.messages.Requests.{FileRequest}
-use Rattle.lease_laws.specs.server.Laws.{IsSound}
-use Rattle.lease_model.specs.server.Wants.{Want}
-use Rattle.lease_model.specs.server.Findings.{Finding, finding}
+use Rattle.lease_laws.proofs.Words.{◌≡◌, FileRequest, Finding, IsSound, List, Outcome, Progress, Tried, Want, ℕ, after_breaks}
+use Rattle.lease_laws.proofs.Words.{after_finding, ended, finding, is_ready, must_wait, refl, suc, tried_for, true, wants_met}
+use Rattle.lease_laws.proofs.Words.{zero}
 use Rattle.lease_laws.proofs.server.Breaks.{wants_met-sound}
 use Rattle.lease_laws.proofs.server.Lists.{if_cases}
 use Rattle.lease_laws.proofs.server.Wants.{FindingFits, finding-fits}

@@ -1,22 +1,16 @@
 -- Every call keeps opens and held requests where they belong, and lets no first held request wait for
 -- nothing.
-use Rattle.std.proofs.Common.{◌≡◌, inl, refl, sym, ap, ◌∙◌, subst, ℕ, Bool, true, false, not, cond, List, map, arith, true≢false, ◌==◌}
-use Rattle.std.specs.Prelude.{Some, None, Option, find}
-use Rattle.std.specs.List.{list_any}
+use Rattle.lease_laws.proofs.Words.{◌==◌, ◌∙◌, ◌≡◌, Among, Bool, Call, FileRequest, HasToWait, Held, IsAbout, IsBlocked, IsOpenOn}
+use Rattle.lease_laws.proofs.Words.{IsOrderly, IsSound, IsUnder, Key, List, None, Open, Option, Progress, Server, Some, WaitsWell}
+use Rattle.lease_laws.proofs.Words.{ℕ, all_passes, ap, arith, begun, called, client_forgotten, cond, cut, disconnected, expire}
+use Rattle.lease_laws.proofs.Words.{false, find, has_file, has_key, has_own_key, inl, is_breaking, is_key, is_left_behind}
+use Rattle.lease_laws.proofs.Words.{is_lost, join, joined, key_expired, key_of, key_of_open, key_under, list_any, map, new_server}
+use Rattle.lease_laws.proofs.Words.{not, opens_disconnected, opens_dropped, own_key, put, refl, scavenge, subst, sym, true}
+use Rattle.lease_laws.proofs.Words.{true≢false, without}
 use Rattle.lease_laws.proofs.server.Keys.{is_key-one, is_key-refl}
-use Rattle.lease_model.specs.server.Naming.{own_key, key_of, key_under, key_of_open}
-use Rattle.lease_model.specs.server.Calls.{Call, called, join, joined, cut, is_lost, disconnected, opens_disconnected, client_forgotten, key_expired, expire, scavenge, is_left_behind}
-use Rattle.lease_model.specs.values.Keys.{Key}
-use Rattle.lease_model.specs.values.Lists.{without}
-use Rattle.lease_model.specs.server.Passes.{all_passes}
-use Rattle.lease_model.specs.server.Progress.{Progress, begun, opens_dropped}
-use Rattle.lease_model.specs.messages.Requests.{FileRequest}
-use Rattle.lease_laws.specs.server.Laws.{Among, IsSound, IsBlocked, HasToWait}
-use Rattle.lease_model.specs.server.State.{Server, Open, Held, new_server, has_key, has_file, is_breaking, has_own_key, is_key}
-use Rattle.lease_laws.specs.server.Waiting.{WaitsWell, IsAbout, IsOpenOn, IsOrderly, IsUnder}
-use Rattle.lease_model.specs.values.Tables.{put}
 use Rattle.lease_laws.proofs.server.Arrivals.{everyone_keeps, fine_goes, everyone_cases, receive-waits, new_server-waits}
-use Rattle.lease_laws.proofs.server.Calls.{joined-sound, opens_disconnected-sound, client_forgotten-sound, key_expired-sound, dropped_lease, left_lasting, lasting_left}
+use Rattle.lease_laws.proofs.server.Calls.{joined-sound, opens_disconnected-sound, client_forgotten-sound, key_expired-sound}
+use Rattle.lease_laws.proofs.server.Calls.{dropped_lease, left_lasting, lasting_left}
 use Rattle.lease_laws.proofs.server.Goes.{Goes, still_there, dropped-goes}
 use Rattle.lease_laws.proofs.server.Held.{SameHeld, dropped_held}
 use Rattle.lease_laws.proofs.server.Keeps.{Kept, Anywhere, connected_has}

@@ -1,14 +1,8 @@
 -- The keys of opens stand strictly in order, and so do wants.
-use Rattle.std.proofs.Common.{◌≡◌, ◌⊎◌, inl, inr, ⊎_elim, refl, sym, ap, ◌∙◌, subst, ℕ, Bool, true, false, List, [], ◌∷◌, map, filter, arith, true≢false, ◌==◌, nat_lt}
-use Rattle.std.specs.Prelude.{if◌then◌else◌, ◌&&◌, ◌||◌, Option, Some, None}
-use Rattle.lease_state.specs.State.{State}
-use Rattle.lease_model.specs.server.KeyOrder.{key_added, open_key_added, keys_of}
-use Rattle.lease_model.specs.server.Naming.{key_of}
-use Rattle.lease_model.specs.server.State.{Server, Open, has_key}
-use Rattle.lease_model.specs.server.Wants.{wants_where}
-use Rattle.lease_model.specs.values.Keys.{Key, key_eq, bytes_before, key_before}
-use Rattle.lease_laws.specs.server.Laws.{Among}
-use Rattle.lease_laws.specs.server.Wanted.{AreInKeyOrder, AreWanted}
+use Rattle.lease_laws.proofs.Words.{◌&&◌, ◌==◌, ◌||◌, ◌∙◌, ◌∷◌, ◌≡◌, ◌⊎◌, Among, AreInKeyOrder, AreWanted, Bool, Key, List, None}
+use Rattle.lease_laws.proofs.Words.{Open, Option, Server, Some, State, ℕ, ⊎_elim, [], ap, arith, bytes_before, false, filter}
+use Rattle.lease_laws.proofs.Words.{has_key, if◌then◌else◌, inl, inr, key_added, key_before, key_eq, key_of, keys_of, map, nat_lt}
+use Rattle.lease_laws.proofs.Words.{open_key_added, refl, subst, sym, true, true≢false, wants_where}
 use Rattle.lease_laws.proofs.server.KeyOrder.{wants_where-has}
 use Rattle.lease_laws.proofs.server.Keys.{key_eq-refl, key_of_parts}
 use Rattle.lease_laws.proofs.server.Lists.{if_cases, clash, not_false, among_map, among_filter}

@@ -1,28 +1,15 @@
 -- What a look at a request wants: each wanted lease can be so lowered.
-use Rattle.std.proofs.Common.{◌≡◌, ◌⊎◌, inl, inr, ⊎_elim, refl, sym, ap, ◌∙◌, subst, ℕ, Bool, true, false, List, [], ◌∷◌, map, true≢false}
-use Rattle.std.specs.Prelude.{if◌then◌else◌, ◌&&◌, filter, Option, Some, None}
-use Rattle.std.specs.List.{list_any}
-use Rattle.lease_state.specs.State.{State, granted_form_of, nothing_cached}
-use Rattle.lease_state.specs.declared.access.Access.{Access}
-use Rattle.lease_state.specs.declared.access.Share.{Share}
-use Rattle.lease_state.specs.declared.status.Status.{Status}
-use Rattle.lease_model.specs.server.Allowed.{is_other_on, conflicts_on}
-use Rattle.lease_state.specs.declared.patch.Patch.{Patch}
-use Rattle.lease_model.specs.values.Patches.{is_within_limit}
-use Rattle.lease_model.specs.values.Keys.{Key, key_eq, key_before}
-use Rattle.lease_model.specs.values.LeaseStates.{holds_any, without_write, without_handle}
-use Rattle.lease_model.specs.values.Lists.{is_empty}
-use Rattle.lease_model.specs.messages.Requests.{FileRequest, CreateAsk, LeaseOf}
-use Rattle.lease_laws.specs.server.Laws.{Among, IsSound}
-use Rattle.lease_model.specs.server.State.{Server, Open, no_lease, has_key, is_key, has_file}
-use Rattle.lease_model.specs.values.Sharing.{may_read, may_write}
-use Rattle.lease_model.specs.server.Wants.{Want, wants_where, handle_wants, write_wants, all_wants}
-use Rattle.lease_model.specs.server.Findings.{Finding, finding, create_finding, reconnect_finding, write_finding, asked_finding, read_finding, by_open, by_contexts, connected_open, is_leased_elsewhere, awaits}
-use Rattle.lease_model.specs.server.KeyOrder.{key_added, open_key_added, keys_of}
-use Rattle.lease_model.specs.server.Naming.{key_of, lease_of, own_key, key_of_open}
+use Rattle.lease_laws.proofs.Words.{◌&&◌, ◌∙◌, ◌∷◌, ◌≡◌, ◌⊎◌, Access, Among, Bool, CreateAsk, FileRequest, Finding, IsLowered}
+use Rattle.lease_laws.proofs.Words.{IsSound, Key, LeaseOf, List, None, Open, Option, Patch, Server, Share, Some, State, Status}
+use Rattle.lease_laws.proofs.Words.{Want, ℕ, ⊎_elim, [], all_wants, ap, asked_finding, awaits, by_contexts, by_open, conflicts_on}
+use Rattle.lease_laws.proofs.Words.{connected_open, create_finding, false, filter, finding, granted_form_of, handle_wants}
+use Rattle.lease_laws.proofs.Words.{has_file, has_key, holds_any, if◌then◌else◌, inl, inr, is_empty, is_key, is_leased_elsewhere}
+use Rattle.lease_laws.proofs.Words.{is_other_on, is_within_limit, key_added, key_before, key_eq, key_of, key_of_open, keys_of}
+use Rattle.lease_laws.proofs.Words.{lease_of, list_any, map, may_read, may_write, no_lease, nothing_cached, open_key_added}
+use Rattle.lease_laws.proofs.Words.{own_key, read_finding, reconnect_finding, refl, subst, sym, true, true≢false, wants_where}
+use Rattle.lease_laws.proofs.Words.{without_handle, without_write, write_finding, write_wants}
 use Rattle.lease_laws.proofs.server.Keys.{is_key-refl, lease_by-key}
 use Rattle.lease_laws.proofs.server.Lists.{if_cases, clash, and_parts, not_true, among_filter, among_filtered, among_map}
-use Rattle.lease_laws.specs.server.SmallSteps.{IsLowered}
 use Rattle.lease_laws.proofs.server.States.{without_write-lowered, without_handle-lowered, nothing-lowered}
 
 -- a key among the keys with one more is that one, or was among them

@@ -1,23 +1,9 @@
 -- In every run the record says what clients believe.
-use Rattle.std.proofs.Common.{◌≡◌, ℕ, true, false, List, [], ◌∷◌, length, refl, sym, ap, ◌∙◌, subst, ◌==◌}
-use Rattle.std.specs.Prelude.{◌&&◌, if◌then◌else◌, reverse}
-use Rattle.std.specs.List.{list_all}
-use Rattle.std.proofs.lemmas.Bool.Decides.{Decides-eqb}
-use Rattle.lease_state.specs.State.{nothing_cached}
-use Rattle.lease_model.specs.client.Calls.{client_called}
-use Rattle.lease_model.specs.client.Commands.{Note}
-use Rattle.lease_model.specs.client.State.{Client, belief, new_client}
-use Rattle.lease_model.specs.client.Step.{Step}
-use Rattle.lease_model.specs.messages.Replies.{Out}
-use Rattle.lease_model.specs.records.Facts.{Fact}
-use Rattle.lease_model.specs.records.Past.{believed}
-use Rattle.lease_model.specs.server.Calls.{called}
-use Rattle.lease_model.specs.server.Progress.{Progress}
-use Rattle.lease_model.specs.values.Tables.{put, numbered}
-use Rattle.lease_model.specs.world.Events.{Event, served, stepped_in, after}
-use Rattle.lease_model.specs.world.World.{World, Setup, first_world, happened, delivered, all_delivered, requests_sent, fact_of, noted, starts_from}
-use Rattle.lease_laws.specs.client.Laws.{believed_after}
-use Rattle.lease_laws.specs.records.Runs.{is_start}
+use Rattle.lease_laws.proofs.Words.{◌&&◌, ◌==◌, ◌∙◌, ◌∷◌, ◌≡◌, Client, Decides-eqb, Event, Fact, List, Note, Out, Progress, Setup}
+use Rattle.lease_laws.proofs.Words.{Step, World, ℕ, [], after, all_delivered, ap, belief, believed, believed_after, called}
+use Rattle.lease_laws.proofs.Words.{client_called, delivered, fact_of, false, first_world, happened, if◌then◌else◌, is_start}
+use Rattle.lease_laws.proofs.Words.{length, list_all, new_client, noted, nothing_cached, numbered, put, refl, requests_sent}
+use Rattle.lease_laws.proofs.Words.{reverse, served, starts_from, stepped_in, subst, sym, true}
 use Rattle.lease_laws.proofs.client.AllBeliefs.{called-beliefs}
 use Rattle.lease_laws.proofs.client.InFiles.{InFiles, first_in_files, called_in_files}
 use Rattle.lease_laws.proofs.client.Thin.{put_same, put_other}

@@ -1,22 +1,9 @@
 -- What calls of the server tell of contents: the record has the contents of the server, and a read's reply has
 -- what the record says where it is sent.
-use Rattle.std.proofs.Common.{◌≡◌, ℕ, List, [], ◌∷◌, ◌++◌, refl, sym, ap, ◌∙◌, subst, ◌==◌}
-use Rattle.std.specs.Prelude.{if◌then◌else◌, ⊤}
-use Rattle.std.proofs.lemmas.Bool.{eq-eqb, eqb-true}
+use Rattle.lease_laws.proofs.Words.{◌++◌, ◌==◌, ◌∙◌, ◌∷◌, ◌≡◌, AreGuarded, Call, EachOut, Fact, IsOfPlace, IsSound, List, Out}
+use Rattle.lease_laws.proofs.Words.{Patch, Progress, Reply, Server, SmallStep, WaitsWell, ℕ, ⊤, [], ap, call_begun, called}
+use Rattle.lease_laws.proofs.Words.{content_of, eq-eqb, eqb-true, if◌then◌else◌, put, refl, step_taken, steps_taken, subst, sym}
 use Rattle.lease_state.specs.Content.{patch as patched}
-use Rattle.lease_state.specs.declared.patch.Patch.{Patch}
-use Rattle.lease_model.specs.messages.Replies.{Reply, Out}
-use Rattle.lease_model.specs.records.Facts.{Fact}
-use Rattle.lease_model.specs.server.Calls.{Call, called}
-use Rattle.lease_model.specs.server.Progress.{Progress}
-use Rattle.lease_model.specs.server.State.{Server}
-use Rattle.lease_model.specs.values.Tables.{put}
-use Rattle.lease_laws.specs.records.Runs.{content_of}
-use Rattle.lease_laws.specs.server.Laws.{IsSound}
-use Rattle.lease_laws.specs.server.Outs.{EachOut}
-use Rattle.lease_laws.specs.server.SmallSteps.{SmallStep, step_taken, steps_taken, AreGuarded, call_begun}
-use Rattle.lease_laws.specs.server.Waiting.{WaitsWell}
-use Rattle.lease_laws.specs.world.Contents.{IsOfPlace}
 use Rattle.lease_laws.proofs.client.Thin.{put_same, put_other}
 use Rattle.lease_laws.proofs.server.ContentSteps.{IsOther, LeavesContents, IsRead, IsChange, ContentStep, content_step}
 use Rattle.lease_laws.proofs.server.Lists.{either, clash}

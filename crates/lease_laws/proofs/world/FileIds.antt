@@ -1,24 +1,13 @@
 -- In every run FileIds are counted, and each open is told of in the place of its FileId.
-use Rattle.std.proofs.Common.{◌≡◌, ◌⊎◌, ⊎_elim, ℕ, ◌+◌, Bool, true, false, not, List, [], ◌∷◌, ◌++◌, map, reverse, refl, sym, ap, ◌∙◌, subst, arith, ◌==◌, ◌&&◌, ◌||◌}
-use Rattle.std.specs.List.{list_any, list_all}
-use Rattle.std.proofs.lemmas.Bool.{eq-eqb}
-use Rattle.lease_model.specs.client.Calls.{client_called}
-use Rattle.lease_model.specs.client.Commands.{Note}
-use Rattle.lease_model.specs.client.Step.{Step}
-use Rattle.lease_model.specs.messages.Replies.{Out}
-use Rattle.lease_model.specs.records.Facts.{Fact}
-use Rattle.lease_model.specs.server.Calls.{Call, called, join, joined, is_lost, opens_disconnected, disconnected, client_forgotten, key_expired, is_left_behind}
-use Rattle.lease_model.specs.server.Progress.{Progress, begun, opens_dropped, with_opens}
-use Rattle.lease_model.specs.server.State.{Server, Open, has_key, is_breaking, new_server}
-use Rattle.lease_model.specs.values.Lists.{without}
-use Rattle.lease_model.specs.world.Events.{Event, served, stepped_in, after}
-use Rattle.lease_model.specs.world.World.{World, Setup, starts_from, first_world, delivered, all_delivered, requests_sent, noted, happened, fact_of}
-use Rattle.lease_laws.specs.records.Runs.{is_start}
-use Rattle.lease_laws.specs.server.Laws.{Among, IsSound}
-use Rattle.lease_laws.specs.server.Outs.{EachOut}
-use Rattle.lease_laws.specs.server.SmallSteps.{SmallStep, step_taken, steps_taken, IsGuarded, AreGuarded, call_begun}
-use Rattle.lease_laws.specs.server.Waiting.{WaitsWell}
-use Rattle.lease_laws.specs.world.FileIds.{opened_count, was_opened, FileIdsAreCounted, OpensAreTold}
+use Rattle.lease_laws.proofs.Words.{◌&&◌, ◌++◌, ◌+◌, ◌==◌, ◌||◌, ◌∙◌, ◌∷◌, ◌≡◌, ◌⊎◌, Among, AreGuarded, Bool, Call, EachOut}
+use Rattle.lease_laws.proofs.Words.{Event, Fact, FileIdsAreCounted, IsGuarded, IsSound, List, Note, Open, OpensAreTold, Out}
+use Rattle.lease_laws.proofs.Words.{Progress, Server, Setup, SmallStep, Step, WaitsWell, World, ℕ, ⊎_elim, [], after}
+use Rattle.lease_laws.proofs.Words.{all_delivered, ap, arith, begun, call_begun, called, client_called, client_forgotten}
+use Rattle.lease_laws.proofs.Words.{delivered, disconnected, eq-eqb, fact_of, false, first_world, happened, has_key, is_breaking}
+use Rattle.lease_laws.proofs.Words.{is_left_behind, is_lost, is_start, join, joined, key_expired, list_all, list_any, map}
+use Rattle.lease_laws.proofs.Words.{new_server, not, noted, opened_count, opens_disconnected, opens_dropped, refl, requests_sent}
+use Rattle.lease_laws.proofs.Words.{reverse, served, starts_from, step_taken, stepped_in, steps_taken, subst, sym, true}
+use Rattle.lease_laws.proofs.Words.{was_opened, with_opens, without}
 use Rattle.lease_laws.proofs.records.Runs.{all_starts, all_reversed}
 use Rattle.lease_laws.proofs.server.Calls.{new_server-sound, called-sound}
 use Rattle.lease_laws.proofs.server.Goes.{IsOld, IsNew}

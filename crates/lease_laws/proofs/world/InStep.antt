@@ -1,29 +1,15 @@
 -- In every run the record has the contents of the server, and replies on their way are right for their places.
-use Rattle.std.proofs.Common.{◌≡◌, ℕ, zero, suc, ◌+◌, true, List, [], ◌∷◌, length, ◌≤◌, ◌<◌, Option, Some, None, refl, sym, ap, ◌∙◌, subst, arith, true≢false, ◌==◌}
-use Rattle.std.specs.Prelude.{if◌then◌else◌, nat_le, slice_get, unwrap_or, take}
-use mathlib.Core.List.{reverse_aux}
-use Rattle.lease_model.specs.client.Commanded.{commanded}
-use Rattle.lease_model.specs.client.Commands.{Note}
-use Rattle.lease_model.specs.client.Connection.{noticed, connection_made}
-use Rattle.lease_model.specs.client.Step.{Step}
-use Rattle.lease_model.specs.client.Taken.{taken}
-use Rattle.lease_model.specs.messages.Replies.{Reply}
-use Rattle.lease_model.specs.messages.Requests.{Request}
-use Rattle.lease_model.specs.records.Facts.{Fact}
-use Rattle.lease_model.specs.records.Past.{sendings, takings}
-use Rattle.lease_model.specs.server.Calls.{Call, called, join}
-use Rattle.lease_model.specs.server.Queries.{breaking, kept}
-use Rattle.lease_model.specs.server.State.{Server, has_file, new_server}
-use Rattle.lease_model.specs.values.Tables.{put, numbered}
-use Rattle.lease_model.specs.values.Limits.{files_limit, last_file_number}
-use Rattle.lease_model.specs.world.Allowed.{is_allowed_setup}
-use Rattle.lease_model.specs.world.Events.{Event, served, stepped_in, server_takes, client_takes, link_cut, cut_over, link_noticed, notice_over, link_connected, connect_over, machine_key, timer_expired, scavenged, strayed_over, applied, client_of, happens, after}
-use Rattle.lease_model.specs.world.World.{World, Link, Setup, starts_from, first_world, has_client, all_delivered, requests_sent, noted, happened, fact_of}
-use Rattle.std.proofs.lemmas.Bool.{eq-eqb, eqb-true}
+use Rattle.lease_laws.proofs.Words.{◌+◌, ◌<◌, ◌==◌, ◌∙◌, ◌∷◌, ◌≡◌, ◌≤◌, Call, ContentsAreTold, Event, Fact, Link, List, None}
+use Rattle.lease_laws.proofs.Words.{Note, Option, RepliesAreOfTheirPlaces, Reply, Request, Server, Setup, Some, Step, World, ℕ}
+use Rattle.lease_laws.proofs.Words.{[], after, all_delivered, ap, applied, arith, breaking, called, client_of, client_takes}
+use Rattle.lease_laws.proofs.Words.{commanded, connect_over, connection_made, content_of, cut_over, eq-eqb, eqb-true, fact_of}
+use Rattle.lease_laws.proofs.Words.{files_limit, first_world, happened, happens, has_client, has_file, if◌then◌else◌}
+use Rattle.lease_laws.proofs.Words.{is_allowed_setup, is_up, join, kept, last_file_number, length, link_connected, link_cut}
+use Rattle.lease_laws.proofs.Words.{link_noticed, machine_key, nat_le, new_server, noted, notice_over, noticed, numbered, put}
+use Rattle.lease_laws.proofs.Words.{refl, requests_sent, reverse_aux, scavenged, sendings, served, server_takes, slice_get}
+use Rattle.lease_laws.proofs.Words.{starts_from, stepped_in, strayed_over, subst, suc, sym, take, taken, takings, timer_expired}
+use Rattle.lease_laws.proofs.Words.{true, true≢false, unwrap_or, zero}
 use Rattle.lease_laws.proofs.server.Lists.{either, and_parts}
-use Rattle.lease_laws.specs.records.Runs.{content_of}
-use Rattle.lease_laws.specs.world.Contents.{ContentsAreTold, RepliesAreOfTheirPlaces}
-use Rattle.lease_laws.specs.world.Links.{is_up}
 use Rattle.lease_laws.proofs.client.Words.{if_either}
 use Rattle.lease_laws.proofs.client.Thin.{put_other}
 use Rattle.lease_laws.proofs.world.Contents.{HasContents, called-fits, called-contents}
@@ -31,7 +17,8 @@ use Rattle.lease_laws.proofs.world.FileIds.{IsCountedWorld, counted_kept, first_
 use Rattle.lease_laws.proofs.world.Kept.{served-server, happens-kept}
 use Rattle.lease_laws.proofs.world.Links.{IsLinked, first_linked, happens_linked}
 use Rattle.lease_laws.proofs.world.Runs.{stepped_server}
-use Rattle.lease_laws.proofs.world.Snapshots.{KeepsStep, all_in_step, stepped_in_step, took_in_step, joined_in_step, down_in_step, carried_step}
+use Rattle.lease_laws.proofs.world.Snapshots.{KeepsStep, all_in_step, stepped_in_step, took_in_step, joined_in_step, down_in_step}
+use Rattle.lease_laws.proofs.world.Snapshots.{carried_step}
 
 -- what holds of a world: by the record, of contents and of replies
 record IsTrue (world : World) : Type 0 where

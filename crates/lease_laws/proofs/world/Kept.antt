@@ -1,20 +1,11 @@
 -- What holds of a world in every run: where it holds of the first one, and calls, steps and facts keep it. For
 -- what speaks of the server, the clients and the record, and not of queues and links.
-use Rattle.std.proofs.Common.{◌≡◌, ℕ, List, [], ◌∷◌, Option, Some, None, refl, ◌∙◌, subst}
-use Rattle.std.specs.Prelude.{if◌then◌else◌}
-use Rattle.lease_model.specs.client.Calls.{ClientCall, client_called}
-use Rattle.lease_model.specs.client.Connection.{connection_made}
-use Rattle.lease_model.specs.client.State.{Client}
-use Rattle.lease_model.specs.messages.Replies.{Reply, Out}
-use Rattle.lease_model.specs.messages.Requests.{Request}
-use Rattle.lease_model.specs.records.Facts.{Fact}
-use Rattle.lease_model.specs.server.Calls.{Call, called, join}
-use Rattle.lease_model.specs.server.Progress.{Progress}
-use Rattle.lease_model.specs.server.Queries.{breaking, kept}
-use Rattle.lease_model.specs.server.State.{has_file}
-use Rattle.lease_model.specs.values.Tables.{put}
-use Rattle.lease_model.specs.world.Events.{Event, served, stepped_in, server_takes, client_takes, link_cut, cut_over, link_noticed, notice_over, link_connected, connect_over, machine_key, timer_expired, scavenged, strayed_over, applied, client_of, happens, after}
-use Rattle.lease_model.specs.world.World.{World, Link, has_client, happened, delivered, all_delivered, requests_sent}
+use Rattle.lease_laws.proofs.Words.{◌∙◌, ◌∷◌, ◌≡◌, Call, Client, ClientCall, Event, Fact, Link, List, None, Option, Out, Progress}
+use Rattle.lease_laws.proofs.Words.{Reply, Request, Some, World, ℕ, [], after, all_delivered, applied, breaking, called}
+use Rattle.lease_laws.proofs.Words.{client_called, client_of, client_takes, connect_over, connection_made, cut_over, delivered}
+use Rattle.lease_laws.proofs.Words.{happened, happens, has_client, has_file, if◌then◌else◌, join, kept, link_connected, link_cut}
+use Rattle.lease_laws.proofs.Words.{link_noticed, machine_key, notice_over, put, refl, requests_sent, scavenged, served}
+use Rattle.lease_laws.proofs.Words.{server_takes, stepped_in, strayed_over, subst, timer_expired}
 use Rattle.lease_laws.proofs.client.Words.{if_either}
 
 -- facts of connections, timers, messages taken and strays

@@ -1,32 +1,14 @@
 -- Links, queues and connections in every run, and what the record says of them.
-use Rattle.std.proofs.Common.{◌≡◌, ◌≢◌, ℕ, suc, ◌+◌, true, false, not, List, [], ◌∷◌, ◌++◌, length, reverse, Option, Some, None, refl, sym, ap, ap₂, ◌∙◌, subst, arith, true≢false, ◌==◌}
-use Rattle.std.specs.Prelude.{if◌then◌else◌, ⊤}
-use Rattle.std.specs.List.{list_all}
-use Rattle.std.proofs.lemmas.Bool.{eq-eqb, eqb-true}
-use Rattle.std.proofs.lemmas.List.{length-append}
-use Rattle.lease_model.specs.client.Commanded.{commanded}
-use Rattle.lease_model.specs.client.Commands.{Note}
-use Rattle.lease_model.specs.client.Connection.{noticed, connection_made, all_turned}
-use Rattle.lease_model.specs.client.State.{Client, new_client}
-use Rattle.lease_model.specs.client.Step.{Step}
-use Rattle.lease_model.specs.client.Taken.{taken}
-use Rattle.lease_model.specs.messages.Replies.{Reply, Out}
-use Rattle.lease_model.specs.messages.Requests.{Request}
-use Rattle.lease_model.specs.records.Facts.{Fact}
-use Rattle.lease_model.specs.records.Past.{is_served, sendings, takings}
-use Rattle.lease_model.specs.server.Calls.{Call, called, join, cut}
-use Rattle.lease_model.specs.server.Progress.{Progress}
-use Rattle.lease_model.specs.server.Queries.{breaking, kept}
-use Rattle.lease_model.specs.server.State.{Server, has_file, new_server}
-use Rattle.lease_model.specs.values.Tables.{put}
-use Rattle.lease_model.specs.world.Events.{Event, served, stepped_in, server_takes, client_takes, link_cut, cut_over, link_noticed, notice_over, link_connected, connect_over, machine_key, timer_expired, scavenged, strayed_over, applied, client_of, happens, after}
-use Rattle.lease_model.specs.world.World.{World, Setup, Link, starts_from, first_world, has_client, delivered, all_delivered, requests_sent, sent_over, noted, happened, fact_of}
-use Rattle.lease_laws.specs.records.Runs.{is_start}
-use Rattle.lease_laws.specs.server.Laws.{IsSound}
-use Rattle.lease_laws.specs.server.Outs.{EachOut}
-use Rattle.lease_laws.specs.server.StepLaws.{IsToPresent}
-use Rattle.lease_laws.specs.server.Waiting.{WaitsWell}
-use Rattle.lease_laws.specs.world.Links.{IsTied, IsOnline, LinksOfRuns, is_up, is_down}
+use Rattle.lease_laws.proofs.Words.{◌++◌, ◌+◌, ◌==◌, ◌∙◌, ◌∷◌, ◌≡◌, ◌≢◌, Call, Client, EachOut, Event, Fact, IsOnline, IsSound}
+use Rattle.lease_laws.proofs.Words.{IsTied, IsToPresent, Link, LinksOfRuns, List, None, Note, Option, Out, Progress, Reply}
+use Rattle.lease_laws.proofs.Words.{Request, Server, Setup, Some, Step, WaitsWell, World, ℕ, ⊤, [], after, all_delivered}
+use Rattle.lease_laws.proofs.Words.{all_turned, ap, applied, ap₂, arith, breaking, called, client_of, client_takes, commanded}
+use Rattle.lease_laws.proofs.Words.{connect_over, connection_made, cut, cut_over, delivered, eq-eqb, eqb-true, fact_of, false}
+use Rattle.lease_laws.proofs.Words.{first_world, happened, happens, has_client, has_file, if◌then◌else◌, is_down, is_served}
+use Rattle.lease_laws.proofs.Words.{is_start, is_up, join, kept, length, length-append, link_connected, link_cut, link_noticed}
+use Rattle.lease_laws.proofs.Words.{list_all, machine_key, new_client, new_server, not, noted, notice_over, noticed, put, refl}
+use Rattle.lease_laws.proofs.Words.{requests_sent, reverse, scavenged, sendings, sent_over, served, server_takes, starts_from}
+use Rattle.lease_laws.proofs.Words.{stepped_in, strayed_over, subst, suc, sym, taken, takings, timer_expired, true, true≢false}
 use Rattle.lease_laws.proofs.client.Forms.{commanded-stays, taken-stays}
 use Rattle.lease_laws.proofs.client.Thin.{put_same, put_other}
 use Rattle.lease_laws.proofs.client.Words.{if_either}

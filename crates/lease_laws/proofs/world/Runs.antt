@@ -1,31 +1,15 @@
 -- In every run the server is sound, contents fit, and the record says what clients believe.
-use Rattle.std.proofs.Common.{◌≡◌, ℕ, zero, suc, ◌+◌, ◌≤◌, max, Bool, true, false, List, [], ◌∷◌, ◌++◌, length, take, Option, Some, None, refl, sym, subst, arith, ◌==◌}
-use Rattle.std.specs.Prelude.{if◌then◌else◌, nat_le, slice_get, unwrap_or}
-use Rattle.std.specs.List.{list_any, list_all}
-use Rattle.lease_state.proofs.ContentLemmas.{length-written}
-use Rattle.lease_state.specs.Content.{patch, patch_at}
-use Rattle.lease_state.specs.declared.content.TheConstants.{FILE_LIMIT}
-use Rattle.lease_state.specs.declared.patch.Patch.{Patch}
-use Rattle.lease_model.specs.client.Calls.{client_called}
-use Rattle.lease_model.specs.client.Commands.{Note}
-use Rattle.lease_model.specs.client.Step.{Step}
-use Rattle.lease_model.specs.messages.Requests.{FileRequest, LeaseOf}
-use Rattle.lease_model.specs.server.Acknowledge.{acknowledged, break_ended}
-use Rattle.lease_model.specs.server.Answers.{concluded, changed}
-use Rattle.lease_model.specs.server.Attempt.{Outcome}
-use Rattle.lease_model.specs.server.Calls.{Call, called, join, joined, opens_disconnected, client_forgotten, key_expired, is_left_behind}
-use Rattle.lease_model.specs.server.Grant.{granted_with, lease_put, reconnected}
-use Rattle.lease_model.specs.server.Progress.{Progress, begun, opens_dropped, with_opens, lease_lowered, break_begun, request_held, held_left}
-use Rattle.lease_model.specs.server.State.{Server, new_server, with_number, is_breaking, Lease}
-use Rattle.lease_model.specs.values.Limits.{last_file_number}
-use Rattle.lease_model.specs.values.Patches.{is_within_limit}
-use Rattle.lease_model.specs.values.Tables.{put, numbered}
-use Rattle.lease_model.specs.world.Allowed.{is_allowed_setup, is_content}
-use Rattle.lease_model.specs.world.Events.{Event, served, stepped_in, after}
-use Rattle.lease_model.specs.world.World.{World, Setup, first_world, happened, requests_sent, fact_of, noted}
-use Rattle.lease_laws.specs.server.Laws.{IsSound}
-use Rattle.lease_laws.specs.server.SmallSteps.{SmallStep, step_taken, steps_taken, IsGuarded, AreGuarded, MayServe, call_begun}
-use Rattle.lease_laws.specs.server.Waiting.{WaitsWell}
+use Rattle.lease_laws.proofs.Words.{◌++◌, ◌+◌, ◌==◌, ◌∷◌, ◌≡◌, ◌≤◌, AreGuarded, Bool, Call, Event, FILE_LIMIT, FileRequest}
+use Rattle.lease_laws.proofs.Words.{IsGuarded, IsSound, Lease, LeaseOf, List, MayServe, None, Note, Option, Outcome, Patch}
+use Rattle.lease_laws.proofs.Words.{Progress, Server, Setup, SmallStep, Some, Step, WaitsWell, World, ℕ, [], acknowledged, after}
+use Rattle.lease_laws.proofs.Words.{arith, begun, break_begun, break_ended, call_begun, called, changed, client_called}
+use Rattle.lease_laws.proofs.Words.{client_forgotten, concluded, fact_of, false, first_world, granted_with, happened, held_left}
+use Rattle.lease_laws.proofs.Words.{if◌then◌else◌, is_allowed_setup, is_breaking, is_content, is_left_behind, is_within_limit}
+use Rattle.lease_laws.proofs.Words.{join, joined, key_expired, last_file_number, lease_lowered, lease_put, length, length-written}
+use Rattle.lease_laws.proofs.Words.{list_all, list_any, max, nat_le, new_server, noted, numbered, opens_disconnected}
+use Rattle.lease_laws.proofs.Words.{opens_dropped, patch, patch_at, put, reconnected, refl, request_held, requests_sent, served}
+use Rattle.lease_laws.proofs.Words.{slice_get, step_taken, stepped_in, steps_taken, subst, suc, sym, take, true, unwrap_or}
+use Rattle.lease_laws.proofs.Words.{with_number, with_opens, zero}
 use Rattle.lease_laws.proofs.server.Calls.{new_server-sound, called-sound}
 use Rattle.lease_laws.proofs.server.Lists.{if_cases, and_parts}
 use Rattle.lease_laws.proofs.server.StepCalls.{called-steps}

@@ -1,20 +1,9 @@
 -- In every run the record has the contents of the server, and the replies on their way to a client are right for the
 -- places where they were sent.
-use Rattle.std.proofs.Common.{◌≡◌, ◌≢◌, ℕ, zero, suc, ◌+◌, ◌≤◌, true, false, List, [], ◌∷◌, ◌++◌, length, refl, sym, ap, ◌∙◌, subst, arith}
-use Rattle.std.specs.Prelude.{drop}
-use Rattle.std.proofs.lemmas.Bool.{eq-eqb}
-use Rattle.std.proofs.lemmas.List.{length-append}
-use Rattle.lease_model.specs.client.Commands.{Note}
-use Rattle.lease_model.specs.client.Step.{Step}
-use Rattle.lease_model.specs.messages.Replies.{Reply, Out}
-use Rattle.lease_model.specs.messages.Requests.{Request}
-use Rattle.lease_model.specs.records.Facts.{Fact}
-use Rattle.lease_model.specs.records.Past.{sendings, takings}
-use Rattle.lease_model.specs.values.Tables.{put}
-use Rattle.lease_model.specs.world.Events.{stepped_in}
-use Rattle.lease_model.specs.world.World.{World, Link, delivered, all_delivered, requests_sent, noted, happened, fact_of}
-use Rattle.lease_laws.specs.world.Contents.{IsOfPlace, AreInStep}
-use Rattle.lease_laws.specs.world.Links.{is_up}
+use Rattle.lease_laws.proofs.Words.{◌++◌, ◌+◌, ◌∙◌, ◌∷◌, ◌≡◌, ◌≢◌, ◌≤◌, AreInStep, Fact, IsOfPlace, Link, List, Note, Out, Reply}
+use Rattle.lease_laws.proofs.Words.{Request, Step, World, ℕ, [], all_delivered, ap, arith, delivered, drop, eq-eqb, fact_of}
+use Rattle.lease_laws.proofs.Words.{false, happened, is_up, length, length-append, noted, put, refl, requests_sent, sendings}
+use Rattle.lease_laws.proofs.Words.{stepped_in, subst, suc, sym, takings, true, zero}
 use Rattle.lease_laws.proofs.client.Thin.{put_same, put_other}
 use Rattle.lease_laws.proofs.server.Lists.{clash}
 use Rattle.lease_laws.proofs.world.Contents.{FitsThere, EachFits}

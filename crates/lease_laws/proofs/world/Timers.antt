@@ -1,25 +1,12 @@
 -- In every run the record doesn't call a client served whose timer ran out since it connected.
-use Rattle.std.proofs.Common.{◌≡◌, ⊎_elim, ℕ, Bool, true, false, not, List, [], ◌∷◌, Option, Some, None, refl, sym, ap, ◌∙◌, true≢false, ◌==◌, ◌&&◌}
-use Rattle.std.specs.Prelude.{if◌then◌else◌}
-use Rattle.std.proofs.lemmas.Bool.{eq-eqb, eqb-true}
-use Rattle.lease_model.specs.client.Commanded.{commanded}
-use Rattle.lease_model.specs.client.Commands.{Note}
-use Rattle.lease_model.specs.client.Connection.{noticed, connection_made}
-use Rattle.lease_model.specs.client.Step.{Step}
-use Rattle.lease_model.specs.client.Taken.{taken}
-use Rattle.lease_model.specs.messages.Replies.{Reply, Out}
-use Rattle.lease_model.specs.messages.Requests.{Request}
-use Rattle.lease_model.specs.records.Facts.{Fact}
-use Rattle.lease_model.specs.records.Past.{is_served}
-use Rattle.lease_model.specs.server.Calls.{Call, called, join}
-use Rattle.lease_model.specs.server.Queries.{breaking, kept}
-use Rattle.lease_model.specs.server.State.{has_file, new_server}
-use Rattle.lease_model.specs.values.Keys.{Key}
-use Rattle.lease_model.specs.values.Tables.{put}
-use Rattle.lease_model.specs.world.Events.{Event, served, stepped_in, server_takes, client_takes, link_cut, cut_over, link_noticed, notice_over, link_connected, connect_over, machine_key, timer_expired, scavenged, strayed_over, applied, client_of, happens, after}
-use Rattle.lease_model.specs.world.World.{World, Link, Setup, first_world, has_client, delivered, all_delivered, requests_sent, noted, happened, fact_of}
-use Rattle.lease_laws.specs.world.Links.{is_up}
-use Rattle.lease_laws.specs.world.Timers.{TimersAreTold}
+use Rattle.lease_laws.proofs.Words.{◌&&◌, ◌==◌, ◌∙◌, ◌∷◌, ◌≡◌, Bool, Call, Event, Fact, Key, Link, List, None, Note, Option, Out}
+use Rattle.lease_laws.proofs.Words.{Reply, Request, Setup, Some, Step, TimersAreTold, World, ℕ, ⊎_elim, [], after, all_delivered}
+use Rattle.lease_laws.proofs.Words.{ap, applied, breaking, called, client_of, client_takes, commanded, connect_over}
+use Rattle.lease_laws.proofs.Words.{connection_made, cut_over, delivered, eq-eqb, eqb-true, fact_of, false, first_world, happened}
+use Rattle.lease_laws.proofs.Words.{happens, has_client, has_file, if◌then◌else◌, is_served, is_up, join, kept, link_connected}
+use Rattle.lease_laws.proofs.Words.{link_cut, link_noticed, machine_key, new_server, not, noted, notice_over, noticed, put, refl}
+use Rattle.lease_laws.proofs.Words.{requests_sent, scavenged, served, server_takes, stepped_in, strayed_over, sym, taken}
+use Rattle.lease_laws.proofs.Words.{timer_expired, true, true≢false}
 use Rattle.lease_laws.proofs.client.Words.{if_either}
 use Rattle.lease_laws.proofs.server.Expired.{called-expired, cut-expired, scavenge-expired, join-expired, expire-expired}
 use Rattle.lease_laws.proofs.server.Keys.{put_key-cases}

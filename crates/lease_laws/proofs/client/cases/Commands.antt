@@ -1,16 +1,14 @@
 -- What a command makes of a client: each of the forms, with what is known of it. Whatever holds of each form holds of
 -- every command.
-use Rattle.std.proofs.Common.{◌≡◌, ℕ, ◌+◌, Bool, true, false, List, [], ◌∷◌, ◌++◌, Option, Some, None, refl, ◌==◌}
-use Rattle.std.specs.Prelude.{not, ◌&&◌, ◌||◌, nat_lt}
-use Rattle.lease_state.specs.declared.patch.Patch.{Patch}
-use Rattle.lease_model.specs.client.Commanded.{commanded, create_request, turn_of, on_closed, handle_added, opened_anew, joint_terms, asked_by, more_asked, open_other, open_on_live, last_handle_closed, has_unanswered, one_handle_less, close_on_live, is_asking, cached_read, read_sent, read_from, read_on_live, write_buffered, write_sent, write_taken, write_on_live, flush_on_live, unless_parked, on_live, on_entry, file_of}
-use Rattle.lease_model.specs.client.Commands.{Answer, Command, OpenTerms, Refusal}
-use Rattle.lease_model.specs.client.State.{Client, LiveEntry, Pending, Phase, closed_entry, live_entry, knows_file, view}
-use Rattle.lease_model.specs.client.Step.{Step, turned, refused_step, write_requests}
-use Rattle.lease_model.specs.messages.Requests.{FileRequest, Request}
-use Rattle.lease_model.specs.values.Limits.{count_limit, last_write_number}
-use Rattle.lease_model.specs.values.Patches.{is_within_limit}
-use Rattle.lease_model.specs.values.Sharing.{may_read, may_write, same_access, same_share}
+use Rattle.lease_laws.proofs.Words.{◌&&◌, ◌++◌, ◌+◌, ◌==◌, ◌||◌, ◌∷◌, ◌≡◌, Answer, Bool, Client, Command, FileRequest, List}
+use Rattle.lease_laws.proofs.Words.{LiveEntry, None, OpenTerms, Option, Patch, Pending, Phase, Refusal, Request, Some, Step, ℕ}
+use Rattle.lease_laws.proofs.Words.{[], asked_by, cached_read, close_on_live, closed_entry, commanded, count_limit}
+use Rattle.lease_laws.proofs.Words.{create_request, false, file_of, flush_on_live, handle_added, has_unanswered, is_asking}
+use Rattle.lease_laws.proofs.Words.{is_within_limit, joint_terms, knows_file, last_handle_closed, last_write_number, live_entry}
+use Rattle.lease_laws.proofs.Words.{may_read, may_write, more_asked, nat_lt, not, on_closed, on_entry, on_live, one_handle_less}
+use Rattle.lease_laws.proofs.Words.{open_on_live, open_other, opened_anew, read_from, read_on_live, read_sent, refl, refused_step}
+use Rattle.lease_laws.proofs.Words.{same_access, same_share, true, turn_of, turned, unless_parked, view, write_buffered}
+use Rattle.lease_laws.proofs.Words.{write_on_live, write_requests, write_sent, write_taken}
 use Rattle.lease_laws.proofs.server.Lists.{if_cases}
 
 -- a known file whose entry is so

@@ -1,11 +1,7 @@
 -- The files of a client: which of them passes a test, and where none does.
-use Rattle.std.proofs.Common.{◌≡◌, inl, ⊎_elim, ℕ, zero, suc, Bool, true, false, List, [], ◌∷◌, Option, Some, None, ap, ◌∙◌, arith, ◌==◌}
-use Rattle.std.specs.Prelude.{◌&&◌, nat_le, find}
-use Rattle.std.proofs.lemmas.Bool.{eqb-true}
-use Rattle.lease_model.specs.client.State.{Client, knows_file}
-use Rattle.lease_model.specs.client.Taken.{file_where}
-use Rattle.lease_model.specs.values.Lists.{numbers_to}
-use Rattle.lease_laws.specs.server.Laws.{Among}
+use Rattle.lease_laws.proofs.Words.{◌&&◌, ◌==◌, ◌∙◌, ◌∷◌, ◌≡◌, Among, Bool, Client, List, None, Option, Some, ℕ, ⊎_elim, [], ap}
+use Rattle.lease_laws.proofs.Words.{arith, eqb-true, false, file_where, find, inl, knows_file, nat_le, numbers_to, suc, true}
+use Rattle.lease_laws.proofs.Words.{zero}
 use Rattle.lease_laws.proofs.server.Lists.{if_cases, either, among_append, among_before, among_behind, find_has}
 
 -- the numbers to n are at least 1 and at most n

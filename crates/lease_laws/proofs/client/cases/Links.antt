@@ -1,13 +1,8 @@
 -- What becomes of an entry where its client notices that the connection is lost: each of the forms, with what is
 -- known of it. Whatever holds of each form holds of every entry.
-use Rattle.std.proofs.Common.{◌≡◌, true, false, List, [], ◌++◌}
-use Rattle.std.specs.Prelude.{filter}
-use Rattle.lease_model.specs.client.Connection.{ended_turn, offline_turn, parted_from, live_parted, live_noticed, notice_turn}
-use Rattle.lease_model.specs.client.State.{LiveEntry, Parted, Pending, Phase}
-use Rattle.lease_model.specs.client.Step.{Turn}
-use Rattle.lease_model.specs.values.Lists.{without}
-use Rattle.lease_state.specs.declared.access.Access.{Access}
-use Rattle.lease_state.specs.declared.access.Share.{Share}
+use Rattle.lease_laws.proofs.Words.{◌++◌, ◌≡◌, Access, List, LiveEntry, Parted, Pending, Phase, Share, Turn, [], ended_turn}
+use Rattle.lease_laws.proofs.Words.{false, filter, live_noticed, live_parted, notice_turn, offline_turn, parted_from, true}
+use Rattle.lease_laws.proofs.Words.{without}
 use Rattle.lease_laws.proofs.server.Lists.{if_cases}
 
 --   closed, opening: nothing is kept, and of the sent writes nobody knows

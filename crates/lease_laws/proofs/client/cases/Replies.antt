@@ -1,18 +1,16 @@
 -- What a reply makes of a client: each of the forms, with what is known of it. Whatever holds of each form holds of
 -- every reply.
-use Rattle.std.proofs.Common.{◌≡◌, ◌⊎◌, inl, inr, ℕ, Bool, true, false, List, [], length, Option, Some, None, refl, sym, ap, subst, ◌==◌, ◌∷◌}
-use Rattle.std.specs.Prelude.{⊤, is_some, not, nat_le, ◌&&◌}
-use Rattle.std.proofs.lemmas.Bool.{eqb-true}
-use Rattle.lease_state.specs.declared.access.Access.{Access}
-use Rattle.lease_state.specs.declared.access.Share.{Share}
-use Rattle.lease_state.specs.declared.content.TheConstants.{FILE_LIMIT}
-use Rattle.lease_state.specs.declared.status.Status.{Status}
-use Rattle.lease_model.specs.client.State.{Client, LiveEntry, Asked, Parted, Phase, live_entry, lease_key, knows_file}
-use Rattle.lease_model.specs.client.Step.{Step, turned, quiet_step}
-use Rattle.lease_model.specs.client.Commands.{Note, Settlement}
-use Rattle.lease_model.specs.client.Taken.{taken, parked_closed, belief_lowered, closed_by_server, is_file_closed, one_read_less, on_file, file_where, is_key_of, break_turn, broken, break_on, create_answered, created_on, created_on_live, created_for, opened_turn, reconnected_turn, promoted_turn, promoted_belief, first_belief, still_open, failed_turn, create_failed, failed_on, create_failed_on_live, create_failed_for, read_answered, read_on, read_turn, reads_under, read_failed, read_failed_on, read_failed_turn, has_sent, write_done, write_done_turn, write_failed, write_failed_in, sent_without}
-use Rattle.lease_model.specs.messages.Replies.{Reply, BreakNotice, CreateAnswer}
-use Rattle.lease_model.specs.values.LeaseStates.{meet}
+use Rattle.lease_laws.proofs.Words.{◌&&◌, ◌==◌, ◌∷◌, ◌≡◌, ◌⊎◌, Access, Asked, Bool, BreakNotice, Client, CreateAnswer, FILE_LIMIT}
+use Rattle.lease_laws.proofs.Words.{List, LiveEntry, None, Note, Option, Parted, Phase, Reply, Settlement, Share, Some, Status}
+use Rattle.lease_laws.proofs.Words.{Step, ℕ, ⊤, [], ap, belief_lowered, break_on, break_turn, broken, closed_by_server}
+use Rattle.lease_laws.proofs.Words.{create_answered, create_failed, create_failed_for, create_failed_on_live, created_for}
+use Rattle.lease_laws.proofs.Words.{created_on, created_on_live, eqb-true, failed_on, failed_turn, false, file_where}
+use Rattle.lease_laws.proofs.Words.{first_belief, has_sent, inl, inr, is_file_closed, is_key_of, is_some, knows_file, lease_key}
+use Rattle.lease_laws.proofs.Words.{length, live_entry, meet, nat_le, not, on_file, one_read_less, opened_turn, parked_closed}
+use Rattle.lease_laws.proofs.Words.{promoted_belief, promoted_turn, quiet_step, read_answered, read_failed, read_failed_on}
+use Rattle.lease_laws.proofs.Words.{read_failed_turn, read_on, read_turn, reads_under, reconnected_turn, refl, sent_without}
+use Rattle.lease_laws.proofs.Words.{still_open, subst, sym, taken, true, turned, write_done, write_done_turn, write_failed}
+use Rattle.lease_laws.proofs.Words.{write_failed_in}
 use Rattle.lease_laws.proofs.client.cases.Commands.{sent_of}
 use Rattle.lease_laws.proofs.client.cases.Files.{found_known, found_so}
 use Rattle.lease_laws.proofs.server.Lists.{if_cases, and_parts, not_parts}

@@ -1,4 +1,6 @@
-use Rattle.lease_laws.proofs.messages.FromBytesLemmas.{acknowledgment_found, no_acknowledgment_found, notification_found, no_notification_found, contexts_found, faulty_contexts_not_found, written_messages_found, written_contexts_found}
+use Rattle.lease_laws.proofs.messages.FromBytesLemmas.{acknowledgment_found, no_acknowledgment_found, notification_found}
+use Rattle.lease_laws.proofs.messages.FromBytesLemmas.{no_notification_found, contexts_found, faulty_contexts_not_found}
+use Rattle.lease_laws.proofs.messages.FromBytesLemmas.{written_messages_found, written_contexts_found}
 use Rattle.lease_laws.proofs.from_bytes.bytes_laws.Goals as goal
 
 pub returns-clause-acknowledgment : goal.returns-clause-acknowledgment

@@ -1,22 +1,9 @@
 -- What the end of a request makes of a call under way: each of the forms, with what is known of it. Whatever holds of
 -- each form holds of every end.
-use Rattle.std.proofs.Common.{◌≡◌, ℕ, true, Option, Some, None, refl, ◌==◌}
-use Rattle.std.proofs.lemmas.Bool.{eqb-true}
-use Rattle.std.specs.Prelude.{◌&&◌}
-use Rattle.lease_state.specs.declared.access.Access.{Access}
-use Rattle.lease_state.specs.declared.access.Share.{Share}
-use Rattle.lease_state.specs.declared.patch.Patch.{Patch}
-use Rattle.lease_state.specs.declared.status.Status.{Status}
-use Rattle.lease_model.specs.messages.Replies.{Reply}
-use Rattle.lease_model.specs.messages.Requests.{FileRequest, CreateAsk}
-use Rattle.lease_model.specs.server.Answers.{answered, changed, closed, concluded, created, on_open, read_done}
-use Rattle.lease_model.specs.server.Attempt.{Outcome}
-use Rattle.lease_model.specs.server.Findings.{connected_open}
-use Rattle.lease_model.specs.server.Grant.{granted, granted_with, lease_after, reconnected}
-use Rattle.lease_model.specs.server.Progress.{Progress, opens_dropped, refusal_of, refused, replied}
-use Rattle.lease_model.specs.server.State.{Server, Open}
-use Rattle.lease_model.specs.values.Limits.{last_file_id}
-use Rattle.lease_laws.specs.server.Laws.{Among}
+use Rattle.lease_laws.proofs.Words.{◌&&◌, ◌==◌, ◌≡◌, Access, Among, CreateAsk, FileRequest, None, Open, Option, Outcome, Patch}
+use Rattle.lease_laws.proofs.Words.{Progress, Reply, Server, Share, Some, Status, ℕ, answered, changed, closed, concluded}
+use Rattle.lease_laws.proofs.Words.{connected_open, created, eqb-true, granted, granted_with, last_file_id, lease_after, on_open}
+use Rattle.lease_laws.proofs.Words.{opens_dropped, read_done, reconnected, refl, refusal_of, refused, replied, true}
 use Rattle.lease_laws.proofs.server.Lists.{if_cases, and_parts, find_has}
 
 -- an open of a client that is there and connected

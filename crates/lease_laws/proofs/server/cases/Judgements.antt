@@ -1,13 +1,6 @@
 -- What an acknowledgment makes of a call under way: it fails, or ends a break.
-use Rattle.std.proofs.Common.{◌≡◌, ℕ, true, Option, Some, None, refl}
-use Rattle.lease_state.specs.State.{State, is_state_within}
-use Rattle.lease_state.specs.declared.status.Status.{Status}
-use Rattle.lease_model.specs.messages.Replies.{Reply}
-use Rattle.lease_model.specs.messages.Requests.{LeaseOf}
-use Rattle.lease_model.specs.server.Acknowledge.{acknowledged, break_ended, judged}
-use Rattle.lease_model.specs.server.Naming.{key_of}
-use Rattle.lease_model.specs.server.Progress.{Progress, replied}
-use Rattle.lease_model.specs.server.State.{has_lease}
+use Rattle.lease_laws.proofs.Words.{◌≡◌, LeaseOf, None, Option, Progress, Reply, Some, State, Status, ℕ, acknowledged}
+use Rattle.lease_laws.proofs.Words.{break_ended, has_lease, is_state_within, judged, key_of, refl, replied, true}
 use Rattle.lease_laws.proofs.server.Lists.{if_cases}
 
 pub record HasJudgements (client : ℕ) (progress : Progress) (P : Progress → Type 0) : Type 0 where

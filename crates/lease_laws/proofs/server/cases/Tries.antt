@@ -1,16 +1,9 @@
 -- What a try makes of a call under way: disconnected opens are dropped, and leases lowered or their breaks begun. What
 -- holds of each of these, of nothing, and of two behind one another holds of every try.
-use Rattle.std.proofs.Common.{◌≡◌, ℕ, zero, suc, false, not, List, [], ◌∷◌}
-use Rattle.std.specs.Prelude.{◌&&◌}
-use Rattle.lease_state.specs.State.{State, needs_acknowledgment}
-use Rattle.lease_model.specs.messages.Requests.{FileRequest}
-use Rattle.lease_model.specs.server.Attempt.{Outcome, Tried, after_breaks, after_finding, ended, is_left_open, lease_broken, must_wait, tried_for, want_met, wants_met}
-use Rattle.lease_model.specs.server.Findings.{Finding, finding}
-use Rattle.lease_model.specs.server.Wants.{Want}
-use Rattle.lease_model.specs.server.Progress.{Progress, break_begun, lease_lowered, opens_dropped}
-use Rattle.lease_model.specs.server.Ready.{is_ready}
-use Rattle.lease_model.specs.server.State.{has_lease, is_breaking}
-use Rattle.lease_model.specs.values.Keys.{Key}
+use Rattle.lease_laws.proofs.Words.{◌&&◌, ◌∷◌, ◌≡◌, FileRequest, Finding, Key, List, Outcome, Progress, State, Tried, Want, ℕ, []}
+use Rattle.lease_laws.proofs.Words.{after_breaks, after_finding, break_begun, ended, false, finding, has_lease, is_breaking}
+use Rattle.lease_laws.proofs.Words.{is_left_open, is_ready, lease_broken, lease_lowered, must_wait, needs_acknowledgment, not}
+use Rattle.lease_laws.proofs.Words.{opens_dropped, suc, tried_for, want_met, wants_met, zero}
 use Rattle.lease_laws.proofs.server.Lists.{if_cases, and_parts, not_parts}
 
 pub record HasTries (R : Progress → Progress → Type 0) : Type 0 where

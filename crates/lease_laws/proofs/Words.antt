@@ -1,0 +1,164 @@
+-- The words of std, of lease states, of the model and of the laws, for the files of lemmas.
+pub use Rattle.std.proofs.Common.{◌&&◌, ◌++◌, ◌+◌, ◌<◌, ◌==◌, ◌||◌, ◌∙◌, ◌∷◌, ◌≡◌, ◌≢◌, ◌≤◌, ◌⊎◌, Bool, List, None, Option, Some}
+pub use Rattle.std.proofs.Common.{T, [], ℕ, ⊎_elim, ap, append-nil, append_assoc, ap₂, arith, cond, false, filter, flat_map}
+pub use Rattle.std.proofs.Common.{if◌then◌else◌, inl, inr, leb→le, length, length-append, map, max, nat_le, nat_lt, not, refl}
+pub use Rattle.std.proofs.Common.{reverse, subst, suc, sym, take, true, true≢false, zero}
+pub use Rattle.std.proofs.Math.Seq.{take-length}
+pub use Rattle.std.proofs.lemmas.Bool.{and_from, and_parts, both_ways, cases_Bool, eq-eqb, eqb-true, not-true, or_cases}
+pub use Rattle.std.proofs.lemmas.Bool.Decides.{Decides-eqb, nat_tests}
+pub use Rattle.std.proofs.lemmas.Grind.{flat_map-append}
+pub use Rattle.std.proofs.lemmas.List.{length-reverse, length-take, length-take-le, reverse-reverse}
+pub use Rattle.std.proofs.lemmas.List.Folds.{list_any-append}
+pub use Rattle.std.proofs.lemmas.Slice.Eq.{bytes_eq-Decides}
+pub use Rattle.std.specs.List.{list_all, list_any}
+pub use Rattle.std.specs.Prelude.{Err, IfSome, Ok, Result, ⊤, bytes_eq, drop, find, is_some, slice_get, unwrap_or}
+pub use mathlib.Core.Bool.{beq}
+pub use mathlib.Core.List.{reverse_aux, reverse_aux-eq}
+pub use Rattle.lease_state.proofs.ContentLemmas.{length-written}
+pub use Rattle.lease_state.specs.Access.{allowed_by, conflict, is_within, uses_of}
+pub use Rattle.lease_state.specs.Content.{patch, patch_at, patches}
+pub use Rattle.lease_state.specs.State.{State, granted_form_of, is_state_within, needs_acknowledgment, nothing_cached}
+pub use Rattle.lease_state.specs.declared.access.Access.{Access}
+pub use Rattle.lease_state.specs.declared.access.Share.{Share}
+pub use Rattle.lease_state.specs.declared.content.TheConstants.{FILE_LIMIT}
+pub use Rattle.lease_state.specs.declared.patch.Patch.{Patch}
+pub use Rattle.lease_state.specs.declared.status.Status.{Status}
+pub use Rattle.lease_model.specs.client.Calls.{ClientCall, client_called}
+pub use Rattle.lease_model.specs.client.Commanded.{asked_by, create_request, file_of, has_unanswered, is_asking, joint_terms}
+pub use Rattle.lease_model.specs.client.Commanded.{next_write, on_closed, on_entry, on_live, one_handle_less, read_from, turn_of}
+pub use Rattle.lease_model.specs.client.Commanded.{unless_parked, write_taken, wrote_step}
+unfoldable pub use Rattle.lease_model.specs.client.Commanded.{cached_read, close_on_live, commanded, flush_on_live, handle_added}
+unfoldable pub use Rattle.lease_model.specs.client.Commanded.{last_handle_closed, more_asked, open_on_live, open_other}
+unfoldable pub use Rattle.lease_model.specs.client.Commanded.{opened_anew, read_on_live, read_sent, write_buffered, write_on_live}
+unfoldable pub use Rattle.lease_model.specs.client.Commanded.{write_sent}
+pub use Rattle.lease_model.specs.client.Commands.{Answer, Command, Note, OpenTerms, Refusal, Settlement}
+pub use Rattle.lease_model.specs.client.Connection.{connect_turn, ended_turn, notice_turn, offline_turn, parted_from}
+pub use Rattle.lease_model.specs.client.Connection.{reconnect_request, silent_turn}
+unfoldable pub use Rattle.lease_model.specs.client.Connection.{all_turned, connection_made, live_noticed, live_parted, noticed}
+pub use Rattle.lease_model.specs.client.State.{Asked, Client, Entry, LiveEntry, Parted, Pending, Phase, belief, belief_in}
+pub use Rattle.lease_model.specs.client.State.{belief_of, closed_entry, knows_file, live_entry, patches_of, view}
+unfoldable pub use Rattle.lease_model.specs.client.State.{lease_key, new_client}
+pub use Rattle.lease_model.specs.client.Step.{Step, Turn, believes_noted, quiet_step, refused_step, settled_as, write_requests}
+unfoldable pub use Rattle.lease_model.specs.client.Step.{turned}
+pub use Rattle.lease_model.specs.client.Taken.{acknowledgment, base_with, break_on, create_failed_for, created_for, created_on}
+pub use Rattle.lease_model.specs.client.Taken.{failed_on, failed_turn, file_where, first_belief, flushed, given_state, gives_up}
+pub use Rattle.lease_model.specs.client.Taken.{has_sent, is_file_closed, is_key_of, is_numbered, on_file, one_read_less}
+pub use Rattle.lease_model.specs.client.Taken.{phase_with, promoted_belief, read_failed_on, read_on, reads_under, still_open}
+pub use Rattle.lease_model.specs.client.Taken.{unflushed, without_open, write_failed_in}
+unfoldable pub use Rattle.lease_model.specs.client.Taken.{belief_lowered, break_turn, broken, closed_by_server, create_answered}
+unfoldable pub use Rattle.lease_model.specs.client.Taken.{create_failed, create_failed_on_live, created_on_live, opened_turn}
+unfoldable pub use Rattle.lease_model.specs.client.Taken.{parked_closed, promoted_turn, read_answered, read_failed}
+unfoldable pub use Rattle.lease_model.specs.client.Taken.{read_failed_turn, read_turn, reconnected_turn, sent_without, taken}
+unfoldable pub use Rattle.lease_model.specs.client.Taken.{write_done, write_done_turn, write_failed}
+pub use Rattle.lease_model.specs.messages.FromBytes.{answer_found, ask_found, reply_of, request_of}
+unfoldable pub use Rattle.lease_model.specs.messages.FromBytes.{acknowledged_in, notice_in}
+pub use Rattle.lease_model.specs.messages.Replies.{BreakNotice, CreateAnswer, LeaseGiven, Out, Reply}
+pub use Rattle.lease_model.specs.messages.Requests.{CreateAsk, FileRequest, LeaseOf, Request}
+pub use Rattle.lease_model.specs.messages.ToBytes.{HasAnswerBytes, HasAskBytes, HasReplyBytes, HasRequestBytes, answer_bytes}
+pub use Rattle.lease_model.specs.messages.ToBytes.{ask_bytes, key_and_state, notice_view, reply_written, request_written}
+pub use Rattle.lease_model.specs.messages.ToBytes.{view_of_answer, view_of_ask}
+pub use Rattle.lease_model.specs.records.Facts.{Fact}
+pub use Rattle.lease_model.specs.records.Past.{last_of, unanswered}
+unfoldable pub use Rattle.lease_model.specs.records.Past.{believed, changes_of, content_at, has_buffered, has_joined, has_strayed}
+unfoldable pub use Rattle.lease_model.specs.records.Past.{has_written, is_accepted, is_good, is_served, is_settled, is_started}
+unfoldable pub use Rattle.lease_model.specs.records.Past.{is_touched, last_sending, sendings, start_of, takings, unsettled}
+pub use Rattle.lease_model.specs.records.Safe.{EachBeginning, EachFact, FreshRead, NoFalseDone, NoLateWrite, OneWriteCache, Safe}
+pub use Rattle.lease_model.specs.records.Safe.{WellFormed}
+unfoldable pub use Rattle.lease_model.specs.records.Safe.{is_well_formed}
+pub use Rattle.lease_model.specs.records.Verdict.{Believer, Verdict, caches, caches_writes, is_fresh, is_rival, or_else, verdict}
+unfoldable pub use Rattle.lease_model.specs.records.Verdict.{believers, flaw_at, has_two_caches, is_false_done, is_late_write}
+unfoldable pub use Rattle.lease_model.specs.records.Verdict.{is_stale_read, verdict_from}
+pub use Rattle.lease_model.specs.server.Acknowledge.{judged}
+unfoldable pub use Rattle.lease_model.specs.server.Acknowledge.{acknowledged, break_ended}
+unfoldable pub use Rattle.lease_model.specs.server.Allowed.{allowed, conflicts_on, is_other_on}
+pub use Rattle.lease_model.specs.server.Answers.{concluded, created, on_contexts, on_open, read_done}
+unfoldable pub use Rattle.lease_model.specs.server.Answers.{answered, changed, closed}
+pub use Rattle.lease_model.specs.server.Attempt.{Outcome, Tried, after_breaks, after_finding, ended, is_left_open, must_wait}
+pub use Rattle.lease_model.specs.server.Attempt.{tried}
+unfoldable pub use Rattle.lease_model.specs.server.Attempt.{lease_broken, tried_for, want_met, wants_met}
+pub use Rattle.lease_model.specs.server.Calls.{Call, after_first_try, arrived_on, called, disconnected, file_of_create}
+pub use Rattle.lease_model.specs.server.Calls.{file_of_open, file_request_arrived, held_of, is_left_behind, is_lost}
+unfoldable pub use Rattle.lease_model.specs.server.Calls.{arrived, client_forgotten, cut, expire, file_asked, join, joined}
+unfoldable pub use Rattle.lease_model.specs.server.Calls.{key_expired, opens_disconnected, outlives_connection, receive, scavenge}
+pub use Rattle.lease_model.specs.server.Findings.{Finding, asked_finding, by_contexts, by_open, connected_open, read_finding}
+unfoldable pub use Rattle.lease_model.specs.server.Findings.{awaits, create_finding, finding, is_leased_elsewhere}
+unfoldable pub use Rattle.lease_model.specs.server.Findings.{reconnect_finding, write_finding}
+pub use Rattle.lease_model.specs.server.Grant.{asked_key, connected_again, lease_after, lease_given, lease_put, new_open}
+pub use Rattle.lease_model.specs.server.Grant.{standing_lease}
+unfoldable pub use Rattle.lease_model.specs.server.Grant.{granted, granted_with, lease_granted, offered, reconnected}
+pub use Rattle.lease_model.specs.server.KeyOrder.{open_key_added}
+unfoldable pub use Rattle.lease_model.specs.server.KeyOrder.{key_added, keys_of}
+pub use Rattle.lease_model.specs.server.Naming.{key_of, key_of_open, key_under, lease_by, lease_of, own_key}
+pub use Rattle.lease_model.specs.server.Passes.{Pass, after_try, is_behind, left_waiting, one_pass, pass_answered, passes}
+unfoldable pub use Rattle.lease_model.specs.server.Passes.{all_passes, pass_over, passes_for, passes_over, tried_again}
+pub use Rattle.lease_model.specs.server.Progress.{Progress, begun, break_notice, refusal_of, replied, with_lease}
+unfoldable pub use Rattle.lease_model.specs.server.Progress.{break_begun, held_left, lease_lowered, opens_dropped, refused}
+unfoldable pub use Rattle.lease_model.specs.server.Progress.{request_held, with_opens}
+pub use Rattle.lease_model.specs.server.Queries.{breaking, kept}
+pub use Rattle.lease_model.specs.server.Ready.{breaks_to_none, breaks_to_some, leaves_nothing, leaves_something}
+unfoldable pub use Rattle.lease_model.specs.server.Ready.{is_ready, waits_for}
+pub use Rattle.lease_model.specs.server.State.{Held, Lease, Open, Server, has_file, has_key, has_lease, has_own_key, is_breaking}
+pub use Rattle.lease_model.specs.server.State.{is_key, no_lease, with_number}
+unfoldable pub use Rattle.lease_model.specs.server.State.{new_server}
+pub use Rattle.lease_model.specs.server.Wants.{Want}
+unfoldable pub use Rattle.lease_model.specs.server.Wants.{all_wants, handle_wants, wants_where, write_wants}
+pub use Rattle.lease_model.specs.values.Keys.{Key}
+unfoldable pub use Rattle.lease_model.specs.values.Keys.{bytes_before, key_before, key_eq}
+pub use Rattle.lease_model.specs.values.LeaseStates.{holds_any, meet, same_state, without_handle, without_write}
+pub use Rattle.lease_model.specs.values.Limits.{count_limit, last_file_id, last_write_number}
+unfoldable pub use Rattle.lease_model.specs.values.Limits.{files_limit, last_file_number}
+pub use Rattle.lease_model.specs.values.Lists.{is_empty, numbers_to, without}
+pub use Rattle.lease_model.specs.values.Patches.{is_within_limit, same_patch}
+pub use Rattle.lease_model.specs.values.Sharing.{may_read, may_write, same_access, same_share}
+unfoldable pub use Rattle.lease_model.specs.values.Tables.{numbered, put, put_key}
+pub use Rattle.lease_model.specs.world.Allowed.{is_content}
+unfoldable pub use Rattle.lease_model.specs.world.Allowed.{is_allowed_setup}
+pub use Rattle.lease_model.specs.world.Events.{Event, client_of, client_takes, connect_over, cut_over, machine_key, notice_over}
+pub use Rattle.lease_model.specs.world.Events.{scavenged, server_takes}
+unfoldable pub use Rattle.lease_model.specs.world.Events.{after, applied, happens, link_connected, link_cut, link_noticed, served}
+unfoldable pub use Rattle.lease_model.specs.world.Events.{stepped_in, strayed_over, timer_expired}
+pub use Rattle.lease_model.specs.world.World.{Link, Setup, World, fact_of, happened, has_client, sent_over}
+unfoldable pub use Rattle.lease_model.specs.world.World.{all_delivered, delivered, first_world, noted, requests_sent, starts_from}
+pub use Rattle.lease_laws.specs.client.Laws.{HaveOwnNumbers, IsSoundClient, IsSoundEntry, IsSoundLive, IsSoundPhase, TellNumbers}
+pub use Rattle.lease_laws.specs.client.Laws.{are_buffered, are_rising, believed_after, unanswered_in, unsent_in}
+unfoldable pub use Rattle.lease_laws.specs.client.Laws.{has_number}
+pub use Rattle.lease_laws.specs.messages.Bytes.{AcknowledgmentIsFound, ContextsAreFound, FaultyContextsAreNotFound}
+pub use Rattle.lease_laws.specs.messages.Bytes.{NoAcknowledgmentIsFound, NoNotificationIsFound, NotificationIsFound}
+pub use Rattle.lease_laws.specs.messages.Bytes.{WrittenContextsAreFound, WrittenMessagesAreFound}
+pub use Rattle.lease_laws.specs.messages.Written.{CallHasFileId, CallHasFullKey, EachRequest, HasFileId, HasFullKey, HaveFullKeys}
+pub use Rattle.lease_laws.specs.messages.Written.{IsWriting, OutHasBytes}
+pub use Rattle.lease_laws.specs.records.Runs.{ClientsOfRunsAreSound, ContentNow, ContentWhenSent, RunsGiveFirst, RunsStartFirst}
+pub use Rattle.lease_laws.specs.records.Runs.{WritesNow, is_start}
+unfoldable pub use Rattle.lease_laws.specs.records.Runs.{content_of, gives_first, open_writes, starts_first}
+pub use Rattle.lease_laws.specs.records.Verdicts.{IsFalseDone, IsFirstBad, IsLateWrite, IsMalformed, IsStaleRead, MakesTwoCaches}
+pub use Rattle.lease_laws.specs.records.Verdicts.{Says}
+pub use Rattle.lease_laws.specs.server.Changes.{ComesBehindBreaks, HasGivenUp, IsCaching}
+pub use Rattle.lease_laws.specs.server.Enough.{EndsFor, PassesAreEnough, PassesEnd, ThreeRoundsAreEnough, TriesEnd}
+pub use Rattle.lease_laws.specs.server.Laws.{Among, AreInOrder, AreSound, HasToWait, IsBlocked, IsBlockedBy, IsBrokenTo}
+pub use Rattle.lease_laws.specs.server.Laws.{IsLasting, IsLawful, IsOpenBlocked, IsSound}
+pub use Rattle.lease_laws.specs.server.Outs.{AreBreaksFirst, ArePaired, CachesAlone, Done, EachOut, GoOn, IsAlone, IsBreak}
+pub use Rattle.lease_laws.specs.server.Outs.{IsFlaggedRightly, IsGivenUp, IsNoBreak}
+pub use Rattle.lease_laws.specs.server.SmallSteps.{AreGuarded, AreInTurn, AreOf, GoesBySteps, HasOpen, IsAwaitedAt, IsFree}
+pub use Rattle.lease_laws.specs.server.SmallSteps.{IsGone, IsGuarded, IsInTurn, IsLowered, IsOfCall, MayChange, MayCreate, MayEnd}
+pub use Rattle.lease_laws.specs.server.SmallSteps.{MayHold, MayLower, MayRefuse, MayServe, SmallStep, call_begun, own_count}
+pub use Rattle.lease_laws.specs.server.SmallSteps.{own_steps, step_taken, steps_taken}
+pub use Rattle.lease_laws.specs.server.StepLaws.{BecomesBy, IsBreakTold, IsEnded, IsRaised, IsShort, IsToPresent, StaysOrRises}
+pub use Rattle.lease_laws.specs.server.StepLaws.{TellsBreaks}
+pub use Rattle.lease_laws.specs.server.Waiting.{AllWait, IsAbout, IsOpenOn, IsOrderly, IsUnder, WaitsWell}
+pub use Rattle.lease_laws.specs.server.Wanted.{AreInKeyOrder, AreWanted}
+pub use Rattle.lease_laws.specs.world.Contents.{AreInStep, ContentsAreTold, IsOfPlace, RepliesAreOfTheirPlaces}
+pub use Rattle.lease_laws.specs.world.FileIds.{FileIdsAreCounted, OpensAreTold}
+unfoldable pub use Rattle.lease_laws.specs.world.FileIds.{opened_count, was_opened}
+pub use Rattle.lease_laws.specs.world.Links.{IsOnline, IsTied, LinksOfRuns, is_down, is_up}
+pub use Rattle.lease_laws.specs.world.Timers.{TimersAreTold}
+pub use Rattle.lease_wire.proofs.CanonicalLaws.{written_reads_back}
+pub use Rattle.lease_wire.proofs.Messages.{acknowledgment_layout, notification_layout}
+pub use Rattle.lease_wire.proofs.Pieces.{bytes_at-taken, number_at-taken}
+pub use Rattle.lease_wire.proofs.ReadingLaws.{value_is_read}
+pub use Rattle.lease_wire.specs.Acknowledgment.{IsAcknowledgment, KeyAndState, acknowledgment_bytes}
+pub use Rattle.lease_wire.specs.Canonical.{IsWritable}
+pub use Rattle.lease_wire.specs.Field.{number_at}
+pub use Rattle.lease_wire.specs.Gathering.{value_of}
+pub use Rattle.lease_wire.specs.Notification.{IsNotification, Notice, notification_bytes}
+pub use Rattle.lease_wire.specs.declared.create.Direction.{Direction}
+pub use lib.Pointwise.{bytes_decides}
