@@ -5,16 +5,16 @@ use Rattle.lease_laws.proofs.Words.{connected_open, connection_made, disconnecte
 use Rattle.lease_laws.proofs.Words.{is_lost, joined, key_expired, lease_after, machine_key, map, new_open, not, noticed}
 use Rattle.lease_laws.proofs.Words.{opens_disconnected, opens_dropped, refl, requests_sent, stepped_in, subst, sym, taken, true}
 use Rattle.lease_laws.proofs.Words.{with_opens, without}
-use Rattle.lease_laws.proofs.server.Lists.{if_cases, among_append, among_filter, among_map, find_has}
+use Rattle.lease_laws.proofs.server.Lists.{if_cases, among_append, among_filter, among_map}
 use Rattle.lease_laws.proofs.world.FileIds.{run_counted}
 use Rattle.lease_laws.proofs.world.Runs.{stepped_server}
 use Rattle.lease_coherence.specs.Agreement.{ClosedOpensStayClosed}
 use Rattle.lease_coherence.proofs.moves.Deeds.{HasDeeds, IsSource, step_deed}
 use Rattle.lease_coherence.proofs.moves.Events.{IsMoved, Both, carried_both, after_moves, come_back, reply_gone, Move}
 use Rattle.lease_coherence.proofs.moves.Frames.{from_source, lease_put_rest}
-use Rattle.lease_coherence.proofs.names.Names.{open_parts}
 use Rattle.lease_coherence.proofs.told.AllRuns.{leases_carried, run_leases}
 use Rattle.lease_coherence.proofs.told.Leases.{HasLeases}
+use Rattle.lease_laws.proofs.server.cases.Ends.{found_open}
 
 -- no open has a FileId that was given
 pub record IsGoneFrom (id : ℕ) (server : Server) : Type 0 where
@@ -136,5 +136,5 @@ closed_opens_stay_closed setup events more client id given none =
     by_found : (server : Server) → IsGoneFrom id server → (found : Option Open) → connected_open server client id ≡ found
         → found ≡ None
     by_found server g None e = refl
-    by_found server g (Some one) e = let has = find_has _ one server.opens e in
-        absurd (g.none one has.0 (open_parts client id one has.1).0)
+    by_found server g (Some one) e = let own = found_open server client id one e in
+        absurd (g.none one own.there own.id)

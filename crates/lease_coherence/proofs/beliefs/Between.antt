@@ -205,7 +205,7 @@ lasting : (c : ℕ) (client after : Client) (end : List Fact) (notes : List Note
     → EachNote (LastsTo c end) notes
 lasting c client after end [] agrees each = tt
 lasting c client after end (Note.Believes file state ∷ notes) agrees each =
-    (each.0.1 ∙ sym (agrees file), lasting c client after end notes agrees each.1)
+    let fine = each.0 in (fine.1 ∙ sym (agrees file), lasting c client after end notes agrees each.1)
 lasting c client after end (note ∷ notes) agrees each = (tt, lasting c client after end notes agrees each.1)
 
 stepped_always : (world : World) (c : ℕ) (call : ClientCall) → IsSoundClient (world.clients c) → Always world.past

@@ -126,7 +126,7 @@ off_fresh world off c file request source = ⊎_elim
 pub off_trust : (world off : World) (c : ℕ) (request : FileRequest) → IsSource world off c request
     → HasTrust world c → HasTrust off c
 off_trust world off c request source t = record {
-  lowered = subst (λ (r : ℕ → List Reply). Each LowersWell (r c)) (sym (off_rest world off c request source).1.1) t.lowered;
+  lowered = subst (λ (r : ℕ → List Reply). Each LowersWell (r c)) (sym (off_rest world off c request source).replies) t.lowered;
   files = λ file fresh. off_trusted world off c file request source
       (t.files file (off_fresh world off c file request source fresh));
 }

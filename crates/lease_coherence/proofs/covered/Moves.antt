@@ -156,14 +156,14 @@ off_covered world off c request source h =
     let k = off_keeps world off c request source in
     let rest = off_rest world off c request source in
     let used = asked_off (UsesUp world c) world off c request source h.uses in record {
-      covers = λ x there by up none fresh. covered_in world off c x (ap (λ (m : ℕ → Client). m c) rest.0)
+      covers = λ x there by up none fresh. covered_in world off c x (ap (λ (m : ℕ → Client). m c) rest.clients)
           (off_closed world off c request source x.file x.file_id none)
-          (λ g. subst (λ (r : ℕ → List Reply). HasGrant x.file x.file_id (r c)) (sym rest.1.1) g)
+          (λ g. subst (λ (r : ℕ → List Reply). HasGrant x.file x.file_id (r c)) (sym rest.replies) g)
           (h.covers x (subst (λ (l : List Open). Among x l) (off_opens world off c request source) there) by up
           (k.timely x.file fresh));
       uses = asked_weaker (UsesUp world c) (UsesUp off c) off c (uses_in world off c k) used.0;
       used = uses_in world off c k (Request.OnFile request) used.1;
-      fails = subst (λ (r : ℕ → List Reply). Each (FailsGone off c) (r c)) (sym rest.1.1)
+      fails = subst (λ (r : ℕ → List Reply). Each (FailsGone off c) (r c)) (sym rest.replies)
           (each_weaker (FailsGone world c) (FailsGone off c) (world.replies c) (fails_in world off c k) h.fails);
     }
 

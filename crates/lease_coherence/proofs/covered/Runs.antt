@@ -10,7 +10,7 @@ use Rattle.lease_laws.proofs.client.Forms.{commanded-stays, taken-stays}
 use Rattle.lease_laws.proofs.client.Thin.{put_same}
 use Rattle.lease_laws.proofs.server.Goes.{one_id}
 use Rattle.lease_laws.proofs.server.Keys.{put_key-cases}
-use Rattle.lease_laws.proofs.server.Lists.{clash, among_filter, among_filtered, find_has, not_parts}
+use Rattle.lease_laws.proofs.server.Lists.{clash, among_filter, among_filtered, not_parts}
 use Rattle.lease_laws.proofs.world.Links.{stepped_links}
 use Rattle.lease_laws.proofs.world.Runs.{stepped_server}
 use Rattle.lease_coherence.specs.Creates.{answers, asked_by, creates, held_by, held_creates, one_if, under_way}
@@ -36,7 +36,7 @@ use Rattle.lease_coherence.proofs.moves.Foreign.{IsUnmoved}
 use Rattle.lease_coherence.proofs.moves.Frames.{stepped_past, stepped_replies}
 use Rattle.lease_coherence.proofs.moves.Moves.{IsOldest, popped}
 use Rattle.lease_coherence.proofs.moves.Own.{IsOwnMoved}
-use Rattle.lease_coherence.proofs.names.Names.{off_named, off_counted, open_parts}
+use Rattle.lease_coherence.proofs.names.Names.{off_named, off_counted}
 use Rattle.lease_coherence.proofs.names.Words.{each_append, each_weaker}
 use Rattle.lease_coherence.proofs.order.Sends.{IsUnderLive}
 use Rattle.lease_coherence.specs.Agreement.{as_requests, asked_of}
@@ -46,6 +46,7 @@ use Rattle.lease_coherence.proofs.standing.Runs.{link_of, fits_of, was_up}
 use Rattle.lease_coherence.proofs.standing.Standing.{IsStepped, step_of}
 use Rattle.lease_coherence.proofs.standing.Words.{asked_weaker, asked_popped, asked_held, asked_unmoved}
 use Rattle.lease_coherence.proofs.told.Leases.{HasLeases}
+use Rattle.lease_laws.proofs.server.cases.Ends.{found_open}
 
 -- ---- what others do
 
@@ -141,8 +142,8 @@ own_place server c at (FileRequest.Close id) x g there asked ne = λ same. by_fo
 
     by_found : (found : Option Open) → connected_open server c id ≡ found → file_of_open found ≡ Ok at → id ≡ x.file_id → ⊥
     by_found None e never same = cc
-    by_found (Some y) e is same = let has = find_has _ y server.opens e in
-        ne (ap (λ (o : Open). o.file) (g x y there has.0 (sym same ∙ sym (open_parts c id y has.1).0)) ∙ file_same y is)
+    by_found (Some y) e is same = let own = found_open server c id y e in
+        ne (ap (λ (o : Open). o.file) (g x y there own.there (sym same ∙ sym own.id)) ∙ file_same y is)
 
 held_covered : (world : World) (at : ℕ) (one : Held) → IsOldest world one.client (Request.OnFile one.request)
     → IsInTurn (SmallStep.Hold at one) world.server → Ground world → HasCovered world one.client

@@ -123,14 +123,18 @@ answered_at world off new c request reply g source links clients requests held r
         → q + h + a1 ≡ w1 + w2 + t
     whole q0 q h0 h a0 a1 n w1 w2 t e f i j k = omega (arith, e, f, i, j, k)
 
--- the client, the links and the replies of the part from which a request was taken off
+-- all but the server, the requests and the record is as it was before the request left
+pub record IsSameRest (off world : World) : Type 0 where
+  pub clients : off.clients ≡ world.clients
+  pub links : off.links ≡ world.links
+  pub replies : off.replies ≡ world.replies
+
 pub off_rest : (world off : World) (client : ℕ) (request : FileRequest) → IsSource world off client request
-    → (off.clients ≡ world.clients) × ((off.links ≡ world.links) × (off.replies ≡ world.replies))
+    → IsSameRest off world
 off_rest world off client request source = ⊎_elim
-    (λ a. subst (λ (o : World). (o.clients ≡ world.clients) × ((o.links ≡ world.links) × (o.replies ≡ world.replies)))
-    (sym a.is_off) (refl, (refl, refl)))
-    (λ h. subst (λ (o : World). (o.clients ≡ world.clients) × ((o.links ≡ world.links) × (o.replies ≡ world.replies)))
-    (sym h.is_off) (refl, (refl, refl))) source.from
+    (λ a. subst (λ o. IsSameRest o world) (sym a.is_off) (record { clients = refl; links = refl; replies = refl }))
+    (λ h. subst (λ o. IsSameRest o world) (sym h.is_off) (record { clients = refl; links = refl; replies = refl }))
+    source.from
 
 -- a reply to it
 replied_at : (world off new : World) (c : ℕ) (request : FileRequest) (reply : Reply) → Ground world
@@ -140,9 +144,9 @@ replied_at : (world off new : World) (c : ℕ) (request : FileRequest) (reply : 
     → ((file : ℕ) → answer_of file reply ≡ create_of file request) → IsCountedAt world c → IsCountedAt new c
 replied_at world off new c request reply g source links clients requests held replies answers_it a =
     let rest = off_rest world off c request source in
-    answered_at world off new c request reply g source (links ∙ rest.1.0) (clients ∙ rest.0) requests held
+    answered_at world off new c request reply g source (links ∙ rest.links) (clients ∙ rest.clients) requests held
     (ap (λ (r : ℕ → List Reply). r c) replies ∙ put_same off.replies c (off.replies c ++ reply ∷ [])
-    ∙ ap (λ (r : ℕ → List Reply). r c ++ reply ∷ []) rest.1.1) answers_it a
+    ∙ ap (λ (r : ℕ → List Reply). r c ++ reply ∷ []) rest.replies) answers_it a
 
 -- a reply that answers no create
 told_at : (world new : World) (c : ℕ) (reply : Reply) → new.links ≡ world.links → new.clients ≡ world.clients

@@ -9,7 +9,7 @@ use Rattle.lease_laws.proofs.Words.{true≢false, was_opened}
 use Rattle.lease_state.specs.Content.{patch as patched}
 use Rattle.lease_laws.proofs.client.Thin.{put_same}
 use Rattle.lease_laws.proofs.server.Keys.{key_eq-refl, put_key-cases}
-use Rattle.lease_laws.proofs.server.Lists.{if_cases, either, clash, and_parts, find_has}
+use Rattle.lease_laws.proofs.server.Lists.{if_cases, either, clash, and_parts}
 use Rattle.lease_coherence.specs.Names.{Each, IsNamedAt, IsOwnOpen, WasWrittenOn}
 use Rattle.lease_coherence.proofs.beliefs.Clients.{keys_apart}
 use Rattle.lease_coherence.proofs.beliefs.Grants.{grant_settled, grant_breaking}
@@ -26,11 +26,12 @@ use Rattle.lease_coherence.proofs.moves.Events.{Ground}
 use Rattle.lease_coherence.proofs.moves.Frames.{from_source, lease_put_rest}
 use Rattle.lease_coherence.proofs.moves.Moves.{IsOldest, rest_of, popped}
 use Rattle.lease_coherence.proofs.moves.Spared.{ends_by, ends_as}
-use Rattle.lease_coherence.proofs.names.Names.{off_named, off_counted, open_parts}
+use Rattle.lease_coherence.proofs.names.Names.{off_named, off_counted}
 use Rattle.lease_coherence.proofs.names.Words.{each_rest, opened_once}
 use Rattle.lease_coherence.proofs.records.Later.{later_same, later_fact}
 use Rattle.lease_coherence.proofs.writes.Answered.{names_of}
 use Rattle.lease_coherence.proofs.records.Known.{HasRecord}
+use Rattle.lease_laws.proofs.server.cases.Ends.{found_open}
 
 pub own_of : (world : World) → HasRecord world → (c : ℕ) → has_strayed c world.past ≡ false
     → (one : Open) → Among one world.server.opens → one.client ≡ c → IsOwnOpen (world.clients c).guid one
@@ -103,17 +104,16 @@ pub read_fresh : (world off : World) (c file_id : ℕ) (one : Open) → IsSource
     → IsFreshIn (told_to off c (Reply.ReadDone file_id (off.server.contents one.file))) c file
 unfolding was_opened
 read_fresh world off c file_id one source g h found file low f =
-    let there = find_has _ one off.server.opens found in
-    let parts = open_parts c file_id one there.1 in
-    let told = (off_counted world off c (FileRequest.Read file_id) source g).opens one there.0 in
+    let own = found_open off.server c file_id one found in
+    let told = (off_counted world off c (FileRequest.Read file_id) source g).opens one own.there in
     sent_fresh off (told_to off c (Reply.ReadDone file_id (off.server.contents one.file))) c off.past
     (Reply.ReadDone file_id (off.server.contents one.file))
     (plain_sent off c (Reply.ReadDone file_id (off.server.contents one.file))) (plain_told c off.past) low file (record {
       follows = λ from now reads. now reads;
       tells = record {
         file = one.file;
-        opened = subst (λ i. was_opened i one.file c off.past ≡ true) parts.0
-            (subst (λ d. was_opened one.file_id one.file d off.past ≡ true) parts.1.0 told);
+        opened = subst (λ i. was_opened i one.file c off.past ≡ true) own.id
+            (subst (λ d. was_opened one.file_id one.file d off.past ≡ true) own.by told);
         is = off_contents world off c (FileRequest.Read file_id) source h one.file;
       };
       bound = f.bound;
@@ -155,14 +155,13 @@ pub changed_fresh : (world off : World) (c file_id number : ℕ) (patch : Patch)
     → IsFreshIn (changed_in off c one.file file_id number patch) c file
 unfolding has_written
 changed_fresh world off c file_id number patch one source g n found file low f =
-    let there = find_has _ one off.server.opens found in
-    let parts = open_parts c file_id one there.1 in
-    let told = (off_counted world off c (FileRequest.Write file_id number patch) source g).opens one there.0 in
+    let own = found_open off.server c file_id one found in
+    let told = (off_counted world off c (FileRequest.Write file_id number patch) source g).opens one own.there in
     let w : WasWrittenOn c file_id number patch off.past =
     (off_named world off c (FileRequest.Write file_id number patch) c source n).1 refl in
     let at = opened_once file_id w.file c one.file c off.past w.opened
-    (subst (λ i. was_opened i one.file c off.past ≡ true) parts.0
-    (subst (λ d. was_opened one.file_id one.file d off.past ≡ true) parts.1.0 told)) in
+    (subst (λ i. was_opened i one.file c off.past ≡ true) own.id
+    (subst (λ d. was_opened one.file_id one.file d off.past ≡ true) own.by told)) in
     sent_fresh off (changed_in off c one.file file_id number patch) c
     (Fact.Changed one.file c number patch ∷ off.past) (Reply.WriteDone file_id number) (record {
       machine = refl;

@@ -4,19 +4,18 @@ use Rattle.lease_laws.proofs.Words.{Open, Patch, Request, Setup, Some, Step, Wor
 use Rattle.lease_laws.proofs.Words.{connection_made, fact_of, false, first_world, has_strayed, is_allowed_setup, is_touched}
 use Rattle.lease_laws.proofs.Words.{noticed, put, refl, requests_sent, reverse-reverse, reverse_aux, starts_from, stepped_in}
 use Rattle.lease_laws.proofs.Words.{subst, sym, taken, true}
-use Rattle.lease_laws.proofs.server.Lists.{find_has}
 use Rattle.lease_coherence.specs.Parts.{InRuns}
 use Rattle.lease_coherence.proofs.late.Runs.{ground_in}
 use Rattle.lease_coherence.proofs.late.Words.{WriteSafe}
 use Rattle.lease_coherence.proofs.moves.Deeds.{HasDeeds, IsSource, step_deed}
 use Rattle.lease_coherence.proofs.moves.Events.{IsMoved, Both, carried_both, runs_have, come_back, reply_gone, Move}
 use Rattle.lease_coherence.proofs.moves.Frames.{from_source, stepped_past}
-use Rattle.lease_coherence.proofs.names.Names.{open_parts}
 use Rattle.lease_coherence.proofs.order.Sends.{off_past}
 use Rattle.lease_coherence.proofs.records.Later.{past_noted}
 use Rattle.lease_coherence.proofs.standing.Words.{asked_off}
 use Rattle.lease_coherence.proofs.records.AllRuns.{record_carried, first_record}
 use Rattle.lease_coherence.proofs.records.Known.{HasRecord}
+use Rattle.lease_laws.proofs.server.cases.Ends.{found_open}
 
 abbrev NoneLate : World → Type 0
 NoneLate world = EachFact NoLateWrite world.past
@@ -37,14 +36,13 @@ change_clean : (world off : World) (c file_id number : ℕ) (patch : Patch) (one
 change_clean world off c file_id number patch one v source found good =
     let request = FileRequest.Write file_id number patch in
     let past = off_past world off c request source in
-    let there = find_has _ one off.server.opens found in
-    let parts = open_parts c file_id one there.1 in
+    let own = found_open off.server c file_id one found in
     let a = v.late c (ap (has_strayed c) (sym past) ∙ good) in
     let up = sym (((ground_in world v).tied c).present) ∙ source.up in
     let safe : WriteSafe world c (Request.OnFile request) =
     (asked_off (WriteSafe world c) world off c request source (a.up up).writes).1 in
     ap (is_touched c one.file number) past
-    ∙ (safe one (subst (λ (l : List Open). Among one l) (off_opens world off c request source) there.0) parts.1.0 parts.0).clean
+    ∙ (safe one (subst (λ (l : List Open). Among one l) (off_opens world off c request source) own.there) own.by own.id).clean
 
 -- ---- steps of the server
 

@@ -13,9 +13,9 @@ use Rattle.lease_coherence.proofs.late.Words.{holds_write, WriteSafe, HeldPlain,
 use Rattle.lease_coherence.proofs.moves.Deeds.{held_in}
 use Rattle.lease_coherence.proofs.moves.Ground.{among_put}
 use Rattle.lease_coherence.proofs.moves.Moves.{IsOldest, popped}
-use Rattle.lease_coherence.proofs.names.Names.{open_parts}
 use Rattle.lease_coherence.proofs.standing.Words.{asked_held, head_of}
 use Rattle.lease_coherence.proofs.writes.Runs.{no_file, same_file}
+use Rattle.lease_laws.proofs.server.cases.Ends.{found_open}
 
 -- the file that a request asks for
 abbrev pub AsksOn : World → ℕ → FileRequest → Type 0
@@ -42,11 +42,10 @@ none_waits world c sound n file x there by on holds (FileRequest.Create f access
     ∙ ap (λ g. Some (key_of c (lease_key (world.clients c).guid g))) asks) there
     (own_has_key world c file x by on (n.opens x there by)) (on ∙ sym asks) holds b
 none_waits world c sound n file x there by on holds (FileRequest.Write file_id number patch) named asks b =
-    let found = find_has _ b.one world.server.opens b.is_open in
-    let parts = open_parts c file_id b.one found.1 in
-    let here = asks b.one found.0 parts.0 in
+    let own = found_open world.server c file_id b.one b.is_open in
+    let here = asks b.one own.there own.id in
     none_in_the_way (λ lease. breaks_to_some lease) world.server (key_of_open b.one) (machine_key world c file)
-    (b.one).file x sound (ap₂ key_under parts.1.0 (n.opens b.one found.0 parts.1.0)
+    (b.one).file x sound (ap₂ key_under own.by (n.opens b.one own.there own.by)
     ∙ ap (λ g. Some (key_of c (lease_key (world.clients c).guid g))) here) there
     (own_has_key world c file x by on (n.opens x there by)) (on ∙ sym here) holds b.is_blocked
 none_waits world c sound n file x there by on holds request named asks b = absurd b
@@ -64,8 +63,8 @@ held_on : (world : World) (c file_id : ℕ) (at : ℕ) (x : Open)
     → connected_open world.server c file_id ≡ found → file_of_open found ≡ Ok at → x.file ≡ at
 held_on world c file_id at x same None e a = absurd (no_file _ Status.FileClosed at refl a)
 held_on world c file_id at x same (Some z) e a =
-    let there = find_has _ z world.server.opens e in
-    sym (same z there.0 (open_parts c file_id z there.1).0) ∙ same_file _ z.file at refl a
+    let own = found_open world.server c file_id z e in
+    sym (same z own.there own.id) ∙ same_file _ z.file at refl a
 
 held_plain : (world : World) (at : ℕ) (one : Held) → MayHold world.server at one
     → IsInTurn (SmallStep.Hold at one) world.server → IsSound world.server → KnowsIds world one.client

@@ -1,5 +1,5 @@
 -- What the server does for a client leaves its writes safe.
-use Rattle.lease_laws.proofs.Words.{◌&&◌, ◌++◌, ◌+◌, ◌==◌, ◌||◌, ◌∙◌, ◌∷◌, ◌≡◌, ◌≤◌, ◌⊎◌, Among, Bool, Client, FileRequest, Held}
+use Rattle.lease_laws.proofs.Words.{◌&&◌, ◌++◌, ◌+◌, ◌==◌, ◌||◌, ◌∙◌, ◌∷◌, ◌≡◌, ◌⊎◌, Among, Bool, Client, FileRequest, Held}
 use Rattle.lease_laws.proofs.Words.{IsBlockedBy, IsSound, Key, Lease, List, LiveEntry, Open, Option, Parted, Patch, Pending}
 use Rattle.lease_laws.proofs.Words.{Phase, Reply, Request, Server, Some, State, World, ℕ, ⊎_elim, [], allowed, ap, ap₂, arith}
 use Rattle.lease_laws.proofs.Words.{bytes_eq, eq-eqb, eqb-true, false, given_state, granted_form_of, has_key, has_own_key}
@@ -284,7 +284,7 @@ sent_clean world c u once stands n k file known fresh write a none =
     × IsNamedRequest c (world.clients c).guid world.past r) world c file number every
     (λ zero. numbered_some write ((world.clients c).entries file).sent a
     (sum (writes_left world c file number) (settling number (world.replies c)) _ zero none count)) in
-    by_write f.file_id f.patch f.so.0.0 f.so.0.1 f.so.1 written
+    let so = f.so in let both = so.0 in by_write f.file_id f.patch both.0 both.1 so.1 written
   where
     sum : (l s t : ℕ) → l ≡ 0 → s ≡ 0 → l + s ≡ t → t ≡ 0
     sum l s t e f g = omega (arith, e, f, g)

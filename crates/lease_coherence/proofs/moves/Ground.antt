@@ -149,7 +149,7 @@ moved_tied world step g next c =
   where
     reach : (list : List Out) → EachOut (outs.IsFine world.server) list → EachOut (IsToPresent world.server) list
     reach [] each = tt
-    reach (out ∷ list) each = (each.0.0, reach list each.1)
+    reach (out ∷ list) each = let fine = each.0 in (fine.0, reach list each.1)
 
 moved_ground : (world : World) (step : SmallStep) → Ground world → IsNext world step → Ground (moved world step)
 moved_ground world step g next =

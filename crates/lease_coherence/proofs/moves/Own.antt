@@ -10,7 +10,7 @@ use Rattle.lease_laws.proofs.Words.{needs_acknowledgment, not, opens_disconnecte
 use Rattle.lease_laws.proofs.Words.{requests_sent, step_taken, stepped_in, subst, sym, true, was_opened, with_opens, without}
 use Rattle.lease_laws.proofs.client.Thin.{put_other}
 use Rattle.lease_laws.proofs.server.Keys.{put_key-cases}
-use Rattle.lease_laws.proofs.server.Lists.{if_cases, either, clash, and_parts, not_true, not_parts, find_has, true_or}
+use Rattle.lease_laws.proofs.server.Lists.{if_cases, either, clash, and_parts, not_true, not_parts, true_or}
 use Rattle.lease_laws.proofs.world.Links.{by_client, stepped_links}
 use Rattle.lease_laws.proofs.world.Runs.{stepped_server, stepped_clients}
 use Rattle.lease_coherence.specs.Creates.{held_by}
@@ -27,9 +27,10 @@ use Rattle.lease_coherence.proofs.moves.Frames.{stepped_past, stepped_requests, 
 use Rattle.lease_coherence.proofs.moves.Ground.{moved_past}
 use Rattle.lease_coherence.proofs.moves.Moves.{IsOldest, popped}
 use Rattle.lease_coherence.proofs.moves.Spared.{IsSpared, spared_fact, spared_noted}
-use Rattle.lease_coherence.proofs.names.Names.{off_counted, awaits_parts, open_parts}
+use Rattle.lease_coherence.proofs.names.Names.{off_counted, awaits_parts}
 use Rattle.lease_coherence.proofs.names.Words.{opened_by}
 use Rattle.lease_coherence.proofs.records.Later.{IsLater, later_then, later_fact, later_told, later_noted}
+use Rattle.lease_laws.proofs.server.cases.Ends.{found_open}
 
 -- of each client that hasn't strayed
 abbrev pub OfGood : (World → ℕ → Type 0) → World → Type 0
@@ -160,28 +161,26 @@ deeds_all V A ground k world v a = record {
       (let parts = awaits_parts client file (own_key client ask.lease) file_id waits.one waits.waits in
       unmoved_mapped off (connected_again file_id) c
       (λ one own x. again_same file_id one (others_apart world off client _ source (ground world v) file_id waits.one
-      waits.is_there parts.0 parts.1.0 c ne one own x)) (again_client file_id)) (unmoved_told _ client _ c ne)));
+      waits.is_there parts.id parts.by c ne one own x)) (again_client file_id)) (unmoved_told _ client _ c ne)));
   read = λ off client file_id one source found may. for_all V A k world _ client v a
       (λ g x. k.read world off client file_id one v g source found may x)
       (λ c ne. unmoved_then world off _ c (unmoved_off world off client _ c source ne) (unmoved_told off client _ c ne));
   changed = λ off client file_id number patch one source found may. for_all V A k world _ client v a
       (λ g x. k.changed world off client file_id number patch one v g source found may x)
-      (λ c ne. let there = find_has _ one off.server.opens found in
-      let mine = (open_parts client file_id one there.1).1.0 in
-      let apart : one.client ≢ c = λ e. ne (sym mine ∙ e) in
+      (λ c ne. let own = found_open off.server client file_id one found in
+      let apart : one.client ≢ c = λ e. ne (sym own.by ∙ e) in
       let sound = off_sound world off client _ source (ground world v).fine.sound in
       unmoved_then world off _ c (unmoved_off world off client _ c source ne)
-      (unmoved_content off client one.file file_id number patch c ne (change_no_writer off.server one c apart sound there.0)
+      (unmoved_content off client one.file file_id number patch c ne (change_no_writer off.server one c apart sound own.there)
       (change_no_reader off.server one c apart sound may.alone)));
   closed = λ off client file_id one source found. for_all V A k world _ client v a
       (λ g x. k.closed world off client file_id one v g source found x)
-      (λ c ne. let there = find_has _ one off.server.opens found in
-      let parts = open_parts client file_id one there.1 in
+      (λ c ne. let own = found_open off.server client file_id one found in
       unmoved_then world off _ c (unmoved_off world off client _ c source ne)
       (unmoved_then off (without_opens off (λ other. other.file_id == file_id)) _ c
       (unmoved_without off (λ other. other.file_id == file_id) c (off_ground world off client _ source (ground world v))
-      (λ other own x. others_apart world off client _ source (ground world v) file_id one there.0 parts.0 parts.1.0
-      c ne other own x)) (unmoved_told _ client _ c ne)));
+      (λ other mine x. others_apart world off client _ source (ground world v) file_id one own.there own.id own.by
+      c ne other mine x)) (unmoved_told _ client _ c ne)));
   ack_failed = λ client given status oldest up why. for_all V A k world _ client v a
       (λ g x. k.ack_failed world client given status v g oldest why x)
       (λ c ne. unmoved_then world (popped world client) _ c (unmoved_popped world client c ne)

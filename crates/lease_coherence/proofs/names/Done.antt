@@ -306,5 +306,5 @@ run_true setup events = runs_have (Both Ground HasTrueNames) (λ world both. bot
     (carried_both Ground HasTrueNames ground_carried true_moves) setup (first_ground setup, first_true setup) events
 
 pub nothing_is_falsely_done : NothingIsFalselyDone
-nothing_is_falsely_done setup events allowed = subst (EachFact NoFalseDone)
-    (sym (reverse-reverse (after (first_world setup) events).past)) (run_true setup events).1.1
+nothing_is_falsely_done setup events allowed = let names = (run_true setup events).1 in
+    subst (EachFact NoFalseDone) (sym (reverse-reverse (after (first_world setup) events).past)) names.1

@@ -1,6 +1,6 @@
 -- In every run, all that a client names that hasn't strayed is in the record already; so a write that it settles as done
 -- was accepted.
-use Rattle.lease_laws.proofs.Words.{◌&&◌, ◌++◌, ◌+◌, ◌==◌, ◌∙◌, ◌∷◌, ◌≡◌, Access, Among, Client, CreateAsk, Fact, FileRequest}
+use Rattle.lease_laws.proofs.Words.{◌++◌, ◌+◌, ◌==◌, ◌∙◌, ◌∷◌, ◌≡◌, Access, Among, Client, CreateAsk, Fact, FileRequest}
 use Rattle.lease_laws.proofs.Words.{Held, Key, List, None, Open, Option, Patch, Reply, Request, Share, Some, Status, World, ℕ}
 use Rattle.lease_laws.proofs.Words.{⊎_elim, [], ap, asked_key, awaits, connected_again, eq-eqb, eqb-true, false, has_strayed}
 use Rattle.lease_laws.proofs.Words.{has_written, held_of, inl, is_accepted, is_left_open, lease_after, lease_key, map, new_open}
@@ -8,7 +8,7 @@ use Rattle.lease_laws.proofs.Words.{not, opened_count, own_key, put, refl, refus
 use Rattle.lease_laws.proofs.Words.{with_opens}
 use Rattle.lease_laws.proofs.client.Thin.{put_same, put_other}
 use Rattle.lease_laws.proofs.server.Lists.{if_cases, and_parts, and_both, true_or, among_append, among_behind, among_filter}
-use Rattle.lease_laws.proofs.server.Lists.{among_map, find_has}
+use Rattle.lease_laws.proofs.server.Lists.{among_map}
 use Rattle.lease_laws.proofs.server.PassWaits.{among_more}
 use Rattle.lease_laws.proofs.world.Links.{by_client}
 use Rattle.lease_coherence.specs.Names.{Each, IsNamed, IsNamedAt, IsNamedEntry, IsNamedOnFile, IsNamedReply, IsNamedRequest}
@@ -22,6 +22,7 @@ use Rattle.lease_coherence.proofs.moves.Moves.{IsOldest, rest_of, popped}
 use Rattle.lease_coherence.proofs.names.Words.{each_append, each_weaker, each_rest, on_file_later, request_later, reply_later}
 use Rattle.lease_coherence.proofs.names.Words.{entry_later, opened_once}
 use Rattle.lease_coherence.proofs.records.Later.{IsLater, later_same, later_fact, later_two}
+use Rattle.lease_laws.proofs.server.cases.Ends.{found_open}
 
 -- ---- one client's part of a world
 
@@ -161,9 +162,13 @@ granted_named off client file access share ask c counted own n =
     (subst (λ n. was_opened (n + 1) file client (Fact.Sent client ∷ Fact.Opened file client ∷ off.past) ≡ true)
     (sym counted.last) (just_opened file client off.past))) n
 
--- the parts of what a test found
+pub record IsAwaiting (client file file_id : ℕ) (one : Open) : Type 0 where
+  pub id : one.file_id ≡ file_id
+  pub by : one.client ≡ client
+  pub on_file : one.file ≡ file
+
 pub awaits_parts : (client file : ℕ) (own : Option Key) (file_id : ℕ) (one : Open) → awaits client file own file_id one ≡ true
-    → (one.file_id ≡ file_id) × ((one.client ≡ client) × (one.file ≡ file))
+    → IsAwaiting client file file_id one
 unfolding awaits
 awaits_parts client file None file_id one e = absurd (true≢false (sym e))
 awaits_parts client file (Some key) file_id one e =
@@ -171,14 +176,7 @@ awaits_parts client file (Some key) file_id one e =
     let b = and_parts _ _ a.0 in
     let d = and_parts _ _ b.0 in
     let f = and_parts _ _ d.0 in
-    (eqb-true one.file_id file_id f.0, (eqb-true one.client client d.1, eqb-true one.file file b.1))
-
-pub open_parts : (client file_id : ℕ) (one : Open) → (one.file_id == file_id && one.client == client && one.connected) ≡ true
-    → (one.file_id ≡ file_id) × ((one.client ≡ client) × (one.connected ≡ true))
-open_parts client file_id one e =
-    let a = and_parts _ _ e in
-    let b = and_parts _ _ a.0 in
-    (eqb-true one.file_id file_id b.0, (eqb-true one.client client b.1, a.1))
+    record { id = eqb-true one.file_id file_id f.0; by = eqb-true one.client client d.1; on_file = eqb-true one.file file b.1 }
 
 again_own : (guid : List ℕ) (file_id : ℕ) (opens : List Open) (one : Open) → Among one (map (connected_again file_id) opens)
     → ((x : Open) → Among x opens → x.client ≡ one.client → IsOwnOpen guid x) → IsOwnOpen guid one
@@ -209,25 +207,24 @@ deeds_named world g named = record {
       (λ one a mine. again_own (off.clients c).guid file_id off.server.opens one a
       (λ x b same. n.0.opens x b (same ∙ mine))) refl
       (λ same. (later_fact off.past (Fact.Sent client)).opened file_id file c
-      (subst (λ d. was_opened file_id file d off.past ≡ true) (parts.1.0 ∙ same)
-      (subst (λ f. was_opened file_id f (waits.one).client off.past ≡ true) parts.1.1
-      (subst (λ i. was_opened i (waits.one).file (waits.one).client off.past ≡ true) parts.0
+      (subst (λ d. was_opened file_id file d off.past ≡ true) (parts.by ∙ same)
+      (subst (λ f. was_opened file_id f (waits.one).client off.past ≡ true) parts.on_file
+      (subst (λ i. was_opened i (waits.one).file (waits.one).client off.past ≡ true) parts.id
       ((off_counted world off client _ source g).opens waits.one waits.is_there))))) n.0;
   read = λ off client file_id one source found may c good.
       reply_named off client (Reply.ReadDone file_id (off.server.contents one.file)) c tt
       (off_named world off client _ c source (named c good)).0;
   changed = λ off client file_id number patch one source found may c good.
       let n = off_named world off client (FileRequest.Write file_id number patch) c source (named c good) in
-      let there = find_has _ one off.server.opens found in
-      let parts = open_parts client file_id one there.1 in
+      let own = found_open off.server client file_id one found in
       told_named off (changed_in off client one.file file_id number patch) client _ c
       (later_two off.past (Fact.Changed one.file client number patch) (Fact.Sent client)) refl refl (λ at x a. a) n.0.opens refl
       (λ same. let asked = n.1 (sym same) in
       subst (λ d. is_accepted d number (Fact.Sent client ∷ Fact.Changed one.file client number patch ∷ off.past) ≡ true) same
       (just_accepted one.file client number patch off.past (subst (λ f. has_written client f number patch off.past ≡ true)
       (opened_once file_id asked.file c one.file one.client off.past asked.opened
-      (subst (λ i. was_opened i one.file one.client off.past ≡ true) parts.0
-      ((off_counted world off client _ source g).opens one there.0)))
+      (subst (λ i. was_opened i one.file one.client off.past ≡ true) own.id
+      ((off_counted world off client _ source g).opens one own.there)))
       (subst (λ d. has_written d asked.file number patch off.past ≡ true) (sym same) asked.written)))) n.0;
   closed = λ off client file_id one source found c good.
       let n = off_named world off client (FileRequest.Close file_id) c source (named c good) in

@@ -9,7 +9,7 @@ use Rattle.lease_laws.proofs.Words.{opens_dropped, put, refl, refusal_of, steppe
 use Rattle.lease_laws.proofs.Words.{was_opened, with_opens}
 use Rattle.lease_laws.proofs.client.Forms.{commanded-stays, taken-stays}
 use Rattle.lease_laws.proofs.client.Thin.{put_same, put_other}
-use Rattle.lease_laws.proofs.server.Lists.{if_cases, either, clash, not_true, true_or, find_has, among_append, among_before}
+use Rattle.lease_laws.proofs.server.Lists.{if_cases, either, clash, not_true, true_or, among_append, among_before}
 use Rattle.lease_laws.proofs.server.Lists.{among_behind, among_filtered}
 use Rattle.lease_laws.proofs.world.Links.{stepped_links}
 use Rattle.lease_laws.proofs.world.Runs.{stepped_server}
@@ -26,7 +26,6 @@ use Rattle.lease_coherence.proofs.moves.Foreign.{IsUnmoved, apart, false_not, ma
 use Rattle.lease_coherence.proofs.moves.Frames.{lease_put_rest, stepped_past}
 use Rattle.lease_coherence.proofs.moves.Moves.{IsOldest, rest_of, popped}
 use Rattle.lease_coherence.proofs.moves.Own.{IsOwnMoved}
-use Rattle.lease_coherence.proofs.names.Names.{open_parts}
 use Rattle.lease_coherence.proofs.names.Words.{each_append, each_weaker}
 use Rattle.lease_coherence.specs.Agreement.{as_requests, asked_of}
 use Rattle.lease_coherence.proofs.order.Words.{IsNoWrite, AreOrdered, IsOpenIn, ordered_behind, ordered_more, append_three}
@@ -41,6 +40,7 @@ use Rattle.lease_coherence.proofs.writes.Answered.{ground_of, names_of}
 use Rattle.lease_coherence.proofs.order.Sends.{UnderLive, SendsInOrder, sends, commands_send, takes_send, stands_later}
 use Rattle.lease_coherence.proofs.order.Sends.{same_order, off_order}
 use Rattle.lease_coherence.proofs.records.Known.{HasRecord}
+use Rattle.lease_laws.proofs.server.cases.Ends.{found_open}
 
 -- ---- an open that is closed
 
@@ -51,10 +51,10 @@ unfolding file_asked
 left_writes world off c file_id one source g found o = ⊎_elim arrived was_held source.from
   where
     there : Among one off.server.opens
-    there = (find_has _ one off.server.opens found).0
+    there = (found_open off.server c file_id one found).there
 
     id : one.file_id ≡ file_id
-    id = (open_parts c file_id one (find_has _ one off.server.opens found).1).0
+    id = (found_open off.server c file_id one found).id
 
     -- a write of it that is held is held on the open's file
     same_place : (at : ℕ) (x : Held) → Among x (world.server.held at) → Among one world.server.opens → (number : ℕ)

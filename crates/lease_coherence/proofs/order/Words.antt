@@ -34,7 +34,8 @@ each_part P [] ys e = (tt, e)
 each_part P (x ∷ xs) ys e = let r = each_part P xs ys e.1 in ((e.0, r.0), r.1)
 
 each_less : {X : Type 0} (P : X → Type 0) (xs ys : List X) (x : X) → Each P (xs ++ x ∷ ys) → Each P (xs ++ ys)
-each_less P xs ys x e = let r = each_part P xs (x ∷ ys) e in each_append P xs ys r.0 r.1.1
+each_less P xs ys x e = let r = each_part P xs (x ∷ ys) e in let behind = r.1 in
+    each_append P xs ys r.0 behind.1
 
 allows_less : (request : Request) (xs ys : List Request) (x : Request) → Allows request (xs ++ x ∷ ys) → Allows request (xs ++ ys)
 allows_less (Request.OnFile (FileRequest.Close file_id)) xs ys x a = each_less (IsNoWrite file_id) xs ys x a
@@ -71,7 +72,7 @@ no_write_of file_id before (Request.Acknowledge given ∷ behind) each = (tt, no
 open_less : (x : Request) (before behind : List Request) → Each (IsOpenIn (x ∷ before)) behind → Each (IsOpenIn before) behind
 open_less x before [] each = tt
 open_less x before (Request.OnFile (FileRequest.Write other number patch) ∷ behind) each =
-    (each.0.1, open_less x before behind each.1)
+    let first = each.0 in (first.1, open_less x before behind each.1)
 open_less x before (Request.OnFile (FileRequest.Create file access share contexts) ∷ behind) each =
     (tt, open_less x before behind each.1)
 open_less x before (Request.OnFile (FileRequest.Read other) ∷ behind) each = (tt, open_less x before behind each.1)

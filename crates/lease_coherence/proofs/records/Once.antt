@@ -91,9 +91,9 @@ unfolding has_written is_well_formed
 written_once c file other number patch bytes [] well e f = absurd (true≢false (sym e))
 written_once c file other number patch bytes (Fact.Wrote writer of_file used was buffered ∷ past) well e f = ⊎_elim
     (λ now. ⊎_elim
-    (λ again. let p = parts_of file patch now in let q = parts_of other bytes again in record {
-      file_is = sym (eqb-true of_file file p.1.0) ∙ eqb-true of_file other q.1.0;
-      patch_is = sym (same_patches was patch p.1.1) ∙ same_patches was bytes q.1.1;
+    (λ again. let p = (parts_of file patch now).1 in let q = (parts_of other bytes again).1 in record {
+      file_is = sym (eqb-true of_file file p.0) ∙ eqb-true of_file other q.0;
+      patch_is = sym (same_patches was patch p.1) ∙ same_patches was bytes q.1;
     })
     (λ before. absurd (used_by (parts_of file patch now).0 (written_number c other number bytes past before)))
     (or_true _ (has_written c other number bytes past) f))

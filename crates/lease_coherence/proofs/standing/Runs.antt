@@ -319,7 +319,7 @@ given_gone world c queue (_) w = w
 -- the link was up where the request came from
 pub link_of : (world off : World) (c : ℕ) (request : FileRequest) → IsSource world off c request
     → is_up (off.links c) ≡ true → is_up (world.links c) ≡ true
-link_of world off c request source up = ap (λ (l : ℕ → Link). is_up (l c)) (sym (off_rest world off c request source).1.0) ∙ up
+link_of world off c request source up = ap (λ (l : ℕ → Link). is_up (l c)) (sym (off_rest world off c request source).links) ∙ up
 
 pub standing_moves : IsOwnMoved HasStructure IsUpStanding
 standing_moves = record {
@@ -389,7 +389,7 @@ standing_moves = record {
     fits_off : (world off : World) (c : ℕ) (request : FileRequest) → IsSource world off c request
         → IsStandingAt world c → AskFits (off.clients c) (Request.OnFile request)
     fits_off world off c request source s =
-        subst (λ (t : ℕ → Client). AskFits (t c) (Request.OnFile request)) (sym (off_rest world off c request source).0)
+        subst (λ (t : ℕ → Client). AskFits (t c) (Request.OnFile request)) (sym (off_rest world off c request source).clients)
         (asked_off (AskFits (world.clients c)) world off c request source s.asked).1
 
     strayed_after : (world : World) (c : ℕ) → has_strayed c world.past ≡ false → has_strayed c (Fact.Took c ∷ world.past) ≡ false

@@ -91,7 +91,7 @@ pub off_standing : (world off : World) (c : ℕ) (request : FileRequest) → IsS
     → IsStandingAt world c → IsStandingAt off c
 off_standing world off c request source s = let f = frame_off world off c request source in
     framed_at world off c f
-    (subst (λ (r : ℕ → List Reply). Each (GivenWell off c) (r c)) (sym (off_rest world off c request source).1.1)
+    (subst (λ (r : ℕ → List Reply). Each (GivenWell off c) (r c)) (sym (off_rest world off c request source).replies)
     (each_weaker (GivenWell world c) (GivenWell off c) (world.replies c) (λ r w. framed_given world off c f r w) s.given)) s
 
 -- a plain reply, and nothing else
@@ -197,7 +197,7 @@ reconnected_standing off c file access share ask file_id fits again waits s =
     (λ o own up a. map_kept (connected_again file_id) o off.server.opens (again_up file_id o up) a)
     (λ P a. record { queued = a.queued; held = a.held }) in
     given_more off new c (reconnected_reply off.server c file ask file_id) f refl (record {
-      stands = inr (again_there waits.one parts.0 parts.1.0 parts.1.1 waits.is_there);
+      stands = inr (again_there waits.one parts.id parts.by parts.on_file waits.is_there);
       not_closed = f.closes file_id (by_phase ((off.clients c).entries file).phase refl (sym fits ∙ again)).0;
       fits = (by_phase ((off.clients c).entries file).phase refl (sym fits ∙ again)).1;
     }) s
@@ -254,7 +254,7 @@ closed_standing world off c file_id source s =
       asks = λ a. let m = off_frame.asks a in record { queued = m.queued; held = m.held };
     } in
     given_more world new c (Reply.Closed file_id) f
-    (ap (λ (r : ℕ → List Reply). put r c (r c ++ Reply.Closed file_id ∷ [])) (off_rest world off c _ source).1.1) tt s
+    (ap (λ (r : ℕ → List Reply). put r c (r c ++ Reply.Closed file_id ∷ [])) (off_rest world off c _ source).replies) tt s
 
 -- opens that aren't connected are closed
 pub dropped_standing : (world : World) (c : ℕ) (test : Open → Bool)

@@ -103,13 +103,15 @@ open_place world c file x own has = (by, on)
 
 -- ---- a request is answered
 
-pub off_server : (world off : World) (c : ℕ) (request : FileRequest) → IsSource world off c request
-    → (off.server.opens ≡ world.server.opens)
-    × ((off.server.leases ≡ world.server.leases) × (off.server.expired ≡ world.server.expired))
-off_server world off c request source = from_source world off c request
-    (λ o. (o.server.opens ≡ world.server.opens)
-    × ((o.server.leases ≡ world.server.leases) × (o.server.expired ≡ world.server.expired))) source
-    (refl, (refl, refl)) (λ file left. (refl, (refl, refl)))
+pub record IsSameServer (off world : World) : Type 0 where
+  pub opens : off.server.opens ≡ world.server.opens
+  pub leases : off.server.leases ≡ world.server.leases
+  pub expired : off.server.expired ≡ world.server.expired
+
+pub off_server : (world off : World) (c : ℕ) (request : FileRequest) → IsSource world off c request → IsSameServer off world
+off_server world off c request source = from_source world off c request (λ o. IsSameServer o world) source
+    (record { opens = refl; leases = refl; expired = refl })
+    (λ file left. record { opens = refl; leases = refl; expired = refl })
 
 off_acks : (world off : World) (c : ℕ) (request : FileRequest) → IsSource world off c request → (key : List ℕ)
     → acks key (off.requests c) ≡ acks key (world.requests c)
@@ -138,7 +140,7 @@ pub answered_told : (world off new : World) (c : ℕ) (request : FileRequest) (r
     → IsSource world off c request → IsAnswered world off new c request reply → HasTold world c → HasTold new c
 answered_told world off new c request reply source a t =
     let rest = off_rest world off c request source in
-    let machine = a.machine ∙ ap (λ (m : ℕ → Client). m c) rest.0 in
+    let machine = a.machine ∙ ap (λ (m : ℕ → Client). m c) rest.clients in
     kept_told world new c machine (λ file fresh breaks.
     told_map (file_key world c file) file ((world.clients c).entries file).phase ((world.clients c).entries file).phase
     (world.requests c) (new.requests c) (world.replies c) (new.replies c)
@@ -146,7 +148,7 @@ answered_told world off new c request reply source a t =
     (λ some none. some (sym (off_acks world off c request source (file_key world c file))
     ∙ ap (acks (file_key world c file)) (sym a.requests) ∙ none))
     (λ met. inr (inl (subst (HasMet (file_key world c file) file (is_live ((world.clients c).entries file).phase))
-    (sym (a.replies ∙ ap (λ (r : ℕ → List Reply). r c ++ reply ∷ []) rest.1.1))
+    (sym (a.replies ∙ ap (λ (r : ℕ → List Reply). r c ++ reply ∷ []) rest.replies))
     (met_behind (file_key world c file) file (is_live ((world.clients c).entries file).phase) (world.replies c)
     (reply ∷ []) met))))
     (λ closed x there has. let old = a.opens file breaks closed x there has in
@@ -174,10 +176,10 @@ plain_answered world off new c request reply source machine requests held replie
       requests = requests;
       held = held;
       replies = replies;
-      fresh = λ file e. ap (λ (x : Key → Bool). x (machine_key world c file)) (sym (expired ∙ same.1.1)) ∙ e;
-      breaks = λ file e. ap (λ (l : Key → Lease). is_breaking (l (machine_key world c file))) (sym (leases ∙ same.1.0)) ∙ e;
+      fresh = λ file e. ap (λ (x : Key → Bool). x (machine_key world c file)) (sym (expired ∙ same.expired)) ∙ e;
+      breaks = λ file e. ap (λ (l : Key → Lease). is_breaking (l (machine_key world c file))) (sym (leases ∙ same.leases)) ∙ e;
       opens = λ file breaks closed x there has. let was = subst (λ (l : List Open). Among x l) opens there in (
-        closed x (subst (λ (l : List Open). Among x l) same.0 was) has,
+        closed x (subst (λ (l : List Open). Among x l) same.opens was) has,
         none file x was has (ap (λ (l : Key → Lease). is_breaking (l (machine_key world c file))) (sym leases) ∙ breaks),
       );
     }

@@ -256,7 +256,7 @@ known_here world v c good up = record {
 off_own : (world off : World) → HasLeases world → (c : ℕ) (request : FileRequest) → has_strayed c world.past ≡ false
     → IsSource world off c request → (x : Open) → Among x off.server.opens → x.client ≡ c → IsOwnOpen (world.clients c).guid x
 off_own world off v c request good source x there by = (v.structure.named c good).opens x
-    (subst (λ (l : List Open). Among x l) (off_server world off c request source).0 there) by
+    (subst (λ (l : List Open). Among x l) (off_server world off c request source).opens there) by
 
 off_file : (world off : World) (c : ℕ) (request : FileRequest) → IsSource world off c request → (file : ℕ)
     → has_file off.server file ≡ true → has_file world.server file ≡ true

@@ -32,7 +32,7 @@ use Rattle.lease_coherence.proofs.moves.Events.{Ground, timed_out}
 use Rattle.lease_coherence.proofs.moves.Frames.{lease_put_rest}
 use Rattle.lease_coherence.proofs.moves.Moves.{IsOldest, rest_of, popped}
 use Rattle.lease_coherence.specs.Agreement.{as_requests, asked_of}
-use Rattle.lease_coherence.proofs.told.Moves.{ClosedIn, ToldBy, HasTold, told_map, kept_told, breaking_open, breaking_up}
+use Rattle.lease_coherence.proofs.told.Moves.{ClosedIn, ToldBy, HasTold, told_map, kept_told, breaking_open, breaking_up, IsSameServer}
 use Rattle.lease_coherence.proofs.told.Moves.{open_place, off_server, answered_told, plain_answered}
 use Rattle.lease_coherence.proofs.told.Words.{HasMet, met_behind, met_last, is_granted, met_granted}
 use Rattle.lease_coherence.proofs.within.Moves.{HasWithin}
@@ -89,12 +89,12 @@ closed_told world off c id source t =
       requests = refl;
       held = refl;
       replies = put_same off.replies c (off.replies c ++ reply ∷ []);
-      fresh = λ file e. ap (λ (x : Key → Bool). x (machine_key world c file)) (sym eq.1.1) ∙ e;
-      breaks = λ file e. ap (λ (l : Key → Lease). is_breaking (l (machine_key world c file))) (sym eq.1.0)
+      fresh = λ file e. ap (λ (x : Key → Bool). x (machine_key world c file)) (sym eq.expired) ∙ e;
+      breaks = λ file e. ap (λ (l : Key → Lease). is_breaking (l (machine_key world c file))) (sym eq.leases)
           ∙ with_breaks off.server (without test off.server.opens) (machine_key world c file) e;
       opens = λ file breaks closed x there has.
           let kept = among_filter (λ o. not (test o)) x off.server.opens there in (
-            closed x (subst (λ (l : List Open). Among x l) eq.0 kept.0) has,
+            closed x (subst (λ (l : List Open). Among x l) eq.opens kept.0) has,
             λ e. clash (x.file_id == id) (eq-eqb x.file_id id (sym e)) (not_parts (x.file_id == id) kept.1),
           );
     }) t
@@ -176,10 +176,10 @@ granted_told world off c file access share ask asked e named source g on t =
       replies = put_same off.replies c (off.replies c ++ granted_reply off.server file ask lease ∷ []);
       fresh = λ at fresh. lease_put_rest off.server c ask.lease lease
           (λ s. s.expired (machine_key world c at) ≡ false → world.server.expired (machine_key world c at) ≡ false)
-          (λ leases x. ap (λ (y : Key → Bool). y (machine_key world c at)) (sym same.1.1) ∙ x) fresh;
+          (λ leases x. ap (λ (y : Key → Bool). y (machine_key world c at)) (sym same.expired) ∙ x) fresh;
       breaks = breaks_before;
       opens = λ at breaks closed x there has. ⊎_elim
-          (λ old. (closed x (subst (λ (l : List Open). Among x l) same.0 old) has, tt))
+          (λ old. (closed x (subst (λ (l : List Open). Among x l) same.opens old) has, tt))
           (λ last. ⊎_elim (λ is. absurd (new_open_closed at breaks closed
           (subst (λ o. has_key (machine_key world c at) o ≡ true) is has)))
           (λ none. absurd none) last) (among_append x off.server.opens (one ∷ []) there);
@@ -188,8 +188,7 @@ granted_told world off c file access share ask asked e named source g on t =
     one : Open
     one = new_open off.server c file access share ask.lease ask.durable (lease_after off.server c file ask.lease)
 
-    same : (off.server.opens ≡ world.server.opens)
-        × ((off.server.leases ≡ world.server.leases) × (off.server.expired ≡ world.server.expired))
+    same : IsSameServer off world
     same = off_server world off c (FileRequest.Create file access share (Some ask)) source
 
     -- a lease that is breaking after it was before
@@ -203,10 +202,10 @@ granted_told world off c file access share ask asked e named source g on t =
         (machine_key world c at)
         (λ own breaks. either (is_breaking (off.server.leases (key_of c asked.key)))
         (λ was. ap (λ k. is_breaking (world.server.leases k)) own
-        ∙ ap (λ (l : Key → Lease). is_breaking (l (key_of c asked.key))) (sym same.1.0) ∙ was)
+        ∙ ap (λ (l : Key → Lease). is_breaking (l (key_of c asked.key))) (sym same.leases) ∙ was)
         (λ settled. clash (is_breaking (lease_granted off.server (key_of c asked.key) file asked.state)) breaks
         (grant_settled off.server (key_of c asked.key) file asked.state settled)))
-        (λ other breaks. ap (λ (l : Key → Lease). is_breaking (l (machine_key world c at))) (sym same.1.0) ∙ breaks))
+        (λ other breaks. ap (λ (l : Key → Lease). is_breaking (l (machine_key world c at))) (sym same.leases) ∙ breaks))
 
     -- the new open is of its file, and there nothing was being closed before
     new_open_closed : (at : ℕ) → is_breaking ((granted_in off c file access share ask
@@ -244,13 +243,13 @@ reconnected_told world off c file access share ask id source t =
       requests = refl;
       held = refl;
       replies = put_same off.replies c (off.replies c ++ reply ∷ []);
-      fresh = λ at e. ap (λ (x : Key → Bool). x (machine_key world c at)) (sym same.1.1) ∙ e;
-      breaks = λ at e. ap (λ (l : Key → Lease). is_breaking (l (machine_key world c at))) (sym same.1.0) ∙ e;
+      fresh = λ at e. ap (λ (x : Key → Bool). x (machine_key world c at)) (sym same.expired) ∙ e;
+      breaks = λ at e. ap (λ (l : Key → Lease). is_breaking (l (machine_key world c at))) (sym same.leases) ∙ e;
       opens = λ at breaks closed x there has.
           let m = among_map (connected_again id) x off.server.opens there in
           let eq = again_id id m.0 (machine_key world c at) in (
             subst (λ i. ClosedBefore at i (asked_of world c at)) (sym (ap (λ (o : Open). o.file_id) m.2 ∙ eq.1))
-                (closed m.0 (subst (λ (l : List Open). Among m.0 l) same.0 m.1)
+                (closed m.0 (subst (λ (l : List Open). Among m.0 l) same.opens m.1)
                 (sym eq.0 ∙ ap (has_key (machine_key world c at)) (sym m.2) ∙ has)),
             tt,
           );

@@ -160,7 +160,7 @@ noted_well client machine after last new past (Note.Settled number outcome ∷ n
 noted_well client machine after last new past (Note.Wrote file number patch buffered ∷ notes) started fine tells low facts =
     noted_well client machine after number new (Fact.Wrote client file number patch buffered ∷ past) notes
     (λ f k. (later_fact past (Fact.Wrote client file number patch buffered)).started f (started f k)) fine.1 tells.1 used_low (
-      and_both _ _ (and_both _ _ (started file fine.0.0) fine.0.1) (not_of (has_number client number past)
+      let first = fine.0 in and_both _ _ (and_both _ _ (started file first.0) first.1) (not_of (has_number client number past)
           (λ used. above last number tells.0 (low number used))),
       facts,
     )
@@ -186,7 +186,7 @@ noted_well client machine after last new past (Note.Wrote file number patch buff
 noted_well client machine after last new past (Note.Believes file state ∷ notes) started fine tells low facts =
     noted_well client machine after last new (Fact.Believes client file state ∷ past) notes
     (λ f k. (later_fact past (Fact.Believes client file state)).started f (started f k))
-    fine.1 tells low (started file fine.0.0, facts)
+    fine.1 tells low (let first = fine.0 in (started file first.0, facts))
 noted_well client machine after last new past (Note.CachedRead file bytes ∷ notes) started fine tells low facts =
     noted_well client machine after last new (Fact.CachedRead client file bytes ∷ past) notes
     (λ f k. (later_fact past (Fact.CachedRead client file bytes)).started f (started f k))

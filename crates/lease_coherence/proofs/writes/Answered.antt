@@ -155,13 +155,13 @@ pub answered_once : (world off new : World) (c : ℕ) (request : FileRequest) (r
     → ((number : ℕ) → settles_of number reply ≡ write_of number request) → IsSentOnce world c → IsSentOnce new c
 answered_once world off new c request reply source k clients requests held replies written answers s =
     let rest = off_rest world off c request source in
-    same_once world new c (ap (λ (t : ℕ → Client). t c) (clients ∙ rest.0))
+    same_once world new c (ap (λ (t : ℕ → Client). t c) (clients ∙ rest.clients))
     (λ file number patch. written file number patch
     ∙ ap (λ past. has_written c file number patch past) (off_past world off c request source))
     (λ file number own. whole _ _ _ _ _ _ _ _ _ _ (ap (λ (q : List Request). writes number q) requests)
     (ap (λ (h : ℕ → List Held). held_writes number (held_by c (h file))) held)
     (ap (λ (q : List Reply). settling number q) (ap (λ (r : ℕ → List Reply). r c) replies
-    ∙ put_same off.replies c (off.replies c ++ reply ∷ []) ∙ ap (λ (r : ℕ → List Reply). r c ++ reply ∷ []) rest.1.1)
+    ∙ put_same off.replies c (off.replies c ++ reply ∷ []) ∙ ap (λ (r : ℕ → List Reply). r c ++ reply ∷ []) rest.replies)
     ∙ settling_last number (world.replies c) reply) (answers number)
     (source_left world off c request source s file number (own_counts world c k file number own request)))
     (λ at one a own file_id number patch is. off_held_on world off c request source s at one

@@ -11,7 +11,7 @@ use Rattle.lease_model.specs.records.Past.{has_number}
 use Rattle.lease_laws.proofs.client.Forms.{commanded-stays, taken-stays}
 use Rattle.lease_laws.proofs.client.Notes.{called_tells}
 use Rattle.lease_laws.proofs.client.Thin.{put_same, put_other}
-use Rattle.lease_laws.proofs.server.Lists.{either, clash, among_append, among_filter, among_filtered, find_has}
+use Rattle.lease_laws.proofs.server.Lists.{either, clash, among_append, among_filter, among_filtered}
 use Rattle.lease_laws.proofs.world.Links.{stepped_links}
 use Rattle.lease_laws.proofs.world.Runs.{stepped_server}
 use Rattle.lease_coherence.specs.Creates.{held_by}
@@ -28,7 +28,6 @@ use Rattle.lease_coherence.proofs.moves.Ground.{among_put}
 use Rattle.lease_coherence.proofs.moves.Moves.{IsOldest, rest_of, popped}
 use Rattle.lease_coherence.proofs.moves.Own.{IsOwnMoved}
 use Rattle.lease_coherence.proofs.moves.Shift.{append_none}
-use Rattle.lease_coherence.proofs.names.Names.{open_parts}
 use Rattle.lease_coherence.proofs.names.Words.{entry_later, opened_once}
 use Rattle.lease_coherence.proofs.records.Later.{later_fact, later_noted, past_noted}
 use Rattle.lease_coherence.proofs.standing.Runs.{link_of, was_up}
@@ -40,6 +39,7 @@ use Rattle.lease_coherence.proofs.writes.Steps.{commands_add, takes_add, IsSentO
 use Rattle.lease_coherence.proofs.writes.Answered.{ground_of, names_of, known_by, own_counts, first_off, not_counted, same_once}
 use Rattle.lease_coherence.proofs.writes.Answered.{answered_once, told_once, ack_off}
 use Rattle.lease_coherence.proofs.records.Known.{HasRecord}
+use Rattle.lease_laws.proofs.server.cases.Ends.{found_open}
 
 -- ---- a request is held
 
@@ -64,11 +64,10 @@ asked_on world c at request g named asked file_id number patch is = by_open
         → has_written c at number patch world.past ≡ true
     by_open w None e a = absurd (no_file _ Status.FileClosed at refl a)
     by_open w (Some one) e a =
-        let there = find_has _ one world.server.opens e in
-        let parts = open_parts c file_id one there.1 in
+        let own = found_open world.server c file_id one e in
         subst (λ f. has_written c f number patch world.past ≡ true)
         (opened_once file_id w.file c one.file one.client world.past w.opened
-        (subst (λ i. was_opened i one.file one.client world.past ≡ true) parts.0 (g.counted.opens one there.0))
+        (subst (λ i. was_opened i one.file one.client world.past ≡ true) own.id (g.counted.opens one own.there))
         ∙ same_file _ one.file at refl a) w.written
 
 hold_once : (world : World) (at : ℕ) (one : Held) → IsOldest world one.client (Request.OnFile one.request)

@@ -15,7 +15,7 @@ use Rattle.lease_laws.proofs.server.Lists.{if_cases, clash, and_parts, not_parts
 use Rattle.lease_laws.proofs.server.Lists.{find_has}
 use Rattle.lease_laws.proofs.server.Met.{find_kept}
 use Rattle.lease_laws.proofs.server.Steps.{left_here}
-use Rattle.lease_laws.proofs.server.cases.Ends.{own_open, HasEnds, any_end}
+use Rattle.lease_laws.proofs.server.cases.Ends.{found_open, HasEnds, any_end}
 use Rattle.lease_laws.proofs.server.cases.Tries.{HasTries, any_try}
 
 -- On the files of a kind, connected opens of breaking keys stay, and the leases of these keys stay as they
@@ -76,7 +76,7 @@ blocked_keeps test Guard before after own file only h s g b =
 -- the open of a FileId that a client has
 pub connected_has : (server : Server) (client file_id : ℕ) (one : Open) → connected_open server client file_id ≡ Some one
     → (Among one server.opens) × (one.file_id ≡ file_id)
-connected_has server client file_id one e = let own = own_open server client file_id one e in (own.there, own.id)
+connected_has server client file_id one e = let own = found_open server client file_id one e in (own.there, own.id)
 
 -- a create goes on having to wait
 contexts_keep : (Guard : ℕ → Type 0) (before after : Server) (client at file : ℕ) (access : Access)

@@ -7,16 +7,16 @@ use Rattle.lease_laws.proofs.Words.{opens_dropped, read_done, reconnected, refl,
 use Rattle.lease_laws.proofs.server.Lists.{if_cases, and_parts, find_has}
 
 -- an open of a client that is there and connected
-pub record IsOwnOpen (server : Server) (client : ℕ) (file_id : ℕ) (one : Open) : Type 0 where
+pub record IsFoundOpen (server : Server) (client : ℕ) (file_id : ℕ) (one : Open) : Type 0 where
   pub found : connected_open server client file_id ≡ Some one
   pub there : Among one server.opens
   pub id : one.file_id ≡ file_id
   pub by : one.client ≡ client
   pub up : one.connected ≡ true
 
-pub own_open : (server : Server) (client file_id : ℕ) (one : Open) → connected_open server client file_id ≡ Some one
-    → IsOwnOpen server client file_id one
-own_open server client file_id one e =
+pub found_open : (server : Server) (client file_id : ℕ) (one : Open) → connected_open server client file_id ≡ Some one
+    → IsFoundOpen server client file_id one
+found_open server client file_id one e =
     let has = find_has (λ o. o.file_id == file_id && o.client == client && o.connected) one server.opens e in
     let parts = and_parts (one.file_id == file_id && one.client == client) one.connected has.1 in
     let ids = and_parts (one.file_id == file_id) (one.client == client) parts.0 in record {
@@ -46,11 +46,11 @@ pub record HasEnds (client : ℕ) (progress : Progress) (P : FileRequest → Out
       ask.durable (lease_after progress.server client file ask.lease) progress)
   pub again : (file : ℕ) (access : Access) (share : Share) (ask : CreateAsk) (file_id : ℕ) → ask.reconnect ≡ Some file_id
       → P (FileRequest.Create file access share (Some ask)) Outcome.Ready (reconnected client file ask.lease file_id progress)
-  pub read : (file_id : ℕ) (one : Open) → IsOwnOpen progress.server client file_id one
+  pub read : (file_id : ℕ) (one : Open) → IsFoundOpen progress.server client file_id one
       → P (FileRequest.Read file_id) Outcome.Ready (read_done client one.file file_id progress)
-  pub changed : (file_id number : ℕ) (patch : Patch) (one : Open) → IsOwnOpen progress.server client file_id one
+  pub changed : (file_id number : ℕ) (patch : Patch) (one : Open) → IsFoundOpen progress.server client file_id one
       → P (FileRequest.Write file_id number patch) Outcome.Ready (changed client one.file file_id number patch progress)
-  pub closed : (file_id : ℕ) (one : Open) → IsOwnOpen progress.server client file_id one
+  pub closed : (file_id : ℕ) (one : Open) → IsFoundOpen progress.server client file_id one
       → P (FileRequest.Close file_id) Outcome.Ready
       (replied client (Reply.Closed file_id) (opens_dropped (λ other. other.file_id == file_id) progress))
 
@@ -68,11 +68,11 @@ create_end client progress P h file access share ask (Some file_id) e = h.again 
 
 open_end : (client : ℕ) (progress : Progress) (P : FileRequest → Outcome → Progress → Type 0)
     → HasEnds client progress P → (request : FileRequest) (file_id : ℕ) (done : ℕ → Progress → Progress)
-    → ((one : Open) → IsOwnOpen progress.server client file_id one → P request Outcome.Ready (done one.file progress))
+    → ((one : Open) → IsFoundOpen progress.server client file_id one → P request Outcome.Ready (done one.file progress))
     → (found : Option Open) → connected_open progress.server client file_id ≡ found
     → P request Outcome.Ready (on_open found done progress)
 open_end client progress P h request file_id done each None e = h.left request Outcome.Ready
-open_end client progress P h request file_id done each (Some one) e = each one (own_open progress.server client file_id one e)
+open_end client progress P h request file_id done each (Some one) e = each one (found_open progress.server client file_id one e)
 
 pub any_end : (client : ℕ) (progress : Progress) (P : FileRequest → Outcome → Progress → Type 0)
     → HasEnds client progress P → (request : FileRequest) (outcome : Outcome)
