@@ -14,6 +14,8 @@ use Rattle.lease_laws.proofs.Words.{served, standing_lease, subst, sym, true, wi
 use Rattle.lease_state.specs.Content.{patch as patched}
 use Rattle.lease_laws.proofs.server.Lists.{clash}
 use Rattle.lease_coherence.proofs.moves.Moves.{IsNext, IsOldest, popped, moved}
+use Rattle.lease_laws.proofs.server.cases.Judgements.{IsRefusedAck, any_judgement}
+use Rattle.lease_laws.proofs.server.StepLeases.{held_left-serves}
 
 -- ---- where a request that is answered comes from
 
@@ -112,12 +114,6 @@ leased_in world key lease reply = told_to (record world { server = with_lease wo
 -- a request is held
 abbrev pub held_in : World → ℕ → Held → World
 held_in world file one = with_held world file (world.server.held file ++ one ∷ [])
-
--- why an acknowledgment is refused: no lease of its key is breaking to a state that it lies within
-abbrev pub IsRefusedAck : Server → ℕ → Option LeaseOf → Type 0
-IsRefusedAck server client None = ⊤
-IsRefusedAck server client (Some given) = has_lease server (key_of client given.key) ≡ true → (lowered : State)
-    → (server.leases (key_of client given.key)).broken_to ≡ Some lowered → is_state_within given.state lowered ≡ false
 
 -- ---- forms
 
@@ -221,44 +217,16 @@ request_deed world off P h client (FileRequest.Close file_id) Outcome.Ready sour
     (λ file. closed client file_id) has.found (h.closed off client file_id has.one source has.found)
 
 -- an acknowledgment is judged
-judged_deed : (world : World) (P : World → Type 0) → HasDeeds world P → (client : ℕ) (given : LeaseOf)
-    (lowered : Option State) → IsOldest world client (Request.Acknowledge (Some given))
-    → world.server.present client ≡ true → has_lease world.server (key_of client given.key) ≡ true
-    → (world.server.leases (key_of client given.key)).broken_to ≡ lowered
-    → P (served (popped world client) (judged (key_of client given.key) given.state lowered (begun world.server)))
-unfolding break_ended served all_delivered delivered
-judged_deed world P h client given None oldest up there e =
-    h.ack_failed client (Some given) Status.Unsuccessful oldest up (λ is lowered to. absurd (never lowered (sym e ∙ to)))
-  where
-    never : (lowered : State) → None ≡ Some lowered → ⊥
-    never lowered e = cc
-judged_deed world P h client given (Some lowered) oldest up there e = either_way (is_state_within given.state lowered) _ _
-    (λ w. h.ack_done client given lowered oldest up there e w)
-    (λ w. h.ack_failed client (Some given) Status.RequestNotAccepted oldest up
-    (λ is to same. subst (λ s. is_state_within given.state s ≡ false) (one_state lowered to (sym e ∙ same)) w))
-  where
-    either_way : (b : Bool) (x y : Progress) → (b ≡ true → P (served (popped world client) x))
-        → (b ≡ false → P (served (popped world client) y)) → P (served (popped world client) (if b then x else y))
-    either_way true x y p q = p refl
-    either_way false x y p q = q refl
-
-    one_state : (x y : State) → Some x ≡ Some y → x ≡ y
-    one_state x y e = cc
-
 acknowledged_deed : (world : World) (P : World → Type 0) → HasDeeds world P → (client : ℕ) (given : Option LeaseOf)
     → IsOldest world client (Request.Acknowledge given) → world.server.present client ≡ true
     → P (served (popped world client) (acknowledged client given (begun world.server)))
-unfolding acknowledged served all_delivered delivered
-acknowledged_deed world P h client None oldest up = h.ack_failed client None Status.InvalidParameter oldest up tt
-acknowledged_deed world P h client (Some given) oldest up = either_way (has_lease world.server (key_of client given.key)) _ _
-    (λ there. judged_deed world P h client given (world.server.leases (key_of client given.key)).broken_to oldest up there refl)
-    (λ none. h.ack_failed client (Some given) Status.ObjectNameNotFound oldest up
-    (λ there. clash (has_lease world.server (key_of client given.key)) there none))
-  where
-    either_way : (b : Bool) (x y : Progress) → (b ≡ true → P (served (popped world client) x))
-        → (b ≡ false → P (served (popped world client) y)) → P (served (popped world client) (if b then x else y))
-    either_way true x y p q = p refl
-    either_way false x y p q = q refl
+unfolding break_ended served all_delivered delivered
+acknowledged_deed world P h client given oldest up = any_judgement client (begun world.server)
+    (λ given after. IsOldest world client (Request.Acknowledge given) → P (served (popped world client) after))
+    (record {
+      failed = λ given status why oldest. h.ack_failed client given status oldest up why;
+      ended = λ given lowered there breaks within oldest. h.ack_done client given lowered oldest up there breaks within;
+    }) given oldest
 
 -- any step
 pub step_deed : (world : World) (P : World → Type 0) → HasDeeds world P → (step : SmallStep) → IsNext world step
@@ -290,26 +258,6 @@ step_deed world P h (SmallStep.AnswerHeld file before one behind outcome) next =
     up_of Outcome.Waits may = absurd may
     up_of outcome may = may.0
 
-    same_create : (f : ℕ) (access : Access) (share : Share) (lease : Option LeaseOf) (again : Option ℕ)
-        → MayCreate world.server one.client f access share lease again
-        → MayCreate (with_held world file (before ++ behind)).server one.client f access share lease again
-    same_create f access share lease None may = may
-    same_create f access share lease (Some file_id) may =
-        record { one = may.one; is_there = may.is_there; waits = may.waits }
-
-    same_serve : (r : FileRequest) → MayServe world.server one.client r
-        → MayServe (with_held world file (before ++ behind)).server one.client r
-    same_serve (FileRequest.Create f access share None) may = absurd may
-    same_serve (FileRequest.Create f access share (Some ask)) may =
-        (may.0, same_create f access share ask.lease ask.reconnect may.1)
-    same_serve (FileRequest.Write file_id number patch) may = record {
-      one = may.one;
-      found = may.found;
-      allowed = record { may = may.allowed.may; fits = may.allowed.fits; alone = may.allowed.alone };
-    }
-    same_serve request may =
-        record { one = may.one; found = may.found; allowed = may.allowed }
-
     same_refuse : (r : FileRequest) (status : Status) → MayRefuse world.server one.client r status
         → MayRefuse (with_held world file (before ++ behind)).server one.client r status
     same_refuse (FileRequest.Create f access share contexts) status may = tt
@@ -319,7 +267,8 @@ step_deed world P h (SmallStep.AnswerHeld file before one behind outcome) next =
         → MayEnd (with_held world file (before ++ behind)).server one.client r o
     same_end (Outcome.Refused status) r may = (may.0, same_refuse r status may.1)
     same_end Outcome.Waits r may = absurd may
-    same_end Outcome.Ready r may = (may.0, same_serve r may.1)
+    same_end Outcome.Ready r may =
+        (may.0, held_left-serves one.client r file (before ++ behind) (begun world.server) may.1)
 step_deed world P h (SmallStep.Acknowledge client given) next = acknowledged_deed world P h client given next.due next.guarded
 step_deed world P h (SmallStep.Hold file one) next = h.hold file one next.due next.guarded next.in_turn
 step_deed world P h (SmallStep.Drop key) next = h.drop key

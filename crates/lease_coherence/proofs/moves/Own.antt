@@ -14,7 +14,7 @@ use Rattle.lease_laws.proofs.server.Lists.{if_cases, either, clash, and_parts, n
 use Rattle.lease_laws.proofs.world.Links.{by_client, stepped_links}
 use Rattle.lease_laws.proofs.world.Runs.{stepped_server, stepped_clients}
 use Rattle.lease_coherence.specs.Creates.{held_by}
-use Rattle.lease_coherence.proofs.moves.Deeds.{IsRefusedAck, HasDeeds, IsSource, step_deed, told_to, granted_in, reconnected_in}
+use Rattle.lease_coherence.proofs.moves.Deeds.{HasDeeds, IsSource, step_deed, told_to, granted_in, reconnected_in}
 use Rattle.lease_coherence.proofs.moves.Deeds.{changed_in, without_opens, leased_in, held_in}
 use Rattle.lease_coherence.proofs.moves.Events.{Ground, IsMoved, cut_off, timed_out, come_back, connected, reply_gone}
 use Rattle.lease_coherence.proofs.moves.Events.{reply_taken, noticed_by, strayed, Move}
@@ -31,6 +31,7 @@ use Rattle.lease_coherence.proofs.names.Names.{off_counted, awaits_parts}
 use Rattle.lease_coherence.proofs.names.Words.{opened_by}
 use Rattle.lease_coherence.proofs.records.Later.{IsLater, later_then, later_fact, later_told, later_noted}
 use Rattle.lease_laws.proofs.server.cases.Ends.{found_open}
+use Rattle.lease_laws.proofs.server.cases.Judgements.{IsRefusedAck}
 
 -- of each client that hasn't strayed
 abbrev pub OfGood : (World → ℕ → Type 0) → World → Type 0

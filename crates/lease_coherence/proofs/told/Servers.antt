@@ -25,7 +25,7 @@ use Rattle.lease_coherence.proofs.covered.Asked.{popped_closed, held_closed, fir
 use Rattle.lease_coherence.proofs.covered.Moves.{HasCovered, refusal_closes}
 use Rattle.lease_coherence.proofs.covered.Runs.{own_place}
 use Rattle.lease_coherence.proofs.covered.Words.{ClosedBefore, HasGrant, IsGrantOf}
-use Rattle.lease_coherence.proofs.moves.Deeds.{IsRefusedAck, IsSource, told_to, held_in, granted_in, granted_reply}
+use Rattle.lease_coherence.proofs.moves.Deeds.{IsSource, told_to, held_in, granted_in, granted_reply}
 use Rattle.lease_coherence.proofs.moves.Deeds.{reconnected_in, reconnected_reply, changed_in, leased_in, without_opens}
 use Rattle.lease_coherence.proofs.moves.Deeds.{done_reply}
 use Rattle.lease_coherence.proofs.moves.Events.{Ground, timed_out}
@@ -37,6 +37,7 @@ use Rattle.lease_coherence.proofs.told.Moves.{open_place, off_server, answered_t
 use Rattle.lease_coherence.proofs.told.Words.{HasMet, met_behind, met_last, is_granted, met_granted}
 use Rattle.lease_coherence.proofs.within.Moves.{HasWithin}
 use Rattle.lease_coherence.proofs.within.Words.{AckFit, IsAckFit}
+use Rattle.lease_laws.proofs.server.cases.Judgements.{IsRefusedAck}
 
 -- ---- a reply, and nothing else
 

@@ -148,8 +148,8 @@ concluded_full client request progress outcome h full =
 acknowledged_full : (client : ℕ) (given : Option LeaseOf) (progress : Progress) → HaveFullKeys progress.server
     → IsFull progress (acknowledged client given progress)
 unfolding break_ended
-acknowledged_full client given progress full = any_judgement client progress (IsFull progress) (record {
-  failed = λ status. replied_full client (Reply.AckFailed status) progress tt full;
+acknowledged_full client given progress full = any_judgement client progress (λ given. IsFull progress) (record {
+  failed = λ given status why. replied_full client (Reply.AckFailed status) progress tt full;
   ended = λ g lowered there breaks within. record {
     outs = record {
       more = _;

@@ -110,7 +110,7 @@ break_ended-sound key state lowered progress s there broken part =
 -- any acknowledgment
 pub acknowledged-sound : (client : ℕ) (given : Option LeaseOf) (progress : Progress) → IsSound progress.server
     → IsSound (acknowledged client given progress).server
-acknowledged-sound client given progress s = any_judgement client progress (λ after. IsSound after.server) (record {
-  failed = λ status. s;
+acknowledged-sound client given progress s = any_judgement client progress (λ given after. IsSound after.server) (record {
+  failed = λ given status why. s;
   ended = λ g lowered there breaks within. break_ended-sound (key_of client g.key) g.state lowered progress s there breaks within;
 }) given

@@ -123,8 +123,8 @@ concluded_step client request progress = any_end client progress _ (ends_content
 acknowledged_leaves : (client : ℕ) (given : Option LeaseOf) (progress : Progress)
     → LeavesContents progress (acknowledged client given progress)
 unfolding break_ended
-acknowledged_leaves client given progress = any_judgement client progress (LeavesContents progress) (record {
-  failed = λ status. reply_leaves client _ progress tt;
+acknowledged_leaves client given progress = any_judgement client progress (λ given. LeavesContents progress) (record {
+  failed = λ given status why. reply_leaves client _ progress tt;
   ended = λ g lowered there breaks within.
       record { contents = refl; outs = record { more = _; are_more = refl; each = (tt, tt) } };
 }) given

@@ -41,8 +41,8 @@ concluded_expired client request progress = any_end client progress _ (ends_expi
 acknowledged_expired : (client : ℕ) (given : Option LeaseOf) (progress : Progress)
     → SameExpired progress (acknowledged client given progress)
 unfolding break_ended
-acknowledged_expired client given progress = any_judgement client progress (SameExpired progress)
-    (record { failed = λ status. refl; ended = λ g lowered there breaks within. refl }) given
+acknowledged_expired client given progress = any_judgement client progress (λ given. SameExpired progress)
+    (record { failed = λ given status why. refl; ended = λ g lowered there breaks within. refl }) given
 
 step_expired : (step : SmallStep) (progress : Progress) → SameExpired progress (step_taken step progress)
 unfolding held_left request_held opens_dropped with_opens lease_lowered break_begun

@@ -235,7 +235,7 @@ concluded-goes client request progress outcome s up = any_end client progress _ 
 pub acknowledged-goes : (client : ℕ) (given : Option LeaseOf) (progress : Progress)
     → Goes progress (acknowledged client given progress)
 unfolding break_ended
-acknowledged-goes client given progress = any_judgement client progress (Goes progress) (record {
-  failed = λ status. goes-same progress.server;
+acknowledged-goes client given progress = any_judgement client progress (λ given. Goes progress) (record {
+  failed = λ given status why. goes-same progress.server;
   ended = λ g lowered there breaks within. stay-goes progress.server _ refl refl refl refl;
 }) given

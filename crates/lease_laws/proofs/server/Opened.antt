@@ -105,8 +105,8 @@ concluded-told client request progress = any_end client progress _ (ends_told cl
 acknowledged_quiet : (client : ℕ) (given : Option LeaseOf) (progress : Progress)
     → IsQuiet progress (acknowledged client given progress)
 unfolding break_ended
-acknowledged_quiet client given progress = any_judgement client progress (IsQuiet progress) (record {
-  failed = λ status. reply_quiet client _ progress;
+acknowledged_quiet client given progress = any_judgement client progress (λ given. IsQuiet progress) (record {
+  failed = λ given status why. reply_quiet client _ progress;
   ended = λ g lowered there breaks within.
       record { last = refl; outs = record { more = _; are_more = refl; each = (tt, tt) } };
 }) given

@@ -113,8 +113,8 @@ concluded-answered client request progress = any_end client progress _ (ends_ans
 pub acknowledged-answered : (client : ℕ) (given : Option LeaseOf) (progress : Progress)
     → Answered progress (acknowledged client given progress)
 unfolding break_ended
-acknowledged-answered client given progress = any_judgement client progress (Answered progress) (record {
-  failed = λ status. replied-answered client (Reply.AckFailed status) progress tt;
+acknowledged-answered client given progress = any_judgement client progress (λ given. Answered progress) (record {
+  failed = λ given status why. replied-answered client (Reply.AckFailed status) progress tt;
   ended = λ g lowered there breaks within. record {
     more = _;
     are_more = refl;

@@ -176,9 +176,9 @@ acknowledged-lease : (client : ℕ) (given : Option LeaseOf) (progress : Progres
     → ((acknowledged client given progress).server.leases other ≡ progress.server.leases other)
     ⊎ IsEnded (progress.server.leases other) ((acknowledged client given progress).server.leases other)
 acknowledged-lease client given progress other = any_judgement client progress
-    (λ after. (after.server.leases other ≡ progress.server.leases other)
+    (λ given after. (after.server.leases other ≡ progress.server.leases other)
     ⊎ IsEnded (progress.server.leases other) (after.server.leases other)) (record {
-      failed = λ status. inl refl;
+      failed = λ given status why. inl refl;
       ended = λ g lowered there breaks within. ended-lease (key_of client g.key) g.state lowered progress other breaks within;
     }) given
 

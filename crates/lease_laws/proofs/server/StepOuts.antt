@@ -69,8 +69,8 @@ pub acknowledged-out : (client : ℕ) (given : Option LeaseOf) (progress : Progr
     → GoOn (IsSentTo client) progress.outs (acknowledged client given progress).outs
 unfolding break_ended
 acknowledged-out client given progress =
-    any_judgement client progress (λ after. GoOn (IsSentTo client) progress.outs after.outs) (record {
-      failed = λ status. sent-out client (Reply.AckFailed status) progress;
+    any_judgement client progress (λ given after. GoOn (IsSentTo client) progress.outs after.outs) (record {
+      failed = λ given status why. sent-out client (Reply.AckFailed status) progress;
       ended = λ g lowered there breaks within. record { more = _; are_more = refl; each = (refl, tt) };
     }) given
 

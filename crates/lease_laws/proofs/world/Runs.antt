@@ -139,8 +139,8 @@ acknowledged_contents : (client : ℕ) (given : Option LeaseOf) (progress : Prog
     → (acknowledged client given progress).server.contents ≡ progress.server.contents
 unfolding break_ended
 acknowledged_contents client given progress = any_judgement client progress
-    (λ after. after.server.contents ≡ progress.server.contents)
-    (record { failed = λ status. refl; ended = λ g lowered there breaks within. refl }) given
+    (λ given after. after.server.contents ≡ progress.server.contents)
+    (record { failed = λ given status why. refl; ended = λ g lowered there breaks within. refl }) given
 
 -- each step
 step_fits : (step : SmallStep) (progress : Progress) → IsGuarded step progress.server

@@ -1,26 +1,45 @@
 -- What an acknowledgment makes of a call under way: it fails, or ends a break.
-use Rattle.lease_laws.proofs.Words.{◌≡◌, LeaseOf, None, Option, Progress, Reply, Some, State, Status, ℕ, acknowledged}
+use Rattle.lease_laws.proofs.Words.{◌≡◌, LeaseOf, None, Option, Progress, Reply, Some, State, Status, ℕ, acknowledged, Server, ◌≢◌, ⊤, sym, false, ◌∙◌, subst}
 use Rattle.lease_laws.proofs.Words.{break_ended, has_lease, is_state_within, judged, key_of, refl, replied, true}
-use Rattle.lease_laws.proofs.server.Lists.{if_cases}
+use Rattle.lease_laws.proofs.server.Lists.{if_cases, clash}
 
-pub record HasJudgements (client : ℕ) (progress : Progress) (P : Progress → Type 0) : Type 0 where
-  pub failed : (status : Status) → P (replied client (Reply.AckFailed status) progress)
+-- why an acknowledgment is refused: no lease of its key is breaking to a state that it lies within
+abbrev pub IsRefusedAck : Server → ℕ → Option LeaseOf → Type 0
+IsRefusedAck server client None = ⊤
+IsRefusedAck server client (Some given) = has_lease server (key_of client given.key) ≡ true → (lowered : State)
+    → (server.leases (key_of client given.key)).broken_to ≡ Some lowered → is_state_within given.state lowered ≡ false
+
+pub record HasJudgements (client : ℕ) (progress : Progress) (P : Option LeaseOf → Progress → Type 0) : Type 0 where
+  pub failed : (given : Option LeaseOf) (status : Status) → IsRefusedAck progress.server client given
+      → P given (replied client (Reply.AckFailed status) progress)
   pub ended : (given : LeaseOf) (lowered : State) → has_lease progress.server (key_of client given.key) ≡ true
-      → (progress.server.leases (key_of client given.key)).broken_to ≡ Some lowered
-      → is_state_within given.state lowered ≡ true → P (break_ended (key_of client given.key) given.state progress)
+      → (progress.server.leases (key_of client given.key)).broken_to ≡ Some lowered → is_state_within given.state lowered ≡ true
+      → P (Some given) (break_ended (key_of client given.key) given.state progress)
 
-known_judgement : (client : ℕ) (progress : Progress) (P : Progress → Type 0) → HasJudgements client progress P
-    → (given : LeaseOf) → has_lease progress.server (key_of client given.key) ≡ true → (broken : Option State)
-    → (progress.server.leases (key_of client given.key)).broken_to ≡ broken
-    → P (judged (key_of client given.key) given.state broken progress)
-known_judgement client progress P h given there None e = h.failed Status.Unsuccessful
-known_judgement client progress P h given there (Some lowered) e = if_cases P (is_state_within given.state lowered) _ _
-    (λ within. h.ended given lowered there e within) (λ beyond. h.failed Status.RequestNotAccepted)
+known_judgement : (client : ℕ) (progress : Progress) (P : Option LeaseOf → Progress → Type 0)
+    → HasJudgements client progress P → (given : LeaseOf) → has_lease progress.server (key_of client given.key) ≡ true
+    → (broken : Option State) → (progress.server.leases (key_of client given.key)).broken_to ≡ broken
+    → P (Some given) (judged (key_of client given.key) given.state broken progress)
+known_judgement client progress P h given there None e =
+    h.failed (Some given) Status.Unsuccessful (λ is lowered to. absurd (never lowered (sym e ∙ to)))
+  where
+    never : (lowered : State) → None ≢ Some lowered
+    never lowered e = cc
+known_judgement client progress P h given there (Some lowered) e =
+    if_cases (P (Some given)) (is_state_within given.state lowered) _ _
+    (λ within. h.ended given lowered there e within)
+    (λ beyond. h.failed (Some given) Status.RequestNotAccepted
+    (λ is to same. subst (λ s. is_state_within given.state s ≡ false) (one lowered to (sym e ∙ same)) beyond))
+  where
+    one : (x y : State) → Some x ≡ Some y → x ≡ y
+    one x y e = cc
 
-pub any_judgement : (client : ℕ) (progress : Progress) (P : Progress → Type 0) → HasJudgements client progress P
-    → (given : Option LeaseOf) → P (acknowledged client given progress)
+pub any_judgement : (client : ℕ) (progress : Progress) (P : Option LeaseOf → Progress → Type 0)
+    → HasJudgements client progress P → (given : Option LeaseOf) → P given (acknowledged client given progress)
 unfolding acknowledged
-any_judgement client progress P h None = h.failed Status.InvalidParameter
-any_judgement client progress P h (Some given) = if_cases P (has_lease progress.server (key_of client given.key)) _ _
-    (λ there. known_judgement client progress P h given there (progress.server.leases (key_of client given.key)).broken_to refl)
-    (λ gone. h.failed Status.ObjectNameNotFound)
+any_judgement client progress P h None = h.failed None Status.InvalidParameter tt
+any_judgement client progress P h (Some given) = if_cases (P (Some given)) (has_lease progress.server (key_of client given.key)) _ _
+    (λ there. known_judgement client progress P h given there
+    (progress.server.leases (key_of client given.key)).broken_to refl)
+    (λ gone. h.failed (Some given) Status.ObjectNameNotFound
+    (λ there. clash (has_lease progress.server (key_of client given.key)) there gone))
