@@ -80,11 +80,10 @@ some_ack key state (request ∷ before) behind each = some_ack key state before 
 
 never_zero : (key : List ℕ) (state : State) (before behind : List Request)
     → acks key (before ++ acknowledgment_of key state ∷ behind) ≡ 0 → ⊥
-never_zero key state [] behind e = one_more (acks key behind)
-    (ap (λ b. one_if b + acks key behind) (sym ((bytes_eq-Decides key key).1 refl)) ∙ e)
-  where
-    one_more : (n : ℕ) → 1 + n ≡ 0 → ⊥
-    one_more n e = omega (arith, e)
+never_zero key state [] behind e = omega (
+  arith,
+  ap (λ b. one_if b + acks key behind) (sym ((bytes_eq-Decides key key).1 refl)) ∙ e,
+)
 never_zero key state (Request.OnFile request ∷ before) behind e =
     never_zero key state before behind (right 0 (acks key (before ++ acknowledgment_of key state ∷ behind)) e)
   where

@@ -28,12 +28,9 @@ same_gone : (id : ℕ) (server new : Server) → server.last_id ≤ new.last_id
     → ((one : Open) → Among one new.opens → (y : Open) × (Among y server.opens) × (y.file_id ≡ one.file_id))
     → IsGoneFrom id server → IsGoneFrom id new
 same_gone id server new low from g = record {
-  given = both id server.last_id new.last_id g.given low;
+  given = omega (arith, g.given, low);
   none = λ one there e. let y = from one there in g.none y.0 y.1 (y.2 ∙ e);
 }
-  where
-    both : (a b c : ℕ) → a ≤ b → b ≤ c → a ≤ c
-    both a b c e f = omega (arith, e, f)
 
 itself : (n : ℕ) → n ≤ n
 itself n = omega arith
@@ -74,10 +71,9 @@ deeds_gone id world g = record {
         last_id = off.server.last_id + 1;
       }))
       (λ leases. record {
-        given = more id off.server.last_id was.given;
+        given = omega (arith, was.given);
         none = λ one there e. ⊎_elim (λ old. was.none one old e)
-            (λ last. ⊎_elim (λ new. above id off.server.last_id was.given
-            (sym e ∙ ap (λ (o : Open). o.file_id) new)) (λ none. none) last)
+            (λ last. ⊎_elim (λ new. omega (arith, was.given, sym e ∙ ap (λ (o : Open). o.file_id) new)) (λ none. none) last)
             (among_append one off.server.opens (new_open off.server c file access share ask.lease ask.durable lease ∷ []) there);
       });
   reconnected = λ off c file access share ask file_id source again on waits.
@@ -97,12 +93,6 @@ deeds_gone id world g = record {
   lower = λ key lowered may light. record { given = g.given; none = g.none };
   begin = λ key lowered may heavy. record { given = g.given; none = g.none };
 }
-  where
-    more : (a b : ℕ) → a ≤ b → a ≤ b + 1
-    more a b e = omega (arith, e)
-
-    above : (a b : ℕ) → a ≤ b → a ≡ b + 1 → ⊥
-    above a b e f = omega (arith, e, f)
 
 stepped_gone : (id : ℕ) (world : World) (c : ℕ) (step : Step) → IsGone id world → IsGone id (stepped_in world c step)
 stepped_gone id world c step g = subst (IsGoneFrom id) (sym (stepped_server world c step)) g

@@ -28,10 +28,7 @@ other_gone : (key : List ℕ) (file : ℕ) (lease : Lease) (phase : Phase) (give
     → IsBelieved key file lease phase (Request.Acknowledge (Some given) ∷ left) queue → IsBelieved key file lease phase left queue
 other_gone key file lease phase given left queue other b = asked_less key file lease phase
     (Request.Acknowledge (Some given) ∷ left) left queue
-    (plus (acks key left) ∙ ap (λ x. one_if x + acks key left) (sym other)) (λ each. each.1) b
-  where
-    plus : (n : ℕ) → n ≡ 0 + n
-    plus n = omega arith
+    ((omega arith) ∙ ap (λ x. one_if x + acks key left) (sym other)) (λ each. each.1) b
 
 -- of the key: the lease stays as it was
 own_gone : (key : List ℕ) (file : ℕ) (lease : Lease) (phase : Phase) (given : LeaseOf) (left : List Request)
@@ -65,10 +62,7 @@ ack_gone : (key : List ℕ) (file : ℕ) (lease : Lease) (phase : Phase) (given 
     (queue : List Reply) → IsBelieved key file lease phase (Request.Acknowledge given ∷ left) queue
     → IsBelieved key file lease phase left queue
 ack_gone key file lease phase None left queue b = asked_less key file lease phase (Request.Acknowledge None ∷ left) left
-    queue (plus (acks key left)) (λ each. each.1) b
-  where
-    plus : (n : ℕ) → n ≡ 0 + n
-    plus n = omega arith
+    queue (omega arith) (λ each. each.1) b
 ack_gone key file lease phase (Some given) left queue b = either (bytes_eq key given.key)
     (λ own. (own_gone key file lease phase given left queue own b).1)
     (λ other. other_gone key file lease phase given left queue other b)

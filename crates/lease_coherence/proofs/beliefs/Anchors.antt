@@ -74,10 +74,7 @@ lowered_anchors machine at notice live own is file =
     (λ other. inl (acks_append (lease_key machine.guid file) writes (acknowledgment notice new)
     ∙ ap₂ (λ a b. a + b) (file_no_acks (lease_key machine.guid file) writes
     (writes_about live.file_id (flushed live.belief new live.unsent))) (ack_elsewhere machine.guid file at notice new
-    (λ e. clash (file == at) (eq-eqb file at e) other) own) ∙ zeros))
-  where
-    zeros : 0 + 0 ≡ 0
-    zeros = omega arith
+    (λ e. clash (file == at) (eq-eqb file at e) other) own) ∙ (omega arith)))
 
 pub takes_anchor : (machine : Client) → HasTakes machine (λ reply step. AnchorsOn machine step)
 unfolding opened_turn reconnected_turn promoted_turn read_turn write_done_turn parked_closed closed_by_server

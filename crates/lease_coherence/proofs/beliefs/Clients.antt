@@ -27,10 +27,7 @@ IsAboutFile (Request.Acknowledge given) = ⊥
 
 pub file_no_acks : (key : List ℕ) (queue : List Request) → Each IsAboutFile queue → acks key queue ≡ 0
 file_no_acks key [] each = refl
-file_no_acks key (Request.OnFile request ∷ queue) each = ap (λ n. 0 + n) (file_no_acks key queue each.1) ∙ zeros
-  where
-    zeros : 0 + 0 ≡ 0
-    zeros = omega arith
+file_no_acks key (Request.OnFile request ∷ queue) each = ap (λ n. 0 + n) (file_no_acks key queue each.1) ∙ (omega arith)
 file_no_acks key (Request.Acknowledge given ∷ queue) each = absurd each.0
 
 pub writes_about : (file_id : ℕ) (writes : List Pending) → Each IsAboutFile (write_requests file_id writes)
@@ -226,11 +223,8 @@ pub ack_elsewhere : (guid : List ℕ) (file at : ℕ) (notice : BreakNotice) (st
 ack_elsewhere guid file at notice state ne own = if_cases (λ q. acks (lease_key guid file) q ≡ 0) notice.ack_required
     (Request.Acknowledge (Some (record { key = notice.key; state = state })) ∷ []) []
     (λ asked. ap (λ b. one_if b + 0) (ap (bytes_eq (lease_key guid file))
-    (sym ((bytes_eq-Decides (lease_key guid at) notice.key).0 own)) ∙ keys_apart guid file at ne) ∙ zeros)
+    (sym ((bytes_eq-Decides (lease_key guid at) notice.key).0 own)) ∙ keys_apart guid file at ne) ∙ (omega arith))
     (λ plain. refl)
-  where
-    zeros : 0 + 0 ≡ 0
-    zeros = omega arith
 
 -- what an entry sends and believes after a break
 lowered_believes : (key : List ℕ) (file : ℕ) (notice : BreakNotice) (lease : Lease) (old : Phase) (live next : LiveEntry)
@@ -263,12 +257,10 @@ lowered_takes machine at notice live own is formed =
     turn_takes machine (Reply.Break (Some notice)) at _
     (λ file ne. acks_append (lease_key machine.guid file) writes (acknowledgment notice new)
     ∙ ap₂ (λ a b. a + b) (file_no_acks (lease_key machine.guid file) writes
-    (flushed_about live.file_id live.belief new live.unsent)) (ack_elsewhere machine.guid file at notice new ne own) ∙ zeros)
+    (flushed_about live.file_id live.belief new live.unsent)) (ack_elsewhere machine.guid file at notice new ne own) ∙
+    (omega arith))
     (λ lease asked queue b. lowered_believes (lease_key machine.guid at) at notice lease (machine.entries at).phase live
     _ asked writes queue is own formed refl (flushed_about live.file_id live.belief new live.unsent) b) formed
-  where
-    zeros : 0 + 0 ≡ 0
-    zeros = omega arith
 
 -- an entry that becomes live by a grant
 granted_takes : (machine : Client) (at file_id : ℕ) (answer : CreateAnswer) (turn : Turn) (next : LiveEntry)

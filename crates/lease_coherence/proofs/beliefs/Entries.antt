@@ -24,13 +24,10 @@ no_acks_keep key (Request.Acknowledge None ∷ queue) e = (tt, no_acks_keep key 
     right : (n : ℕ) → 0 + n ≡ 0 → n ≡ 0
     right n e = omega (arith, e)
 no_acks_keep key (Request.Acknowledge (Some lease) ∷ queue) e = (
-  λ own. absurd (some (acks key queue) (ap (λ b. one_if b + acks key queue) (sym own) ∙ e)),
+  λ own. absurd (omega (arith, ap (λ b. one_if b + acks key queue) (sym own) ∙ e)),
   no_acks_keep key queue (right (one_if (bytes_eq key lease.key)) (acks key queue) e),
 )
   where
-    some : (n : ℕ) → 1 + n ≡ 0 → ⊥
-    some n e = omega (arith, e)
-
     right : (a b : ℕ) → a + b ≡ 0 → b ≡ 0
     right a b e = omega (arith, e)
 
@@ -167,7 +164,7 @@ break_kept key file notice lease old new asked writes queue required own_it form
       breaks = met_none key file (is_breaking lease) (acks key (asked ++ (writes ++ ack ∷ []))) true queue met.no_break;
       answers = inr (record {
         one = acks_append key asked (writes ++ ack ∷ []) ∙ ap₂ (λ x y. x + y) met.none_answered
-            (acks_append key writes (ack ∷ []) ∙ ap₂ (λ x y. x + y) none (ap (λ x. one_if x + 0) own_it)) ∙ ones;
+            (acks_append key writes (ack ∷ []) ∙ ap₂ (λ x y. x + y) none (ap (λ x. one_if x + 0) own_it)) ∙ (omega arith);
         breaking = met.is_so;
         bounds = λ live is w. let e = one_live live new is in
             let w1 = subst (λ (l : LiveEntry). l.belief.write ≡ true) (sym e) w in
@@ -185,9 +182,6 @@ break_kept key file notice lease old new asked writes queue required own_it form
   where
     one_live : (live other : LiveEntry) → Phase.Live other ≡ Phase.Live live → other ≡ live
     one_live live other e = cc
-
-    ones : 0 + (0 + (1 + 0)) ≡ 1
-    ones = omega arith
 
     written : new.belief.write ≡ true → (old.belief.write && notice.lowered.write) ≡ true
     written w = ap (λ (s : State). s.write) (sym believes) ∙ w

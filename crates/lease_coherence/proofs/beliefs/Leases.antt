@@ -124,7 +124,7 @@ pub ack_served : (key : List ℕ) (file : ℕ) (lease new : Lease) (phase : Phas
     → (given.state.write ≡ true → given.state.read ≡ true → new.state.write ≡ true)
     → IsBelieved key file lease phase (Request.Acknowledge (Some given) ∷ left) queue → IsBelieved key file new phase left queue
 ack_served key file lease new phase given left queue own keeps b = ⊎_elim
-    (λ zero. absurd (some_ack (acks key left) (ap (λ x. one_if x + acks key left) (sym own) ∙ zero)))
+    (λ zero. absurd (omega (arith, ap (λ x. one_if x + acks key left) (sym own) ∙ zero)))
     (λ a. record {
       own = λ live is w.
           let h = a.bounds live is w in
@@ -134,15 +134,6 @@ ack_served key file lease new phase given left queue own keeps b = ⊎_elim
           a.no_grant;
       breaks = met_mapped key file (is_breaking lease) (is_breaking new)
           (acks key (Request.Acknowledge (Some given) ∷ left)) (acks key left) (is_live phase) queue
-          (λ rest m. absurd (one_none (acks key (Request.Acknowledge (Some given) ∷ left)) a.one m.none_answered)) b.breaks;
-      answers = inl (none_left (acks key left) (ap (λ x. one_if x + acks key left) (sym own) ∙ a.one));
+          (λ rest m. absurd (omega (arith, a.one, m.none_answered))) b.breaks;
+      answers = inl (omega (arith, ap (λ x. one_if x + acks key left) (sym own) ∙ a.one));
     }) b.answers
-  where
-    some_ack : (n : ℕ) → 1 + n ≡ 0 → ⊥
-    some_ack n e = omega (arith, e)
-
-    one_none : (n : ℕ) → n ≡ 1 → n ≡ 0 → ⊥
-    one_none n e f = omega (arith, e, f)
-
-    none_left : (n : ℕ) → 1 + n ≡ 1 → n ≡ 0
-    none_left n e = omega (arith, e)

@@ -77,18 +77,12 @@ step_anchor world new c file machine step is on s fresh before known =
     ∙ ap (λ g. acks (lease_key g file) (world.requests c ++ step.requests)) is.guid
     ∙ acks_append key (world.requests c) step.requests in
     ⊎_elim
-    (λ zero. ⊎_elim (λ none. inl (same ∙ zeros (acks key (world.requests c)) (acks key step.requests) zero none))
+    (λ zero. ⊎_elim (λ none. inl (same ∙ (omega (arith, zero, none))))
     (λ (l : AnchorsLive (world.clients c) file step). inr (live_anchored world new c file machine step.requests is l.live l.was
     fresh s l.till)) (on file))
-    (λ a. ⊎_elim (λ zero. absurd (none_one (acks key (world.requests c)) zero a.one))
+    (λ a. ⊎_elim (λ zero. absurd (omega (arith, zero, a.one)))
     (λ (x : IsAnchored world c file). inr (anchored_in world new c file machine step.requests is x.file_id x.opened
     (open_behind key x.file_id (world.requests c) step.requests a.one x.till) x.held)) known.anchor) known.believed.answers
-  where
-    zeros : (m n : ℕ) → m ≡ 0 → n ≡ 0 → m + n ≡ 0
-    zeros m n e f = omega (arith, e, f)
-
-    none_one : (n : ℕ) → n ≡ 0 → n ≡ 1 → ⊥
-    none_one n e f = omega (arith, e, f)
 
 pub step_trusted : (world : World) (c : ℕ) (step : Step) (before : List Reply) → is_up (world.links c) ≡ true
     → step.client.guid ≡ (world.clients c).guid → AnchorsOn (world.clients c) step

@@ -1,6 +1,6 @@
 -- While a client's link is up, what it believes it may do with writes its lease holds, of each file whose timer didn't run
 -- out.
-use Rattle.lease_laws.proofs.Words.{◌++◌, ◌+◌, ◌==◌, ◌∙◌, ◌∷◌, ◌≡◌, ◌⊎◌, Among, Client, FileRequest, Held, List, Open, Phase}
+use Rattle.lease_laws.proofs.Words.{◌++◌, ◌==◌, ◌∙◌, ◌∷◌, ◌≡◌, ◌⊎◌, Among, Client, FileRequest, Held, List, Open, Phase}
 use Rattle.lease_laws.proofs.Words.{Reply, Request, Some, World, ℕ, ⊎_elim, [], ap, ap₂, arith, eqb-true, false, has_key, held_of}
 use Rattle.lease_laws.proofs.Words.{inl, inr, is_key, is_up, key_of, lease_key, list_any, machine_key, refl, subst, sym, true}
 use Rattle.lease_laws.proofs.client.Thin.{put_same}
@@ -88,10 +88,7 @@ nothing_stands world c file s own fresh none = (
 
 pub file_acks : (key : List ℕ) (queue rest : List Request) (request : FileRequest) → queue ≡ Request.OnFile request ∷ rest
     → acks key (rest_of queue) ≡ acks key queue
-file_acks key queue rest request e = subst (λ q. acks key (rest_of q) ≡ acks key q) (sym e) (plus (acks key rest))
-  where
-    plus : (n : ℕ) → n ≡ 0 + n
-    plus n = omega arith
+file_acks key queue rest request e = subst (λ q. acks key (rest_of q) ≡ acks key q) (sym e) (omega arith)
 
 rest_keeps : (key : List ℕ) (queue : List Request) → Each (AckKeeps key) queue → Each (AckKeeps key) (rest_of queue)
 rest_keeps key [] each = tt

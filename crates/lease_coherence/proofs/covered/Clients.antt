@@ -153,11 +153,7 @@ rest_covers phase reply queue file file_id asked none c = cover_by phase phase f
 
 quiet_of : (machine : Client) (reply : Reply) (queue : List Reply) (file file_id : ℕ) (asked : List Request)
     → IsMetWith machine reply queue file file_id asked → IsQuiet (machine.entries file).phase file asked
-quiet_of machine reply queue file file_id asked m idle =
-    left (creates file asked) (answers file (reply ∷ queue)) (m.counted ∙ ap one_if idle)
-  where
-    left : (a b : ℕ) → a + b ≡ 0 → a ≡ 0
-    left a b e = omega (arith, e)
+quiet_of machine reply queue file file_id asked m idle = omega (arith, m.counted ∙ ap one_if idle)
 
 -- a step that covers as commands do
 plain_covers : (machine : Client) (reply : Reply) (step : Step) → IsNoGrant reply → StepCovers machine step
@@ -228,13 +224,12 @@ promoted_live machine at file_id answer live asked_more new is asks queue id ask
     so : is_asking live ≡ true
     so = ap (λ (o : Option Asked). is_some o) asks
 
-    left : (a b n : ℕ) → a + (1 + b) ≡ n → n ≡ 1 → a ≡ 0
-    left a b n e f = omega (arith, e, f)
-
     none : creates at asked ≡ 0
-    none = left (creates at asked) (answers at queue) (asked_by machine at)
-        (ap (λ n. creates at asked + (n + answers at queue)) (sym (ap one_if (eq-eqb at at refl))) ∙ m.counted)
-        (ap one_if (ap has_asked is ∙ so))
+    none = omega (
+      arith,
+      ap (λ n. creates at asked + (n + answers at queue)) (sym (ap one_if (eq-eqb at at refl))) ∙ m.counted,
+      ap one_if (ap has_asked is ∙ so),
+    )
 
 -- ---- replies that fail
 
@@ -266,24 +261,21 @@ with_covers at old write (Phase.Reconnecting parted) is = idle_turn at old _ [] 
 pub parked_idle : (live : LiveEntry) → (live.handles == 0) ≡ true → (is_asking live ≡ true → 1 ≤ live.handles)
     → is_asking live ≡ false
 parked_idle live parked some = either (is_asking live)
-    (λ asks. absurd (none live.handles (eqb-true live.handles 0 parked) (some asks))) (λ idle. idle)
-  where
-    none : (n : ℕ) → n ≡ 0 → 1 ≤ n → ⊥
-    none n e f = omega (arith, e, f)
+    (λ asks. absurd (omega (arith, eqb-true live.handles 0 parked, some asks))) (λ idle. idle)
 
 -- a grant that is passed over isn't due
 passed_covers : (machine : Client) (reply : Reply) → PassesOver machine reply → TakeCovers machine reply (quiet_step machine)
 passed_covers machine (Reply.Created other id (Some answer)) why = unasked
   where
-    none : (a b n k : ℕ) → a + (n + b) ≡ k → n ≡ 1 → k ≡ 0 → ⊥
-    none a b n k e f h = omega (arith, e, f, h)
-
     unasked : TakeCovers machine (Reply.Created other id (Some answer)) (quiet_step machine)
     unasked queue file file_id asked m c = still_covers (machine.entries file).phase file file_id asked [] queue
         (rest_covers (machine.entries file).phase (Reply.Created other id (Some answer)) queue file file_id asked
-        (λ g. none (creates file asked) (answers file queue) (one_if (other == file)) (asked_by machine file) m.counted
-        (ap one_if (eq-eqb other file g.0)) (ap one_if (ap (λ f. has_asked (machine.entries f).phase) (sym g.0) ∙ none_asked
-        (machine.entries other).phase why))) c)
+        (λ g. omega (
+          arith,
+          m.counted,
+          ap one_if (eq-eqb other file g.0),
+          ap one_if (ap (λ f. has_asked (machine.entries f).phase) (sym g.0) ∙ none_asked (machine.entries other).phase why),
+        )) c)
 passed_covers machine (Reply.Created other id None) why = plain_covers machine _ (quiet_step machine) (λ f i g. g)
     (idle_covers machine Answer.Quiet)
 passed_covers machine reply why = plain_covers machine _ (quiet_step machine) (λ f i g. g) (idle_covers machine Answer.Quiet)

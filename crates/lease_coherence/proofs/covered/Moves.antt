@@ -1,5 +1,5 @@
 -- What the server does leaves each connected open of a client covered, what it uses connected, and what fails gone.
-use Rattle.lease_laws.proofs.Words.{◌++◌, ◌+◌, ◌==◌, ◌∙◌, ◌∷◌, ◌≡◌, ◌≤◌, Access, Among, Client, CreateAsk, Fact, FileRequest, Key}
+use Rattle.lease_laws.proofs.Words.{◌++◌, ◌+◌, ◌==◌, ◌∙◌, ◌∷◌, ◌≡◌, Access, Among, Client, CreateAsk, Fact, FileRequest, Key}
 use Rattle.lease_laws.proofs.Words.{Lease, List, MayRefuse, None, Open, Patch, Reply, Request, Share, Some, Status, World, ℕ}
 use Rattle.lease_laws.proofs.Words.{⊎_elim, ⊤, [], ap, arith, connected_again, connected_open, eqb-true, false, inl, inr, is_up}
 use Rattle.lease_laws.proofs.Words.{machine_key, new_open, put, refl, refusal_of, subst, sym, true, was_opened}
@@ -268,16 +268,15 @@ granted_covered off c file access share ask lease ids h = lease_put_rest off.ser
       past = Fact.Sent c ∷ Fact.Opened file c ∷ off.past;
     }
 
-    above : (n m : ℕ) → n ≡ m + 1 → n ≤ m → ⊥
-    above n m e f = omega (arith, e, f)
-
     keeps : (leases : Key → Lease) → KeepsOpens off (in_world leases) c
     keeps leases = record {
       later = later_two off.past (Fact.Opened file c) (Fact.Sent c);
       from = λ x there by named. ⊎_elim (λ old. itself off x old)
-          (λ new. ⊎_elim (λ same. absurd (above x.file_id off.server.last_id (ap (λ (o : Open). o.file_id) same)
-          (ids.low x.file_id named.file named.opened))) (λ none. absurd none) new)
-          (among_append x off.server.opens (one ∷ []) there);
+          (λ new. ⊎_elim (λ same. absurd (omega (
+            arith,
+            ap (λ (o : Open). o.file_id) same,
+            ids.low x.file_id named.file named.opened,
+          ))) (λ none. absurd none) new) (among_append x off.server.opens (one ∷ []) there);
       timely = λ at fresh. fresh;
     }
 

@@ -354,20 +354,11 @@ asked_creates world c file = creates_append file (as_requests (held_by c (world.
 
 pub counted_of : (world : World) (c file : ℕ) → under_way world c file ≡ asked_by (world.clients c) file
     → creates file (asked_of world c file) + answers file (world.replies c) ≡ asked_by (world.clients c) file
-counted_of world c file e = ap (λ n. n + answers file (world.replies c)) (asked_creates world c file)
-    ∙ swap (held_creates file (held_by c (world.server.held file))) (creates file (world.requests c))
-    (answers file (world.replies c)) ∙ e
-  where
-    swap : (h q a : ℕ) → h + q + a ≡ q + h + a
-    swap h q a = omega arith
+counted_of world c file e = ap (λ n. n + answers file (world.replies c)) (asked_creates world c file) ∙ (omega arith) ∙ e
 
 pub quiet_of : (world : World) (c file : ℕ) → under_way world c file ≡ asked_by (world.clients c) file
     → IsQuiet ((world.clients c).entries file).phase file (asked_of world c file)
-quiet_of world c file e idle = left (creates file (asked_of world c file)) (answers file (world.replies c))
-    (counted_of world c file e ∙ ap one_if idle)
-  where
-    left : (a b : ℕ) → a + b ≡ 0 → a ≡ 0
-    left a b e = omega (arith, e)
+quiet_of world c file e idle = omega (arith, counted_of world c file e ∙ ap one_if idle)
 
 -- a reply that fails is of no open that is there
 pub not_failed : (world : World) (c : ℕ) (reply : Reply) (x : Open) → Among x world.server.opens → x.client ≡ c

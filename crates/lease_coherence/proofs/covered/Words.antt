@@ -58,15 +58,12 @@ closed_behind file file_id (Request.OnFile (FileRequest.Close other) ∷ queue) 
     right : (a b : ℕ) → a + b ≡ 0 → b ≡ 0
     right a b e = omega (arith, e)
 closed_behind file file_id (Request.OnFile (FileRequest.Create other access share contexts) ∷ queue) more none c = (
-  λ same. some (one_if (other == file)) (creates file queue) (ap one_if (eq-eqb other file same)) none,
+  λ same. omega (arith, ap one_if (eq-eqb other file same), none),
   closed_behind file file_id queue more (right (one_if (other == file)) (creates file queue) none) c,
 )
   where
     right : (a b : ℕ) → a + b ≡ 0 → b ≡ 0
     right a b e = omega (arith, e)
-
-    some : (a b : ℕ) → a ≡ 1 → a + b ≡ 0 → ⊥
-    some a b e f = omega (arith, e, f)
 closed_behind file file_id (Request.OnFile (FileRequest.Read other) ∷ queue) more none c =
     closed_behind file file_id queue more (right 0 (creates file queue) none) c
   where
@@ -116,14 +113,8 @@ grant_answers file file_id reply g = absurd g
 pub never_granted : (file file_id : ℕ) (queue : List Reply) → answers file queue ≡ 0 → HasGrant file file_id queue → ⊥
 never_granted file file_id [] none g = g
 never_granted file file_id (reply ∷ queue) none g = ⊎_elim
-    (λ x. some (answer_of file reply) (answers file queue) (grant_answers file file_id reply x) none)
-    (λ x. never_granted file file_id queue (right (answer_of file reply) (answers file queue) none) x) g
-  where
-    right : (a b : ℕ) → a + b ≡ 0 → b ≡ 0
-    right a b e = omega (arith, e)
-
-    some : (a b : ℕ) → a ≡ 1 → a + b ≡ 0 → ⊥
-    some a b e f = omega (arith, e, f)
+    (λ x. omega (arith, grant_answers file file_id reply x, none))
+    (λ x. never_granted file file_id queue (omega (arith, none)) x) g
 
 -- ---- one open
 

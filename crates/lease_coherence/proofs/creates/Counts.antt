@@ -32,10 +32,7 @@ answers_append file (reply ∷ queue) more = ap (λ n. answer_of file reply + n)
 
 pub answers_last : (file : ℕ) (queue : List Reply) (reply : Reply)
     → answers file (queue ++ reply ∷ []) ≡ answers file queue + answer_of file reply
-answers_last file queue reply = answers_append file queue (reply ∷ []) ∙ none (answers file queue) (answer_of file reply)
-  where
-    none : (a b : ℕ) → a + (b + 0) ≡ a + b
-    none a b = omega arith
+answers_last file queue reply = answers_append file queue (reply ∷ []) ∙ (omega arith)
 
 -- one of the client's that is held, among the others
 pub held_among : (file client : ℕ) (before behind : List Held) (one : Held) → (one.client == client) ≡ true
@@ -48,16 +45,12 @@ held_among file client [] behind one own = if_cases
 held_among file client (x ∷ before) behind one own = if_cases
     (λ l. held_creates file l ≡ create_of file one.request + held_creates file (held_by client (x ∷ before ++ behind)))
     (x.client == client) (x ∷ held_by client (before ++ one ∷ behind)) (held_by client (before ++ one ∷ behind))
-    (λ mine. ap (λ n. create_of file x.request + n) (held_among file client before behind one own)
-    ∙ swap (create_of file x.request) (create_of file one.request) (held_creates file (held_by client (before ++ behind)))
+    (λ mine. ap (λ n. create_of file x.request + n) (held_among file client before behind one own) ∙ (omega arith)
     ∙ ap (λ (l : List Held). create_of file one.request + held_creates file l)
     (sym (chosen (x.client == client) (x ∷ held_by client (before ++ behind)) (held_by client (before ++ behind)) mine)))
     (λ other. held_among file client before behind one own
     ∙ ap (λ (l : List Held). create_of file one.request + held_creates file l)
     (sym (not_chosen (x.client == client) (x ∷ held_by client (before ++ behind)) (held_by client (before ++ behind)) other)))
-  where
-    swap : (a b c : ℕ) → a + (b + c) ≡ b + (a + c)
-    swap a b c = omega arith
 
 -- ---- messages
 
@@ -70,7 +63,4 @@ refusal_answers file request status = refl
 -- writes are no creates
 pub writes_create : (file file_id : ℕ) (writes : List Pending) → creates file (write_requests file_id writes) ≡ 0
 writes_create file file_id [] = refl
-writes_create file file_id (write ∷ writes) = ap (λ n. 0 + n) (writes_create file file_id writes) ∙ none
-  where
-    none : 0 + 0 ≡ 0
-    none = omega arith
+writes_create file file_id (write ∷ writes) = ap (λ n. 0 + n) (writes_create file file_id writes) ∙ (omega arith)

@@ -1,5 +1,5 @@
 -- While a client's link is up, a create of a file is under way exactly where its entry has asked for one.
-use Rattle.lease_laws.proofs.Words.{◌&&◌, ◌++◌, ◌+◌, ◌==◌, ◌∙◌, ◌∷◌, ◌≡◌, ◌≢◌, ◌≤◌, Among, Bool, Client, CreateAsk, Entry, Err}
+use Rattle.lease_laws.proofs.Words.{◌&&◌, ◌++◌, ◌+◌, ◌==◌, ◌∙◌, ◌∷◌, ◌≡◌, ◌≢◌, Among, Bool, Client, CreateAsk, Entry, Err}
 use Rattle.lease_laws.proofs.Words.{Fact, FileRequest, Held, IsAbout, IsInTurn, IsSoundEntry, IsSoundPhase, LeaseOf, Link, List}
 use Rattle.lease_laws.proofs.Words.{LiveEntry, None, Ok, Option, Pending, Phase, Reply, Request, Result, Server, SmallStep, Some}
 use Rattle.lease_laws.proofs.Words.{Status, Step, World, ℕ, ⊎_elim, [], all_turned, ap, ap₂, arith, break_notice, commanded}
@@ -75,37 +75,38 @@ source_counts world off c request g source file = ⊎_elim
     (λ h. subst (λ (o : World). left_over world c file ≡ create_of file request + left_over o c file) (sym h.is_off)
     (held_left_over h)) source.from
   where
-    plus_held : (a b n h : ℕ) → a ≡ n + b → a + h ≡ n + (b + h)
-    plus_held a b n h e = omega (arith, e)
-
-    plus_queue : (a b n q : ℕ) → a ≡ n + b → q + a ≡ n + (q + b)
-    plus_queue a b n q e = omega (arith, e)
-
     arrived_left : HasArrived world off c request
         → left_over world c file ≡ create_of file request + left_over (popped world c) c file
-    arrived_left a = plus_held _ _ _ _ (first_off file (world.requests c) a.oldest.queue request a.oldest.is_first
-        ∙ ap (λ (q : List Request). create_of file request + creates file q)
-        (sym (put_same world.requests c (rest_of (world.requests c)))))
-
-    none_here : (n a b : ℕ) → n ≡ 0 → a ≡ b → a ≡ n + b
-    none_here n a b e f = omega (arith, e, f)
+    arrived_left a = omega (
+      arith,
+      first_off file (world.requests c) a.oldest.queue request a.oldest.is_first ∙ ap
+          (λ (q : List Request). create_of file request + creates file q)
+          (sym (put_same world.requests c (rest_of (world.requests c)))),
+    )
 
     held_left_over : (h : WasHeld world off c request) → left_over world c file
         ≡ create_of file request + left_over (with_held world h.file (h.before ++ h.behind)) c file
     held_left_over h = either (file == h.file)
         (λ here. let same = eqb-true file h.file here in
-        plus_queue _ _ _ _ (ap (λ n. held_creates file (held_by c (world.server.held n))) same
-        ∙ ap (λ (l : List Held). held_creates file (held_by c l)) h.held
-        ∙ held_among file c h.before h.behind (held_of c request) (eq-eqb c c refl)
-        ∙ ap (λ (l : List Held). create_of file request + held_creates file (held_by c l))
-        (sym (put_same world.server.held h.file (h.before ++ h.behind))) ∙ ap (λ n. create_of file request
-        + held_creates file (held_by c (put world.server.held h.file (h.before ++ h.behind) n))) (sym same)))
+        (omega (
+          arith,
+          ap (λ n. held_creates file (held_by c (world.server.held n))) same ∙ ap
+              (λ (l : List Held). held_creates file (held_by c l)) h.held ∙ held_among file c h.before h.behind (held_of c request)
+              (eq-eqb c c refl) ∙ ap (λ (l : List Held). create_of file request + held_creates file (held_by c l))
+              (sym (put_same world.server.held h.file (h.before ++ h.behind))) ∙ ap
+              (λ n. create_of file request + held_creates file (held_by c (put world.server.held h.file (h.before ++ h.behind) n)))
+              (sym same),
+        )))
         (λ there. let ne : file ≢ h.file = λ e. clash (file == h.file) (eq-eqb file h.file e) there in
-        none_here _ _ _ (create_here world.server h.file file request
-        (g.fine.orderly.held_about h.file (held_of c request) (subst (λ (l : List Held). Among (held_of c request) l)
-        (sym h.held) (among_behind (held_of c request) h.before (held_of c request ∷ h.behind) (inl refl))))
-        (λ e. ne (sym e))) (ap (λ (l : List Held). creates file (world.requests c) + held_creates file (held_by c l))
-        (sym (put_other world.server.held h.file (h.before ++ h.behind) file ne))))
+        (omega (
+          arith,
+          create_here world.server h.file file request (g.fine.orderly.held_about h.file (held_of c request)
+              (subst (λ (l : List Held). Among (held_of c request) l) (sym h.held)
+              (among_behind (held_of c request) h.before (held_of c request ∷ h.behind) (inl refl)))) (λ e. ne (sym e)),
+          ap
+              (λ (l : List Held). creates file (world.requests c) + held_creates file (held_by c l))
+              (sym (put_other world.server.held h.file (h.before ++ h.behind) file ne)),
+        )))
 
 -- a request is answered
 answered_at : (world off new : World) (c : ℕ) (request : FileRequest) (reply : Reply) → Ground world
@@ -114,14 +115,16 @@ answered_at : (world off new : World) (c : ℕ) (request : FileRequest) (reply :
     → ((file : ℕ) → answer_of file reply ≡ create_of file request) → IsCountedAt world c → IsCountedAt new c
 answered_at world off new c request reply g source links clients requests held replies answers_it a =
     same_counts world new c (ap (λ (l : ℕ → Link). l c) links) (ap (λ (t : ℕ → Client). t c) clients)
-    (λ file. whole _ _ _ _ _ _ _ _ _ _ (ap (λ (q : List Request). creates file q) requests)
-    (ap (λ (h : ℕ → List Held). held_creates file (held_by c (h file))) held)
-    (ap (λ (q : List Reply). answers file q) replies ∙ answers_last file (world.replies c) reply)
-    (answers_it file) (source_counts world off c request g source file)) a
-  where
-    whole : (q0 q h0 h a0 a1 n w1 w2 t : ℕ) → q ≡ q0 → h ≡ h0 → a1 ≡ t + a0 → a0 ≡ n → w1 + w2 ≡ n + (q0 + h0)
-        → q + h + a1 ≡ w1 + w2 + t
-    whole q0 q h0 h a0 a1 n w1 w2 t e f i j k = omega (arith, e, f, i, j, k)
+    (λ file. omega (
+      arith,
+      ap (λ (q : List Request). creates file q) requests,
+      ap
+          (λ (h : ℕ → List Held). held_creates file (held_by c (h file))) held,
+      ap (λ (q : List Reply). answers file q) replies
+          ∙ answers_last file (world.replies c) reply,
+      answers_it file,
+      source_counts world off c request g source file,
+    )) a
 
 -- all but the server, the requests and the record is as it was before the request left
 pub record IsSameRest (off world : World) : Type 0 where
@@ -129,12 +132,10 @@ pub record IsSameRest (off world : World) : Type 0 where
   pub links : off.links ≡ world.links
   pub replies : off.replies ≡ world.replies
 
-pub off_rest : (world off : World) (client : ℕ) (request : FileRequest) → IsSource world off client request
-    → IsSameRest off world
+pub off_rest : (world off : World) (client : ℕ) (request : FileRequest) → IsSource world off client request → IsSameRest off world
 off_rest world off client request source = ⊎_elim
     (λ a. subst (λ o. IsSameRest o world) (sym a.is_off) (record { clients = refl; links = refl; replies = refl }))
-    (λ h. subst (λ o. IsSameRest o world) (sym h.is_off) (record { clients = refl; links = refl; replies = refl }))
-    source.from
+    (λ h. subst (λ o. IsSameRest o world) (sym h.is_off) (record { clients = refl; links = refl; replies = refl })) source.from
 
 -- a reply to it
 replied_at : (world off new : World) (c : ℕ) (request : FileRequest) (reply : Reply) → Ground world
@@ -155,13 +156,15 @@ told_at : (world new : World) (c : ℕ) (reply : Reply) → new.links ≡ world.
     → ((file : ℕ) → answer_of file reply ≡ 0) → IsCountedAt world c → IsCountedAt new c
 told_at world new c reply links clients requests held replies none a =
     same_counts world new c (ap (λ (l : ℕ → Link). l c) links) (ap (λ (t : ℕ → Client). t c) clients)
-    (λ file. whole _ _ _ _ _ _ _ (requests file) (ap (λ (h : ℕ → List Held). held_creates file (held_by c (h file))) held)
-    (ap (λ (r : ℕ → List Reply). answers file (r c)) replies
-    ∙ ap (λ (q : List Reply). answers file q) (put_same world.replies c (world.replies c ++ reply ∷ []))
-    ∙ answers_last file (world.replies c) reply) (none file)) a
-  where
-    whole : (q q0 h h0 a1 t n : ℕ) → q ≡ q0 → h ≡ h0 → a1 ≡ t + n → n ≡ 0 → q + h + a1 ≡ q0 + h0 + t
-    whole q q0 h h0 a1 t n e f i j = omega (arith, e, f, i, j)
+    (λ file. omega (
+      arith,
+      requests file,
+      ap (λ (h : ℕ → List Held). held_creates file (held_by c (h file))) held,
+      ap
+          (λ (r : ℕ → List Reply). answers file (r c)) replies ∙ ap (λ (q : List Reply). answers file q)
+          (put_same world.replies c (world.replies c ++ reply ∷ [])) ∙ answers_last file (world.replies c) reply,
+      none file,
+    )) a
 
 -- an acknowledgment that leaves its queue is no create
 ack_off : (world : World) (c : ℕ) (given : Option LeaseOf) → IsOldest world c (Request.Acknowledge given) → (file : ℕ)
@@ -177,34 +180,37 @@ hold_at : (world : World) (file : ℕ) (one : Held) → IsOldest world one.clien
 unfolding file_asked
 hold_at world at one oldest turn a = same_counts world (held_in (popped world one.client) at one) one.client refl refl
     (λ file. either (file == at)
-    (λ here. moved _ _ _ _ _ _ _ (first_off file (world.requests one.client) oldest.queue one.request oldest.is_first)
-    (ap (λ (q : List Request). creates file q) (put_same world.requests one.client (rest_of (world.requests one.client))))
-    (ap (λ n. held_creates file (held_by one.client (put world.server.held at (world.server.held at ++ one ∷ []) n)))
-    (eqb-true file at here) ∙ ap (λ (l : List Held). held_creates file (held_by one.client l))
-    (put_same world.server.held at (world.server.held at ++ one ∷ []))
-    ∙ held_among file one.client (world.server.held at) [] one (eq-eqb one.client one.client refl)
-    ∙ ap (λ (l : List Held). create_of file one.request + held_creates file (held_by one.client l))
-    (append_none (world.server.held at))
-    ∙ ap (λ n. create_of file one.request + held_creates file (held_by one.client (world.server.held n)))
-    (sym (eqb-true file at here))))
+    (λ here. omega (
+      arith,
+      first_off file (world.requests one.client) oldest.queue one.request oldest.is_first,
+      ap
+          (λ (q : List Request). creates file q) (put_same world.requests one.client (rest_of (world.requests one.client))),
+      ap
+          (λ n. held_creates file (held_by one.client (put world.server.held at (world.server.held at ++ one ∷ []) n)))
+          (eqb-true file at here) ∙ ap (λ (l : List Held). held_creates file (held_by one.client l))
+          (put_same world.server.held at (world.server.held at ++ one ∷ [])) ∙ held_among file one.client (world.server.held at) [] one
+          (eq-eqb one.client one.client refl) ∙ ap (λ (l : List Held). create_of file one.request + held_creates file
+          (held_by one.client l)) (append_none (world.server.held at)) ∙ ap
+          (λ n. create_of file one.request + held_creates file (held_by one.client (world.server.held n)))
+          (sym (eqb-true file at here)),
+    ))
     (λ there. let ne : file ≢ at = λ e. clash (file == at) (eq-eqb file at e) there in
-    stays _ _ _ _ _ _ _ (first_off file (world.requests one.client) oldest.queue one.request oldest.is_first)
-    (not_its file one.request turn ne)
-    (ap (λ (q : List Request). creates file q) (put_same world.requests one.client (rest_of (world.requests one.client))))
-    (ap (λ (l : List Held). held_creates file (held_by one.client l))
-    (put_other world.server.held at (world.server.held at ++ one ∷ []) file ne)))) a
+    (omega (
+      arith,
+      first_off file (world.requests one.client) oldest.queue one.request oldest.is_first,
+      not_its file one.request
+          turn ne,
+      ap (λ (q : List Request). creates file q) (put_same world.requests one.client
+          (rest_of (world.requests one.client))),
+      ap (λ (l : List Held). held_creates file (held_by one.client l))
+          (put_other world.server.held at (world.server.held at ++ one ∷ []) file ne),
+    )))) a
   where
     not_its : (file : ℕ) (request : FileRequest) → file_asked world.server one.client request ≡ Ok at → file ≢ at
         → create_of file request ≡ 0
     not_its file (FileRequest.Create other access share contexts) e ne = ap one_if (not_true (other == file)
         (λ same. ne (sym (eqb-true other file same) ∙ asked_file world.server other at contexts e)))
     not_its file request e ne = refl
-
-    moved : (q q1 r h h1 n t : ℕ) → q ≡ n + r → q1 ≡ r → h1 ≡ n + h → q1 + h1 + t ≡ q + h + t
-    moved q q1 r h h1 n t e f i = omega (arith, e, f, i)
-
-    stays : (q q1 r h h1 n t : ℕ) → q ≡ n + r → n ≡ 0 → q1 ≡ r → h1 ≡ h → q1 + h1 + t ≡ q + h + t
-    stays q q1 r h h1 n t e z f i = omega (arith, e, z, f, i)
 
 -- ---- steps of the client
 
@@ -215,16 +221,17 @@ up_link link e = absurd (true≢false (sym e))
 -- the queues of a client whose link is up, after a step of it
 stepped_under_way : (world : World) (client : ℕ) (step : Step) → is_up (world.links client) ≡ true → (file : ℕ)
     → under_way (stepped_in world client step) client file ≡ under_way world client file + creates file step.requests
-stepped_under_way world client step up file = whole _ _ _ _ _ _ _
-    (ap (λ (q : ℕ → List Request). creates file (q client)) (stepped_requests world client step)
-    ∙ ap (λ (q : List Request). creates file q) (put_same world.requests client _)
-    ∙ ap (λ link. creates file (sent_over link (world.requests client) step.requests)) (up_link (world.links client) up)
-    ∙ creates_append file (world.requests client) step.requests)
-    (ap (λ (s : Server). held_creates file (held_by client (s.held file))) (stepped_server world client step))
-    (ap (λ (r : ℕ → List Reply). answers file (r client)) (stepped_replies world client step))
-  where
-    whole : (q q1 h h1 a a1 n : ℕ) → q1 ≡ q + n → h1 ≡ h → a1 ≡ a → q1 + h1 + a1 ≡ q + h + a + n
-    whole q q1 h h1 a a1 n e f i = omega (arith, e, f, i)
+stepped_under_way world client step up file = omega (
+  arith,
+  ap (λ (q : ℕ → List Request). creates file (q client))
+      (stepped_requests world client step) ∙ ap (λ (q : List Request). creates file q) (put_same world.requests client _) ∙ ap
+      (λ link. creates file (sent_over link (world.requests client) step.requests)) (up_link (world.links client) up)
+      ∙ creates_append file (world.requests client) step.requests,
+  ap
+      (λ (s : Server). held_creates file (held_by client (s.held file))) (stepped_server world client step),
+  ap
+      (λ (r : ℕ → List Reply). answers file (r client)) (stepped_replies world client step),
+)
 
 pub stepped_machine : (world : World) (client : ℕ) (step : Step) → (stepped_in world client step).clients client ≡ step.client
 stepped_machine world client step =
@@ -234,21 +241,15 @@ command_at : (world : World) (client : ℕ) (step : Step) → IsCountedStep (wor
     → IsCountedAt world client → IsCountedAt (stepped_in world client step) client
 command_at world client step counts a up file =
     let was = ap (λ (l : ℕ → Link). is_up (l client)) (sym (stepped_links world client step)) ∙ up in
-    whole _ _ _ _ _ (stepped_under_way world client step was file) (a was file) (counts file)
+    (omega (arith, stepped_under_way world client step was file, a was file, counts file))
     ∙ ap (λ (m : Client). asked_by m file) (sym (stepped_machine world client step))
-  where
-    whole : (u u1 n b b1 : ℕ) → u1 ≡ u + n → u ≡ b → 0 + b1 ≡ n + b → u1 ≡ b1
-    whole u u1 n b b1 e f i = omega (arith, e, f, i)
 
 -- a parked entry doesn't ask
 parked_idle : (online : Bool) (entry : Entry) (live : LiveEntry) → IsSoundEntry online entry
     → entry.phase ≡ Phase.Live live → (live.handles == 0) ≡ true → is_asking live ≡ false
 parked_idle online entry live sound is none =
     let s = subst (λ p. IsSoundPhase online entry.sent p) is sound in
-    not_true (is_asking live) (λ asks. above live.handles (s.1.asking_with_handles asks) (eqb-true live.handles 0 none))
-  where
-    above : (n : ℕ) → 1 ≤ n → n ≡ 0 → ⊥
-    above n h e = omega (arith, h, e)
+    not_true (is_asking live) (λ asks. omega (arith, s.1.asking_with_handles asks, eqb-true live.handles 0 none))
 
 take_at : (world : World) (client : ℕ) (reply : Reply) (queue : List Reply) → Ground world
     → world.replies client ≡ reply ∷ queue → IsNamedReply client (Fact.Took client ∷ world.past) reply
@@ -262,17 +263,17 @@ take_at world client reply queue g first named a up file =
     let counts = any_reply machine (IsCountedTake client machine (Fact.Took client ∷ world.past))
     (takes_count client machine (Fact.Took client ∷ world.past)
     (λ f live is none. parked_idle machine.is_online (machine.entries f) live ((g.clients client).entries f) is none)) reply named
-    (λ f. low _ _ _ _ _ _ (a was f) (ap (λ (q : List Reply). answers f q) first)) in
-    whole _ _ _ _ _ _ _ _ _ _ (stepped_under_way gone client step was file)
-    (ap (λ (q : List Reply). answers file q) (put_same world.replies client queue)) (a was file)
-    (ap (λ (q : List Reply). answers file q) first) (counts file)
+    (λ f. omega (arith, a was f, ap (λ (q : List Reply). answers f q) first)) in
+    (omega (
+      arith,
+      stepped_under_way gone client step was file,
+      ap (λ (q : List Reply). answers file q)
+          (put_same world.replies client queue),
+      a was file,
+      ap (λ (q : List Reply). answers file q) first,
+      counts file,
+    ))
     ∙ ap (λ (m : Client). asked_by m file) (sym (stepped_machine gone client step))
-  where
-    low : (q h x n b m : ℕ) → q + h + x ≡ b → x ≡ n + m → n ≤ b
-    low q h x n b m e f = omega (arith, e, f)
-
-    whole : (q h x y n m b b1 u z : ℕ) → u ≡ q + h + y + n → y ≡ z → q + h + x ≡ b → x ≡ m + z → m + b1 ≡ n + b → u ≡ b1
-    whole q h x y n m b b1 u z e i j k l = omega (arith, e, i, j, k, l)
 
 -- ---- connections
 

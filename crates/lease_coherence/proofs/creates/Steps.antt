@@ -61,11 +61,8 @@ asking_turn : (client : Client) (file : ℕ) (turn : Turn) → has_asked (client
     → has_asked turn.entry.phase ≡ true → ((other : ℕ) → creates other turn.requests ≡ one_if (file == other))
     → IsCountedStep client none_answered (turned client file turn)
 asking_turn client file turn idle asks sends = turned_counts client none_answered file turn
-    (λ other ne. sym (sends other ∙ is_none file other ne)) (ap (λ b. 0 + one_if b) asks ∙ one_more
+    (λ other ne. sym (sends other ∙ is_none file other ne)) (ap (λ b. 0 + one_if b) asks ∙ (omega arith)
     ∙ sym (ap₂ (λ n b. n + one_if b) (sends file ∙ is_one file) idle))
-  where
-    one_more : 0 + 1 ≡ 1 + 0
-    one_more = omega arith
 
 phase_idle : (client : Client) (file : ℕ) (live : LiveEntry) → (client.entries file).phase ≡ Phase.Live live
     → is_asking live ≡ false → has_asked (client.entries file).phase ≡ false
@@ -74,10 +71,7 @@ phase_idle client file live is idle = ap has_asked is ∙ idle
 close_none : (file file_id : ℕ) (writes : List Pending)
     → creates file (write_requests file_id writes ++ Request.OnFile (FileRequest.Close file_id) ∷ []) ≡ 0
 close_none file file_id writes = creates_append file (write_requests file_id writes) _
-    ∙ ap (λ n. n + (0 + 0)) (writes_create file file_id writes) ∙ none
-  where
-    none : 0 + (0 + 0) ≡ 0
-    none = omega arith
+    ∙ ap (λ n. n + (0 + 0)) (writes_create file file_id writes) ∙ (omega arith)
 
 wrote_counts : (client : Client) (file : ℕ) (entry : Entry) (answer : Answer) (requests : List Request) (write : Pending)
     → ((other : ℕ) → creates other requests ≡ 0) → has_asked entry.phase ≡ has_asked (client.entries file).phase
@@ -94,37 +88,27 @@ unfolding cached_read opened_anew write_buffered write_sent flush_on_live
 commands_count client = record {
   refused = λ refusal file. refl;
   opening = λ file terms is on. asking_turn client file _ (ap has_asked is.is_so) refl
-      (λ other. plus_none (one_if (file == other)));
+      (λ other. omega arith);
   added = λ file live is. quiet_turn client file _ (λ other. refl) (sym (ap has_asked is.is_so));
   asked = λ file live terms is idle some. asking_turn client file _ (phase_idle client file live is.is_so idle) refl
-      (λ other. plus_none (one_if (file == other)));
+      (λ other. omega arith);
   anew = λ file live terms is idle none. asking_turn client file _ (phase_idle client file live is.is_so idle) refl
       (λ other. creates_append other (write_requests live.file_id live.unsent) _
-      ∙ ap (λ n. n + (0 + (one_if (file == other) + 0))) (writes_create other live.file_id live.unsent)
-      ∙ plus_more (one_if (file == other)));
+      ∙ ap (λ n. n + (0 + (one_if (file == other) + 0))) (writes_create other live.file_id live.unsent) ∙ (omega arith));
   fewer = λ file live is more. quiet_turn client file _ (λ other. refl) (sym (ap has_asked is.is_so));
   parked = λ file live is idle done stays. quiet_turn client file _ (λ other. refl) (sym (ap has_asked is.is_so));
   closed = λ file live is idle done goes. quiet_turn client file _
       (λ other. close_none other live.file_id live.unsent) (sym (phase_idle client file live is.is_so idle));
   cached = λ file live base is reads has other. refl;
-  read = λ file live is idle. quiet_turn client file _ (λ other. plus_zero) (sym (ap has_asked is.is_so));
+  read = λ file live is idle. quiet_turn client file _ (λ other. omega arith) (sym (ap has_asked is.is_so));
   buffered = λ file live patch is fits caches. wrote_counts client file _ Answer.Done [] (next_write client patch true)
       (λ other. refl) (sym (ap has_asked is.is_so));
   written = λ file live patch is fits sends. wrote_counts client file _ Answer.Waiting
       (Request.OnFile (FileRequest.Write live.file_id (client.last_number + 1) patch) ∷ [])
-      (next_write client patch false) (λ other. plus_zero) (sym (ap has_asked is.is_so));
+      (next_write client patch false) (λ other. omega arith) (sym (ap has_asked is.is_so));
   flushed = λ file live is. quiet_turn client file _ (λ other. writes_create other live.file_id live.unsent)
       (sym (ap has_asked is.is_so));
 }
-  where
-    plus_none : (n : ℕ) → n + 0 ≡ n
-    plus_none n = omega arith
-
-    plus_more : (n : ℕ) → 0 + (0 + (n + 0)) ≡ n
-    plus_more n = omega arith
-
-    plus_zero : 0 + 0 ≡ 0
-    plus_zero = omega arith
 
 -- ---- replies
 
@@ -138,10 +122,7 @@ answered_turn : (client : Client) (file : ℕ) (turn : Turn) → has_asked (clie
     → IsCountedStep client (λ other. one_if (file == other)) (turned client file turn)
 answered_turn client file turn asked done none = turned_counts client (λ other. one_if (file == other)) file turn
     (λ other ne. is_none file other ne ∙ sym (none other))
-    (ap₂ (λ n b. n + one_if b) (is_one file) done ∙ one_less ∙ sym (ap₂ (λ n b. n + one_if b) (none file) asked))
-  where
-    one_less : 1 + 0 ≡ 0 + 1
-    one_less = omega arith
+    (ap₂ (λ n b. n + one_if b) (is_one file) done ∙ (omega arith) ∙ sym (ap₂ (λ n b. n + one_if b) (none file) asked))
 
 ack_none : (other : ℕ) (notice : BreakNotice) (new : State) → creates other (acknowledgment notice new) ≡ 0
 ack_none other notice new = if_cases (λ asked. creates other asked ≡ 0) notice.ack_required _ [] (λ asks. refl)
@@ -187,13 +168,14 @@ takes_count c client past parked = record {
       let gone = flushed live.belief (meet live.belief notice.lowered) live.unsent in
       quiet_turn client file _
       (λ other. creates_append other (write_requests live.file_id gone) _
-      ∙ ap₂ (λ a b. a + b) (writes_create other live.file_id gone) (ack_none other notice _) ∙ zeros) (sym (ap has_asked is));
+      ∙ ap₂ (λ a b. a + b) (writes_create other live.file_id gone) (ack_none other notice _) ∙ (omega arith))
+      (sym (ap has_asked is));
   opened = λ file file_id answer access share is named low. answered_turn client file _ (ap has_asked is) refl
       (λ other. refl);
   reconnected = λ file file_id answer parted is named low. answered_turn client file _ (ap has_asked is) refl
       (λ other. refl);
   promoted = λ file file_id answer live asked is asks named low. answered_turn client file _
-      (ap has_asked is ∙ ap is_some asks) refl (λ other. zeros);
+      (ap has_asked is ∙ ap is_some asks) refl (λ other. omega arith);
   not_opened = λ file status access share is named low. answered_turn client file _ (ap has_asked is) refl (λ other. refl);
   not_reconnected = λ file status parted is named low. answered_turn client file _ (ap has_asked is) refl (λ other. refl);
   not_promoted = λ file status live asked is asks named low. answered_turn client file _
@@ -208,6 +190,3 @@ takes_count c client past parked = record {
       (open_gone live.asking (sent_without number (sent_of client file)) ∙ sym (ap has_asked is));
   not_written = λ file file_id number status at known named low. quiet_turn client file _ (λ other. refl) refl;
 }
-  where
-    zeros : 0 + 0 ≡ 0
-    zeros = omega arith

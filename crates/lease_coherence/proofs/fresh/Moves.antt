@@ -39,10 +39,7 @@ own_of world v c good one there by = (names_of world v c good).opens one there b
 
 pub low_of : (world : World) → Ground world → (c : ℕ) → is_up (world.links c) ≡ true
     → takings c world.past ≤ length (sendings c world.past)
-low_of world g c up = let e = (g.tied c).counted up in below _ _ _ e
-  where
-    below : (s t n : ℕ) → s ≡ t + n → t ≤ s
-    below s t n e = omega (arith, e)
+low_of world g c up = let e = (g.tied c).counted up in (omega (arith, e))
 
 -- ---- the part from which a request was taken off
 

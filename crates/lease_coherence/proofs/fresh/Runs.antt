@@ -412,13 +412,10 @@ due_of : (world : World) (c : ℕ) (reply : Reply) (queue : List Reply) → HasR
     → has_strayed c world.past ≡ false → is_up (world.links c) ≡ true → world.replies c ≡ reply ∷ queue
     → IsDueTo c (world.clients c) world.past reply
 due_of world c reply queue v good up first = record {
-  asked = λ file. low _ _ _ _ _ (v.leases.structure.creates c good up file) (ap (λ (q : List Reply). answers file q) first);
+  asked = λ file. omega (arith, v.leases.structure.creates c good up file, ap (λ (q : List Reply). answers file q) first);
   sent = λ file number known own.
-      low _ _ _ _ _ ((v.once c good up).counts file number known own) (ap (λ (q : List Reply). settling number q) first);
+      omega (arith, (v.once c good up).counts file number known own, ap (λ (q : List Reply). settling number q) first);
 }
-  where
-    low : (q x n b m : ℕ) → q + x ≡ b → x ≡ n + m → n ≤ b
-    low q x n b m e f = omega (arith, e, f)
 
 pub fresh_moves : IsOwnMoved HasRecord IsUpFresh
 unfolding with_opens

@@ -141,13 +141,10 @@ no_acks_read key reads (Request.Acknowledge None ∷ queue) e = (tt, no_acks_rea
     right : (n : ℕ) → 0 + n ≡ 0 → n ≡ 0
     right n e = omega (arith, e)
 no_acks_read key reads (Request.Acknowledge (Some lease) ∷ queue) e = (
-  λ own r. absurd (some (acks key queue) (ap (λ b. one_if b + acks key queue) (sym own) ∙ e)),
+  λ own r. absurd (omega (arith, ap (λ b. one_if b + acks key queue) (sym own) ∙ e)),
   no_acks_read key reads queue (right (ack_of key (Request.Acknowledge (Some lease))) (acks key queue) e),
 )
   where
-    some : (n : ℕ) → 1 + n ≡ 0 → ⊥
-    some n e = omega (arith, e)
-
     right : (a b : ℕ) → a + b ≡ 0 → b ≡ 0
     right a b e = omega (arith, e)
 

@@ -1,5 +1,5 @@
 -- Grants, reconnects, closed opens and timers leave a client's writes safe.
-use Rattle.lease_laws.proofs.Words.{◌++◌, ◌+◌, ◌==◌, ◌∙◌, ◌∷◌, ◌≡◌, ◌≤◌, Access, Among, Bool, CreateAsk, FileRequest, IsFree}
+use Rattle.lease_laws.proofs.Words.{◌++◌, ◌==◌, ◌∙◌, ◌∷◌, ◌≡◌, ◌≤◌, Access, Among, Bool, CreateAsk, FileRequest, IsFree}
 use Rattle.lease_laws.proofs.Words.{IsSound, Lease, LeaseOf, Open, Pending, Reply, Share, Some, World, ℕ, ⊎_elim, [], ap, arith}
 use Rattle.lease_laws.proofs.Words.{connected_again, false, has_key, is_breaking, is_touched, is_up, key_expired, key_of}
 use Rattle.lease_laws.proofs.Words.{knows_file, lease_after, lease_granted, lease_key, machine_key, new_open, not, opens_dropped}
@@ -40,14 +40,11 @@ granted_like off c file access share ask asked lease = record {
   machine = refl;
   past = opened_past c file off.past;
   from = λ x there by low. ⊎_elim (λ old. itself off x old)
-      (λ new. ⊎_elim (λ same. absurd (above off.server.last_id
-      (subst (λ n. n ≤ off.server.last_id) (ap (λ (o : Open). o.file_id) same) low))) (λ none. absurd none) new)
+      (λ new. ⊎_elim (λ same. absurd (omega (arith, subst (λ n. n ≤ off.server.last_id) (ap (λ (o : Open). o.file_id) same) low)))
+      (λ none. absurd none) new)
       (among_append x off.server.opens (new_open off.server c file access share (Some asked) ask.durable lease ∷ []) there);
   timely = λ f x there by on e. e;
 }
-  where
-    above : (n : ℕ) → n + 1 ≤ n → ⊥
-    above n h = omega (arith, h)
 
 granted_asked : (off : World) (c file : ℕ) (access : Access) (share : Share) (ask : CreateAsk) (asked : LeaseOf)
     → asked.key ≡ lease_key (off.clients c).guid file → IsSound off.server

@@ -1,5 +1,5 @@
 -- A connection that is lost, noticed or made leaves a client's writes safe.
-use Rattle.lease_laws.proofs.Words.{◌+◌, ◌==◌, ◌∙◌, ◌∷◌, ◌≡◌, Among, FileRequest, Held, Lease, Link, List, Open, Reply, Request}
+use Rattle.lease_laws.proofs.Words.{◌==◌, ◌∙◌, ◌∷◌, ◌≡◌, Among, FileRequest, Held, Lease, Link, List, Open, Reply, Request}
 use Rattle.lease_laws.proofs.Words.{World, ℕ, [], all_turned, ap, arith, client_forgotten, connection_made, disconnected, eq-eqb}
 use Rattle.lease_laws.proofs.Words.{false, is_lost, is_up, joined, machine_key, not, noticed, opens_disconnected, opens_dropped}
 use Rattle.lease_laws.proofs.Words.{put, refl, subst, sym, true≢false, with_opens, without}
@@ -73,10 +73,7 @@ creates_keep world c (Request.Acknowledge given ∷ queue) each = absurd each.0
 
 no_acks : (key : List ℕ) (queue : List Request) → Each IsCreate queue → acks key queue ≡ 0
 no_acks key [] each = refl
-no_acks key (Request.OnFile request ∷ queue) each = less (acks key queue) (no_acks key queue each.1)
-  where
-    less : (n : ℕ) → n ≡ 0 → 0 + n ≡ 0
-    less n e = omega (arith, e)
+no_acks key (Request.OnFile request ∷ queue) each = omega (arith, no_acks key queue each.1)
 no_acks key (Request.Acknowledge given ∷ queue) each = absurd each.0
 
 create_safe : (world : World) (c : ℕ) (r : Request) → IsCreate r → WriteSafe world c r

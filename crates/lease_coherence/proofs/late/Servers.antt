@@ -16,7 +16,7 @@ use Rattle.lease_coherence.specs.Standing.{AllAsked, IsOpenFor, Stands}
 use Rattle.lease_coherence.proofs.beliefs.Closed.{lease_stays}
 use Rattle.lease_coherence.proofs.beliefs.Sent.{is_bare}
 use Rattle.lease_coherence.proofs.beliefs.Trust.{file_key}
-use Rattle.lease_coherence.proofs.beliefs.Words.{acks, ack_of}
+use Rattle.lease_coherence.proofs.beliefs.Words.{acks}
 use Rattle.lease_coherence.proofs.late.Likes.{same_past, asked_both, named_asked, writes_up, held_up, acks_like, grants_like}
 use Rattle.lease_coherence.proofs.late.Likes.{grants_last}
 use Rattle.lease_coherence.proofs.late.Words.{holds_write, WriteSafe, PhaseSafe, IsSafeAt, AcksKeep, given_writes, GrantSafe}
@@ -81,10 +81,7 @@ acks_rest world c (Request.Acknowledge given ∷ queue) a = a.1
 
 none_rest : (key : List ℕ) (queue : List Request) → acks key queue ≡ 0 → acks key (rest_of queue) ≡ 0
 none_rest key [] e = refl
-none_rest key (request ∷ queue) e = right (ack_of key request) (acks key queue) e
-  where
-    right : (a b : ℕ) → a + b ≡ 0 → b ≡ 0
-    right a b e = omega (arith, e)
+none_rest key (request ∷ queue) e = omega (arith, e)
 
 -- an open is itself
 pub itself : (world : World) (x : Open) → Among x world.server.opens → WasOpen world x
@@ -250,15 +247,12 @@ found_write P world c file number a some = by_count (writes number (world.reques
 numbered_some : (write : Pending) (pending : List Pending) → Among write pending → numbered_in write.number pending ≡ 0 → ⊥
 numbered_some write [] a e = absurd a
 numbered_some write (x ∷ pending) a e = ⊎_elim
-    (λ same. one_more (numbered_in write.number pending) (ap (λ b. one_if b + numbered_in write.number pending)
-    (sym (eq-eqb x.number write.number (ap (λ (w : Pending). w.number) (sym same)))) ∙ e))
-    (λ later. numbered_some write pending later (right (one_if (x.number == write.number)) _ e)) a
-  where
-    one_more : (n : ℕ) → 1 + n ≡ 0 → ⊥
-    one_more n e = omega (arith, e)
-
-    right : (a b : ℕ) → a + b ≡ 0 → b ≡ 0
-    right a b e = omega (arith, e)
+    (λ same. omega (
+      arith,
+      ap (λ b. one_if b + numbered_in write.number pending)
+          (sym (eq-eqb x.number write.number (ap (λ (w : Pending). w.number) (sym same)))) ∙ e,
+    ))
+    (λ later. numbered_some write pending later (omega (arith, e))) a
 
 each_named : (P : Pending → Type 0) (pending : List Pending) (write : Pending) → Each P pending → Among write pending → P write
 each_named P [] write each a = absurd a
@@ -282,13 +276,9 @@ sent_clean world c u once stands n k file known fresh write a none =
     (λ r p q. (p, q)) all (named_asked world c n) in
     let f = found_write (λ r. (WriteSafe world c r × WriteStands world c r)
     × IsNamedRequest c (world.clients c).guid world.past r) world c file number every
-    (λ zero. numbered_some write ((world.clients c).entries file).sent a
-    (sum (writes_left world c file number) (settling number (world.replies c)) _ zero none count)) in
+    (λ zero. numbered_some write ((world.clients c).entries file).sent a (omega (arith, zero, none, count))) in
     let so = f.so in let both = so.0 in by_write f.file_id f.patch both.0 both.1 so.1 written
   where
-    sum : (l s t : ℕ) → l ≡ 0 → s ≡ 0 → l + s ≡ t → t ≡ 0
-    sum l s t e f g = omega (arith, e, f, g)
-
     by_write : (file_id : ℕ) (patch : Patch) → WriteSafe world c (Request.OnFile (FileRequest.Write file_id write.number patch))
         → WriteStandsOn world c file_id → WasWrittenOn c file_id write.number patch world.past
         → has_written c file write.number write.patch world.past ≡ true → is_touched c file write.number world.past ≡ false

@@ -1,5 +1,5 @@
 -- A step of a client leaves its writes safe, in its entries and on their way.
-use Rattle.lease_laws.proofs.Words.{◌&&◌, ◌++◌, ◌+◌, ◌<◌, ◌==◌, ◌||◌, ◌∙◌, ◌∷◌, ◌≡◌, ◌≤◌, ◌⊎◌, Among, Bool, Client, Fact}
+use Rattle.lease_laws.proofs.Words.{◌&&◌, ◌++◌, ◌+◌, ◌==◌, ◌||◌, ◌∙◌, ◌∷◌, ◌≡◌, ◌≤◌, ◌⊎◌, Among, Bool, Client, Fact}
 use Rattle.lease_laws.proofs.Words.{FileRequest, Held, IsSound, IsSoundClient, Lease, List, LiveEntry, None, Note, Open, Parted}
 use Rattle.lease_laws.proofs.Words.{Patch, Pending, Phase, Reply, Request, Server, Some, Step, TellNumbers, World, ℕ, ⊎_elim, []}
 use Rattle.lease_laws.proofs.Words.{ap, ap₂, are_buffered, arith, eq-eqb, eqb-true, fact_of, false, given_state, has_buffered}
@@ -38,15 +38,9 @@ noted_buffered c file number last new past (Note.Settled n outcome ∷ notes) te
     noted_buffered c file number last new (fact_of c (Note.Settled n outcome) ∷ past) notes tells.1 low
 noted_buffered c file number last new past (Note.Wrote f n patch buffered ∷ notes) tells low =
     noted_buffered c file number n new (fact_of c (Note.Wrote f n patch buffered) ∷ past) notes tells.1
-    (up_to number last n low tells.0)
-    ∙ other (n == number) (not_true (n == number) (λ same. apart number last n low tells.0 (eqb-true n number same)))
+    (omega (arith, low, tells.0))
+    ∙ other (n == number) (not_true (n == number) (λ same. omega (arith, low, tells.0, eqb-true n number same)))
   where
-    up_to : (a l n : ℕ) → a ≤ l → l < n → a ≤ n
-    up_to a l n h k = omega (arith, h, k)
-
-    apart : (a l n : ℕ) → a ≤ l → l < n → n ≡ a → ⊥
-    apart a l n h k e = omega (arith, h, k, e)
-
     other : (b : Bool) → b ≡ false
         → ((c == c && f == file && b && buffered) || has_buffered c file number past) ≡ has_buffered c file number past
     other b e = rw (e) (none (c == c && f == file))
@@ -63,10 +57,7 @@ noted_buffered c file number last new past (Note.CachedRead f bytes ∷ notes) t
 pub new_number : (c : ℕ) (client : Client) (past : List Fact) → IsKnownBy c client past → (file : ℕ)
     → has_buffered c file (client.last_number + 1) past ≡ false
 new_number c client past k file = not_true (has_buffered c file (client.last_number + 1) past)
-    (λ b. above client.last_number (k.low (client.last_number + 1) (buffered_number c file (client.last_number + 1) past b)))
-  where
-    above : (n : ℕ) → n + 1 ≤ n → ⊥
-    above n h = omega (arith, h)
+    (λ b. omega (arith, k.low (client.last_number + 1) (buffered_number c file (client.last_number + 1) past b)))
 
 -- a write that is sent at once isn't buffered
 sent_plain : (c at file number : ℕ) (patch : Patch) (past : List Fact) → has_buffered c file number past ≡ false
@@ -412,15 +403,12 @@ grant_after world c settles step w e file from front left sum (Reply.Created oth
           i.touched file write.number ∙ by_from safe given write buffered none (from.sent write a);
     }
   where
-    zero_sum : (a b d : ℕ) → a ≡ b + d → b ≡ 0 → d ≡ 0 → a ≡ 0
-    zero_sum a b d e f h = omega (arith, e, f, h)
-
     by_from : IsGrantSafe world c file file_id ((world.clients c).entries file).sent front answer.lease
         → (given_state (file_key world c file) answer.lease).write ≡ true → (write : Pending) → write.buffered ≡ true
         → settling write.number left ≡ 0 → SentFrom ((world.clients c).entries file) settles write
         → is_touched c file write.number world.past ≡ false
     by_from safe given write buffered none (SentFrom.Was there unsettled) = safe.clean given write there buffered
-        (zero_sum _ _ _ (sum write.number) unsettled none)
+        (omega (arith, sum write.number, unsettled, none))
     by_from safe given write buffered none (SentFrom.Unsent live is there) =
         let o = w.stands file live is (safe.timely (given_so (file_key world c file) answer.lease given)) in
         (unsent_safe world c settles step w e file live is write there o.one o.there o.by o.id).1
@@ -438,11 +426,8 @@ grants_after world c settles step w e file from front left sum (reply ∷ queue)
   grant_after world c settles step w e file from front left sum reply g.0,
   grants_after world c settles step w e file from (front ++ reply ∷ []) (left ++ reply ∷ [])
       (λ n. settling_last n front reply ∙ ap (λ a. a + settles_of n reply) (sum n)
-      ∙ three (settles n) (settling n left) _ ∙ ap (λ a. settles n + a) (sym (settling_last n left reply))) queue g.1,
+      ∙ (omega arith) ∙ ap (λ a. settles n + a) (sym (settling_last n left reply))) queue g.1,
 )
-  where
-    three : (a b d : ℕ) → a + b + d ≡ a + (b + d)
-    three a b d = omega arith
 
 -- ---- all of it
 

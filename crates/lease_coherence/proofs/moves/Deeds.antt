@@ -1,18 +1,17 @@
 -- What a step of the server does in a world: each of its forms, with what is known of it. Whatever holds after each
 -- form holds after every step.
-use Rattle.lease_laws.proofs.Words.{◌&&◌, ◌++◌, ◌+◌, ◌==◌, ◌∙◌, ◌∷◌, ◌≡◌, ◌⊎◌, Access, Bool, CreateAsk, Fact, FileRequest, Held}
+use Rattle.lease_laws.proofs.Words.{◌&&◌, ◌++◌, ◌+◌, ◌==◌, ◌∷◌, ◌≡◌, ◌⊎◌, Access, Bool, CreateAsk, Fact, FileRequest, Held}
 use Rattle.lease_laws.proofs.Words.{IsAwaitedAt, IsFree, IsInTurn, Key, Lease, LeaseOf, List, MayChange, MayCreate, MayEnd}
 use Rattle.lease_laws.proofs.Words.{MayHold, MayLower, MayRefuse, MayServe, None, Ok, Open, Option, Outcome, Patch, Progress}
-use Rattle.lease_laws.proofs.Words.{Reply, Request, Server, Share, SmallStep, Some, State, Status, World, ℕ, ⊤, [], acknowledged}
+use Rattle.lease_laws.proofs.Words.{Reply, Request, Server, Share, SmallStep, Some, State, Status, World, ℕ, [], acknowledged}
 use Rattle.lease_laws.proofs.Words.{all_delivered, answered, begun, break_begun, break_ended, break_notice, changed, closed}
 use Rattle.lease_laws.proofs.Words.{concluded, connected_again, connected_open, created, delivered, false, file_asked, granted}
 use Rattle.lease_laws.proofs.Words.{granted_form_of, granted_with, has_file, has_lease, held_left, held_of, if◌then◌else◌, inl}
-use Rattle.lease_laws.proofs.Words.{inr, is_behind, is_left_open, is_state_within, judged, key_of, last_file_id, lease_after}
+use Rattle.lease_laws.proofs.Words.{inr, is_behind, is_left_open, is_state_within, key_of, last_file_id, lease_after}
 use Rattle.lease_laws.proofs.Words.{lease_given, lease_lowered, lease_put, map, may_read, needs_acknowledgment, new_open, on_open}
 use Rattle.lease_laws.proofs.Words.{opens_dropped, own_key, put, read_done, reconnected, refl, refusal_of, refused, request_held}
 use Rattle.lease_laws.proofs.Words.{served, standing_lease, subst, sym, true, with_lease, with_opens, without}
 use Rattle.lease_state.specs.Content.{patch as patched}
-use Rattle.lease_laws.proofs.server.Lists.{clash}
 use Rattle.lease_coherence.proofs.moves.Moves.{IsNext, IsOldest, popped, moved}
 use Rattle.lease_laws.proofs.server.cases.Judgements.{IsRefusedAck, any_judgement}
 use Rattle.lease_laws.proofs.server.StepLeases.{held_left-serves}
@@ -222,8 +221,7 @@ acknowledged_deed : (world : World) (P : World → Type 0) → HasDeeds world P 
     → P (served (popped world client) (acknowledged client given (begun world.server)))
 unfolding break_ended served all_delivered delivered
 acknowledged_deed world P h client given oldest up = any_judgement client (begun world.server)
-    (λ given after. IsOldest world client (Request.Acknowledge given) → P (served (popped world client) after))
-    (record {
+    (λ given after. IsOldest world client (Request.Acknowledge given) → P (served (popped world client) after)) (record {
       failed = λ given status why oldest. h.ack_failed client given status oldest up why;
       ended = λ given lowered there breaks within oldest. h.ack_done client given lowered oldest up there breaks within;
     }) given oldest
@@ -267,8 +265,7 @@ step_deed world P h (SmallStep.AnswerHeld file before one behind outcome) next =
         → MayEnd (with_held world file (before ++ behind)).server one.client r o
     same_end (Outcome.Refused status) r may = (may.0, same_refuse r status may.1)
     same_end Outcome.Waits r may = absurd may
-    same_end Outcome.Ready r may =
-        (may.0, held_left-serves one.client r file (before ++ behind) (begun world.server) may.1)
+    same_end Outcome.Ready r may = (may.0, held_left-serves one.client r file (before ++ behind) (begun world.server) may.1)
 step_deed world P h (SmallStep.Acknowledge client given) next = acknowledged_deed world P h client given next.due next.guarded
 step_deed world P h (SmallStep.Hold file one) next = h.hold file one next.due next.guarded next.in_turn
 step_deed world P h (SmallStep.Drop key) next = h.drop key

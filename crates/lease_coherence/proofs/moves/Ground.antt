@@ -7,7 +7,7 @@ use Rattle.lease_laws.proofs.Words.{client_forgotten, commanded, concluded, conn
 use Rattle.lease_laws.proofs.Words.{first_world, happened, held_left, inl, inr, is_down, is_left_behind, is_served, is_up, joined}
 use Rattle.lease_laws.proofs.Words.{key_expired, lease_lowered, length, machine_key, not, noted, noticed, opens_disconnected}
 use Rattle.lease_laws.proofs.Words.{opens_dropped, put, refl, request_held, requests_sent, sendings, served, step_taken}
-use Rattle.lease_laws.proofs.Words.{stepped_in, subst, suc, sym, takings, true, with_opens}
+use Rattle.lease_laws.proofs.Words.{stepped_in, subst, sym, takings, true, with_opens}
 use Rattle.lease_laws.proofs.client.Entries.{first_entries, called_entries}
 use Rattle.lease_laws.proofs.client.Forms.{commanded-stays, taken-stays}
 use Rattle.lease_laws.proofs.client.InFiles.{first_in_files, called_in_files}
@@ -250,8 +250,7 @@ timer_ground world client file g breaks =
         present = t.present;
         requests = t.requests;
         replies = t.replies;
-        served = λ s. clash (is_served client (Fact.Expired client file ∷ world.past)) s
-            (rw (eq-eqb client client refl) refl);
+        served = λ s. clash (is_served client (Fact.Expired client file ∷ world.past)) s (rw (eq-eqb client client refl) refl);
         counted = t.counted;
       })
           (λ ne apart. carried world (timed_out world client file) c refl refl refl refl (rw (apart) refl) refl refl (g.tied c));
@@ -315,14 +314,10 @@ gone_tied world client reply queue e tied c = by_client (IsTied (reply_gone worl
       replies = λ down. absurd (not_empty reply queue (sym e ∙ t.replies down));
       served = t.served;
       counted = λ up. rw (eq-eqb client client refl, put_same world.replies client queue)
-          (t.counted up ∙ ap (λ (q : List Reply). takings client world.past + length q) e
-          ∙ one_over (takings client world.past) (length queue));
+          (t.counted up ∙ ap (λ (q : List Reply). takings client world.past + length q) e ∙ (omega arith));
     })
     (λ ne apart. carried world (reply_gone world client queue) c refl refl refl
     (put_other world.replies client queue c ne) refl refl (rw (apart) refl) (tied c))
-  where
-    one_over : (a b : ℕ) → a + suc b ≡ a + 1 + b
-    one_over a b = omega arith
 
 take_ground : (world : World) (client : ℕ) (reply : Reply) (queue : List Reply) → Ground world
     → world.replies client ≡ reply ∷ queue → Ground (reply_taken world client reply queue)

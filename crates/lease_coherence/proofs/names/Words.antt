@@ -101,15 +101,8 @@ pub opened_within : (place file client : ℕ) (past : List Fact) → was_opened 
 unfolding was_opened opened_count
 opened_within place file client [] e = absurd (true≢false (sym e))
 opened_within place file client (Fact.Opened of_file by ∷ past) e = ⊎_elim
-    (λ now. at (opened_count past) (eqb-true place (opened_count past + 1) (and_parts _ _ now).0))
-    (λ before. more (opened_count past) (opened_within place file client past before))
-    (or_true _ (was_opened place file client past) e)
-  where
-    at : (n : ℕ) → place ≡ n + 1 → place ≤ n + 1
-    at n e = omega (arith, e)
-
-    more : (n : ℕ) → place ≤ n → place ≤ n + 1
-    more n h = omega (arith, h)
+    (λ now. omega (arith, eqb-true place (opened_count past + 1) (and_parts _ _ now).0))
+    (λ before. omega (arith, opened_within place file client past before)) (or_true _ (was_opened place file client past) e)
 opened_within place file client (_ ∷ past) e = opened_within place file client past e
 
 pub opened_once : (place file client other by : ℕ) (past : List Fact) → was_opened place file client past ≡ true
@@ -120,16 +113,19 @@ opened_once place file client other by (Fact.Opened of_file opener ∷ past) e f
     (λ now. ⊎_elim
     (λ again. sym (eqb-true of_file file (and_parts _ _ (and_parts _ _ now).1).0)
     ∙ eqb-true of_file other (and_parts _ _ (and_parts _ _ again).1).0)
-    (λ before. absurd (above (opened_count past) (eqb-true place (opened_count past + 1) (and_parts _ _ now).0)
-    (opened_within place other by past before))) (or_true _ (was_opened place other by past) f))
+    (λ before. absurd (omega (
+      arith,
+      eqb-true place (opened_count past + 1) (and_parts _ _ now).0,
+      opened_within place other by past before,
+    ))) (or_true _ (was_opened place other by past) f))
     (λ before. ⊎_elim
-    (λ again. absurd (above (opened_count past) (eqb-true place (opened_count past + 1) (and_parts _ _ again).0)
-    (opened_within place file client past before)))
+    (λ again. absurd (omega (
+      arith,
+      eqb-true place (opened_count past + 1) (and_parts _ _ again).0,
+      opened_within place file client past before,
+    )))
     (λ earlier. opened_once place file client other by past before earlier) (or_true _ (was_opened place other by past) f))
     (or_true _ (was_opened place file client past) e)
-  where
-    above : (n : ℕ) → place ≡ n + 1 → place ≤ n → ⊥
-    above n e h = omega (arith, e, h)
 opened_once place file client other by (_ ∷ past) e f = opened_once place file client other by past e f
 
 -- and to one client
@@ -141,14 +137,17 @@ opened_by place file client other by (Fact.Opened of_file opener ∷ past) e f =
     (λ now. ⊎_elim
     (λ again. sym (eqb-true opener client (and_parts _ _ (and_parts _ _ now).1).1)
     ∙ eqb-true opener by (and_parts _ _ (and_parts _ _ again).1).1)
-    (λ before. absurd (above (opened_count past) (eqb-true place (opened_count past + 1) (and_parts _ _ now).0)
-    (opened_within place other by past before))) (or_true _ (was_opened place other by past) f))
+    (λ before. absurd (omega (
+      arith,
+      eqb-true place (opened_count past + 1) (and_parts _ _ now).0,
+      opened_within place other by past before,
+    ))) (or_true _ (was_opened place other by past) f))
     (λ before. ⊎_elim
-    (λ again. absurd (above (opened_count past) (eqb-true place (opened_count past + 1) (and_parts _ _ again).0)
-    (opened_within place file client past before)))
+    (λ again. absurd (omega (
+      arith,
+      eqb-true place (opened_count past + 1) (and_parts _ _ again).0,
+      opened_within place file client past before,
+    )))
     (λ earlier. opened_by place file client other by past before earlier) (or_true _ (was_opened place other by past) f))
     (or_true _ (was_opened place file client past) e)
-  where
-    above : (n : ℕ) → place ≡ n + 1 → place ≤ n → ⊥
-    above n e h = omega (arith, e, h)
 opened_by place file client other by (_ ∷ past) e f = opened_by place file client other by past e f

@@ -1,5 +1,5 @@
 -- Every move leaves what entries keep untouched, of each client that hasn't strayed, over any link.
-use Rattle.lease_laws.proofs.Words.{◌+◌, ◌==◌, ◌||◌, ◌∙◌, ◌∷◌, ◌≡◌, ◌≤◌, ◌⊎◌, Access, Among, Bool, Client, CreateAsk, Event, Fact}
+use Rattle.lease_laws.proofs.Words.{◌==◌, ◌||◌, ◌∙◌, ◌∷◌, ◌≡◌, ◌⊎◌, Access, Among, Bool, Client, CreateAsk, Event, Fact}
 use Rattle.lease_laws.proofs.Words.{FileRequest, Key, Lease, LeaseOf, Link, List, LiveEntry, None, Open, Parted, Patch, Pending}
 use Rattle.lease_laws.proofs.Words.{Phase, Reply, Server, Setup, Share, Some, State, Status, Step, World, ℕ, ⊎_elim, [], after}
 use Rattle.lease_laws.proofs.Words.{all_turned, ap, arith, break_notice, bytes_eq, bytes_eq-Decides, commanded, connect_turn}
@@ -15,7 +15,7 @@ use Rattle.lease_laws.proofs.server.Lists.{if_cases, either, clash, among_append
 use Rattle.lease_laws.proofs.world.Links.{stepped_links}
 use Rattle.lease_laws.proofs.world.Runs.{stepped_server}
 use Rattle.lease_coherence.specs.Agreement.{touched_since_lost}
-use Rattle.lease_coherence.specs.Creates.{answers, asked_by, create_of, one_if, under_way, has_asked}
+use Rattle.lease_coherence.specs.Creates.{asked_by, one_if, under_way, has_asked}
 use Rattle.lease_coherence.specs.Names.{Each, IsNamedAt, IsNamedRequest}
 use Rattle.lease_coherence.specs.Standing.{AskFits, again_of, IsStandingAt}
 use Rattle.lease_coherence.proofs.beliefs.Clients.{keys_apart}
@@ -23,7 +23,7 @@ use Rattle.lease_coherence.proofs.beliefs.Closed.{left_there}
 use Rattle.lease_coherence.proofs.beliefs.Runs.{own_create}
 use Rattle.lease_laws.proofs.client.cases.Commands.{any_command}
 use Rattle.lease_laws.proofs.client.cases.Replies.{any_reply}
-use Rattle.lease_coherence.proofs.creates.Creates.{left_over, source_counts, stepped_machine}
+use Rattle.lease_coherence.proofs.creates.Creates.{source_counts, stepped_machine}
 use Rattle.lease_coherence.proofs.late.Likes.{ids_of}
 use Rattle.lease_coherence.proofs.late.Servers.{live_id, parted_id, own_has_key}
 use Rattle.lease_coherence.proofs.late.Words.{holds_write, KnowsIds}
@@ -160,17 +160,17 @@ none_parted : (world off : World) (c file : ℕ) (access : Access) (share : Shar
     → (((world.clients c).entries file).phase ≡ Phase.Offline parted)
     ⊎ (((world.clients c).entries file).phase ≡ Phase.Reconnecting parted) → ⊥
 none_parted world off c file access share ask g source none counted s parted is = ⊎_elim
-    (λ offline. some (left_over world c file) (create_of file request) (left_over off c file) (answers file (world.replies c))
-    (source_counts world off c request g source file) (ap one_if (eq-eqb file file refl))
-    (counted ∙ ap one_if (ap has_asked offline)))
+    (λ offline. omega (
+      arith,
+      source_counts world off c request g source file,
+      ap one_if (eq-eqb file file refl),
+      counted ∙ ap one_if (ap has_asked offline),
+    ))
     (λ again. never (sym none
     ∙ (asked_off (AskFits (world.clients c)) world off c request source s.asked).1 ∙ ap again_of again)) is
   where
     request : FileRequest
     request = FileRequest.Create file access share (Some ask)
-
-    some : (a n b k : ℕ) → a ≡ n + b → n ≡ 1 → a + k ≡ 0 → ⊥
-    some a n b k e f h = omega (arith, e, f, h)
 
     never : None ≡ Some parted.file_id → ⊥
     never e = cc
@@ -185,9 +185,12 @@ granted_untouched world off c file access share ask asked e named up ids n never
     (up_untouched off new c refl up
     (λ at parted is u. under_by off new c at parted.file_id
     (λ x there by same. ⊎_elim (λ old. (x, old, by, same))
-    (λ last. ⊎_elim (λ now. absurd (above x.file_id off.server.last_id (ap (λ (o : Open). o.file_id) now)
-    (ids.low x.file_id at (subst (λ i. was_opened i at c off.past ≡ true) (sym same)
-    (parted_id c at off.past ((off.clients c).entries at).phase (n.entries at).phase parted is)))))
+    (λ last. ⊎_elim (λ now. absurd (omega (
+      arith,
+      ap (λ (o : Open). o.file_id) now,
+      ids.low x.file_id at (subst (λ i. was_opened i at c off.past ≡ true) (sym same)
+          (parted_id c at off.past ((off.clients c).entries at).phase (n.entries at).phase parted is)),
+    )))
     (λ none. absurd none) last) (among_append x off.server.opens (one ∷ []) there))
     (put_key-cases (λ (l : Lease). l.state.write ≡ true → holds_write off c at ≡ true) off.server.leases
     (key_of c asked.key) lease (machine_key off c at)
@@ -205,9 +208,6 @@ granted_untouched world off c file access share ask asked e named up ids n never
 
     one : Open
     one = new_open off.server c file access share (Some asked) ask.durable (lease_after off.server c file (Some asked))
-
-    above : (a b : ℕ) → a ≡ b + 1 → a ≤ b → ⊥
-    above a b e f = omega (arith, e, f)
 
     -- the key is of the file that is opened, whose entry isn't parted
     apart : (at : ℕ) (parted : Parted) → (((off.clients c).entries at).phase ≡ Phase.Offline parted)

@@ -1,5 +1,5 @@
 -- Every move keeps standing what stands.
-use Rattle.lease_laws.proofs.Words.{◌++◌, ◌+◌, ◌==◌, ◌∙◌, ◌∷◌, ◌≡◌, Among, Client, Fact, FileRequest, Held, IsAbout, IsSoundPhase}
+use Rattle.lease_laws.proofs.Words.{◌++◌, ◌==◌, ◌∙◌, ◌∷◌, ◌≡◌, Among, Client, Fact, FileRequest, Held, IsAbout, IsSoundPhase}
 use Rattle.lease_laws.proofs.Words.{Link, List, Pending, Phase, Reply, Request, Server, Some, Status, Step, World, ℕ, ⊎_elim, []}
 use Rattle.lease_laws.proofs.Words.{all_turned, ap, arith, break_notice, commanded, connect_turn, connection_made, eq-eqb, false}
 use Rattle.lease_laws.proofs.Words.{flat_map, has_strayed, inl, inr, is_down, is_up, joined, key_of, not, noticed, numbers_to}
@@ -40,22 +40,12 @@ use Rattle.lease_coherence.proofs.standing.Structure.{HasStructure}
 no_creates : (file : ℕ) (queue : List Request) → creates file queue ≡ 0 → Each (IsNoCreate file) queue
 no_creates file [] e = tt
 no_creates file (Request.OnFile request ∷ queue) e = (
-  not_this request (left (create_of file request) (creates file queue) e),
-  no_creates file queue (right (create_of file request) (creates file queue) e),
+  not_this request (omega (arith, e)),
+  no_creates file queue (omega (arith, e)),
 )
   where
-    left : (a b : ℕ) → a + b ≡ 0 → a ≡ 0
-    left a b e = omega (arith, e)
-
-    right : (a b : ℕ) → a + b ≡ 0 → b ≡ 0
-    right a b e = omega (arith, e)
-
-    none_one : (n : ℕ) → n ≡ 1 → n ≡ 0 → ⊥
-    none_one n e f = omega (arith, e, f)
-
     not_this : (r : FileRequest) → create_of file r ≡ 0 → IsNoCreate file (Request.OnFile r)
-    not_this (FileRequest.Create other access share contexts) n =
-        λ same. none_one (one_if (other == file)) (ap one_if (eq-eqb other file same)) n
+    not_this (FileRequest.Create other access share contexts) n = λ same. omega (arith, ap one_if (eq-eqb other file same), n)
     not_this request n = tt
 no_creates file (Request.Acknowledge given ∷ queue) e = (tt, no_creates file queue e)
 
@@ -63,34 +53,18 @@ no_held : (file : ℕ) (held : List Held) (one : Held) → held_creates file hel
     → create_of file one.request ≡ 0
 no_held file [] one e a = absurd a
 no_held file (x ∷ held) one e a = ⊎_elim
-    (λ same. ap (λ (h : Held). create_of file h.request) same ∙ left (create_of file x.request) (held_creates file held) e)
-    (λ later. no_held file held one (right (create_of file x.request) (held_creates file held) e) later) a
-  where
-    left : (a b : ℕ) → a + b ≡ 0 → a ≡ 0
-    left a b e = omega (arith, e)
-
-    right : (a b : ℕ) → a + b ≡ 0 → b ≡ 0
-    right a b e = omega (arith, e)
+    (λ same. ap (λ (h : Held). create_of file h.request) same ∙ (omega (arith, e)))
+    (λ later. no_held file held one (omega (arith, e)) later) a
 
 no_answers : (file : ℕ) (queue : List Reply) → answers file queue ≡ 0 → Each (IsNoAnswer file) queue
 no_answers file [] e = tt
 no_answers file (reply ∷ queue) e = (
-  not_this reply (left (answer_of file reply) (answers file queue) e),
-  no_answers file queue (right (answer_of file reply) (answers file queue) e),
+  not_this reply (omega (arith, e)),
+  no_answers file queue (omega (arith, e)),
 )
   where
-    left : (a b : ℕ) → a + b ≡ 0 → a ≡ 0
-    left a b e = omega (arith, e)
-
-    right : (a b : ℕ) → a + b ≡ 0 → b ≡ 0
-    right a b e = omega (arith, e)
-
-    none_one : (n : ℕ) → n ≡ 1 → n ≡ 0 → ⊥
-    none_one n e f = omega (arith, e, f)
-
     not_this : (r : Reply) → answer_of file r ≡ 0 → IsNoAnswer file r
-    not_this (Reply.Created other id contexts) n =
-        λ same. none_one (one_if (other == file)) (ap one_if (eq-eqb other file same)) n
+    not_this (Reply.Created other id contexts) n = λ same. omega (arith, ap one_if (eq-eqb other file same), n)
     not_this reply n = tt
 
 -- where an answer is taken, it is the last
@@ -106,27 +80,12 @@ last_create world c reply queue g up counted first file one asks =
     let more = answers file queue in
     record {
       asked = record {
-        queued = no_creates file (world.requests c)
-            (none_asked asked held (answers file (world.replies c)) (answer_of file reply) more whole parts one);
-        held = λ at x a own. held_not at x a own
-            (none_held_on asked held (answers file (world.replies c)) (answer_of file reply) more whole parts one);
+        queued = no_creates file (world.requests c) (omega (arith, whole, parts, one));
+        held = λ at x a own. held_not at x a own (omega (arith, whole, parts, one));
       };
-      answers = no_answers file queue
-          (none_left asked held (answers file (world.replies c)) (answer_of file reply) more whole parts one);
+      answers = no_answers file queue (omega (arith, whole, parts, one));
     }
   where
-    none_asked : (q h a n m : ℕ) → q + h + a ≡ 1 → a ≡ n + m → n ≡ 1 → q ≡ 0
-    none_asked q h a n m e f i = omega (arith, e, f, i)
-
-    none_held_on : (q h a n m : ℕ) → q + h + a ≡ 1 → a ≡ n + m → n ≡ 1 → h ≡ 0
-    none_held_on q h a n m e f i = omega (arith, e, f, i)
-
-    none_left : (q h a n m : ℕ) → q + h + a ≡ 1 → a ≡ n + m → n ≡ 1 → m ≡ 0
-    none_left q h a n m e f i = omega (arith, e, f, i)
-
-    none_one : (n : ℕ) → n ≡ 1 → n ≡ 0 → ⊥
-    none_one n e f = omega (arith, e, f)
-
     held_not : (at : ℕ) (x : Held) → Among x (world.server.held at) → x.client ≡ c
         → held_creates file (held_by c (world.server.held file)) ≡ 0 → IsNoCreate file (Request.OnFile x.request)
     held_not at x a own none = by_request x.request refl
@@ -134,10 +93,13 @@ last_create world c reply queue g up counted first file one asks =
         by_request : (r : FileRequest) → x.request ≡ r → IsNoCreate file (Request.OnFile r)
         by_request (FileRequest.Create other access share contexts) is = λ same.
             let about : other ≡ at = subst (IsAbout world.server at) is (g.fine.orderly.held_about at x a) in
-            none_one (create_of file x.request) (ap (create_of file) is ∙ ap one_if (eq-eqb other file same))
-            (no_held file (held_by c (world.server.held file)) x none
-            (among_filtered (λ h. h.client == c) x (world.server.held file)
-            (subst (λ n. Among x (world.server.held n)) (sym about ∙ same) a) (eq-eqb x.client c own)))
+            (omega (
+              arith,
+              ap (create_of file) is ∙ ap one_if (eq-eqb other file same),
+              no_held file
+                  (held_by c (world.server.held file)) x none (among_filtered (λ h. h.client == c) x (world.server.held file)
+                  (subst (λ n. Among x (world.server.held n)) (sym about ∙ same) a) (eq-eqb x.client c own)),
+            ))
         by_request request is = tt
 
 answers_last : (world : World) (c : ℕ) (reply : Reply) (queue : List Reply) → Ground world

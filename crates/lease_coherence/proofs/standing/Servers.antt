@@ -115,13 +115,12 @@ new_open_asked off c counted n = record {
   held = λ file one a own. request_low (Request.OnFile one.request) (n.held file one a own);
 }
   where
-    above : (m : ℕ) → m + 1 ≤ m → ⊥
-    above m h = omega (arith, h)
-
     request_low : (r : Request) → IsNamedRequest c (off.clients c).guid off.past r → IsNoClose (off.server.last_id + 1) r
-    request_low (Request.OnFile (FileRequest.Close file_id)) named = λ same. above off.server.last_id
-        (subst (λ m. off.server.last_id + 1 ≤ m) (sym counted.last)
-        (subst (λ m. m ≤ opened_count off.past) same (opened_within file_id named.file c off.past named.opened)))
+    request_low (Request.OnFile (FileRequest.Close file_id)) named = λ same. omega (
+      arith,
+      subst (λ m. off.server.last_id + 1 ≤ m) (sym counted.last)
+          (subst (λ m. m ≤ opened_count off.past) same (opened_within file_id named.file c off.past named.opened)),
+    )
     request_low request named = tt
 
 -- the FileId of a live entry was given
@@ -136,17 +135,17 @@ new_fits : (off : World) (c file : ℕ) → IsCountedOff off → IsNamedAt off c
     → FitsPhase ((off.clients c).entries file).phase (off.server.last_id + 1)
 new_fits off c file counted n plain = by_phase ((off.clients c).entries file).phase refl plain
   where
-    above : (m : ℕ) → m + 1 ≤ m → ⊥
-    above m h = omega (arith, h)
-
     no_some : (m : ℕ) → Some m ≡ None → ⊥
     no_some m e = cc
 
     by_phase : (phase : Phase) → ((off.clients c).entries file).phase ≡ phase → again_of phase ≡ None
         → FitsPhase phase (off.server.last_id + 1)
-    by_phase (Phase.Live live) is e = λ same. above off.server.last_id (subst (λ m. off.server.last_id + 1 ≤ m) (sym counted.last)
-        (subst (λ m. m ≤ opened_count off.past) (sym same)
-        (opened_within live.file_id file c off.past (named_live off c file live n is))))
+    by_phase (Phase.Live live) is e = λ same. omega (
+      arith,
+      subst (λ m. off.server.last_id + 1 ≤ m) (sym counted.last)
+          (subst (λ m. m ≤ opened_count off.past) (sym same) (opened_within live.file_id file c off.past
+          (named_live off c file live n is))),
+    )
     by_phase (Phase.Reconnecting parted) is e = absurd (no_some parted.file_id e)
     by_phase phase is e = tt
 

@@ -10,7 +10,7 @@ use Rattle.lease_laws.proofs.Words.{write_buffered, write_done_turn, write_reque
 use Rattle.lease_laws.proofs.client.Thin.{put_same, put_other}
 use Rattle.lease_laws.proofs.server.Lists.{if_cases, either, clash, and_parts, or_true, not_true}
 use Rattle.lease_laws.proofs.world.Links.{by_client}
-use Rattle.lease_coherence.specs.Creates.{answers, creates, asked_by, one_if, has_asked}
+use Rattle.lease_coherence.specs.Creates.{one_if, has_asked}
 use Rattle.lease_coherence.specs.Names.{Each, IsNamedReply}
 use Rattle.lease_coherence.proofs.beliefs.Clients.{IsAboutFile, writes_about, keys_apart}
 use Rattle.lease_coherence.proofs.beliefs.Words.{acks, acks_append, is_created, is_ack_break}
@@ -197,14 +197,15 @@ idle_leaves machine reply none whole queue file asked m e =
 passed_leaves : (machine : Client) (reply : Reply) → PassesOver machine reply → LeavesLive machine reply (quiet_step machine)
 passed_leaves machine (Reply.Created other id (Some answer)) why = leaves
   where
-    none : (a b n k : ℕ) → a + (n + b) ≡ k → n ≡ 1 → k ≡ 0 → ⊥
-    none a b n k e f h = omega (arith, e, f, h)
-
     leaves : LeavesLive machine (Reply.Created other id (Some answer)) (quiet_step machine)
     leaves whole queue file asked m e = ⊎_elim (λ live. live)
-        (λ here. absurd (none (creates file asked) (answers file queue) (one_if (other == file)) (asked_by machine file)
-        m.counted (ap one_if here) (ap one_if (ap (λ f. has_asked (machine.entries f).phase) (sym (eqb-true other file here))
-        ∙ none_asked (machine.entries other).phase why)))) (or_true (is_live (machine.entries file).phase) (other == file) e)
+        (λ here. absurd (omega (
+          arith,
+          m.counted,
+          ap one_if here,
+          ap one_if (ap (λ f. has_asked (machine.entries f).phase) (sym (eqb-true other file here)) ∙ none_asked
+              (machine.entries other).phase why),
+        ))) (or_true (is_live (machine.entries file).phase) (other == file) e)
 passed_leaves machine (Reply.Created other id None) why = λ whole. absurd whole
 passed_leaves machine (Reply.Break notice) why = idle_leaves machine (Reply.Break notice) (λ f. refl)
 passed_leaves machine reply why = idle_leaves machine _ (λ f. refl)
@@ -257,15 +258,11 @@ acks_sent : (key : List ℕ) (notice : BreakNotice) (state : State) (writes : Li
     → is_ack_break key (Reply.Break (Some notice)) ≡ true → acks key (writes ++ acknowledgment notice state) ≡ 0 → ⊥
 acks_sent key notice state writes about is = if_cases (λ q. acks key (writes ++ q) ≡ 0 → ⊥) notice.ack_required
     (Request.Acknowledge (Some (record { key = notice.key; state = state })) ∷ []) []
-    (λ asked e. one_more (acks key writes) (acks key (Request.Acknowledge (Some (record { key = notice.key; state = state })) ∷
-    [])) (sym (acks_append key writes _) ∙ e) (ap (λ b. one_if b + 0) own))
+    (λ asked e. omega (arith, sym (acks_append key writes _) ∙ e, ap (λ b. one_if b + 0) own))
     (λ plain. clash notice.ack_required (and_parts notice.ack_required (bytes_eq key notice.key) is).0 plain)
   where
     own : bytes_eq key notice.key ≡ true
     own = (and_parts notice.ack_required (bytes_eq key notice.key) is).1
-
-    one_more : (a b : ℕ) → a + b ≡ 0 → b ≡ 1 + 0 → ⊥
-    one_more a b e f = omega (arith, e, f)
 
 abbrev lowered_by : Client → ℕ → BreakNotice → LiveEntry → Turn
 lowered_by machine at notice live = belief_lowered live (sent_of machine at) notice (meet live.belief notice.lowered)

@@ -150,26 +150,16 @@ closing_told world c file step sound own counted h fresh breaks k x there has =
     (λ y. ⊎_elim (λ z. closed_more x.file x.file_id (asked_of world c x.file) step.requests z)
     (λ granted. absurd (never_granted x.file x.file_id (world.replies c)
     (subst (λ f. answers f (world.replies c) ≡ 0) (sym place.1)
-    (none (creates file (asked_of world c file)) (answers file (world.replies c))
-    (counted_of world c file counted ∙ ap one_if idle))) granted)) y) cover)
+    (omega (arith, counted_of world c file counted ∙ ap one_if idle))) granted)) y) cover)
   where
     one_live : (a b : LiveEntry) → Phase.Live a ≡ Phase.Live b → a ≡ b
     one_live a b e = cc
 
-    none : (a b : ℕ) → a + b ≡ 0 → b ≡ 0
-    none a b e = omega (arith, e)
-
 more_acks : (key : List ℕ) (queue more : List Request) → (acks key queue ≡ 0 → ⊥) → acks key (queue ++ more) ≡ 0 → ⊥
-more_acks key queue more some e = some (left (acks key queue) (acks key more) (sym (acks_append key queue more) ∙ e))
-  where
-    left : (a b : ℕ) → a + b ≡ 0 → a ≡ 0
-    left a b e = omega (arith, e)
+more_acks key queue more some e = some (omega (arith, sym (acks_append key queue more) ∙ e))
 
 new_acks : (key : List ℕ) (queue more : List Request) → (acks key more ≡ 0 → ⊥) → acks key (queue ++ more) ≡ 0 → ⊥
-new_acks key queue more some e = some (right (acks key queue) (acks key more) (sym (acks_append key queue more) ∙ e))
-  where
-    right : (a b : ℕ) → a + b ≡ 0 → b ≡ 0
-    right a b e = omega (arith, e)
+new_acks key queue more some e = some (omega (arith, sym (acks_append key queue more) ∙ e))
 
 -- what is known of a client whose link is up
 pub record IsKnownHere (world : World) (c : ℕ) : Type 0 where

@@ -161,24 +161,18 @@ noted_well client machine after last new past (Note.Wrote file number patch buff
     noted_well client machine after number new (Fact.Wrote client file number patch buffered ∷ past) notes
     (λ f k. (later_fact past (Fact.Wrote client file number patch buffered)).started f (started f k)) fine.1 tells.1 used_low (
       let first = fine.0 in and_both _ _ (and_both _ _ (started file first.0) first.1) (not_of (has_number client number past)
-          (λ used. above last number tells.0 (low number used))),
+          (λ used. omega (arith, tells.0, low number used))),
       facts,
     )
   where
-    above : (a b : ℕ) → a < b → b ≤ a → ⊥
-    above a b h k = omega (arith, h, k)
-
     not_of : (b : Bool) → (b ≡ true → ⊥) → not b ≡ true
     not_of true never = absurd (never refl)
     not_of false never = refl
 
-    up_to : (a b n : ℕ) → a < b → n ≤ a → n ≤ b
-    up_to a b n h k = omega (arith, h, k)
-
     used_low : (n : ℕ) → ((client == client && number == n) || has_number client n past) ≡ true → n ≤ number
     used_low n used = ⊎_elim
         (λ now. same_number n (eqb-true number n (and_parts (client == client) (number == n) now).1))
-        (λ before. up_to last number n tells.0 (low n before))
+        (λ before. omega (arith, tells.0, low n before))
         (or_true (client == client && number == n) (has_number client n past) used)
       where
         same_number : (m : ℕ) → number ≡ m → m ≤ number
@@ -333,26 +327,17 @@ one_start : (first : ℕ) (bytes : List ℕ) (past : List Fact) → HasStarts fi
     → HasStarts (first + 1) (Fact.Start first bytes ∷ past)
 unfolding is_well_formed is_started has_number
 one_start first bytes past h = record {
-  facts = (new (is_started first past) (λ there. own first (h.below first there)), h.facts);
-  below = λ file there. ⊎_elim (λ now. last file (eqb-true first file now)) (λ before. more file (h.below file before))
+  facts = (new (is_started first past) (λ there. omega (arith, h.below first there)), h.facts);
+  below = λ file there. ⊎_elim (λ now. omega (arith, eqb-true first file now)) (λ before. omega (arith, h.below file before))
       (or_true (first == file) (is_started file past) there);
   started = λ file up low. either (first == file) (λ same. rw (same) refl)
       (λ apart. rw (apart) (h.started file up (lower file low (λ e. clash (first == file) (eq-eqb first file e) apart))));
   unused = h.unused;
 }
   where
-    own : (n : ℕ) → n < n → ⊥
-    own n h = omega (arith, h)
-
     new : (b : Bool) → (b ≡ true → ⊥) → not b ≡ true
     new true never = absurd (never refl)
     new false never = refl
-
-    last : (file : ℕ) → first ≡ file → file < first + 1
-    last file e = omega (arith, e)
-
-    more : (file : ℕ) → file < first → file < first + 1
-    more file h = omega (arith, h)
 
     lower : (file : ℕ) → file < first + 1 → first ≢ file → file < first
     lower file low ne = ⊎_elim (λ l. l) (λ e. absurd (ne (sym e))) (split file first low)
@@ -385,12 +370,9 @@ unfolding is_started has_number
 no_starts = record {
   facts = tt;
   below = λ file never. absurd (true≢false (sym never));
-  started = λ file up low. absurd (none file up low);
+  started = λ file up low. absurd (omega (arith, up, low));
   unused = λ client number. refl;
 }
-  where
-    none : (n : ℕ) → 1 ≤ n → n < 1 → ⊥
-    none n up low = omega (arith, up, low)
 
 pub first_well : (setup : Setup) → is_allowed_setup setup ≡ true → IsWell (first_world setup)
 unfolding first_world new_server is_allowed_setup new_client

@@ -236,12 +236,9 @@ lowered_takes machine at notice live own is formed =
     (λ file ne. acks_append (lease_key machine.guid file) writes (acknowledgment notice new)
     ∙ ap₂ (λ a b. a + b) (file_no_acks (lease_key machine.guid file) writes
     (writes_about live.file_id (flushed live.belief new live.unsent)))
-    (ack_elsewhere machine.guid file at notice new ne own) ∙ zeros)
+    (ack_elsewhere machine.guid file at notice new ne own) ∙ (omega arith))
     (λ lease asked queue b w. lowered_stays (lease_key machine.guid at) at notice lease (machine.entries at).phase live
     _ asked writes queue is own formed refl (writes_about live.file_id (flushed live.belief new live.unsent)) b w) formed
-  where
-    zeros : 0 + 0 ≡ 0
-    zeros = omega arith
 
 -- ---- grants
 

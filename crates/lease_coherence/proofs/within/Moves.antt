@@ -429,14 +429,8 @@ own_acked : (key : List ℕ) (file : ℕ) (lease : Lease) (phase : Phase) (given
     → IsBelieved key file lease phase (Request.Acknowledge (Some given) ∷ left) queue
     → (acks key left ≡ 0) × IsAnswering key file lease phase (Request.Acknowledge (Some given) ∷ left) queue
 own_acked key file lease phase given left queue own b = ⊎_elim
-    (λ zero. absurd (some_ack (acks key left) (ap (λ x. one_if x + acks key left) (sym own) ∙ zero)))
-    (λ a. (none_left (acks key left) (ap (λ x. one_if x + acks key left) (sym own) ∙ a.one), a)) b.answers
-  where
-    some_ack : (n : ℕ) → 1 + n ≡ 0 → ⊥
-    some_ack n e = omega (arith, e)
-
-    none_left : (n : ℕ) → 1 + n ≡ 1 → n ≡ 0
-    none_left n e = omega (arith, e)
+    (λ zero. absurd (omega (arith, ap (λ x. one_if x + acks key left) (sym own) ∙ zero)))
+    (λ a. (omega (arith, ap (λ x. one_if x + acks key left) (sym own) ∙ a.one), a)) b.answers
 
 pub done_within : (world : World) (c : ℕ) (given : LeaseOf) → IsOldest world c (Request.Acknowledge (Some given))
     → HasTrust world c → HasWithin world c → HasWithin (leased_in (popped world c) (key_of c given.key)

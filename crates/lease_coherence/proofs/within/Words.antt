@@ -183,13 +183,10 @@ no_acks_fit key lease phase (Request.Acknowledge None ∷ queue) e =
     right : (n : ℕ) → 0 + n ≡ 0 → n ≡ 0
     right n e = omega (arith, e)
 no_acks_fit key lease phase (Request.Acknowledge (Some given) ∷ queue) e = (
-  λ own. absurd (some (acks key queue) (ap (λ b. one_if b + acks key queue) (sym own) ∙ e)),
+  λ own. absurd (omega (arith, ap (λ b. one_if b + acks key queue) (sym own) ∙ e)),
   no_acks_fit key lease phase queue (right (one_if (bytes_eq key given.key)) (acks key queue) e),
 )
   where
-    some : (n : ℕ) → 1 + n ≡ 0 → ⊥
-    some n e = omega (arith, e)
-
     right : (a b : ℕ) → a + b ≡ 0 → b ≡ 0
     right a b e = omega (arith, e)
 

@@ -80,38 +80,39 @@ source_left world off c request source s file number counts = ⊎_elim
     (λ h. subst (λ (o : World). writes_left world c file number ≡ write_of number request + writes_left o c file number)
     (sym h.is_off) (held_left_over h)) source.from
   where
-    plus_held : (a b n h : ℕ) → a ≡ n + b → a + h ≡ n + (b + h)
-    plus_held a b n h e = omega (arith, e)
-
-    plus_queue : (a b n q : ℕ) → a ≡ n + b → q + a ≡ n + (q + b)
-    plus_queue a b n q e = omega (arith, e)
-
     arrived_left : HasArrived world off c request
         → writes_left world c file number ≡ write_of number request + writes_left (popped world c) c file number
-    arrived_left a = plus_held _ _ _ _ (first_off number (world.requests c) a.oldest.queue request a.oldest.is_first
-        ∙ ap (λ (q : List Request). write_of number request + writes number q)
-        (sym (put_same world.requests c (rest_of (world.requests c)))))
-
-    none_here : (n a b : ℕ) → n ≡ 0 → a ≡ b → a ≡ n + b
-    none_here n a b e f = omega (arith, e, f)
+    arrived_left a = omega (
+      arith,
+      first_off number (world.requests c) a.oldest.queue request a.oldest.is_first ∙ ap
+          (λ (q : List Request). write_of number request + writes number q)
+          (sym (put_same world.requests c (rest_of (world.requests c)))),
+    )
 
     held_left_over : (h : WasHeld world off c request) → writes_left world c file number
         ≡ write_of number request + writes_left (with_held world h.file (h.before ++ h.behind)) c file number
     held_left_over h = either (file == h.file)
         (λ here. let same = eqb-true file h.file here in
-        plus_queue _ _ _ _ (ap (λ n. held_writes number (held_by c (world.server.held n))) same
-        ∙ ap (λ (l : List Held). held_writes number (held_by c l)) h.held
-        ∙ held_writes_among number c h.before h.behind (held_of c request) (eq-eqb c c refl)
-        ∙ ap (λ (l : List Held). write_of number request + held_writes number (held_by c l))
-        (sym (put_same world.server.held h.file (h.before ++ h.behind))) ∙ ap (λ n. write_of number request
-        + held_writes number (held_by c (put world.server.held h.file (h.before ++ h.behind) n))) (sym same)))
+        (omega (
+          arith,
+          ap (λ n. held_writes number (held_by c (world.server.held n))) same ∙ ap
+              (λ (l : List Held). held_writes number (held_by c l)) h.held ∙ held_writes_among number c h.before h.behind
+              (held_of c request) (eq-eqb c c refl) ∙ ap (λ (l : List Held). write_of number request + held_writes number (held_by c l))
+              (sym (put_same world.server.held h.file (h.before ++ h.behind))) ∙ ap
+              (λ n. write_of number request + held_writes number (held_by c (put world.server.held h.file (h.before ++ h.behind) n)))
+              (sym same),
+        )))
         (λ there. let ne : file ≢ h.file = λ e. clash (file == h.file) (eq-eqb file h.file e) there in
-        none_here _ _ _ (not_counted world c file number request counts h.file (λ e. ne (sym e))
-        (λ file_id used patch is. s.held_on h.file (held_of c request)
-        (subst (λ (l : List Held). Among (held_of c request) l) (sym h.held)
-        (among_behind (held_of c request) h.before (held_of c request ∷ h.behind) (inl refl))) refl file_id used patch is))
-        (ap (λ (l : List Held). writes number (world.requests c) + held_writes number (held_by c l))
-        (sym (put_other world.server.held h.file (h.before ++ h.behind) file ne))))
+        (omega (
+          arith,
+          not_counted world c file number request counts h.file (λ e. ne (sym e))
+              (λ file_id used patch is. s.held_on h.file (held_of c request)
+              (subst (λ (l : List Held). Among (held_of c request) l) (sym h.held)
+              (among_behind (held_of c request) h.before (held_of c request ∷ h.behind) (inl refl))) refl file_id used patch is),
+          ap
+              (λ (l : List Held). writes number (world.requests c) + held_writes number (held_by c l))
+              (sym (put_other world.server.held h.file (h.before ++ h.behind) file ne)),
+        )))
 
 -- what was held on files, of the part from which a request was taken off
 pub off_held_on : (world off : World) (c : ℕ) (request : FileRequest) → IsSource world off c request → IsSentOnce world c
@@ -158,19 +159,22 @@ answered_once world off new c request reply source k clients requests held repli
     same_once world new c (ap (λ (t : ℕ → Client). t c) (clients ∙ rest.clients))
     (λ file number patch. written file number patch
     ∙ ap (λ past. has_written c file number patch past) (off_past world off c request source))
-    (λ file number own. whole _ _ _ _ _ _ _ _ _ _ (ap (λ (q : List Request). writes number q) requests)
-    (ap (λ (h : ℕ → List Held). held_writes number (held_by c (h file))) held)
-    (ap (λ (q : List Reply). settling number q) (ap (λ (r : ℕ → List Reply). r c) replies
-    ∙ put_same off.replies c (off.replies c ++ reply ∷ []) ∙ ap (λ (r : ℕ → List Reply). r c ++ reply ∷ []) rest.replies)
-    ∙ settling_last number (world.replies c) reply) (answers number)
-    (source_left world off c request source s file number (own_counts world c k file number own request)))
+    (λ file number own. omega (
+      arith,
+      ap (λ (q : List Request). writes number q) requests,
+      ap
+          (λ (h : ℕ → List Held). held_writes number (held_by c (h file))) held,
+      ap (λ (q : List Reply). settling number q)
+          (ap (λ (r : ℕ → List Reply). r c) replies ∙ put_same off.replies c (off.replies c ++ reply ∷ []) ∙ ap
+          (λ (r : ℕ → List Reply). r c ++ reply ∷ []) rest.replies) ∙ settling_last number
+          (world.replies c) reply,
+      answers number,
+      source_left world off c request source s file number
+          (own_counts world c k file number own request),
+    ))
     (λ at one a own file_id number patch is. off_held_on world off c request source s at one
     (subst (λ (h : ℕ → List Held). Among one (h at)) held a) own file_id number patch is) s
   where
-    whole : (q0 q h0 h a0 a1 n w1 w2 t : ℕ) → q ≡ q0 → h ≡ h0 → a1 ≡ t + a0 → a0 ≡ n → w1 + w2 ≡ n + (q0 + h0)
-        → q + h + a1 ≡ w1 + w2 + t
-    whole q0 q h0 h a0 a1 n w1 w2 t e f i j k = omega (arith, e, f, i, j, k)
-
     off_past : (world off : World) (c : ℕ) (request : FileRequest) → IsSource world off c request → off.past ≡ world.past
     off_past world off c request source = ⊎_elim (λ a. ap (λ (o : World). o.past) a.is_off)
         (λ h. ap (λ (o : World). o.past) h.is_off) source.from
@@ -183,16 +187,18 @@ pub told_once : (world new : World) (c : ℕ) (reply : Reply) → new.clients �
     → ((number : ℕ) → settles_of number reply ≡ 0) → IsSentOnce world c → IsSentOnce new c
 told_once world new c reply clients requests held replies written none s =
     same_once world new c (ap (λ (t : ℕ → Client). t c) clients) written
-    (λ file number own. whole _ _ _ _ _ _ _ (requests number)
-    (ap (λ (h : ℕ → List Held). held_writes number (held_by c (h file))) held)
-    (ap (λ (r : ℕ → List Reply). settling number (r c)) replies
-    ∙ ap (λ (q : List Reply). settling number q) (put_same world.replies c (world.replies c ++ reply ∷ []))
-    ∙ settling_last number (world.replies c) reply) (none number))
+    (λ file number own. omega (
+      arith,
+      requests number,
+      ap (λ (h : ℕ → List Held). held_writes number
+          (held_by c (h file))) held,
+      ap (λ (r : ℕ → List Reply). settling number (r c)) replies ∙ ap
+          (λ (q : List Reply). settling number q) (put_same world.replies c (world.replies c ++ reply ∷ [])) ∙ settling_last number
+          (world.replies c) reply,
+      none number,
+    ))
     (λ at one a own file_id number patch is. s.held_on at one (subst (λ (h : ℕ → List Held). Among one (h at)) held a) own
     file_id number patch is) s
-  where
-    whole : (q q0 h h0 a1 t n : ℕ) → q ≡ q0 → h ≡ h0 → a1 ≡ t + n → n ≡ 0 → q + h + a1 ≡ q0 + h0 + t
-    whole q q0 h h0 a1 t n e f i j = omega (arith, e, f, i, j)
 
 -- an acknowledgment that leaves its queue is no write
 pub ack_off : (world : World) (c : ℕ) (given : Option LeaseOf) → IsOldest world c (Request.Acknowledge given)

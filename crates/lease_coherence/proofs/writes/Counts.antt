@@ -56,10 +56,7 @@ writes_append number (Request.Acknowledge given ∷ queue) more = writes_append 
 
 pub settling_last : (number : ℕ) (queue : List Reply) (reply : Reply)
     → settling number (queue ++ reply ∷ []) ≡ settling number queue + settles_of number reply
-settling_last number [] reply = swap (settles_of number reply)
-  where
-    swap : (n : ℕ) → n + 0 ≡ 0 + n
-    swap n = omega arith
+settling_last number [] reply = omega arith
 settling_last number (x ∷ queue) reply = ap (λ n. settles_of number x + n) (settling_last number queue reply)
     ∙ three (settles_of number x) (settling number queue) (settles_of number reply)
 
@@ -80,16 +77,12 @@ held_writes_among number client [] behind one own = if_cases
 held_writes_among number client (x ∷ before) behind one own = if_cases
     (λ l. held_writes number l ≡ write_of number one.request + held_writes number (held_by client (x ∷ before ++ behind)))
     (x.client == client) (x ∷ held_by client (before ++ one ∷ behind)) (held_by client (before ++ one ∷ behind))
-    (λ mine. ap (λ n. write_of number x.request + n) (held_writes_among number client before behind one own)
-    ∙ swap (write_of number x.request) (write_of number one.request) (held_writes number (held_by client (before ++ behind)))
+    (λ mine. ap (λ n. write_of number x.request + n) (held_writes_among number client before behind one own) ∙ (omega arith)
     ∙ ap (λ (l : List Held). write_of number one.request + held_writes number l)
     (sym (chosen (x.client == client) (x ∷ held_by client (before ++ behind)) (held_by client (before ++ behind)) mine)))
     (λ other. held_writes_among number client before behind one own
     ∙ ap (λ (l : List Held). write_of number one.request + held_writes number l)
     (sym (not_chosen (x.client == client) (x ∷ held_by client (before ++ behind)) (held_by client (before ++ behind)) other)))
-  where
-    swap : (a b c : ℕ) → a + (b + c) ≡ b + (a + c)
-    swap a b c = omega arith
 
 -- ---- messages
 
@@ -115,18 +108,13 @@ numbered_without number used (write ∷ pending) has = if_cases
     (λ l. (write.number == used) ≡ (write.number == used)
     → numbered_in number l + one_if (used == number) ≡ numbered_in number (write ∷ pending))
     (write.number == used) pending (write ∷ sent_without used pending)
-    (λ same e. swap (numbered_in number pending) (one_if (used == number))
+    (λ same e. (omega arith)
     ∙ ap (λ n. one_if (n == number) + numbered_in number pending) (sym (eqb-true write.number used same)))
-    (λ other e. sum (one_if (write.number == number)) (numbered_in number (sent_without used pending))
-    (one_if (used == number)) (numbered_in number pending)
-    (numbered_without number used pending (later (write.number == used) (list_any (is_numbered used) pending) has other))) refl
+    (λ other e. omega (
+      arith,
+      numbered_without number used pending (later (write.number == used) (list_any (is_numbered used) pending) has other),
+    )) refl
   where
-    swap : (a b : ℕ) → a + b ≡ b + a
-    swap a b = omega arith
-
-    sum : (a b c d : ℕ) → b + c ≡ d → a + b + c ≡ a + d
-    sum a b c d e = omega (arith, e)
-
     later : (a b : Bool) → (a || b) ≡ true → a ≡ false → b ≡ true
     later true b e f = absurd (true≢false f)
     later false b e f = e
@@ -136,11 +124,8 @@ pub none_numbered : (number : ℕ) (pending : List Pending) → list_any (is_num
     → numbered_in number pending ≡ 0
 none_numbered number [] e = refl
 none_numbered number (write ∷ pending) e = let none = neither (write.number == number) _ e in
-    ap₂ (λ b n. one_if b + n) none.0 (none_numbered number pending none.1) ∙ zeros
+    ap₂ (λ b n. one_if b + n) none.0 (none_numbered number pending none.1) ∙ (omega arith)
   where
     neither : (a b : Bool) → (a || b) ≡ false → (a ≡ false) × (b ≡ false)
     neither true b e = absurd (true≢false e)
     neither false b e = (refl, e)
-
-    zeros : 0 + 0 ≡ 0
-    zeros = omega arith

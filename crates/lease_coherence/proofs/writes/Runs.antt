@@ -1,5 +1,5 @@
 -- While a client's link is up, each write that it has sent is under way once: asked, held, or answered and not yet taken.
-use Rattle.lease_laws.proofs.Words.{◌++◌, ◌+◌, ◌==◌, ◌∙◌, ◌∷◌, ◌≡◌, ◌≢◌, ◌≤◌, Among, Bool, Client, ClientCall, Command, Entry}
+use Rattle.lease_laws.proofs.Words.{◌++◌, ◌+◌, ◌==◌, ◌∙◌, ◌∷◌, ◌≡◌, ◌≢◌, Among, Bool, Client, ClientCall, Command, Entry}
 use Rattle.lease_laws.proofs.Words.{Err, Fact, FileRequest, Held, IsSoundEntry, IsSoundPhase, Link, List, None, Ok, Open, Option}
 use Rattle.lease_laws.proofs.Words.{Patch, Pending, Phase, Reply, Request, Result, Server, Some, Status, Step, TellNumbers, World}
 use Rattle.lease_laws.proofs.Words.{ℕ, ⊎_elim, [], all_turned, ap, ap₂, arith, break_notice, commanded, connect_turn}
@@ -78,23 +78,31 @@ hold_once : (world : World) (at : ℕ) (one : Held) → IsOldest world one.clien
 hold_once world at one oldest written k s = same_once world (held_in (popped world one.client) at one) one.client refl
     (λ file number patch. refl)
     (λ file number own. either (file == at)
-    (λ here. moved _ _ _ _ _ _ _ (first_off number (world.requests one.client) oldest.queue one.request oldest.is_first)
-    (ap (λ (q : List Request). writes number q) (put_same world.requests one.client (rest_of (world.requests one.client))))
-    (ap (λ n. held_writes number (held_by one.client (put world.server.held at (world.server.held at ++ one ∷ []) n)))
-    (eqb-true file at here) ∙ ap (λ (l : List Held). held_writes number (held_by one.client l))
-    (put_same world.server.held at (world.server.held at ++ one ∷ []))
-    ∙ held_writes_among number one.client (world.server.held at) [] one (eq-eqb one.client one.client refl)
-    ∙ ap (λ (l : List Held). write_of number one.request + held_writes number (held_by one.client l))
-    (append_none (world.server.held at))
-    ∙ ap (λ n. write_of number one.request + held_writes number (held_by one.client (world.server.held n)))
-    (sym (eqb-true file at here))))
+    (λ here. omega (
+      arith,
+      first_off number (world.requests one.client) oldest.queue one.request oldest.is_first,
+      ap
+          (λ (q : List Request). writes number q) (put_same world.requests one.client (rest_of (world.requests one.client))),
+      ap
+          (λ n. held_writes number (held_by one.client (put world.server.held at (world.server.held at ++ one ∷ []) n)))
+          (eqb-true file at here) ∙ ap (λ (l : List Held). held_writes number (held_by one.client l))
+          (put_same world.server.held at (world.server.held at ++ one ∷ [])) ∙ held_writes_among number one.client
+          (world.server.held at) [] one (eq-eqb one.client one.client refl) ∙ ap
+          (λ (l : List Held). write_of number one.request + held_writes number (held_by one.client l))
+          (append_none (world.server.held at)) ∙ ap (λ n. write_of number one.request + held_writes number
+          (held_by one.client (world.server.held n))) (sym (eqb-true file at here)),
+    ))
     (λ there. let ne : file ≢ at = λ e. clash (file == at) (eq-eqb file at e) there in
-    stays _ _ _ _ _ _ _ (first_off number (world.requests one.client) oldest.queue one.request oldest.is_first)
-    (not_counted world one.client file number one.request
-    (own_counts world one.client k file number own one.request) at (λ e. ne (sym e)) written)
-    (ap (λ (q : List Request). writes number q) (put_same world.requests one.client (rest_of (world.requests one.client))))
-    (ap (λ (l : List Held). held_writes number (held_by one.client l))
-    (put_other world.server.held at (world.server.held at ++ one ∷ []) file ne))))
+    (omega (
+      arith,
+      first_off number (world.requests one.client) oldest.queue one.request oldest.is_first,
+      not_counted world one.client file number one.request (own_counts world one.client k file number own one.request) at
+          (λ e. ne (sym e)) written,
+      ap (λ (q : List Request). writes number q) (put_same world.requests one.client (rest_of (world.requests one.client))),
+      ap
+          (λ (l : List Held). held_writes number (held_by one.client l))
+          (put_other world.server.held at (world.server.held at ++ one ∷ []) file ne),
+    ))))
     (λ place x a own file_id number patch is. ⊎_elim
     (λ old. s.held_on place x old own file_id number patch is)
     (λ new. subst (λ n. has_written one.client n number patch world.past ≡ true) (sym new.0)
@@ -102,28 +110,21 @@ hold_once world at one oldest written k s = same_once world (held_in (popped wor
     (λ last. ⊎_elim (λ same. written file_id number patch (ap (λ (h : Held). h.request) (sym same) ∙ is))
     (λ none. absurd none) last) (among_append x (world.server.held at) (one ∷ []) new.1)))
     (among_put world.server.held at (world.server.held at ++ one ∷ []) place x a)) s
-  where
-    moved : (q q1 r h h1 n t : ℕ) → q ≡ n + r → q1 ≡ r → h1 ≡ n + h → q1 + h1 + t ≡ q + h + t
-    moved q q1 r h h1 n t e f i = omega (arith, e, f, i)
-
-    stays : (q q1 r h h1 n t : ℕ) → q ≡ n + r → n ≡ 0 → q1 ≡ r → h1 ≡ h → q1 + h1 + t ≡ q + h + t
-    stays q q1 r h h1 n t e z f i = omega (arith, e, z, f, i)
 
 -- ---- steps of the client
 
 stepped_writes : (world : World) (c : ℕ) (step : Step) → is_up (world.links c) ≡ true → (file number : ℕ)
     → writes_under_way (stepped_in world c step) c file number
     ≡ writes_under_way world c file number + writes number step.requests
-stepped_writes world c step up file number = whole _ _ _ _ _ _ _
-    (ap (λ (q : ℕ → List Request). writes number (q c)) (stepped_requests world c step)
-    ∙ ap (λ (q : List Request). writes number q) (put_same world.requests c _)
-    ∙ ap (λ link. writes number (sent_over link (world.requests c) step.requests)) (up_link (world.links c) up)
-    ∙ writes_append number (world.requests c) step.requests)
-    (ap (λ (s : Server). held_writes number (held_by c (s.held file))) (stepped_server world c step))
-    (ap (λ (r : ℕ → List Reply). settling number (r c)) (stepped_replies world c step))
-  where
-    whole : (q q1 h h1 a a1 n : ℕ) → q1 ≡ q + n → h1 ≡ h → a1 ≡ a → q1 + h1 + a1 ≡ q + h + a + n
-    whole q q1 h h1 a a1 n e f i = omega (arith, e, f, i)
+stepped_writes world c step up file number = omega (
+  arith,
+  ap (λ (q : ℕ → List Request). writes number (q c))
+      (stepped_requests world c step) ∙ ap (λ (q : List Request). writes number q) (put_same world.requests c _) ∙ ap
+      (λ link. writes number (sent_over link (world.requests c) step.requests)) (up_link (world.links c) up) ∙ writes_append number
+      (world.requests c) step.requests,
+  ap (λ (s : Server). held_writes number (held_by c (s.held file))) (stepped_server world c step),
+  ap (λ (r : ℕ → List Reply). settling number (r c)) (stepped_replies world c step),
+)
 
 stepped_once : (world : World) (c : ℕ) (step : Step) (answered : ℕ → ℕ) → is_up (world.links c) ≡ true
     → step.client.files ≡ (world.clients c).files → TellNumbers (world.clients c).last_number step.notes step.client.last_number
@@ -143,16 +144,17 @@ stepped_once world c step answered up files tells adds counts held = record {
       number after in
       let knows = sym (ap (λ n. knows_file (record (world.clients c) { files = n }) file) files)
       ∙ subst (λ (m : Client). knows_file m file ≡ true) machine known in
-      whole _ _ _ _ _ _ (stepped_writes world c step up file number) (counts file number knows was)
-      (adds file number knows was after).sum ∙ ap (λ (m : Client). numbered_in number (m.entries file).sent) (sym machine);
+      (omega (
+        arith,
+        stepped_writes world c step up file number,
+        counts file number knows was,
+        (adds file number knows was after).sum,
+      )) ∙ ap (λ (m : Client). numbered_in number (m.entries file).sent) (sym machine);
   held_on = λ at one a own file_id number patch is.
       subst (λ past. has_written c at number patch past ≡ true) (sym (stepped_past world c step))
       ((later_noted c world.past step.notes).written c at number patch
       (held at one (subst (λ (s : Server). Among one (s.held at)) (stepped_server world c step) a) own file_id number patch is));
 }
-  where
-    whole : (u u1 a s s1 w : ℕ) → u1 ≡ u + w → u + a ≡ s → s1 + a ≡ s + w → u1 ≡ s1
-    whole u u1 a s s1 w e f i = omega (arith, e, f, i)
 
 command_once : (world : World) (c : ℕ) (command : Command) → is_up (world.links c) ≡ true → Ground world
     → IsKnownBy c (world.clients c) world.past → IsSentOnce world c
@@ -162,10 +164,7 @@ command_once world c command up g k s = stepped_once world c (commanded (world.c
     (called_tells (world.clients c) (ClientCall.Commanded command) (g.clients c))
     (any_command (world.clients c) (AddsUpWell c (world.clients c) world.past no_answers)
     (commands_add c (world.clients c) world.past k) command)
-    (λ file number known own. plus_none _ ∙ s.counts file number known own) s.held_on
-  where
-    plus_none : (n : ℕ) → n + 0 ≡ n
-    plus_none n = omega arith
+    (λ file number known own. (omega arith) ∙ s.counts file number known own) s.held_on
 
 pub known_took : (c : ℕ) (client : Client) (past : List Fact) → IsKnownBy c client past → IsKnownBy c client (Fact.Took c ∷ past)
 unfolding has_written has_number
@@ -194,22 +193,19 @@ take_once world c reply queue up g first k s =
     let machine = world.clients c in
     let sum : (file number : ℕ) → knows_file machine file ≡ true → IsOwnNumber c machine.last_number gone.past file number
     → writes_under_way gone c file number + settles_of number reply
-    ≡ numbered_in number (machine.entries file).sent = λ file number known own. whole _ _ _ _ _ _
-    (ap (λ (q : List Reply). settling number q) (put_same world.replies c queue))
-    (ap (λ (q : List Reply). settling number q) first)
-    (s.counts file number known (took_own c machine.last_number world.past file number own)) in
+    ≡ numbered_in number (machine.entries file).sent = λ file number known own. (omega (
+      arith,
+      ap (λ (q : List Reply). settling number q) (put_same world.replies c queue),
+      ap
+          (λ (q : List Reply). settling number q) first,
+      s.counts file number known (took_own c machine.last_number world.past file number own),
+    )) in
     stepped_once gone c (taken machine reply) (λ number. settles_of number reply) up
     (taken-stays machine reply).files (called_tells machine (ClientCall.Taken reply) (g.clients c))
     (any_reply machine (AddsUpTaken c machine gone.past) (takes_add c machine gone.past (known_took c machine world.past k))
-    reply (λ file number known own. low _ _ _ (sum file number known own))) sum
+    reply (λ file number known own. omega (arith, sum file number known own))) sum
     (λ at one a own file_id number patch is. took_written c at number patch world.past
     (s.held_on at one a own file_id number patch is))
-  where
-    whole : (l y z x m b : ℕ) → y ≡ z → x ≡ m + z → l + x ≡ b → l + y + m ≡ b
-    whole l y z x m b e f i = omega (arith, e, f, i)
-
-    low : (u a s : ℕ) → u + a ≡ s → a ≤ s
-    low u a s e = omega (arith, e)
 
 -- ---- connections
 
@@ -227,20 +223,14 @@ connect_none : (client : Client) (number file : ℕ) (sent : List Pending) (phas
 connect_none client number file sent Phase.Closed = refl
 connect_none client number file sent (Phase.Opening access share) = refl
 connect_none client number file sent (Phase.Live live) = refl
-connect_none client number file sent (Phase.Offline parted) = zeros
-  where
-    zeros : 0 + 0 ≡ 0
-    zeros = omega arith
+connect_none client number file sent (Phase.Offline parted) = omega arith
 connect_none client number file sent (Phase.Reconnecting parted) = refl
 
 all_none : (number : ℕ) (turn : ℕ → List Request) (files : List ℕ) → ((f : ℕ) → writes number (turn f) ≡ 0)
     → writes number (flat_map turn files) ≡ 0
 all_none number turn [] none = refl
 all_none number turn (file ∷ files) none = writes_append number (turn file) (flat_map turn files)
-    ∙ ap₂ (λ a b. a + b) (none file) (all_none number turn files none) ∙ zeros
-  where
-    zeros : 0 + 0 ≡ 0
-    zeros = omega arith
+    ∙ ap₂ (λ a b. a + b) (none file) (all_none number turn files none) ∙ (omega arith)
 
 connect_sent : (client : Client) (file : ℕ) (sent : List Pending) (phase : Phase)
     → (connect_turn client file sent phase).entry.sent ≡ sent
@@ -255,14 +245,17 @@ connect_once world c g down =
     let step = connection_made machine in
     let is_off : is_up (world.links c) ≡ false = ap is_up down in
     let online : machine.is_online ≡ false = g.online c ∙ ap (λ l. not (is_down l)) down in record {
-      counts = λ file number known own. whole _ _ _ _ _
-          (stepped_writes back c step (ap is_up (put_same world.links c Link.Up)) file number)
-          (ap (λ (q : List Request). writes number q) ((g.tied c).requests is_off))
-          (ap (λ (l : List Held). held_writes number l) (none_held world c g is_off file))
-          (ap (λ (q : List Reply). settling number q) ((g.tied c).replies is_off))
-          (all_none number (λ f. (connect_turn machine f (machine.entries f).sent (machine.entries f).phase).requests)
-          (numbers_to machine.files) (λ f. connect_none machine number f (machine.entries f).sent (machine.entries f).phase))
-          ∙ sym (ap (λ (m : Client). numbered_in number (m.entries file).sent) (stepped_machine back c step)
+      counts = λ file number known own. (omega (
+        arith,
+        stepped_writes back c step (ap is_up (put_same world.links c Link.Up)) file number,
+        ap (λ (q : List Request). writes number q) ((g.tied c).requests is_off),
+        ap (λ (l : List Held). held_writes number l) (none_held world c g is_off file),
+        ap
+            (λ (q : List Reply). settling number q) ((g.tied c).replies is_off),
+        all_none number
+            (λ f. (connect_turn machine f (machine.entries f).sent (machine.entries f).phase).requests) (numbers_to machine.files)
+            (λ f. connect_none machine number f (machine.entries f).sent (machine.entries f).phase),
+      )) ∙ sym (ap (λ (m : Client). numbered_in number (m.entries file).sent) (stepped_machine back c step)
           ∙ ap (λ l. numbered_in number l) (connect_sent machine file (machine.entries file).sent (machine.entries file).phase
           ∙ away_sent machine.is_online (machine.entries file) online ((g.clients c).entries file)));
       held_on = λ at one a own. absurd (not_there one (subst (λ (l : List Held). Among one l) (none_held world c g is_off at)
@@ -270,9 +263,6 @@ connect_once world c g down =
           (subst (λ (s : Server). Among one (s.held at)) (stepped_server back c step) a) (eq-eqb one.client c own))));
     }
   where
-    whole : (u q h a n : ℕ) → u ≡ q + h + a + n → q ≡ 0 → h ≡ 0 → a ≡ 0 → n ≡ 0 → u ≡ 0
-    whole u q h a n e f i j k = omega (arith, e, f, i, j, k)
-
     not_there : (one : Held) → Among one [] → ⊥
     not_there one a = a
 

@@ -76,18 +76,11 @@ rising_above number low last [] h e = refl
 rising_above number low last (x ∷ pending) h e =
     let p = and_parts (nat_lt low x.number && nat_le x.number last) (are_rising x.number last pending) e in
     let up = (and_parts (nat_lt low x.number) (nat_le x.number last) p.0).0 in
-    rw (not_true (x.number == number) (λ same. apart number low x.number h (is_above low x.number up)
-    (eqb-true x.number number same)))
-    (rising_above number x.number last pending (more number low x.number h (is_above low x.number up)) p.1)
+    rw (not_true (x.number == number) (λ same. omega (arith, h, is_above low x.number up, eqb-true x.number number same)))
+    (rising_above number x.number last pending (omega (arith, h, is_above low x.number up)) p.1)
   where
     is_above : (a b : ℕ) → nat_lt a b ≡ true → a < b
     is_above a b e = grind arith
-
-    apart : (n l x : ℕ) → n ≤ l → l < x → x ≡ n → ⊥
-    apart n l x h k e = omega (arith, h, k, e)
-
-    more : (n l x : ℕ) → n ≤ l → l < x → n ≤ x
-    more n l x h k = omega (arith, h, k)
 
 -- what follows the first, where numbers rise
 pub rising_rest : (x : Pending) (low last : ℕ) (pending : List Pending) → are_rising low last (x ∷ pending) ≡ true

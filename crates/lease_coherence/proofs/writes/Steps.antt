@@ -46,17 +46,16 @@ noted_before c file number patch last new past [] tells low e = e
 noted_before c file number patch last new past (Note.Settled n outcome ∷ notes) tells low e =
     noted_before c file number patch last new (fact_of c (Note.Settled n outcome) ∷ past) notes tells.1 low e
 noted_before c file number patch last new past (Note.Wrote f n p buffered ∷ notes) tells low e = ⊎_elim
-    (λ now. absurd (apart n number last tells.0 low (eqb-true n number
-    (and_parts (c == c && f == file) (n == number) (and_parts (c == c && f == file && n == number) _ now).0).1)))
+    (λ now. absurd (omega (
+      arith,
+      tells.0,
+      low,
+      eqb-true n number
+          (and_parts (c == c && f == file) (n == number) (and_parts (c == c && f == file && n == number) _ now).0).1,
+    )))
     (λ before. before) (or_true _ (has_written c file number patch past)
     (noted_before c file number patch n new (fact_of c (Note.Wrote f n p buffered) ∷ past) notes tells.1
-    (up_to number last n low tells.0) e))
-  where
-    apart : (a b l : ℕ) → l < a → b ≤ l → a ≡ b → ⊥
-    apart a b l h k e = omega (arith, h, k, e)
-
-    up_to : (a l n : ℕ) → a ≤ l → l < n → a ≤ n
-    up_to a l n h k = omega (arith, h, k)
+    (omega (arith, low, tells.0)) e))
 noted_before c file number patch last new past (Note.Believes f state ∷ notes) tells low e =
     noted_before c file number patch last new (fact_of c (Note.Believes f state) ∷ past) notes tells low e
 noted_before c file number patch last new past (Note.CachedRead f bytes ∷ notes) tells low e =
@@ -92,11 +91,8 @@ pub others_none : (c : ℕ) (client : Client) (past : List Fact) → IsKnownBy c
 others_none c client past k file other number ne own [] each = refl
 others_none c client past k file other number ne own (write ∷ pending) each =
     ap₂ (λ b n. one_if b + n) (not_true (write.number == number) (λ same. never (eqb-true write.number number same)))
-    (others_none c client past k file other number ne own pending each.1) ∙ zeros
+    (others_none c client past k file other number ne own pending each.1) ∙ (omega arith)
   where
-    zeros : 0 + 0 ≡ 0
-    zeros = omega arith
-
     never : write.number ≡ number → ⊥
     never same = ⊎_elim
         (λ w. ne (k.once other file number w.0 write.patch w.1
@@ -145,12 +141,12 @@ sends_adds : (c : ℕ) (client : Client) (past : List Fact) → IsKnownBy c clie
     → ((number : ℕ) → writes number turn.requests ≡ numbered_in number pending)
     → AddsUpWell c client past no_answers (turned client file turn)
 sends_adds c client past k file turn pending named sent asks = turned_adds c client past no_answers file turn
-    (λ number own. plus_none _ _ _ _
-    (ap (numbered_in number) sent ∙ numbered_append number (sent_of client file) pending) (asks number))
+    (λ number own. omega (
+      arith,
+      ap (numbered_in number) sent ∙ numbered_append number (sent_of client file) pending,
+      asks number,
+    ))
     (λ other number ne own. sym (asks number ∙ others_none c client past k file other number ne own pending named))
-  where
-    plus_none : (a n w s : ℕ) → s ≡ a + n → w ≡ n → s + 0 ≡ a + w
-    plus_none a n w s e f = omega (arith, e, f)
 
 -- one that sends none
 idle_adds : (c : ℕ) (client : Client) (past : List Fact) → IsKnownBy c client past → (file : ℕ) (turn : Turn)
@@ -173,10 +169,7 @@ unsent_named c client past k file live is =
 then_close : (number file_id id : ℕ) (pending : List Pending) (more : List Request) → writes number more ≡ 0
     → writes number (write_requests file_id pending ++ Request.OnFile (FileRequest.Close id) ∷ more) ≡ numbered_in number pending
 then_close number file_id id pending more none =
-    writes_append number (write_requests file_id pending) _ ∙ whole _ _ _ (writes_asked number file_id pending) none
-  where
-    whole : (w n m : ℕ) → w ≡ n → m ≡ 0 → w + (0 + m) ≡ n
-    whole w n m e f = omega (arith, e, f)
+    writes_append number (write_requests file_id pending) _ ∙ (omega (arith, writes_asked number file_id pending, none))
 
 -- a write is given: its number is new
 wrote_adds : (c : ℕ) (client : Client) (past : List Fact) → IsKnownBy c client past → (file : ℕ) (entry : Entry)
@@ -193,15 +186,12 @@ wrote_adds c client past k file entry answer requests write patch more new sent 
           → numbered_in number (put client.entries file entry f).sent + 0
           ≡ numbered_in number (client.entries f).sent + writes number requests) file other
           (λ a. ap (λ (e : Entry). numbered_in number e.sent + 0) (put_same client.entries file entry)
-          ∙ plus_none _ _ _ _ (ap (numbered_in number) sent ∙ numbered_append number (sent_of client file) more) (asks number))
+          ∙ (omega (arith, ap (numbered_in number) sent ∙ numbered_append number (sent_of client file) more, asks number)))
           (λ ne apart a. ap (λ (e : Entry). numbered_in number e.sent + 0) (put_other client.entries file entry other ne)
           ∙ ap (λ n. numbered_in number (client.entries other).sent + n)
           (sym (asks number ∙ only number (λ same. not_own apart same a)))) after;
     }
   where
-    plus_none : (a n w s : ℕ) → s ≡ a + n → w ≡ n → s + 0 ≡ a + w
-    plus_none a n w s e f = omega (arith, e, f)
-
     not_own : (file == other) ≡ false → number ≡ write.number → IsOwnNumber c (client.last_number + 1)
         (Fact.Wrote c file write.number write.patch write.buffered ∷ past) other number → ⊥
     not_own apart same own = ⊎_elim
@@ -268,14 +258,10 @@ found_adds : (c : ℕ) (client : Client) (past : List Fact) → IsKnownBy c clie
 found_adds c client past k file used turn at sent none = turned_adds c client past (λ number. one_if (used == number)) file turn
     (λ number own. ap (λ l. numbered_in number l + one_if (used == number)) sent
     ∙ numbered_without number used (sent_of client file) at
-    ∙ plus_none (numbered_in number (sent_of client file)) ∙ ap (λ q. numbered_in number (sent_of client file) + writes number q)
-    (sym none))
+    ∙ (omega arith) ∙ ap (λ q. numbered_in number (sent_of client file) + writes number q) (sym none))
     (λ other number ne own. zero_else (used == number) (λ same. ne_used number (eqb-true used number same) other ne own)
     ∙ ap (λ q. writes number q) (sym none))
   where
-    plus_none : (a : ℕ) → a ≡ a + 0
-    plus_none a = omega arith
-
     zero_else : (b : Bool) → (b ≡ true → ⊥) → one_if b ≡ 0
     zero_else true never = absurd (never refl)
     zero_else false never = refl
@@ -304,9 +290,6 @@ passed_adds c client past reply why low file number known own after = record {
   sum = ap (λ n. numbered_in number (client.entries file).sent + n) (none reply why (low file number known own));
 }
   where
-    low_zero : (a n : ℕ) → n ≡ 0 → a ≤ n → a ≡ 0
-    low_zero a n e h = omega (arith, e, h)
-
     not_sent : (used : ℕ) → file_where client (has_sent client used) ≡ None → used ≡ number
         → numbered_in number (client.entries file).sent ≡ 0
     not_sent used absent same = none_numbered number (client.entries file).sent
@@ -317,7 +300,7 @@ passed_adds c client past reply why low file number known own after = record {
     settle : (used : ℕ) → file_where client (has_sent client used) ≡ None
         → one_if (used == number) ≤ numbered_in number (client.entries file).sent → one_if (used == number) ≡ 0
     settle used absent h = either (used == number)
-        (λ same. low_zero (one_if (used == number)) _ (not_sent used absent (eqb-true used number same)) h)
+        (λ same. omega (arith, not_sent used absent (eqb-true used number same), h))
         (λ other. ap one_if other)
 
     none : (r : Reply) → PassesOver client r → settles_of number r ≤ numbered_in number (client.entries file).sent
@@ -333,14 +316,11 @@ unfolding belief_lowered
 lowered_adds c client past k file notice live new is = sends_adds c client past k file _ (flushed live.belief new live.unsent)
     (some_named (gives_up live.belief new)) refl
     (λ n. writes_append n (write_requests live.file_id (flushed live.belief new live.unsent)) _
-    ∙ whole _ _ _ (writes_asked n live.file_id (flushed live.belief new live.unsent)) (ack_none n notice.ack_required))
+    ∙ (omega (arith, writes_asked n live.file_id (flushed live.belief new live.unsent), ack_none n notice.ack_required)))
   where
     some_named : (b : Bool) → Each (WasWritten c file past) (if b then live.unsent else [])
     some_named true = unsent_named c client past k file live is
     some_named false = tt
-
-    whole : (w n m : ℕ) → w ≡ n → m ≡ 0 → w + m ≡ n
-    whole w n m e f = omega (arith, e, f)
 
     ack_none : (n : ℕ) (b : Bool)
         → writes n (if b then Request.Acknowledge (Some (record { key = notice.key; state = new })) ∷ [] else []) ≡ 0
@@ -362,7 +342,7 @@ takes_add c client past k = record {
   lowered = λ file notice live at is stays low. lowered_adds c client past k file notice live _ is;
   opened = λ file file_id answer access share is low. idle_adds c client past k file _ refl (λ n. refl);
   reconnected = λ file file_id answer parted is low. idle_adds c client past k file _ refl (λ n. refl);
-  promoted = λ file file_id answer live asked is asks low. idle_adds c client past k file _ refl (λ n. zeros);
+  promoted = λ file file_id answer live asked is asks low. idle_adds c client past k file _ refl (λ n. omega arith);
   not_opened = λ file status access share is low. idle_adds c client past k file _ refl (λ n. refl);
   not_reconnected = λ file status parted is low. idle_adds c client past k file _ refl (λ n. refl);
   not_promoted = λ file status live asked is asks low. idle_adds c client past k file _ refl (λ n. refl);
@@ -375,9 +355,6 @@ takes_add c client past k = record {
       (gone_sent live.asking (sent_without number (sent_of client file))) refl;
   not_written = λ file file_id number status at known low. found_adds c client past k file number _ at refl refl;
 }
-  where
-    zeros : 0 + 0 ≡ 0
-    zeros = omega arith
 
 -- ---- the layer
 

@@ -248,10 +248,7 @@ found_at (bytes ∷ files) first (suc place) other =
 numbered_found : (files : List (List ℕ)) (file : ℕ) → numbered [] files file ≡ found files 1 file []
 unfolding numbered
 numbered_found files zero = sym (found_low files 1 zero [] (omega arith))
-numbered_found files (suc place) = sym (ap (λ n. found files 1 n []) (next place) ∙ found_at files 1 place [])
-  where
-    next : (n : ℕ) → suc n ≡ 1 + n
-    next n = omega arith
+numbered_found files (suc place) = sym (ap (λ n. found files 1 n []) (omega arith) ∙ found_at files 1 place [])
 
 pub take_all : {X : Type 0} (count : ℕ) (xs : List X) → length xs ≤ count → take count xs ≡ xs
 take_all zero [] low = refl

@@ -8,7 +8,7 @@ use Rattle.lease_laws.proofs.Words.{first_world, happened, happens, has_client, 
 use Rattle.lease_laws.proofs.Words.{is_start, is_up, join, kept, length, length-append, link_connected, link_cut, link_noticed}
 use Rattle.lease_laws.proofs.Words.{list_all, machine_key, new_client, new_server, not, noted, notice_over, noticed, put, refl}
 use Rattle.lease_laws.proofs.Words.{requests_sent, reverse, scavenged, sendings, sent_over, served, server_takes, starts_from}
-use Rattle.lease_laws.proofs.Words.{stepped_in, strayed_over, subst, suc, sym, taken, takings, timer_expired, true, true≢false}
+use Rattle.lease_laws.proofs.Words.{stepped_in, strayed_over, subst, sym, taken, takings, timer_expired, true, true≢false}
 use Rattle.lease_laws.proofs.client.Forms.{commanded-stays, taken-stays}
 use Rattle.lease_laws.proofs.client.Thin.{put_same, put_other}
 use Rattle.lease_laws.proofs.client.Words.{if_either}
@@ -67,13 +67,10 @@ delivered_tied world (Out.Sent client reply) up tied c = by_client (IsTied (deli
         put_same world.replies client (world.replies client ++ reply ∷ []),
         one_more (world.replies client) reply,
         t.counted u,
-      ) (more (takings client world.past) (length (world.replies client)));
+      ) (omega arith);
     })
     (λ ne apart. carried world (delivered world (Out.Sent client reply)) c refl refl refl
     (put_other world.replies client _ c ne) refl (rw (apart) refl) refl (tied c))
-  where
-    more : (a b : ℕ) → a + b + 1 ≡ a + (b + 1)
-    more a b = omega arith
 delivered_tied world (Out.Opened file client) up tied c =
     carried world (happened world (Fact.Opened file client)) c refl refl refl refl refl refl refl (tied c)
 delivered_tied world (Out.Changed file client number patch) up tied c =
@@ -339,14 +336,10 @@ took_tied world client reply queue e tied c = by_client (IsTied (reply_taken wor
       replies = λ down. absurd (not_empty reply queue (sym e ∙ t.replies down));
       served = t.served;
       counted = λ up. rw (eq-eqb client client refl, put_same world.replies client queue)
-          (t.counted up ∙ ap (λ (q : List Reply). takings client world.past + length q) e
-          ∙ one_over (takings client world.past) (length queue));
+          (t.counted up ∙ ap (λ (q : List Reply). takings client world.past + length q) e ∙ (omega arith));
     })
     (λ ne apart. carried world (reply_taken world client queue) c refl refl refl
     (put_other world.replies client queue c ne) refl refl (rw (apart) refl) (tied c))
-  where
-    one_over : (a b : ℕ) → a + suc b ≡ a + 1 + b
-    one_over a b = omega arith
 
 client_takes_linked : (world : World) (client : ℕ) (queue : List Reply) → world.replies client ≡ queue
     → IsLinked world → IsLinked (client_takes world client queue)

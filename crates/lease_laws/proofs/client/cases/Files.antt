@@ -9,14 +9,11 @@ pub numbers_known : (n file : ℕ) → Among file (numbers_to n) → (nat_le 1 f
 numbers_known zero file a = absurd a
 numbers_known (suc n) file a = ⊎_elim
     (λ earlier. higher file n (numbers_known n file earlier))
-    (λ last. ⊎_elim (λ same. ap (λ f. nat_le 1 f && nat_le f (suc n)) same ∙ highest n) (λ never. absurd never) last)
+    (λ last. ⊎_elim (λ same. ap (λ f. nat_le 1 f && nat_le f (suc n)) same ∙ (grind arith)) (λ never. absurd never) last)
     (among_append file (numbers_to n) (suc n ∷ []) a)
   where
     higher : (f m : ℕ) → (nat_le 1 f && nat_le f m) ≡ true → (nat_le 1 f && nat_le f (suc m)) ≡ true
     higher f m e = grind arith
-
-    highest : (m : ℕ) → (nat_le 1 (suc m) && nat_le (suc m) (suc m)) ≡ true
-    highest m = grind arith
 
 -- the file that is found is known
 pub found_known : (client : Client) (test : ℕ → Bool) (file : ℕ) → file_where client test ≡ Some file
