@@ -50,11 +50,12 @@ of_spec 𝓤 𝓛 𝓜 𝓡 wired T A L LA g d dx dd allocator glue glued =
     proved_at 𝓛 En hs c 𝓜 𝓡 (Goes-blank 𝓛 2 (plain (λ _. box.B E)) no (λ κs x f. tt), tt)
     (#self (bounded (a_type ∷ a_type ∷ []) (T, (A, tt)) (dcons d (dcons dx (dcons dd dnil))))) fn
     (code.unfolded 𝓤 H 𝓜 𝓡 wired (T, (A, tt)) d dx dd) (λ z are.
-    let κs = z.0.0 in let qs = z.0.1 in let v = z.0.3.0 in let a = v.alloc in let Post : Val
+    let (κs, qs, sides, args, places) = z.0 in let v = args.0 in let a = v.alloc in
+    let later_κs = κs.1 in let later_qs = qs.1 in let Post : Val
     → SProp 𝓤 = (walk_of 𝓛 En hs c).post z in let Run : List Val → SProp 𝓤 = λ ws. WpFn 𝓤 H 𝓣.C 𝓣.Λ fn ws Post in
-    let toks = ‵ (flft κs.0 qs.0) ⊛ ‵ (flft κs.1.0 qs.1.0) ⊛ ‵ ftrue in let asked = raw ((c κs z.0.3).requires z.1) in
-    qed 𝓛 ((toks ⊛ ‵ (owns (types_at En.signature.params κs) z.0.3 z.0.4)) ∷ asked ∷ []) ∵ split ! $ move ! (1 ∷ []) $ fsplit !
-    $ box_out E ! v z.0.4.0 (λ b o h e ws fits. box_in E ! v b o v.value e refl $
+    let toks = ‵ (flft κs.0 qs.0) ⊛ ‵ (flft later_κs.0 later_qs.0) ⊛ ‵ ftrue in let asked = raw ((c κs args).requires z.1) in
+    qed 𝓛 ((toks ⊛ ‵ (owns (types_at En.signature.params κs) args places)) ∷ asked ∷ []) ∵ split ! $ move ! (1 ∷ []) $ fsplit !
+    $ box_out E ! v places.0 (λ b o h e ws fits. box_in E ! v b o v.value e refl $
     let w : Val = box.word E h b o in let typed = loose_good R Z LZ g b o h fits in let k = triple_of 𝓛
     (callee.signature T A g d dd dx) (callee.spec T A g d dd dx 𝓛 𝓜.mem 𝓡.returns) in
     let y : k.Ghost = ((κs, qs, tt, (v, tt), (w ∷ [], tt)), tt) in let Pair = Tuple (RawPtr ∷ Z ∷ []) in
@@ -71,8 +72,8 @@ of_spec 𝓤 𝓛 𝓜 𝓡 wired T A L LA g d dx dd allocator glue glued =
     in_a_block ! r.0 (λ p. box_owns (g.dealloc_token a) R p v.value) (fst∗ 𝓤 (never 𝓤)
     (sem 𝓛 (g.dealloc_token a (bare (layout T)) null_ptr))) (λ b' o' e'.
     move ! (1 ∷ []) $ split ! $ move ! (1
-    ∷ []) $ fpick ! (λ vss. fsplit ! $ feq_l ! (λ eu. fsplit ! $ feq_l !
-    (λ ep. fsplit ! $ rewrite ! 0 (λ (s : A.Denot). ‵ (A.own_val s vss.1.0)) ea refl $ handle_tells E.al ! a vss.1.0
+    ∷ []) $ fpick ! (λ vss. let others = vss.1 in fsplit ! $ feq_l ! (λ eu. fsplit ! $ feq_l !
+    (λ ep. fsplit ! $ rewrite ! 0 (λ (s : A.Denot). ‵ (A.own_val s others.0)) ea refl $ handle_tells E.al ! a others.0
     (λ h' eh fits'.
     let made = loose_good R Z LZ g b' o' h' fits' in
     lands_as ! (ap only (eu ∙ (λ j. vstruct (of_list ((ep ∙ ap (λ (p : Ptr). ptr_val p ∷ []) e') j ++ (eh j ++ []))) ∷ []))) refl
