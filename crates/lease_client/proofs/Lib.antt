@@ -13,3 +13,4 @@ pub mod Steps
 pub mod Turned
 pub mod Views
 pub mod Written
+pub mod Patched

@@ -33,9 +33,6 @@ IsLower old new = is_state_within (belief_of new) (belief_of old) ≡ true
 abbrev pub Lowers : Entry → Turn → Type 0
 Lowers entry turn = IsLower entry turn.entry
 
-same_lower : (entry : Entry) → IsLower entry entry
-same_lower entry = within_self (belief_of entry)
-
 pub lower_if : (entry : Entry) (b : Bool) (first second : Turn) → Lowers entry first → Lowers entry second
     → Lowers entry (if b then first else second)
 lower_if entry true first second one other = one

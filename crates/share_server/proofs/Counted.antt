@@ -96,15 +96,6 @@ known_held server files i old new one waiting inside is more known =
     (counted_before server i old.held one (count_in waiting i) (here_known server files i old waiting inside is known)))
     known
 
-pub known_same : (server : Server) (files : List File) (i : ℕ) (old new : File) (waiting : Waiting)
-    → i < length files → old ≡ get_or files i old → new.held ≡ old.held
-    → Known server files waiting → Known server (set files i new) waiting
-known_same server files i old new waiting inside is same known =
-    known_with (λ n queue. AreCounted server n queue (count_in waiting n)) files i new inside
-    (subst (λ queue. AreCounted server i queue (count_in waiting i)) (sym same)
-    (here_known server files i old waiting inside is known))
-    known
-
 pub known_counted : (server : Server) (files : List File) (i place : ℕ) (before after : Waiting)
     → IsCountPut before after i (place + 1) → count_in before i ≡ place → place < length (file_in files i).held
     → ((one : Held) → slice_get (file_in files i).held place ≡ Some one

@@ -22,14 +22,14 @@ test_at n = is_at (file_id_order (record { 0 = n }))
 pub at_id : (n m : ℕ) → is_eq (nat_cmp n m) ≡ (m == n)
 at_id n m = grind (arith, nat_tests)
 
-here : (n : ℕ) (e : FileId × Open) → e.1.file_id ≡ e.0.0 → test_at n e.0 ≡ has_id n e.1
-here n e filed = at_id n e.0.0 ∙ ap (λ m. m == n) (sym filed)
+here : (n : ℕ) (id : FileId) (one : Open) → one.file_id ≡ id.0 → test_at n id ≡ has_id n one
+here n id one filed = at_id n id.0 ∙ ap (λ m. m == n) (sym filed)
 
 pub find_filed : (n : ℕ) (entries : List (FileId × Open)) → AreFiled entries
     → lookup (test_at n) entries ≡ find (has_id n) (values_of entries)
 find_filed n [] filed = refl
 find_filed n (e ∷ entries) filed =
-    rw (here n e filed.0, find_filed n entries filed.1) refl
+    rw (here n e.0 e.1 filed.0, find_filed n entries filed.1) refl
 
 pub filed_removed : (n : ℕ) (entries : List (FileId × Open)) → AreFiled entries
     → AreFiled (remove_entry (test_at n) entries)
@@ -80,19 +80,19 @@ pub left_removed : (n : ℕ) (entries : List (FileId × Open)) → AreFiled entr
 left_removed n [] filed order = refl
 left_removed n (e ∷ entries) filed order = either (test_at n e.0)
     (λ at.
-    let is : has_id n e.1 ≡ true = sym (here n e filed.0) ∙ at in
+    let is : has_id n e.1 ≡ true = sym (here n e.0 e.1 filed.0) ∙ at in
     let same = (Decides-eqb e.1.file_id n).0 is in
     rw (at, is) (sym (none_behind n (values_of entries) (λ other a. subst (λ m. m < other.file_id) same (order.0 other a)))))
     (λ at.
-    let is : has_id n e.1 ≡ false = sym (here n e filed.0) ∙ at in
+    let is : has_id n e.1 ≡ false = sym (here n e.0 e.1 filed.0) ∙ at in
     rw (at, is) (ap (λ x. e.1 ∷ x) (left_removed n entries filed.1 order.1)))
 
 above_all : (n : ℕ) (entries : List (FileId × Open)) → AreFiled entries
     → AllByRecursion (λ y. file_id_order (record { 0 = n }) y ≡ Less) (keys_of entries)
     → (other : Open) → Among other (values_of entries) → n < other.file_id
 above_all n [] filed less other among = absurd among
-above_all n (e ∷ entries) filed less other (inl same) =
-    subst (λ (o : Open). n < o.file_id) (sym same) (subst (λ m. n < m) (sym filed.0) (is_less n e.0.0 less.0))
+above_all n ((id, one) ∷ entries) filed less other (inl same) =
+    subst (λ (o : Open). n < o.file_id) (sym same) (subst (λ m. n < m) (sym filed.0) (is_less n id.0 less.0))
   where
     is_less : (a b : ℕ) → nat_cmp a b ≡ Less → a < b
     is_less a b e = grind (arith, nat_tests, e)
@@ -102,8 +102,8 @@ pub in_order : (entries : List (FileId × Open)) → AreFiled entries → IsStri
     → AreInOrder (values_of entries)
 unfolding IsStrictlySortedBy
 in_order [] filed sorted = tt
-in_order (e ∷ entries) filed sorted = (
-  λ other a. subst (λ m. m < other.file_id) (sym filed.0) (above_all e.0.0 entries filed.1 sorted.0 other a),
+in_order ((id, one) ∷ entries) filed sorted = (
+  λ other a. subst (λ m. m < other.file_id) (sym filed.0) (above_all id.0 entries filed.1 sorted.0 other a),
   in_order entries filed.1 sorted.1,
 )
 
@@ -116,9 +116,9 @@ pub inserted_last : (n : ℕ) (one : Open) (entries : List (FileId × Open)) →
     → ((other : Open) → Among other (values_of entries) → other.file_id < n)
     → insert_entry file_id_order entries (record { 0 = n }) one ≡ entries ++ (record { 0 = n }, one) ∷ []
 inserted_last n one [] filed below = refl
-inserted_last n one (e ∷ entries) filed below =
+inserted_last n one ((id, other) ∷ entries) filed below =
     rw (
-      greater n e.0.0 (subst (λ m. m < n) filed.0 (below e.1 (inl refl))),
+      greater n id.0 (subst (λ m. m < n) filed.0 (below other (inl refl))),
       inserted_last n one entries filed.1 (λ other a. below other (inr a)),
     ) refl
 
@@ -164,7 +164,7 @@ pub values_set : (n : ℕ) (change : Open → Open) (entries : List (FileId × O
 values_set n change [] one filed order found = refl
 values_set n change (e ∷ entries) one filed order found = either (test_at n e.0)
     (λ at.
-    let its : has_id n e.1 ≡ true = sym (here n e filed.0) ∙ at in
+    let its : has_id n e.1 ≡ true = sym (here n e.0 e.1 filed.0) ∙ at in
     let same = (Decides-eqb e.1.file_id n).0 its in
     let is : e.1 ≡ one = some_same (rw at at found) in
     rw (
@@ -174,7 +174,7 @@ values_set n change (e ∷ entries) one filed order found = either (test_at n e.
       is,
     ) refl)
     (λ at.
-    let its : has_id n e.1 ≡ false = sym (here n e filed.0) ∙ at in
+    let its : has_id n e.1 ≡ false = sym (here n e.0 e.1 filed.0) ∙ at in
     rw (at, its) (ap (λ x. e.1 ∷ x) (values_set n change entries one filed.1 order.1 (rw at at found))))
 
 pub values_unset : (n : ℕ) (change : Open → Open) (entries : List (FileId × Open))
@@ -184,7 +184,7 @@ values_unset n change [] filed found = refl
 values_unset n change (e ∷ entries) filed found = either (test_at n e.0)
     (λ at. absurd (cc (rw at at found)))
     (λ at.
-    let its : has_id n e.1 ≡ false = sym (here n e filed.0) ∙ at in
+    let its : has_id n e.1 ≡ false = sym (here n e.0 e.1 filed.0) ∙ at in
     rw its (ap (λ x. e.1 ∷ x) (values_unset n change entries filed.1 (rw at at found))))
 
 pub one_less : (n : ℕ) (entries : List (FileId × Open)) (found : Option Open) → AreFiled entries

@@ -25,17 +25,6 @@ empty_same files more contents bytes held queues a b c =
     ap (λ n. empty_server n contents held) a
     ∙ (ap (λ x. empty_server more x held) b ∙ ap (λ x. empty_server more bytes x) c)
 
-abbrev new_table : ℕ → List File → Table
-new_table count files = record {
-  files = files;
-  count = count;
-  opens = [];
-  leases = [];
-  present = [];
-  expired = [];
-  last_id = 0;
-}
-
 pub new_tables_are_new : (contents : List (List ℕ)) (count : ℕ) (files : List File)
     → count ≡ length (with_number contents)
     → ((n : ℕ) → file_in files n ≡ fresh_file (numbered [] (with_number contents) n))
