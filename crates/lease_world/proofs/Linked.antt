@@ -87,18 +87,6 @@ pub none_under : (covers : List Cover) → layers_under covers 0 ≡ []
 unfolding layers_from
 none_under covers = refl
 
-pub linked_more : (covers : List Cover) (one : Cover) → AreLinked covers → one.below ≤ length covers
-    → AreLinked (covers ++ one ∷ [])
-linked_more covers one linked inside place cover is =
-    elim (cases_Bool (place == length covers)) [
-      | inl here ↦
-          let at : place ≡ length covers = grind (arith, here) in
-          let same : Some one ≡ Some cover = (sym (get-push covers one place ∙ rw here refl)) ∙ is in
-          let it : one ≡ cover = cc in
-          subst (λ (c : Cover). c.below ≤ place) it (omega (arith, at, inside))
-      | inr other ↦ linked place cover (sym (get-push covers one place ∙ rw other refl) ∙ is)
-    ]
-
 -- ---- stacks by positions
 
 abbrev found_under : List Cover → Option ℕ → List Layer
@@ -171,11 +159,6 @@ tops_set covers tops place top at low inside position other is =
           let it : top ≡ other = cc in omega (arith, it, low)
       | inr apart ↦ inside position other (sym (get-put tops place top position at ∙ rw apart refl) ∙ is)
     ]
-
-pub tops_later : (covers : List Cover) (one : Cover) (tops : List ℕ) → AreTops covers tops
-    → AreTops (covers ++ one ∷ []) tops
-tops_later covers one tops inside position top is =
-    let low = inside position top is in let longer = length-append covers (one ∷ []) in omega (arith, low, longer)
 
 -- ---- what a loop finds
 
@@ -259,16 +242,6 @@ stack_take covers (top ∷ tops) (suc count) zero none = refl
 stack_take covers (top ∷ tops) (suc count) (suc position) none =
     stack_take covers tops count position (λ n le. none (suc n) (omega (arith, le)))
 
-pub tops_take : (covers : List Cover) (tops : List ℕ) (count : ℕ) → AreTops covers tops → AreTops covers (take count tops)
-tops_take covers tops count inside position top is = inside position top (taken tops count position top is)
-  where
-    taken : (xs : List ℕ) (count n x : ℕ) → slice_get (take count xs) n ≡ Some x → slice_get xs n ≡ Some x
-    taken [] zero n x e = e
-    taken [] (suc count) n x e = e
-    taken (y ∷ xs) zero n x e = let c : ⊥ = cc in absurd c
-    taken (y ∷ xs) (suc count) zero x e = e
-    taken (y ∷ xs) (suc count) (suc n) x e = taken xs count n x e
-
 -- the last position that is left has a layer
 pub ends_covered : (covers : List Cover) (tops : List ℕ) (count : ℕ) → AreLinked covers → AreTops covers tops
     → count ≤ length tops
@@ -340,22 +313,6 @@ stack_cover covers tops layer place below count position linked inside within is
         else stack_in (map (layers_under covers) tops) position)
     by_case true same = ap (λ (ls : List Layer). layer ∷ ls) (same refl)
     by_case false same = refl
-
-pub linked_cover : (covers : List Cover) (tops : List ℕ) (layer : Layer) (place below : ℕ) → AreLinked covers
-    → AreTops covers tops → place < length tops → below ≡ get_or tops place below
-    → AreLinked (covers ++ record { layer = layer; below = below } ∷ [])
-linked_cover covers tops layer place below linked inside within is =
-    linked_more covers (record { layer = layer; below = below }) linked
-    (inside place below (slice_get-get_or tops place below within ∙ ap (λ (n : ℕ). Some n) (sym is)))
-
-pub tops_cover : (covers : List Cover) (tops : List ℕ) (layer : Layer) (place below count : ℕ) → AreTops covers tops
-    → place < length tops → count ≡ length covers + 1
-    → AreTops (covers ++ record { layer = layer; below = below } ∷ [])
-    (slice_set tops place count)
-tops_cover covers tops layer place below count inside within next =
-    let one : Cover = record { layer = layer; below = below } in
-    let longer = length-append covers (one ∷ []) in
-    tops_set (covers ++ one ∷ []) tops place count within (omega (arith, next, longer)) (tops_later covers one tops inside)
 
 -- the byte at a position
 pub byte_here : (covers : List Cover) (tops : List ℕ) (base : List ℕ) (position top : ℕ) (other : Cover)

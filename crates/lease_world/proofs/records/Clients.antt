@@ -174,9 +174,9 @@ took_more client place sent seen past e k =
           (k.caches f);
     }
 
-has_one : (sent : List ℕ) → not (is_empty sent) ≡ true → (place : ℕ) × ((rest : List ℕ) × (sent ≡ place ∷ rest))
+has_one : (sent : List ℕ) → not (is_empty sent) ≡ true → (place : ℕ) × (rest : List ℕ) × (sent ≡ place ∷ rest)
 has_one [] e = let c : ⊥ = cc in absurd c
-has_one (place ∷ rest) e = (place, (rest, refl))
+has_one (place ∷ rest) e = (place, rest, refl)
 
 both_true : (a b : Bool) → (a && b) ≡ true → (a ≡ true) × (b ≡ true)
 both_true true b e = (refl, e)
@@ -189,10 +189,9 @@ took_is seen place rest sent e = rw e refl
 pub client_took : (client : ℕ) (seen : SeenClient) (past : List Fact) → can_take seen ≡ true → KnowsClient client seen past
     → KnowsClient client (after_taking seen) (Fact.Took client ∷ past)
 client_took client seen past can k =
-    let one : (place : ℕ) × ((rest : List ℕ) × (seen.sent ≡ place ∷ rest)) = has_one seen.sent (both_true _ _ can).1 in
-    subst (λ (s : SeenClient). KnowsClient client s (Fact.Took client ∷ past))
-    (sym (took_is seen one.0 one.1.0 seen.sent one.1.1))
-    (took_more client one.0 one.1.0 seen past one.1.1 k)
+    let (place, rest, is) = has_one seen.sent (both_true _ _ can).1 in
+    subst (λ (s : SeenClient). KnowsClient client s (Fact.Took client ∷ past)) (sym (took_is seen place rest seen.sent is))
+    (took_more client place rest seen past is k)
 
 lt_so : (a b : ℕ) → a < b → nat_lt a b ≡ true
 lt_so a b h = grind arith
@@ -206,9 +205,8 @@ pub took-formed : (client : ℕ) (seen : SeenClient) (past : List Fact) → can_
 unfolding is_well_formed
 took-formed client seen past can k =
     let parts : (seen.joined ≡ true) × (not (is_empty seen.sent) ≡ true) = both_true _ _ can in
-    let one : (place : ℕ) × ((rest : List ℕ) × (seen.sent ≡ place ∷ rest)) = has_one seen.sent parts.1 in
-    let next : NextMessage (takings client past) (sendings client past) one.0 one.1.0 =
-    next_message (takings client past) (sendings client past) one.0 one.1.0 (sym k.sent ∙ one.1.1) in
+    let (place, rest, is) = has_one seen.sent parts.1 in
+    let next = next_message (takings client past) (sendings client past) place rest (sym k.sent ∙ is) in
     rw (sym k.joined ∙ parts.0, lt_so (takings client past) (length (sendings client past)) next.within) refl
 
 and_not : (a b : Bool) → b ≡ false → (a && b) ≡ false

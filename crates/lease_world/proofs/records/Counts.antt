@@ -75,9 +75,6 @@ no_one p (suc n) none k lt = elim (cases_Bool (p n)) [
 
 -- ---- counts of holders
 
-any_of : (ℕ → State) → ℕ → Bool
-any_of held client = holds_any (held client)
-
 counted-one : (count less : ℕ) (now was : Bool) → count + one_if was ≡ less + one_if now → was ≡ false → less < 65535
     → count ≡ (if now then one_more less else less)
 counted-one count less true was e w few = let n : one_if was ≡ 0 = rw w refl in omega (arith, e, n, few)

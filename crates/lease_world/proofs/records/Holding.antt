@@ -52,15 +52,6 @@ within-few holders past client k good = go (λ big. let e : true ≡ false = sym
     go : (256 ≤ client → ⊥) → client < 256
     go none = omega (arith, none)
 
-few-after : (holders : List Holders) (past next : List Fact) → ((c : ℕ) → is_good c next ≡ true → is_good c past ≡ true)
-    → KnowsHolders holders past → (client : ℕ) → 256 ≤ client → is_good client next ≡ false
-few-after holders past next was k client big = elim (cases_Bool (is_good client next)) [
-  | inl good ↦
-      let e : true ≡ false = sym (was client good) ∙ k.few client big in
-      let c : ⊥ = cc in absurd c
-  | inr bad ↦ bad
-]
-
 -- ---- where each client is good as before
 
 pub holders-same : (past next : List Fact) (old new : List Holders) → new ≡ old

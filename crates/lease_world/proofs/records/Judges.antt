@@ -123,7 +123,7 @@ stepped old fact new steps facts h = match_bool (is_safe old.verdict) steps
     let known : (old.count ≡ length facts) × Knows old.known (reverse facts) = h.known safe in
     let place : old.count + 1 ≡ length (reverse facts) + 1 = let l = length-reverse facts in omega (arith, known.0, l) in
     let judges : Judges (old.count + 1) fact (reverse facts) new.known new.verdict =
-    judged (old.count + 1) fact old.known new.known new.verdict (reverse facts) known.1 place adds.0 in
+    judged (old.count + 1) old.known new.known new.verdict (reverse facts) known.1 fact place adds.0 in
     record {
       verdict = judges.told
           ∙ (ap (λ (n : ℕ). flaw_at (n + 1) fact (reverse facts)) known.0

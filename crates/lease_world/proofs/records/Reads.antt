@@ -148,14 +148,13 @@ pub read-of-good : (client file taken : ℕ) (bytes : List ℕ) (seen now : Seen
     → Sees file f taken bytes seen now same
     → is_stale_read (Fact.CachedRead client file bytes) past ≡ not same
 unfolding is_stale_read
-read-of-good client file taken bytes seen now f same past k kf held started good some sees =
+read-of-good client file taken bytes seen now f same past k kf held started good some (kept, (cached, shown)) =
     let at : (place : List Fact) × (last_sending client past ≡ Some place) × (place_of place ≡ taken) =
     some_sent (last_sending client past) taken (sym k.taken ∙ some) in
     let value : seen.taken ≡ taken = taken_value seen.has_taken seen.taken taken some in
     let is : same ≡ bytes_eq bytes (patches (content_at file past at.0) (unanswered client file past)) =
-    seen-same client file taken bytes seen f (cache_in seen.caches file) (cache_in now.caches file) same past at.0 sees.1.1 k
-    (k.caches file)
-    kf (last-part client past at.0 at.1) at.2
+    seen-same client file taken bytes seen f (cache_in seen.caches file) (cache_in now.caches file) same past at.0 shown k
+    (k.caches file) kf (last-part client past at.0 at.1) at.2
     (brought_bytes f seen.taken taken (cache_in seen.caches file).base (omega (arith, value)) started held) in
     rw (sym (good_told client seen past k) ∙ good, at.1, is) refl
 
@@ -169,14 +168,14 @@ pub client_reads : (client file taken : ℕ) (bytes : List ℕ) (seen now : Seen
     → KnowsClient client seen past → Sees file f taken bytes seen now same
     → KnowsClient client now (Fact.CachedRead client file bytes ∷ past)
 unfolding has_joined is_served has_strayed sendings takings is_settled write_of believed pending
-client_reads client file taken bytes seen now f same past k sees =
+client_reads client file taken bytes seen now f same past k (kept, (cached, shown)) =
     let next : List Fact = Fact.CachedRead client file bytes ∷ past in
-    rw sees.0 (client_over client seen (record seen { caches = now.caches }) past next
+    rw kept (client_over client seen (record seen { caches = now.caches }) past next
     (longer (Fact.CachedRead client file bytes) past) refl refl refl refl refl
     k.joined k.served k.strayed k.settled k.writes
-    (each_cache client file seen.caches now.caches past next (cache_in now.caches file) sees.1.0
+    (each_cache client file seen.caches now.caches past next (cache_in now.caches file) cached
     (cache_over client file (cache_in now.caches file) past next refl (λ n. refl) refl
-    (brought-known client file taken bytes seen f (cache_in seen.caches file) (cache_in now.caches file) same past sees.1.1 k
+    (brought-known client file taken bytes seen f (cache_in seen.caches file) (cache_in now.caches file) same past shown k
     (k.caches file)))
     (λ g e. cache_over client g (cache_in seen.caches g) past next refl (λ n. refl) refl (k.caches g)))
     k)
@@ -185,8 +184,8 @@ pub contents-read : (taken : ℕ) (bytes : List ℕ) (file : ℕ) (seen now : Se
     → HasContents f seen.taken (cache_in seen.caches file) → is_some f.start ≡ true → taken_of seen ≡ Some taken
     → Sees file f taken bytes seen now same
     → HasContents f seen.taken (cache_in now.caches file)
-contents-read taken bytes file seen now f same held started some sees =
+contents-read taken bytes file seen now f same held started some (kept, (cached, shown)) =
     let value : seen.taken ≡ taken = taken_value seen.has_taken seen.taken taken some in
-    subst (λ (b : Option Snapshot). IsBase f seen.taken b) (sym sees.1.1.based)
+    subst (λ (b : Option Snapshot). IsBase f seen.taken b) (sym shown.based)
     (subst (λ (n : ℕ). IsBase f n (Some (base_at f taken (cache_in seen.caches file).base))) (sym value)
     (brought_base f seen.taken taken (cache_in seen.caches file).base (omega (arith, value)) started held))

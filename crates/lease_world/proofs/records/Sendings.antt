@@ -13,8 +13,8 @@ AllParts past (place ∷ places) = PartOf past place × AllParts past places
 
 parts-more : (past : List Fact) (fact : Fact) (places : List (List Fact)) → AllParts past places → AllParts (fact ∷ past) places
 parts-more past fact [] all = tt
-parts-more past fact (place ∷ places) all =
-    ((fact ∷ all.0.0, ap (λ (facts : List Fact). fact ∷ facts) all.0.1), parts-more past fact places all.1)
+parts-more past fact (place ∷ places) ((newer, is), all) =
+    ((fact ∷ newer, ap (λ (facts : List Fact). fact ∷ facts) is), parts-more past fact places all)
 
 parts-push : (past : List Fact) (places : List (List Fact)) (place : List Fact) → PartOf past place → AllParts past places
     → AllParts past (places ++ place ∷ [])
@@ -47,8 +47,8 @@ part_at : (past : List Fact) (places : List (List Fact)) (k : ℕ) (place : List
     → slice_get places k ≡ Some place → PartOf past place
 part_at past [] zero place all e = let c : ⊥ = cc in absurd c
 part_at past [] (suc k) place all e = let c : ⊥ = cc in absurd c
-part_at past (x ∷ places) zero place all e =
-    let same : x ≡ place = cc in (all.0.0, rw (← same) all.0.1)
+part_at past (x ∷ places) zero place ((newer, is), all) e =
+    let same : x ≡ place = cc in (newer, rw (← same) is)
 part_at past (x ∷ places) (suc k) place all e = part_at past places k place all.1 e
 
 part_of_last : (past : List Fact) (places : List (List Fact)) (n : ℕ) (place : List Fact) → AllParts past places

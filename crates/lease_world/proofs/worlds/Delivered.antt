@@ -38,14 +38,6 @@ pub record IsDelivered (world : World) (after : World) (outs : List Out) : Type 
   pub replies : (c : ℕ) → after.replies c ≡ world.replies c ++ told_to c outs
   pub past : reverse after.past ≡ reverse world.past ++ map told outs
 
-one_reply : (b : Bool) (xs rest : List Reply) (reply : Reply)
-    → (if b then xs ++ reply ∷ [] else xs) ++ rest ≡ xs ++ (if b then reply ∷ rest else rest)
-one_reply true xs rest reply = append_assoc xs (reply ∷ []) rest
-one_reply false xs rest reply = refl
-
-same_way : (n k : ℕ) (x y : List Reply) → (if n == k then x else y) ≡ (if k == n then x else y)
-same_way n k x y = grind arith
-
 at_client : (c other : ℕ) (table : ℕ → List Reply) (reply : Reply) (rest : List Reply)
     → put table other (table other ++ reply ∷ []) c ++ rest ≡ table c ++ (if other == c then reply ∷ rest else rest)
 unfolding put

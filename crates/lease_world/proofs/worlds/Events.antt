@@ -1,6 +1,7 @@
 -- What a world of the code stands for after an event of a client that there is.
 use Rattle.std.proofs.Common.{◌≡◌, ℕ, Bool, true, false, List, length, map, Option, Some, None, [], ◌∷◌, refl, sym, ap, subst, ◌∙◌, arith}
-use Rattle.std.specs.Prelude.{◌&&◌, if◌then◌else◌, nat_le, is_some}
+use Rattle.std.specs.Prelude.{◌&&◌, if◌then◌else◌, nat_le, is_some, OnOk, Result}
+use Rattle.std.proofs.lemmas.Result.{on_ok_weaker}
 use Rattle.lease_laws.specs.messages.Written.{CallHasFileId}
 use Rattle.lease_model.specs.client.Calls.{ClientCall, client_called}
 use Rattle.lease_model.specs.client.Commands.{Command}
@@ -55,9 +56,10 @@ pub server_took_nothing : (old new : Seen) (number : ℕ) → OnlySeats old new
     → Applies (Event.ServerTakes number) old new
 unfolding applied messages_of
 server_took_nothing old new number only seats there world s =
+    let (same, none) = seats.0 in
     subst (λ (rs : List Request). Stands new (server_takes world number rs) × Keeps (sent_by_oldest world number rs) old new)
     (sym (no_request old new number seats there world s))
-    (same_seats old new number (PopsRequest None) only seats seats.0.0 world s, quiet_keeps old new only.2)
+    (same_seats old new number (PopsRequest None) only seats same world s, quiet_keeps old new only.2)
 
 pub server_took : (old middle new : Seen) (number : ℕ) (request : code_request.Request) → OnlySeats old middle
     → ChangesSeat (PopsRequest (Some request)) number old.seats middle.seats → IsPresent number old.seats
@@ -76,9 +78,10 @@ pub client_took_nothing : (old new : Seen) (number : ℕ) → OnlySeats old new
     → Applies (Event.ClientTakes number) old new
 unfolding applied messages_of
 client_took_nothing old new number only seats there world s =
+    let (same, none) = seats.0 in
     subst (λ (rs : List Reply). Stands new (client_takes world number rs) × Keeps (oldest rs) old new)
     (sym (no_reply old new number seats there world s))
-    (same_seats old new number (PopsReply None) only seats seats.0.0 world s, quiet_keeps old new only.2)
+    (same_seats old new number (PopsReply None) only seats same world s, quiet_keeps old new only.2)
 
 -- a message is kept, and nothing else changes
 kept_stands : (old new : Seen) → new ≡ record old { messages = new.messages } → (world : World) → Stands old world
@@ -371,6 +374,15 @@ event_happens old new number event n e applies world s =
     let has : (nat_le 1 (client_of event) && nat_le (client_of event) world.count) ≡ true =
     subst (λ (m : ℕ). (nat_le 1 m && nat_le m world.count) ≡ true) n (has_it old number true e world s) in
     rw has (applies world s)
+
+-- the same of an event that names the number of its client, where a call says so if it succeeds
+pub told_happens : {T E : Type 0} (result : Result T E) (old new : Seen) (number client : ℕ) (tells : ℕ → Event)
+    → number ≡ client → number ≡ client_of (tells client)
+    → (nat_le 1 number && nat_le number (length old.seats)) ≡ true → OnOk result (Applies (tells number) old new)
+    → OnOk result (Happens (tells client) old new)
+told_happens result old new number client tells same named has applies = on_ok_weaker result
+    (λ does. event_happens old new number (tells client) named has (subst (λ (n : ℕ). Applies (tells n) old new) same does))
+    applies
 
 pub command_applies : (old new : Seen) (number : ℕ) (command : Command) → StepsIn number (ClientCall.Commanded command) old new
     → Applies (Event.App number command) old new

@@ -135,16 +135,6 @@ pub as_many : (events : List code_event.Event) → nat_lt 10000 (length events) 
 unfolding are_too_many events_limit
 as_many events = ap (λ (n : ℕ). nat_lt 10000 n) (sym (length-map events event_of))
 
-pub has_few_files : (setup : Setup) → is_allowed_setup setup ≡ true → length setup.files ≤ 255
-unfolding is_allowed_setup files_limit
-has_few_files setup allowed =
-    fewer (nat_le (length setup.files) 8) (list_all is_content setup.files)
-    (nat_le (length setup.clients) clients_limit) (are_apart setup.clients) refl allowed
-  where
-    fewer : (a b c d : Bool) → nat_le (length setup.files) 8 ≡ a → (a && b && c && d) ≡ true → length setup.files ≤ 255
-    fewer true b c d e f = omega (arith, leb-true (length setup.files) 8 e)
-    fewer false b c d e f = let g : ⊥ = cc in absurd g
-
 -- ---- files
 
 start_at : (files : List (List ℕ)) (first n : ℕ) (d : List ℕ) → n < length files

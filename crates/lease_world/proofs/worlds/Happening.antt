@@ -14,10 +14,6 @@ use Rattle.lease_world.specs.world.Seats.{Seat, seat_in, IsPresent, ChangesSeat,
 use Rattle.lease_world.specs.world.Stands.{Seen, link_of, IsSeat, Stands}
 use Rattle.lease_world.proofs.worlds.Standing.{one_seat, at_place, off_place, sent_requests}
 
--- a world that is another one but for the link and the queues of one client
-abbrev with_link : World → ℕ → Link → World
-with_link world number link = record world { links = put world.links number link }
-
 -- seats that changed, and nothing else
 abbrev pub OnlySeats : Seen → Seen → Type 0
 OnlySeats old new = (new.server ≡ old.server) × (new.facts ≡ old.facts) × (new.messages ≡ old.messages)
@@ -91,7 +87,7 @@ cut_stands old new number only seats world s = record {
 
 pub no_request : (old new : Seen) (number : ℕ) → ChangesSeat (PopsRequest None) number old.seats new.seats
     → IsPresent number old.seats → (world : World) → Stands old world → world.requests number ≡ []
-no_request old new number seats p world s = sym (s.seats number p).requests ∙ ap (map request_of) seats.0.1
+no_request old new number ((same, none), others, count) p world s = sym (s.seats number p).requests ∙ ap (map request_of) none
 
 -- the oldest request is taken out of its queue
 pub popped_request : (old new : Seen) (number : ℕ) (request : code_request.Request) → OnlySeats old new
@@ -130,7 +126,7 @@ popped_request old new number request only seats there world s =
 
 pub no_reply : (old new : Seen) (number : ℕ) → ChangesSeat (PopsReply None) number old.seats new.seats
     → IsPresent number old.seats → (world : World) → Stands old world → world.replies number ≡ []
-no_reply old new number seats p world s = sym (s.seats number p).replies ∙ ap (map reply_of) seats.0.1
+no_reply old new number ((same, none), others, count) p world s = sym (s.seats number p).replies ∙ ap (map reply_of) none
 
 pub popped_reply : (old new : Seen) (number : ℕ) (reply : code_reply.Reply) → OnlySeats old new
     → ChangesSeat (PopsReply (Some reply)) number old.seats new.seats

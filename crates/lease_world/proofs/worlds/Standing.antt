@@ -181,6 +181,7 @@ pub stepped_stands : (old new : Seen) (number : ℕ) (call : ClientCall) (notes 
     → Stands new (stepped_in world number (client_called (world.clients number) call))
 unfolding stepped_in requests_sent put
 stepped_stands old new number call notes server seats facts there fits world s =
+    let (client_is, link_is, requests_are, replies_are, notes_are, guid_is) = seats.0 in
     let step : Step = client_called (world.clients number) call in
     let held : IsSeat (seat_in old.seats number) world number = s.seats number there in
     let same : client_called (client_of (seat_in old.seats number).client) call
@@ -194,11 +195,11 @@ stepped_stands old new number call notes server seats facts there fits world s =
       seats = one_seat (StepsSeat call notes) old.seats new.seats number world
           (record moved { past = (noted moved number step.notes).past }) seats s.seats
           (λ p. record {
-            guid = seats.0.5 ∙ (held.guid ∙ (sym (same_guid (world.clients number) call)
+            guid = guid_is ∙ (held.guid ∙ (sym (same_guid (world.clients number) call)
                 ∙ ap (λ (c : Client). c.guid) (sym (at_place number step.client (world.clients number)))));
-            client = seats.0.0 ∙ (ap (λ (t : Step). t.client) same ∙ sym (at_place number step.client (world.clients number)));
-            link = ap link_of seats.0.1 ∙ held.link;
-            requests = ap (map request_of) seats.0.2
+            client = client_is ∙ (ap (λ (t : Step). t.client) same ∙ sym (at_place number step.client (world.clients number)));
+            link = ap link_of link_is ∙ held.link;
+            requests = ap (map request_of) requests_are
                 ∙ (sent_requests (seat_in old.seats number).link (seat_in old.seats number).requests
                 (map request_written (client_called (client_of (seat_in old.seats number).client) call).requests) step.requests
                 (ap (λ (t : Step). map request_of (map request_written t.requests)) same
@@ -206,7 +207,7 @@ stepped_stands old new number call notes server seats facts there fits world s =
                 ∙ (rw (held.link, held.requests) refl
                 ∙ sym (at_place number (sent_over (world.links number) (world.requests number) step.requests)
                 (world.requests number))));
-            replies = ap (map reply_of) seats.0.3 ∙ held.replies;
+            replies = ap (map reply_of) replies_are ∙ held.replies;
           })
           (λ m ne. off_place m number step.client (world.clients m) ne)
           (λ m ne. refl)
@@ -215,7 +216,7 @@ stepped_stands old new number call notes server seats facts there fits world s =
           (λ m ne. refl);
       facts = facts
           ∙ (ap (λ (xs : List Fact). xs ++ map (fact_noted number) (map note_of notes)) s.facts
-          ∙ (ap (λ ns. reverse world.past ++ map (fact_noted number) ns) (seats.0.4 ∙ ap (λ (t : Step). t.notes) same)
+          ∙ (ap (λ ns. reverse world.past ++ map (fact_noted number) ns) (notes_are ∙ ap (λ (t : Step). t.notes) same)
           ∙ sym n.past));
       sound = s.sound;
       waiting = s.waiting;
