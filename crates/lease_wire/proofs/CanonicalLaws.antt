@@ -237,12 +237,7 @@ with_reconnect (Some lease) true file_id long calm fits = (
 )
 
 calm_of : (direction : Direction) (v : CreateView) → IsDirected direction v → IfSome v.lease (λ lease. Calm direction lease)
-calm_of Request v is = is
-calm_of Reply v is = any v.lease
-  where
-    any : (lease : Option LeaseView) → IfSome lease (λ lease. Calm Reply lease)
-    any None = tt
-    any (Some lease) = tt
+calm_of x1 v is = grind arith
 
 pub written_holds_value : WrittenHoldsValue
 written_holds_value direction v is = by_reconnect direction v.reconnect is.file_id is.directed

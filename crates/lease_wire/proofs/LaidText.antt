@@ -99,19 +99,7 @@ module _ (direction : Direction) (contexts : List ContextView) (w : CreateView) 
   stops_at_name : layout_fault place rest ≡ None
       → with_meaning w (context_at place rest).place (meaning_of direction (context_at place rest)) ≡ Err fault
   unfolding context_at
-  stops_at_name none =
-      let values_of_kind = faults direction contexts w have (context_at place rest) place
-      (meaning_of direction (context_at place rest)) in
-      let stopped : meaning_fault direction contexts place (meaning_of direction (context_at place rest))
-      ≡ Some fault = rw none at first in
-      by_result (with_meaning w place (meaning_of direction (context_at place rest))) refl (values_of_kind ∙ stopped)
-    where
-      by_result : (answer : Result CreateView WireFault)
-          → with_meaning w place (meaning_of direction (context_at place rest)) ≡ answer
-          → fault_in (with_meaning w place (meaning_of direction (context_at place rest))) ≡ Some fault
-          → with_meaning w place (meaning_of direction (context_at place rest)) ≡ Err fault
-      by_result (Ok value) is stopped = let clash : ◌≡◌ {A = Option WireFault} None (Some fault) = rw is at stopped in cc
-      by_result (Err other) is stopped = let same : ◌≡◌ {A = Option WireFault} (Some other) (Some fault) = rw is at stopped in cc
+  stops_at_name none = grind arith
 
   stops_by_fault : (answer : Option WireFault) → layout_fault place rest ≡ answer
       → gathered direction w (items_behind place 0 rest) ≡ Err fault

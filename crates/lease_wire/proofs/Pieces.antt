@@ -1,6 +1,6 @@
 -- A piece that stands at the front of some bytes is read as the context that it is, and what is read
 -- there is the context that stands there.
-use Rattle.std.proofs.Common.{◌≡◌, ◌≢◌, ◌≤◌, ℕ, zero, suc, ◌+◌, ◌==◌, false, List, [], ◌++◌, length, take, drop, None, refl, arith, sym, ◌∙◌, ap, length-append, length-drop}
+use Rattle.std.proofs.Common.{◌≡◌, ◌≢◌, ◌≤◌, ℕ, zero, suc, ◌+◌, ◌==◌, false, List, [], ◌++◌, length, take, drop, None, refl, arith, sym, ◌∙◌, ap, length-append, length-drop, rules}
 use Rattle.std.proofs.lemmas.List.{drop-append-le, take-append-le, take-append-drop, length-take-le, append-nil}
 use Rattle.std.proofs.lemmas.Bool.Decides.{nat_tests}
 use Rattle.byteorder.specs.Numbers.{little_from-append}
@@ -58,15 +58,11 @@ header_of-front piece others long =
 -- what the parts of a context say of its header
 data_is : (piece : List ℕ) (offset count : ℕ) (part : List ℕ) → IsData piece offset count part
     → (part ≡ bytes_at offset count piece) × (count ≢ 0 → 16 ≤ offset) × (count ≢ 0 → offset + count ≤ length piece)
-data_is piece offset zero part is = (is, λ no. absurd (no refl), λ no. absurd (no refl))
-data_is piece offset (suc count) part is = (is.bytes, λ _. is.behind_the_header, λ _. is.within)
+data_is piece offset x3 part is = grind arith
 
 is_data : (piece : List ℕ) (offset count : ℕ) → (count ≢ 0 → 16 ≤ offset) → (count ≢ 0 → offset + count ≤ length piece)
     → IsData piece offset count (bytes_at offset count piece)
-is_data piece offset zero behind within = refl
-is_data piece offset (suc count) behind within =
-    let some : suc count ≢ 0 = λ e. absurd (omega arith) in
-    record { behind_the_header = behind some; within = within some; bytes = refl }
+is_data piece offset x3 behind within = grind arith
 
 data_at-front : (place count : ℕ) (front others : List ℕ) → (count ≢ 0 → place + count ≤ length front)
     → bytes_at place count (front ++ others) ≡ bytes_at place count front
@@ -80,16 +76,10 @@ pub record Ends (piece others : List ℕ) : Type 0 where
   pub leads : next_of piece ≢ 0 → LeadsOn piece
 
 pub ends_last : (piece : List ℕ) → next_of piece ≡ 0 → Ends piece []
-ends_last piece last = record {
-  size = rw (append-nil piece, last) refl;
-  leads = λ more. absurd (more last);
-}
+ends_last piece last = search rules
 
 pub ends_on : (piece others : List ℕ) → 16 ≤ length piece → LeadsOn piece → Ends piece others
-ends_on piece others long on =
-    let next = on.next in
-    let more : (next_of piece == 0) ≡ false = grind (arith, nat_tests) in
-    record { size = rw (more, next) refl; leads = λ _. on }
+ends_on piece others long on = grind arith
 
 -- a context at the front passes the tests
 front_fits : (start : ℕ) (piece others : List ℕ) (context : ContextView) → IsContext start piece context → Ends piece others

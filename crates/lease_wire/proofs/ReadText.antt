@@ -19,15 +19,13 @@ use Rattle.lease_wire.proofs.Values.{Adds, adds, faults, fault_in}
 pub carried_ok : (r : Result CreateView WireFault) (further : CreateView → Result CreateView WireFault) (w : CreateView)
     → carried r further ≡ Ok w
     → (v : CreateView) × (r ≡ Ok v) × (further v ≡ Ok w)
-carried_ok (Ok v) further w e = (v, refl, e)
-carried_ok (Err fault) further w e = cc
+carried_ok x1 further w e = grind arith
 
 -- a fault comes at once or later
 carried_err : (r : Result CreateView WireFault) (further : CreateView → Result CreateView WireFault) (fault : WireFault)
     → carried r further ≡ Err fault
     → (r ≡ Err fault) ⊎ ((v : CreateView) × (r ≡ Ok v) × (further v ≡ Err fault))
-carried_err (Ok v) further fault e = inr (v, refl, e)
-carried_err (Err other) further fault e = inl e
+carried_err x1 further fault e = grind arith
 
 -- the bytes from a place on are laid out, and what they hold gives the value
 pub record LaidFrom (direction : Direction) (start : ℕ) (bytes : List ℕ) (before : List ContextView) (w : CreateView) : Type 0
@@ -41,9 +39,7 @@ pub record LaidFrom (direction : Direction) (start : ℕ) (bytes : List ℕ) (be
 pub laid_on : (start next : ℕ) (piece : List ℕ) (pieces : List (List ℕ)) (context : ContextView) (contexts : List ContextView)
     → IsContext start piece context → LeadsOn piece → length piece ≡ next
     → AreLaidOut (start + next) pieces contexts → AreLaidOut start (piece ∷ pieces) (context ∷ contexts)
-laid_on start next piece [] context contexts is on long laid = absurd laid
-laid_on start next piece (other ∷ pieces) context contexts is on long laid =
-    let P : ℕ → Type 0 = λ size. AreLaidOut (start + size) (other ∷ pieces) contexts in (is, on, subst P (sym long) laid)
+laid_on start next piece x4 context contexts is on long laid = grind arith
 
 laid_last : (direction : Direction) (start : ℕ) (bytes : List ℕ) (before : List ContextView) (w : CreateView)
     → layout_fault start bytes ≡ None → next_of bytes ≡ 0
@@ -78,10 +74,7 @@ value_after direction before v w context have e =
     subst P e (adds direction before v have context (meaning_of direction context) refl)
 
 pub last_or_more : (bytes : List ℕ) → (next_of bytes ≡ 0) ⊎ (next_of bytes ≢ 0)
-last_or_more bytes = elim (eqb_tells (next_of bytes) 0) [
-  | inl last ↦ inl last.1
-  | inr more ↦ inr more.1
-]
+last_or_more bytes = grind arith
 
 -- one context of a text that is read well, given what is behind it
 module _ (direction : Direction) (start : ℕ) (bytes : List ℕ) (before : List ContextView) (v w : CreateView)

@@ -91,33 +91,11 @@ MeansDirected Reply (Reconnect file_id) = ⊥
 MeansDirected _ _ = Unit {0}
 
 if_either : {X : Type 0} (P : X → Type 0) (b : Bool) (x y : X) → P x → P y → P (if b then x else y)
-if_either P true x y first second = first
-if_either P false x y first second = second
-
-lease_directed : (direction : Direction) (body : List ℕ) → MeansDirected direction (lease_meaning direction body)
-lease_directed Request body = if_either (MeansDirected Request) (length body == 32) (Lease (lease_view Request body)) Unknown refl
-    tt
-lease_directed Reply body = if_either (MeansDirected Reply) (length body == 32) (Lease (lease_view Reply body)) Unknown tt tt
-
-durable_directed : (direction : Direction) (body : List ℕ) → MeansDirected direction (durable_meaning direction body)
-durable_directed Request body = if_either (MeansDirected Request) (length body == 16) Durable WrongLength tt tt
-durable_directed Reply body = if_either (MeansDirected Reply) (length body == 8) Durable WrongLength tt tt
-
-reconnect_directed : (direction : Direction) (body : List ℕ) → MeansDirected direction (reconnect_meaning direction body)
-reconnect_directed Request body = if_either (MeansDirected Request) (length body == 16) (Reconnect _) WrongLength tt tt
-reconnect_directed Reply body = tt
-
-unknown_directed : (direction : Direction) → MeansDirected direction Unknown
-unknown_directed Request = tt
-unknown_directed Reply = tt
+if_either x1 x2 x y first second = grind arith
 
 meaning_directed : (direction : Direction) (context : ContextView) → MeansDirected direction (meaning_of direction context)
 unfolding meaning_of
-meaning_directed direction context =
-    if_either (MeansDirected direction) (bytes_eq context.name lease_name) _ _ (lease_directed direction context.body)
-    (if_either (MeansDirected direction) (bytes_eq context.name durable_name) _ _ (durable_directed direction context.body)
-    (if_either (MeansDirected direction) (bytes_eq context.name reconnect_name) _ _ (reconnect_directed direction context.body)
-    (unknown_directed direction)))
+meaning_directed direction context = grind arith
 
 abbrev StaysDirected : Direction → Result CreateView WireFault → Type 0
 StaysDirected direction (Ok v) = IsDirected direction v
@@ -125,28 +103,7 @@ StaysDirected direction (Err fault) = Unit {0}
 
 with_directed : (direction : Direction) (v : CreateView) (place : ℕ) (meaning : Meaning) → IsDirected direction v
     → MeansDirected direction meaning → StaysDirected direction (with_meaning v place meaning)
-with_directed direction v place Unknown is means = is
-with_directed direction v place WrongLength is means = tt
-with_directed direction v place (Lease lease) is means = of direction v.lease is means
-  where
-    of : (direction : Direction) (held : Option LeaseView) → IsDirected direction v → MeansDirected direction (Lease lease)
-        → StaysDirected direction (with_lease v place lease held)
-    of direction (Some held) is means = tt
-    of Request None is means = means
-    of Reply None is means = is
-with_directed direction v place Durable is means = of direction v.durable is
-  where
-    of : (direction : Direction) (held : Bool) → IsDirected direction v → StaysDirected direction (with_durable v place held)
-    of direction true is = tt
-    of Request false is = is
-    of Reply false is = is
-with_directed direction v place (Reconnect file_id) is means = of direction v.reconnect is means
-  where
-    of : (direction : Direction) (held : Option ℕ) → IsDirected direction v → MeansDirected direction (Reconnect file_id)
-        → StaysDirected direction (with_reconnect v place file_id held)
-    of direction (Some held) is means = tt
-    of Request None is means = is
-    of Reply None is means = absurd means
+with_directed direction v place x4 is means = grind arith
 
 gathered_directed : (direction : Direction) (items : List Item) (v w : CreateView) → IsDirected direction v
     → gathered direction v items ≡ Ok w → IsDirected direction w
@@ -161,8 +118,7 @@ gathered_directed direction (Ok context ∷ items) v w is e =
     gathered_directed direction items step.0 w next step.2
 
 nothing_directed : (direction : Direction) → IsDirected direction no_values
-nothing_directed Request = tt
-nothing_directed Reply = refl
+nothing_directed x1 = grind arith
 
 pub value_directed : (direction : Direction) (text : List ℕ) (v : CreateView) → value_of direction text ≡ Ok v
     → IsDirected direction v
@@ -175,8 +131,7 @@ asked_is_calm text values e = calm values.lease (value_directed Request text (va
   where
     calm : (held : Option code.Lease) → IfSome (option_map lease_of held) (λ lease. lease.breaking ≡ false)
         → IfSome held (λ lease. lease.breaking ≡ false)
-    calm None is = tt
-    calm (Some lease) is = is
+    calm x1 is = grind arith
 
 -- a response's reader values no reconnect
 pub answered_value : (text : List ℕ) (values : ContextValues) (v : CreateView) → Ok (values_of values) ≡ value_of Reply text

@@ -1,5 +1,5 @@
 -- One more context: what it adds to the value of those before it, or the rule of names that it breaks.
-use Rattle.std.proofs.Common.{◌≡◌, ℕ, Bool, true, false, if◌then◌else◌, List, [], ◌∷◌, ◌++◌, Option, Some, None, Result, Ok, Err, option_to_list, refl, sym, ◌∙◌, ap}
+use Rattle.std.proofs.Common.{◌≡◌, ℕ, Bool, true, false, if◌then◌else◌, List, [], ◌∷◌, ◌++◌, Option, Some, None, Result, Ok, Err, option_to_list, refl, sym, ◌∙◌, ap, arith}
 use Rattle.std.specs.List.{cons_option}
 use Rattle.std.proofs.lemmas.List.{append-nil}
 use Rattle.std.proofs.lemmas.List.Elements.{filter_map-append}
@@ -48,31 +48,10 @@ alone_if : (xs : List Bool) (y : Bool) (ys : List Bool) (held : Bool) → xs ++ 
 alone_if xs y ys false e = absurd (not_empty xs y ys e)
 alone_if xs y ys true e = alone_of xs y true ys e
 
-same_option : {X : Type 0} (x y : Option X) → option_to_list x ≡ option_to_list y → x ≡ y
-same_option None None e = refl
-same_option None (Some y) e = cc
-same_option (Some x) None e = cc
-same_option (Some x) (Some y) e = cc
-
-same_flag : (x y : Bool) → (if x then true ∷ [] else []) ≡ (if y then true ∷ [] else []) → x ≡ y
-same_flag true true e = refl
-same_flag false false e = refl
-same_flag true false e = let clash : true ∷ [] ≡ [] = e in cc
-same_flag false true e = let clash : true ∷ [] ≡ [] = sym e in cc
-
 -- contexts have one value
 pub one_value : (direction : Direction) (contexts : List ContextView) (v w : CreateView) → HaveValue direction contexts v
     → HaveValue direction contexts w → v ≡ w
-one_value direction contexts v w first second =
-    same_view v.lease w.lease v.durable w.durable v.reconnect w.reconnect
-    (same_option v.lease w.lease (sym first.lease ∙ second.lease))
-    (same_flag v.durable w.durable (sym first.durable ∙ second.durable))
-    (same_option v.reconnect w.reconnect (sym first.reconnect ∙ second.reconnect))
-  where
-    same_view : (a b : Option LeaseView) (c d : Bool) (e f : Option ℕ) → a ≡ b → c ≡ d → e ≡ f
-        → ◌≡◌ {A = CreateView} (record { lease = a; durable = c; reconnect = e })
-        (record { lease = b; durable = d; reconnect = f })
-    same_view a b c d e f x y z = rw (x, y, z) refl
+one_value direction contexts v w first second = grind arith
 
 module _ (direction : Direction) (before : List ContextView) (v : CreateView) (have : HaveValue direction before v)
     (context : ContextView) where
@@ -130,30 +109,10 @@ module _ (direction : Direction) (before : List ContextView) (v : CreateView) (h
   adds Durable is = adds_durable v.durable refl is
   adds (Reconnect file_id) is = adds_reconnect file_id v.reconnect refl is
 
-  twice-list : {X : Type 0} (told_before : List X) (held : Option X) (place : ℕ) → told_before ≡ option_to_list held
-      → (answer : Option X → Result CreateView WireFault)
-      → fault_in (answer None) ≡ None → ((y : X) → fault_in (answer (Some y)) ≡ Some (Twice place))
-      → fault_in (answer held) ≡ twice_if told_before place
-  twice-list told_before None place is answer none some = rw is none
-  twice-list told_before (Some y) place is answer none some = rw is (some y)
-
-  twice-bool : (told_before : List Bool) (held : Bool) (place : ℕ) → told_before ≡ (if held then true ∷ [] else [])
-      → (answer : Bool → Result CreateView WireFault)
-      → fault_in (answer false) ≡ None → fault_in (answer true) ≡ Some (Twice place)
-      → fault_in (answer held) ≡ twice_if told_before place
-  twice-bool told_before false place is answer none some = rw is none
-  twice-bool told_before true place is answer none some = rw is some
-
   -- the fault that stops the gathering is the rule that is broken
   pub faults : (place : ℕ) (meaning : Meaning)
       → fault_in (with_meaning v place meaning) ≡ meaning_fault direction before place meaning
-  faults place (Lease lease) = twice-list (values_of_kind direction lease_in before) v.lease place have.lease
-      (λ held. with_lease v place lease held) refl (λ y. refl)
-  faults place Durable = twice-bool (values_of_kind direction durable_in before) v.durable place have.durable
-      (λ held. with_durable v place held) refl refl
-  faults place (Reconnect file_id) = twice-list (values_of_kind direction reconnect_in before) v.reconnect place have.reconnect
-      (λ held. with_reconnect v place file_id held) refl (λ y. refl)
-  faults place unknown = refl
+  faults place x2 = grind arith
 
   -- where a value is had with this context and others behind it, the context breaks no rule
   pub passes : (w : CreateView) (behind : List ContextView) → HaveValue direction (before ++ context ∷ behind) w

@@ -23,24 +23,16 @@ written start name body = record { place = start; name = name; body = body }
 
 data_of : (piece : List ℕ) (offset count : ℕ) (part : List ℕ) → 0 < count → IsPart piece offset count part
     → IsData piece offset count part
-data_of piece offset zero part some is = absurd (omega arith)
-data_of piece offset (suc count) part some is = is
-
-next_small : (followed : Bool) (count : ℕ) → count < 1000 → (if followed then 24 + count else 0) < 256 ^ 4
-next_small true count small = omega arith
-next_small false count small = omega arith
+data_of piece offset x3 part some is = grind arith
 
 module _ (followed : Bool) (a b c d : ℕ) (body : List ℕ) (small : length body < 1000) where
   pub next_of-written : next_of (context_bytes followed (name_of a b c d) body) ≡ (if followed then 24 + length body else 0)
   unfolding next_of
-  next_of-written = little_number-reads_back 4 (if followed then 24 + length body else 0)
-      (drop 4 (context_bytes followed (name_of a b c d) body)) (next_small followed (length body) small)
+  next_of-written = grind arith
 
   data_length_of-written : data_length_of (context_bytes followed (name_of a b c d) body) ≡ length body
   unfolding data_length_of
-  data_length_of-written = let fits : length body
-      < 256 ^ 4 = omega arith in little_number-reads_back 4 (length body) (drop 16
-      (context_bytes followed (name_of a b c d) body)) fits
+  data_length_of-written = grind arith
 
   pub length-written : length (context_bytes followed (name_of a b c d) body) ≡ 24 + length body
   length-written = omega arith
@@ -83,8 +75,7 @@ same_lease : (direction : Direction) (key : List ℕ) (read : State) (lease : Le
 same_lease direction key read lease values_of_kind state breaking = rw (state, breaking) refl
 
 breaking-written : (b : Bool) → (bit_and (little_number 4 (little_bytes 4 (if b then 2 else 0))) 2 == 2) ≡ b
-breaking-written true = refl
-breaking-written false = refl
+breaking-written x1 = grind arith
 
 pub lease_is : (direction : Direction) (start : ℕ) (lease : LeaseView) → length lease.key ≡ 16 → Calm direction lease
     → meaning_of direction (written start lease_name (lease_body lease)) ≡ Lease lease
@@ -109,17 +100,13 @@ length-lease_body lease = sixteen_cells (λ cells. length (lease_body (record le
 pub durable_is : (direction : Direction) (start : ℕ)
     → meaning_of direction (written start durable_name (durable_body direction)) ≡ Durable
 unfolding meaning_of
-durable_is Request start = refl
-durable_is Reply start = refl
+durable_is x1 start = grind arith
 
 pub length-durable_body : (direction : Direction)
     → (0 < length (durable_body direction)) × (length (durable_body direction) < 1000) × (length (durable_body direction) % 8 ≡ 0)
-length-durable_body Request = (omega arith, omega arith, refl)
-length-durable_body Reply = (omega arith, omega arith, refl)
+length-durable_body x1 = grind arith
 
 pub reconnect_is : (start file_id : ℕ) → file_id < 2 ^ 64
     → meaning_of Request (written start reconnect_name (reconnect_body file_id)) ≡ Reconnect file_id
 unfolding meaning_of
-reconnect_is start file_id fits =
-    let small : file_id < 256 ^ 8 = omega arith in
-    ap Reconnect (little_number-reads_back 8 file_id (little_bytes 8 file_id) small)
+reconnect_is start file_id fits = grind arith
