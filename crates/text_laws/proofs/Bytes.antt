@@ -1,10 +1,11 @@
 -- Words of bytes above a separator, and the pieces that they are.
-use Rattle.std.proofs.Common.{◌≡◌, ℕ, suc, ◌/◌, ◌%◌, ◌<◌, List, [], ◌∷◌, ◌++◌, slice_index, refl, arith, ◌==◌, true, false, Bool, ◌&&◌, Some}
+use Rattle.std.proofs.Common.{◌≡◌, ℕ, zero, suc, ◌+◌, ◌-◌, ◌/◌, ◌%◌, ◌<◌, List, [], ◌∷◌, ◌++◌, slice_index, refl, arith, ◌==◌, true, false, Bool, ◌&&◌, Some, if◌then◌else◌}
 use Rattle.std.specs.Prelude.{nat_lt}
 use Rattle.std.proofs.lemmas.Bool.{and_parts}
 use Rattle.std.proofs.lemmas.Bool.Decides.{nat_tests}
 use Rattle.hex.specs.Hex.{IsBytes, encode_with, encode_lower, lower_digits, hex_digit_value}
 use Rattle.hex.proofs.HexLemmas.{IsDigits-lower_digits}
+use Rattle.uuid.specs.Text.{by_index, hex_digit, nibble, digit_place, is_hyphen_place, hyphenated_text, lower}
 use Rattle.lease_texts.specs.Pieces.{pieces, longer}
 
 -- each byte is above this one
@@ -64,3 +65,23 @@ hexadecimal_above (byte ∷ rest) bytes =
     let high = digit_above (byte / 16) (omega (arith, small)) in
     let low = digit_above (byte % 16) (omega arith) in
     rw (high, low) (hexadecimal_above rest (λ i. bytes (suc i)))
+
+-- ---- identifiers between hyphens
+
+by_index_above : (count : ℕ) (byte : ℕ → ℕ) → ((k : ℕ) → nat_lt 32 (byte k) ≡ true) → all_above 32 (by_index count byte) ≡ true
+unfolding by_index
+by_index_above zero byte above = refl
+by_index_above (suc count) byte above =
+    let last : all_above 32 (byte count ∷ []) ≡ true = rw (above count) refl in
+    above-append 32 (by_index count byte) (byte count ∷ []) (by_index_above count byte above) last
+
+pub hyphenated_above : (guid : List ℕ) → all_above 32 (hyphenated_text lower guid) ≡ true
+hyphenated_above guid = by_index_above 36 _ (λ k. one (is_hyphen_place k) (nibble guid (digit_place k)))
+  where
+    digit : (small : Bool) (d : ℕ) → nat_lt d 10 ≡ small → nat_lt 32 (if small then 48 + d else 97 + d - 10) ≡ true
+    digit true d e = grind (arith, nat_tests)
+    digit false d e = grind (arith, nat_tests)
+
+    one : (hyphen : Bool) (d : ℕ) → nat_lt 32 (if hyphen then 45 else hex_digit 97 d) ≡ true
+    one true d = refl
+    one false d = digit (nat_lt d 10) d refl

@@ -145,24 +145,9 @@ by_names line = of_fields (fields_of line)
 
 refuses : (name : List ℕ) (words : Words) → Each (Unnamed name) fact_kinds → named name words ≡ None
 unfolding named fact_named
-refuses name words none =
-    let others = none.1.1.1.1 in
-    let last_ones = others.1.1.1.1 in
-    rw (
-      none.0,
-      none.1.0,
-      none.1.1.0,
-      none.1.1.1.0,
-      others.0,
-      others.1.0,
-      others.1.1.0,
-      others.1.1.1.0,
-      last_ones.0,
-      last_ones.1.0,
-      last_ones.1.1.0,
-      last_ones.1.1.1.0,
-      last_ones.1.1.1.1.0,
-    ) refl
+refuses name words
+    (start, (joined, (dropped, (expired, (sent, (took, (opened, (changed, (wrote, (settled, (believes, (read, (strayed, others))))))))))))) =
+    rw (start, joined, dropped, expired, sent, took, opened, changed, wrote, settled, believes, read, strayed) refl
 
 are_apart : all_apart fact_kinds ≡ true
 unfolding word_of differ fields_apart apart all_apart

@@ -137,6 +137,6 @@ first_joined setup = starts_joined (starts_from 1 setup.files) [] (all_starts 1 
 pub run_joined : (setup : Setup) (events : List Event) → is_allowed_setup setup ≡ true
     → EachFact Joined (after (first_world setup) events).past
 run_joined setup events allowed =
-    (runs_have (Both (Both Ground IsWell) HasJoined) (λ world both. both.0.0)
+    (runs_have (Both (Both Ground IsWell) HasJoined) (λ world (known, joined). known.0)
     (carried_both (Both Ground IsWell) HasJoined (carried_both Ground IsWell ground_carried well_moves) joined_moves) setup
     ((first_ground setup, first_well setup allowed), first_joined setup) events).1

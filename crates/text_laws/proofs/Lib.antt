@@ -1,5 +1,6 @@
 pub mod Bytes
 pub mod Numbers
+pub mod Spoken
 pub mod Lines
 pub mod Texts
 pub mod Named

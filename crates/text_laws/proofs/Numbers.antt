@@ -83,9 +83,6 @@ digits_above (byte ∷ rest) bytes = hexadecimal_above (byte ∷ rest) bytes
 no_hyphen : (first second : ℕ) (digits : List ℕ) → bytes_eq (first ∷ second ∷ digits) (codes "-") ≡ false
 no_hyphen first second digits = elim (first == 45) as (λ b. (b && false) ≡ false) [ true ↦ refl | false ↦ refl ]
 
-ok_bytes : {E : Type 0} (result : Result (List ℕ) E) (bytes : List ℕ) → result ≡ Ok bytes → result_ok result ≡ Some bytes
-ok_bytes result bytes ok = rw ok refl
-
 pub bytes_back : (bytes : List ℕ) → IsBytes bytes → bytes_in (digits_word bytes) ≡ Some bytes
 unfolding bytes_in encode_with
 bytes_back [] bytes = refl

@@ -206,9 +206,9 @@ raw_fits alone fields telling goes = record { told = raw_told; tells = tells }
         → named (codes "raw") words ≡ Some told
     tells [] told say = absurd say
     tells (first ∷ []) told say = absurd say.2
-    tells (first ∷ second ∷ words) told say =
-        ap (λ (w : List ℕ). named (codes "raw") (first ∷ w ∷ words)) say.2.1
-        ∙ ((goes first say.0.0 say.1).same words told).1 say.2.2
+    tells (first ∷ second ∷ words) told (client, is_client, (word, same, say)) =
+        ap (λ (w : List ℕ). named (codes "raw") (first ∷ w ∷ words)) same
+        ∙ ((goes first client.0 is_client).same words told).1 say
 
 -- ---- the table
 
@@ -293,33 +293,18 @@ by_names line = of_fields (fields_of line)
 unknown : (name : List ℕ) (client : ℕ) (words : Words) → Each (Unnamed name) (drop 2 part_kinds)
     → event_of name client words ≡ None
 unfolding event_of
-unknown name client words none =
-    let events = none.1.1.1.1.1.1 in
-    let timers = events.1.1.1.1.1 in
-    rw (
-      none.0,
-      none.1.1.0,
-      none.1.1.1.0,
-      none.1.1.1.1.0,
-      none.1.1.1.1.1.0,
-      events.0,
-      events.1.0,
-      events.1.1.0,
-      events.1.1.1.0,
-      events.1.1.1.1.0,
-      timers.0,
-      timers.1.0,
-      timers.1.1.0,
-    ) refl
+unknown name client words
+    (opens, (durable, (close, (read, (flush, (write, (serve, (take, (cut, (notice, (connect, (expire, (scavenge, (raws, others)))))))))))))) =
+    rw (opens, close, read, flush, write, serve, take, cut, notice, connect, expire, scavenge, raws) refl
 
 refuses : (name : List ℕ) (words : Words) → Each (Unnamed name) part_kinds → named name words ≡ None
 unfolding named part_named event_named
-refuses name [] none = rw (none.0, none.1.0) refl
-refuses name (first ∷ words) none = by_client (ordinal_in first) refl
+refuses name [] (file, (client, others)) = rw (file, client) refl
+refuses name (first ∷ words) (file, (client, others)) = by_client (ordinal_in first) refl
   where
     by_client : (got : Option ℕ) → ordinal_in first ≡ got → named name (first ∷ words) ≡ None
-    by_client None c = rw (none.0, none.1.0, c) refl
-    by_client (Some client) c = rw (none.0, none.1.0, c, unknown name client words none.1.1) refl
+    by_client None c = rw (file, client, c) refl
+    by_client (Some number) c = rw (file, client, c, unknown name number words others) refl
 
 are_apart : all_apart part_kinds ≡ true
 unfolding word_of differ fields_apart apart all_apart

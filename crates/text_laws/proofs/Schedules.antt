@@ -4,16 +4,17 @@ use Rattle.std.proofs.lemmas.List.{append_assoc, append-nil}
 use Rattle.lease_facts.specs.declared.setup.Event.{Event}
 use Rattle.lease_texts.specs.Pieces.{pieces, lines_of}
 use Rattle.lease_texts.specs.Reading.{reads_on}
-use Rattle.lease_texts.specs.Schedules.{Draft, Part, with_part, with_line, schedule_in, event_line, file_line, client_line}
+use Rattle.lease_texts.specs.Schedules.{Draft, Part, part_in, with_part, with_line, schedule_in, event_line, file_line, client_line}
 use Rattle.text_laws.specs.Told.{Each}
 use Rattle.text_laws.specs.Schedules.{CanHappen, IsFile, IsGuid, SchedulesAreReadBack}
-use Rattle.text_laws.proofs.Parts.{IsPartLine, file_back, client_back, event_back}
+use Rattle.text_laws.proofs.Parts.{file_back, client_back, event_back}
+use Rattle.text_laws.proofs.Spoken.{IsLine}
 
 abbrev drafted : List (List ℕ) → List (List ℕ) → List Event → Draft
 drafted files clients events = record { files = files; clients = clients; events = events }
 
 -- one line
-reads_part : (text : List ℕ) (part : Part) (draft new : Draft) (number : ℕ) (rest : List ℕ) → IsPartLine text part
+reads_part : (text : List ℕ) (part : Part) (draft new : Draft) (number : ℕ) (rest : List ℕ) → IsLine part_in text part
     → with_part draft (Some part) ≡ Some new
     → reads_on with_line number draft (lines_of (text ++ rest)) ≡ reads_on with_line (number + 1) new (lines_of rest)
 unfolding reads_on with_line
@@ -24,7 +25,7 @@ abbrev Reads : List ℕ → Draft → Draft → Type 0
 Reads text draft new = (number : ℕ) (rest : List ℕ) → (next : ℕ)
     × (reads_on with_line number draft (lines_of (text ++ rest)) ≡ reads_on with_line next new (lines_of rest))
 
-one_more : (first others : List ℕ) (part : Part) (draft middle new : Draft) → IsPartLine first part
+one_more : (first others : List ℕ) (part : Part) (draft middle new : Draft) → IsLine part_in first part
     → with_part draft (Some part) ≡ Some middle → Reads others middle new → Reads (first ++ others) draft new
 one_more first others part draft middle new is adds reads number rest =
     let more = reads (number + 1) rest in (

@@ -40,11 +40,11 @@ reads_all facts (told ∷ more) can number rest =
 
 named : (facts : List Fact) → Each CanBeTold facts → Each CanBeNamed facts
 named [] can = tt
-named (told ∷ facts) can = (can.0.0, named facts can.1)
+named (told ∷ facts) ((is, lettered), others) = (is, named facts others)
 
 as_they_are : (facts : List Fact) → Each CanBeTold facts → map as_lettered facts ≡ facts
 as_they_are [] can = refl
-as_they_are (told ∷ facts) can = rw (as_it_is told can.0.1, as_they_are facts can.1) refl
+as_they_are (told ∷ facts) ((is, lettered), others) = rw (as_it_is told lettered, as_they_are facts others) refl
 
 pub texts_go_on : (facts : List Fact) (rest : List ℕ) → Each CanBeTold facts
     → record_in (record_text facts ++ rest) ≡ reads_on with_line (length facts + 1) facts (lines_of rest)
