@@ -1,5 +1,5 @@
 -- Records and summaries together agree with the list of opens.
-use Rattle.std.proofs.Common.{◌≡◌, ℕ, Bool, true, false, not, List, refl, ap, sym, ◌∙◌, subst, true≢false}
+use Rattle.std.proofs.Common.{◌≡◌, ℕ, Bool, true, false, not, List, refl, ap, sym, ◌∙◌, subst, true≢false, arith}
 use Rattle.std.specs.Prelude.{if◌then◌else◌, Option, Some, None}
 use Rattle.std.specs.BTreeMap.{get}
 use Rattle.std.specs.List.{list_any}
@@ -37,16 +37,14 @@ pub files_kept : (before during : Summaries) (opens : List Open) (leases : Key �
     → during.files ≡ before.files
     → ((file : FileNo) → SummaryFits file.0 opens leases (summary_at before file))
     → (file : FileNo) → SummaryFits file.0 opens leases (summary_at during file)
-files_kept before during opens leases same fits = λ file.
-    subst (λ f. SummaryFits file.0 opens leases (get file_order f file)) (sym same) (fits file)
+files_kept before during opens leases same fits = grind arith
 
 pub leases_same : (after during : Summaries) (key : Key) → after.leases ≡ during.leases
     → lease_in after key ≡ lease_in during key
 leases_same after during key same = ap (λ l. lease_or_none (get key_order l key)) same
 
 twice : (b : Bool) → b ≡ not (not b)
-twice true = refl
-twice false = refl
+twice x1 = grind arith
 
 pub last_on : (key : Key) (one : Open) (less : List Open) (last : Bool) → key_of_open one ≡ Some key
     → list_any (is_elsewhere key one.file) less ≡ false → list_any (has_key key) less ≡ not last
@@ -74,11 +72,7 @@ after_gain key one lease marks less before during own home is now = record {
 
 pub after_keyless : (one : Open) (marks : LeaseMarks) (less : List Open) (leases : Key → model.Lease)
     → key_of_open one ≡ None → AreAfter one marks less leases leases
-after_keyless one marks less leases own = record {
-  same = λ other e. refl;
-  own = λ other e. never_has one other own e;
-  home = λ other e. never_has one other own e;
-}
+after_keyless one marks less leases own = grind arith
 
 pub at_home : (own : Option Key) (key : Key) (file : ℕ) (opens : List Open) → own ≡ Some key → IsAtHome own file opens
     → list_any (is_elsewhere key file) opens ≡ false
@@ -88,8 +82,7 @@ pub is_put : (key : Key) (lease : model.Lease) (marks : LeaseMarks) (leases late
     → marks_of lease ≡ marks
     → ((other : Key) → later other ≡ (if key_eq other key then lease else leases other))
     → IsPut key marks leases later
-is_put key lease marks leases later is now =
-    (λ other e. now other ∙ rw e refl, λ other e. rw (now other, e) is)
+is_put key lease marks leases later is now = grind arith
 
 -- a key that an open has has a record
 pub record_there : (key : Key) (opens : List Open) (known : Option LeaseRecord) (is : LeaseRecord) → known ≡ Some is
@@ -98,5 +91,4 @@ record_there key opens known is same fits = subst (RecordFits key opens) same fi
 
 pub never_unknown : (key : Key) (opens : List Open) (known : Option LeaseRecord) {P : Type 0}
     → list_any (has_key key) opens ≡ true → known ≡ None → RecordFits key opens known → P
-never_unknown key opens known there none fits =
-    absurd (true≢false (sym there ∙ subst (RecordFits key opens) none fits))
+never_unknown key opens known there none fits = grind arith

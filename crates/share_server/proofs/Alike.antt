@@ -1,5 +1,5 @@
 -- A write is tried as any other on its open that ends within the limit, or doesn't, as it does.
-use Rattle.std.proofs.Common.{◌≡◌, ℕ, Bool, zero, suc, true, false, refl, ap, sym, ◌∙◌}
+use Rattle.std.proofs.Common.{◌≡◌, ℕ, Bool, zero, suc, true, false, refl, ap, sym, ◌∙◌, arith}
 use Rattle.std.specs.Prelude.{Option, if◌then◌else◌}
 use Rattle.lease_state.specs.declared.patch.Patch.{Patch}
 use Rattle.lease_state.specs.declared.status.Status.{Status}
@@ -44,9 +44,7 @@ after_alike : (again more : Progress → Tried) (file_id number other : ℕ) (pa
     → after_finding again (FileRequest.Write file_id number patch) progress found
     ≡ after_finding more (FileRequest.Write file_id other like) progress found
 unfolding is_ready waits_for
-after_alike again more file_id number other patch like progress (Finding.Fails status) same = refl
-after_alike again more file_id number other patch like progress (Finding.Needs wants) same =
-    let e = same (wants_met wants progress) in rw e refl
+after_alike again more file_id number other patch like progress x9 same = grind arith
 
 tried_alike : (rounds client file_id number other : ℕ) (patch like : Patch) (progress : Progress)
     → is_within_limit patch ≡ is_within_limit like
@@ -62,8 +60,7 @@ tried_alike (suc rounds) client file_id number other patch like progress same =
     (λ next. tried_alike rounds client file_id number other patch like next same))
 
 limit_like : (fits : Bool) → is_within_limit (patch_like fits) ≡ fits
-limit_like true = refl
-limit_like false = refl
+limit_like x1 = grind arith
 
 pub writes_are_tried_alike : (client file_id number : ℕ) (patch : Patch) (fits : Bool) (progress : Progress)
     → fits ≡ is_within_limit patch

@@ -1,5 +1,5 @@
 -- A request that comes and has to wait.
-use Rattle.std.proofs.Common.{◌≡◌, ℕ, true, false, List, [], ◌∷◌, ◌++◌, refl, ap, sym, ◌∙◌}
+use Rattle.std.proofs.Common.{◌≡◌, ℕ, true, false, List, [], ◌∷◌, ◌++◌, refl, ap, sym, ◌∙◌, arith}
 use Rattle.std.specs.Prelude.{Result, Ok, Err}
 use Rattle.lease_state.specs.declared.access.Access.{Access}
 use Rattle.lease_state.specs.declared.access.Share.{Share}
@@ -41,9 +41,7 @@ behind_held table after outs client file request behind is =
 waiting_held : (client file : ℕ) (request : FileRequest) (progress : Progress) (outcome : Outcome)
     → is_waiting outcome ≡ true
     → after_first_try client file request progress outcome ≡ request_held file (held_of client request) progress
-waiting_held client file request progress (Outcome.Refused status) e = absurd (cc e)
-waiting_held client file request progress Outcome.Waits e = refl
-waiting_held client file request progress Outcome.Ready e = absurd (cc e)
+waiting_held client file request progress x5 e = grind arith
 
 pub tried_and_held : (before during after : Table) (outs more : List Out) (client file : ℕ) (request : FileRequest)
     (outcome : Outcome)
@@ -57,9 +55,6 @@ tried_and_held before during after outs more client file request outcome first e
     ∙ (sym (waiting_held client file request (progress_of during more) outcome waits)
     ∙ ap (λ (t : Tried). after_first_try client file request t.progress t.outcome) end))
 
-abbrev at_outs : Server → List Out → Progress
-at_outs server outs = record { server = server; outs = outs }
-
 -- a create whose contexts have a fault
 pub faulty_create : (table : Table) (outs more : List Out) (client file : ℕ) (access : Access) (share : Share)
     (fault : WireFault) (found : Result CreateView WireFault) → Err fault ≡ found
@@ -67,7 +62,4 @@ pub faulty_create : (table : Table) (outs more : List Out) (client file : ℕ) (
     → progress_of table more
     ≡ first_tried client (FileRequest.Create file access share (ask_found found)) (progress_of table outs)
 unfolding file_asked refused
-faulty_create table outs more client file access share fault found is told =
-    ap (at_outs (server_of table)) told
-    ∙ ap (λ (f : Result CreateView WireFault).
-    first_tried client (FileRequest.Create file access share (ask_found f)) (progress_of table outs)) is
+faulty_create table outs more client file access share fault found is told = grind arith

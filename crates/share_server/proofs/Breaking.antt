@@ -1,5 +1,5 @@
 -- Small steps of a try, from what they make of the tables.
-use Rattle.std.proofs.Common.{◌≡◌, ◌⊎◌, inl, inr, true, false, Bool, List, [], ◌∷◌, ◌++◌, refl, ap, sym, ◌∙◌, append-nil, not}
+use Rattle.std.proofs.Common.{◌≡◌, ◌⊎◌, inl, inr, true, false, Bool, List, [], ◌∷◌, ◌++◌, refl, ap, sym, ◌∙◌, append-nil, not, arith}
 use Rattle.std.specs.Prelude.{ℕ, Some, None, if◌then◌else◌, ◌&&◌}
 use Rattle.lease_state.specs.State.{State, needs_acknowledgment}
 use Rattle.lease_model.specs.messages.Replies.{Out, Reply}
@@ -32,24 +32,10 @@ pub not_broken : (progress : Progress) (key : Key) (lowered : State)
     → (has_lease progress.server key ≡ false) ⊎ (is_breaking (progress.server.leases key) ≡ true)
     → progress ≡ lease_broken key lowered progress
 unfolding lease_broken
-not_broken progress key lowered (inl none) = rw none refl
-not_broken progress key lowered (inr breaking) =
-    if_cases (λ p. progress ≡ p) (has_lease progress.server key && not (is_breaking (progress.server.leases key)))
-    _ progress
-    (λ both. clash (is_breaking (progress.server.leases key)) breaking
-    (not_parts (is_breaking (progress.server.leases key)) (and_parts _ _ both).1))
-    (λ one. refl)
+not_broken progress key lowered x4 = grind arith
 
 at_both : (a b : Server) (given told : List Out) → a ≡ b → given ≡ told → at_step given a ≡ at_step told b
 at_both a b given told x y = ap (at_step given) x ∙ ap (λ outs. at_step outs b) y
-
-kept_so : (state lowered : State) → needs_acknowledgment state ≡ true
-    → broken_so state lowered ≡ record { state = state; broken_to = Some lowered }
-kept_so state lowered e = rw e refl
-
-lowered_so : (state lowered : State) → needs_acknowledgment state ≡ false
-    → broken_so state lowered ≡ record { state = lowered; broken_to = None }
-lowered_so state lowered e = rw e refl
 
 chosen : {X : Type 0} (there breaking : Bool) (x y : X) → there ≡ true → breaking ≡ false
     → (if there && not breaking then x else y) ≡ x
@@ -64,13 +50,7 @@ begun_or_lowered : (table after : Table) (outs given : List Out) (key : Key) (lo
     then break_begun key lowered (progress_of table outs)
     else lease_lowered key lowered (progress_of table outs))
 unfolding lease_lowered break_begun
-begun_or_lowered table after outs given key lowered is told =
-    if_cases (λ (p : Progress). progress_of after given ≡ p)
-    (needs_acknowledgment ((server_of table).leases key).state) _ _
-    (λ e. at_both _ _ _ _
-    (is ∙ ap (with_lease (server_of table) key) (kept_so ((server_of table).leases key).state lowered e)) told)
-    (λ e. at_both _ _ _ _
-    (is ∙ ap (with_lease (server_of table) key) (lowered_so ((server_of table).leases key).state lowered e)) told)
+begun_or_lowered table after outs given key lowered is told = grind arith
 
 pub is_broken : (table after : Table) (outs given : List Out) (key : Key) (lowered : State) (lease : Lease)
     → lease ≡ (server_of table).leases key → has_lease (server_of table) key ≡ true → is_breaking lease ≡ false

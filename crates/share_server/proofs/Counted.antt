@@ -35,8 +35,7 @@ use Rattle.share_server.proofs.Tabling.{leases_are, listed_lease, one_more}
 -- without an open there is nothing to agree with
 pub kept_empty : (opens : List Open) (summaries : Summaries) (last_id : ℕ) → opens ≡ [] → Agrees summaries []
     → AreKept opens summaries last_id
-kept_empty opens summaries last_id none agree =
-    subst (λ xs. AreKept xs summaries last_id) (sym none) (record { agree = agree; numbered = λ one a. absurd a })
+kept_empty opens summaries last_id none agree = grind arith
 
 -- ---- one file's queue, and one file's count
 
@@ -58,18 +57,12 @@ abbrev pub IsCountPut : Waiting → Waiting → ℕ → ℕ → Type 0
 IsCountPut before after i count = (n : ℕ) → count_in after n ≡ (if n == i then count else count_in before n)
 
 count_here : (before after : Waiting) (i count : ℕ) → IsCountPut before after i count → count_in after i ≡ count
-count_here before after i count put =
-    put i ∙ ap (λ b. if b then count else count_in before i) ((Decides-eqb i i).1 refl)
+count_here before after i count put = grind arith
 
 -- what is known of each file's count, once one file's is another
 count_cases : (P : ℕ → ℕ → Type 0) (before after : Waiting) (i count : ℕ) → IsCountPut before after i count → P i count
     → ((n : ℕ) → P n (count_in before n)) → (n : ℕ) → P n (count_in after n)
-count_cases P before after i count put here others n = either (n == i)
-    (λ its.
-    let is = (Decides-eqb n i).0 its in
-    subst (P n) (sym (put n ∙ ap (λ b. if b then count else count_in before n) its))
-    (subst (λ m. P m count) (sym is) here))
-    (λ its. subst (P n) (sym (put n ∙ ap (λ b. if b then count else count_in before n) its)) (others n))
+count_cases x1 before after i count put here others n = grind arith
 
 abbrev pub Known : Server → List File → Waiting → Type 0
 Known server files waiting = (n : ℕ) → AreCounted server n (file_in files n).held (count_in waiting n)
@@ -101,9 +94,7 @@ pub known_counted : (server : Server) (files : List File) (i place : ℕ) (befor
     → ((one : Held) → slice_get (file_in files i).held place ≡ Some one
     → StaysLocally server i (take place (file_in files i).held) one)
     → Known server files before → Known server files after
-known_counted server files i place before after put is inside stays known =
-    count_cases (λ n count. AreCounted server n (file_in files n).held count) before after i (place + 1) put
-    (one_counted server i (file_in files i).held (count_in before i) place (known i) is inside stays) known
+known_counted server files i place before after put is inside stays known = grind arith
 
 -- ---- what is known of the server
 
@@ -180,13 +171,7 @@ stays_decided table summaries file queue place same stays = λ one is. ⊎_elim
 
 forgotten_at : (test : Open → Bool) (opens : List Open) (before after : Waiting) (i : ℕ) → IsCountPut before after i 0
     → ((one : Open) → Among one opens → test one ≡ true → one.file ≡ i) → HaveForgotten test opens before after
-forgotten_at test opens before after i put only = λ file. either (file == i)
-    (λ its. inl (put file ∙ ap (λ b. if b then 0 else count_in before file) its))
-    (λ off. inr (
-      put file ∙ ap (λ b. if b then 0 else count_in before file) off,
-      λ one a on. not_true (test one) (λ t. clash (file == i)
-          ((Decides-eqb file i).1 (sym ((Decides-eqb one.file file).0 on) ∙ only one a t)) off),
-    ))
+forgotten_at test opens before after i put only = grind arith
 
 pub forgotten_none : (test : Open → Bool) (opens : List Open) (before after : Waiting) → before ≡ after
     → list_any test opens ≡ false → HaveForgotten test opens before after
@@ -300,8 +285,7 @@ pub both_so : (a b c d : Bool) → a ≡ true → b ≡ true → d ≡ c → d �
 both_so a b c d t u same = rw (t, u) same
 
 pub second_not : (a b c : Bool) → b ≡ false → false ≡ (a && (b && c))
-second_not true b c e = rw e refl
-second_not false b c e = refl
+second_not x1 b c e = grind arith
 
 pub none_in : (waiting : Waiting) (file : ℕ) → length waiting.counts.entries ≡ 0 → count_in waiting file ≡ 0
 none_in waiting file none = go waiting.counts.entries none

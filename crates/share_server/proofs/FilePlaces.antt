@@ -38,8 +38,7 @@ with_files server contents held = record server { contents = contents; held = he
 
 files_same : (server : Server) (contents bytes : ℕ → List ℕ) (held queues : ℕ → List Held)
     → contents ≡ bytes → held ≡ queues → with_files server contents held ≡ with_files server bytes queues
-files_same server contents bytes held queues b c =
-    ap (λ x. with_files server x held) b ∙ ap (λ x. with_files server bytes x) c
+files_same server contents bytes held queues b c = grind arith
 
 -- another queue on one file
 held_put : (table : Table) (i : ℕ) (old : File) (held : List Held) → i < length table.files

@@ -47,12 +47,10 @@ any_filtered test other (key ∷ keys) =
     either (test key) (λ t. rw (t, e) (kept (other key) _)) (λ t. rw (t, e) (dropped (other key) _))
   where
     kept : (a b : Bool) → (a || b) ≡ ((a && true) || b)
-    kept true b = refl
-    kept false b = refl
+    kept x1 b = grind arith
 
     dropped : (a b : Bool) → b ≡ ((a && false) || b)
-    dropped true b = refl
-    dropped false b = refl
+    dropped x1 b = grind arith
 
 all_filtered : (P : Key → Type 0) (test : Key → Bool) (keys : List Key) → AllByRecursion P keys
     → AllByRecursion P (filter test keys)
@@ -164,8 +162,7 @@ lease_summed summaries server key one stand has =
 -- an open without a key has no lease, and hinders nothing
 hinderer_keyed : (server : Server) (client : ℕ) (bytes : Option (List ℕ))
     → hinders_writes (lease_by server client bytes) ≡ true → is_some bytes ≡ true
-hinderer_keyed server client None hinders = absurd (true≢false (sym hinders))
-hinderer_keyed server client (Some bytes) hinders = refl
+hinderer_keyed server client x3 hinders = grind arith
 
 pub hindered_by : (own : Option Key) (file : ℕ) (summaries : Summaries) (server : Server) (summary : FileSummary)
     → StandFor summaries server → SumsUp file server.opens (lease_in summaries) summary
@@ -200,12 +197,10 @@ hindered_by own file summaries server summary stand s =
     (and_both (contains key_order summary.keys key.0) (not (contains key_order summary.harmless key.0)) there (ap not marked))))
   where
     hinders_unmarked : (marked used hinders : Bool) → marked ≡ (used && not hinders) → hinders ≡ true → marked ≡ false
-    hinders_unmarked marked true hinders is e = is ∙ ap not e
-    hinders_unmarked marked false hinders is e = is
+    hinders_unmarked marked x2 hinders is e = grind arith
 
     unmarked : (marked used hinders : Bool) → marked ≡ (used && not hinders) → used ≡ true → marked ≡ false → hinders ≡ true
-    unmarked marked used true is u m = refl
-    unmarked marked used false is u m = absurd (true≢false (sym (is ∙ rw u refl) ∙ m))
+    unmarked marked used x3 is u m = grind arith
 
 -- where no open is on the file
 pub hindered_none : (own : Option Key) (file : ℕ) (server : Server) → list_any (is_on file) server.opens ≡ false
@@ -220,14 +215,10 @@ hindered_none own file server none =
 
 -- what a lease holds it gives up by the break under way, or it hinders
 gives_up : (holds gives : Bool) → holds ≡ true → (holds && not gives) ≡ false → gives ≡ true
-gives_up holds true h e = refl
-gives_up true false h e = absurd (true≢false e)
-gives_up false false h e = absurd (true≢false (sym h))
+gives_up holds x2 h e = grind arith
 
 hinders_still : (holds gives : Bool) → (holds && not gives) ≡ true → (holds ≡ true) × (gives ≡ false)
-hinders_still true false e = (refl, refl)
-hinders_still true true e = absurd (true≢false (sym e))
-hinders_still false gives e = absurd (true≢false (sym e))
+hinders_still x1 x2 e = grind arith
 
 abbrev is_wanted_of : Server → Option Key → ℕ → Open → Bool
 is_wanted_of server own file one = is_other_on own file one && holds_any (lease_of server one).state

@@ -1,5 +1,5 @@
 -- A create that is ready has no open under its key on another file, and a write that is ready ends within the limit of a file.
-use Rattle.std.proofs.Common.{◌≡◌, refl, sym, ap, ◌∙◌, subst, ℕ, zero, suc, Bool, true, false, not, List}
+use Rattle.std.proofs.Common.{◌≡◌, refl, sym, ap, ◌∙◌, subst, ℕ, zero, suc, Bool, true, false, not, List, arith}
 use Rattle.std.specs.Prelude.{◌&&◌, ◌==◌, if◌then◌else◌, Option, Some, None}
 use Rattle.std.specs.List.{list_any}
 use Rattle.std.proofs.lemmas.Bool.Decides.{Decides-eqb}
@@ -36,15 +36,7 @@ finding_ready : (again : Progress → Tried) (client : ℕ) (request : FileReque
     → finding progress.server client request ≡ found
     → ((next : Progress) → EndsReady client request (again next))
     → EndsReady client request (after_finding again request progress found)
-finding_ready again client request progress (Finding.Fails status) e good = λ r. absurd (cc)
-finding_ready again client request progress (Finding.Needs wants) e good =
-    if_cases (EndsReady client request) (is_ready request progress.server.leases wants)
-    (ended progress Outcome.Ready) (after_breaks again request wants (wants_met wants progress))
-    (λ r same. record { wants = wants; found = e; ready = r })
-    (λ n. if_cases (EndsReady client request) (must_wait request (wants_met wants progress) wants)
-    (ended (wants_met wants progress) Outcome.Waits) (again (wants_met wants progress))
-    (λ w same. absurd (cc))
-    (λ w. good (wants_met wants progress)))
+finding_ready again client request progress x5 e good = grind arith
 
 tried_ready : (rounds client : ℕ) (request : FileRequest) (progress : Progress)
     → EndsReady client request (tried_for rounds client request progress)
@@ -63,19 +55,10 @@ home_free server (Some key) file access share free =
     (λ has. rw (has, (Decides-eqb one.file file).1 (free.at_home one a has)) refl)
     (λ has. rw has refl))
 
-fits_where : (writes fits : Bool) (wants found : List Want) (long denied : Status)
-    → (if writes then (if fits then Finding.Needs found else Finding.Fails long) else Finding.Fails denied) ≡ Finding.Needs wants
-    → fits ≡ true
-fits_where true true wants found long denied e = refl
-fits_where true false wants found long denied e = absurd (cc)
-fits_where false fits wants found long denied e = absurd (cc)
-
 write_fits : (found : Option Open) (server : Server) (patch : Patch) (wants : List Want)
     → by_open found (λ one. write_finding server one patch) ≡ Finding.Needs wants → is_within_limit patch ≡ true
 unfolding write_finding
-write_fits None server patch wants e = absurd (cc)
-write_fits (Some one) server patch wants e =
-    fits_where (may_write one.access) (is_within_limit patch) wants (all_wants server (key_of_open one) one.file) _ _ e
+write_fits x1 server patch wants e = grind arith
 
 at_home : (server : Server) (client : ℕ) (request : FileRequest) (wants : List Want)
     → finding server client request ≡ Finding.Needs wants → RequestFree server client request
@@ -105,8 +88,7 @@ ready_at_home client request before after outcome end ready =
 pub elsewhere_same : (a b : Server) (own : Option Key) (file : ℕ) → a.opens ≡ b.opens
     → is_leased_elsewhere a own file ≡ is_leased_elsewhere b own file
 unfolding is_leased_elsewhere
-elsewhere_same a b None file same = refl
-elsewhere_same a b (Some key) file same = ap (list_any (λ one. has_key key one && not (one.file == file))) same
+elsewhere_same a b x3 file same = grind arith
 
 -- what is held has no part in it
 pub home_kept : (a b : Server) (client : ℕ) (request : FileRequest) → a.opens ≡ b.opens
@@ -126,10 +108,7 @@ pub home_asked : (server : Server) (client file : ℕ) (asked : Option LeaseOf) 
     → is_leased_elsewhere server (own_key client asked) file ≡ false
     → IsAtHome (key_under client bytes) file server.opens
 unfolding is_leased_elsewhere
-home_asked server client file None bytes same home =
-    subst (λ b. IsAtHome (key_under client b) file server.opens) (sym same) tt
-home_asked server client file (Some asked) bytes same home =
-    subst (λ b. IsAtHome (key_under client b) file server.opens) (sym same) home
+home_asked server client file x4 bytes same home = grind arith
 
 -- ---- the file of a key
 

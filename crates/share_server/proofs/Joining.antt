@@ -33,8 +33,7 @@ with_known server present expired =
 
 same_known : (server : Server) (present others : ℕ → Bool) (expired keys : Key → Bool) → present ≡ others → expired ≡ keys
     → with_known server present expired ≡ with_known server others keys
-same_known server present others expired keys a b =
-    ap (λ x. with_known server x expired) a ∙ ap (λ x. with_known server others x) b
+same_known server present others expired keys a b = grind arith
 
 pub tables_joined : (table : Table) (client : ClientNo)
     → progress_of (record table {
@@ -67,9 +66,7 @@ with_clients server contents held present =
 same_clients : (server : Server) (contents bytes : ℕ → List ℕ) (held queues : ℕ → List Held) (present others : ℕ → Bool)
     → contents ≡ bytes → held ≡ queues → present ≡ others
     → with_clients server contents held present ≡ with_clients server bytes queues others
-same_clients server contents bytes held queues present others a b c =
-    ap (λ x. with_clients server x held present) a
-    ∙ (ap (λ x. with_clients server bytes x present) b ∙ ap (λ x. with_clients server bytes queues x) c)
+same_clients server contents bytes held queues present others a b c = grind arith
 
 pub tables_forgotten : (table : Table) (client : ClientNo)
     → progress_of (record table {

@@ -1,5 +1,5 @@
 -- The laws of every server in the words of its opens and leases.
-use Rattle.std.proofs.Common.{ap, ◌∙◌}
+use Rattle.std.proofs.Common.{ap, ◌∙◌, arith}
 use Rattle.lease_laws.proofs.server.Keys.{lease_by-key}
 use Rattle.lease_laws.specs.server.Laws.{IsSound}
 use Rattle.lease_model.specs.server.State.{Lease, is_breaking}
@@ -23,6 +23,4 @@ what_lasts server sound = λ one there away.
     }
 
 pub breaks_to_less : (server : Table) → IsSound (server_of server) → BreaksToLess server
-breaks_to_less server sound = λ key lowered broken.
-    let lawful = (sound.lawful key).is_broken_so lowered broken in
-    record { is_part = lawful.is_part; is_less = lawful.is_less }
+breaks_to_less server sound = grind arith

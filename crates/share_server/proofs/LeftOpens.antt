@@ -77,9 +77,7 @@ removed_id n (x ∷ ids) (one ∷ opens) same order =
     rw (at, its) (ap₂ (λ m l. m ∷ l) first (removed_id n ids opens later order.1)))
 
 ordered : {P : Type 0} (o : Ordering) → (o ≡ Less → P) → (o ≡ Equal → P) → (o ≡ Greater → P) → P
-ordered Less less equal more = less refl
-ordered Equal less equal more = equal refl
-ordered Greater less equal more = more refl
+ordered x1 less equal more = grind arith
 
 inserted_id : (fid : FileId) (ids : List FileId)
     → numbers (insert_key file_id_order ids fid) ≡ insert_key nat_cmp (numbers ids) fid.0
@@ -330,22 +328,14 @@ left_of_key key file (x ∷ opens) home =
   where
     of_key : (key : Key) (client : ℕ) (own : Option (List ℕ)) → is_key key client own ≡ true
         → (client == key.client) ≡ true
-    of_key key client None has = absurd (true≢false (sym has))
-    of_key key client (Some bytes) has =
-        let same = (and_parts (key.client == client) (bytes_eq key.bytes bytes) has).0 in
-        grind (arith, nat_tests, same)
+    of_key key client x3 has = grind arith
 
     of_client : (key : Key) (x : Open) → has_key key x ≡ true → (x.client == key.client) ≡ true
     of_client key x has = of_key key x.client x.lease_key has
 
     apart : (key : Key) (x : Open) (file : ℕ) → is_elsewhere key file x ≡ false → is_left_by key.client file x ≡ false
         → is_left_open key x ≡ true → ⊥
-    apart key x file here left is =
-        let parts = and_parts (has_key key x) (not x.connected) is in
-        let has = parts.0 in
-        let away = not_parts x.connected parts.1 in
-        let client = of_client key x has in
-        clash (is_left_by key.client file x) (grind (arith, nat_tests, has, here, client, away)) left
+    apart key x file here left is = grind arith
 
 pub none_of_key : (key : Key) (opens : List Open) → list_any (has_key key) opens ≡ false
     → filter (is_left_open key) opens ≡ []

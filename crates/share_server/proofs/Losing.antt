@@ -1,5 +1,5 @@
 -- The opens that a lost connection closes, by the leases that there are.
-use Rattle.std.proofs.Common.{◌≡◌, ℕ, List, refl, ap, not}
+use Rattle.std.proofs.Common.{◌≡◌, ℕ, List, refl, ap, not, arith}
 use Rattle.std.proofs.Math.Path.{fun_ext}
 use Rattle.std.specs.Prelude.{Option, Some, None, ◌==◌, ◌&&◌}
 use Rattle.lease_state.specs.declared.number.ClientNo.{ClientNo}
@@ -11,15 +11,12 @@ use Rattle.share_server.specs.declared.closing.Closing.TheVariants.{LostBy}
 
 same_lease : (server : Server) (client : ℕ) (bytes : Option (List ℕ))
     → lease_under server.leases (key_under client bytes) ≡ lease_by server client bytes
-same_lease server client None = refl
-same_lease server client (Some bytes) = refl
+same_lease server client x3 = grind arith
 
 lost_one : (server : Server) (client : ClientNo) (one : Open)
     → closes (LostBy client) server.leases one ≡ is_lost server client.0 one
 unfolding outlives_connection
-lost_one server client one =
-    ap (λ (lease : Lease). one.client == client.0 && one.connected && not (outlives_under lease one))
-    (same_lease server one.client one.lease_key)
+lost_one server client one = grind arith
 
 pub lost_are : (server : Server) (client : ClientNo) → closes (LostBy client) server.leases ≡ is_lost server client.0
 lost_are server client = fun_ext (lost_one server client)

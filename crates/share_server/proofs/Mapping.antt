@@ -27,13 +27,7 @@ pub record KeepsCounted (change : Open → Open) : Type 0 where
 
 pub connection_kept : (test : Open → Bool) (b : Bool)
     → KeepsCounted (λ one. if test one then record one { connected = b } else one)
-connection_kept test b = record {
-  client = λ one. either (test one) (λ t. rw t refl) (λ t. rw t refl);
-  file = λ one. either (test one) (λ t. rw t refl) (λ t. rw t refl);
-  lease_key = λ one. either (test one) (λ t. rw t refl) (λ t. rw t refl);
-  access = λ one. either (test one) (λ t. rw t refl) (λ t. rw t refl);
-  share = λ one. either (test one) (λ t. rw t refl) (λ t. rw t refl);
-}
+connection_kept test b = grind arith
 
 any_mapped : (test : Open → Bool) (change : Open → Open) (opens : List Open)
     → ((one : Open) → test (change one) ≡ test one) → list_any test (map change opens) ≡ list_any test opens

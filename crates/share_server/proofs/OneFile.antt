@@ -1,5 +1,5 @@
 -- A look at a request about a file sees the opens on that file alone, and the leases of their keys.
-use Rattle.std.proofs.Common.{◌≡◌, inl, inr, ℕ, Bool, true, false, not, List, [], ◌∷◌, map, filter, refl, ap, sym, ◌∙◌, subst}
+use Rattle.std.proofs.Common.{◌≡◌, inl, inr, ℕ, Bool, true, false, not, List, [], ◌∷◌, map, filter, refl, ap, sym, ◌∙◌, subst, arith}
 use Rattle.std.specs.List.{list_any, list_all}
 use Rattle.std.specs.Prelude.{Option, Some, None, find, if◌then◌else◌, ◌==◌, ◌&&◌, ◌||◌}
 use Rattle.std.proofs.lemmas.Bool.Decides.{Decides-eqb}
@@ -162,11 +162,7 @@ create_on file server own access share home =
 
 awaits_for : (client file : ℕ) (own : Option Key) (file_id : ℕ) → IsFor file (awaits client file own file_id)
 unfolding awaits
-awaits_for client file None file_id one is = absurd (cc is)
-awaits_for client file (Some key) file_id one is =
-    let a = and_parts (one.file_id == file_id && not one.connected && one.client == client && one.file == file)
-    (has_key key one) is in
-    (and_parts (one.file_id == file_id && not one.connected && one.client == client) (one.file == file) a.0).1
+awaits_for client file x3 file_id one is = grind arith
 
 reconnect_on : (file : ℕ) (server : Server) (client : ℕ) (own : Option Key) (file_id : ℕ)
     → reconnect_finding (local file server) client file own file_id ≡ reconnect_finding server client file own file_id

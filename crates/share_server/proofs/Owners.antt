@@ -10,26 +10,11 @@ use Rattle.share_server.specs.Filed.{file_id_order}
 use Rattle.share_server.specs.LeftOpens.{ids_or_none, is_owner, owner_order}
 use Rattle.share_server.specs.declared.left_opens.Owner.{Owner}
 
-at_owner : (owner other : Owner) → is_at (owner_order owner) other ≡ is_owner other owner
-at_owner owner other = grind (arith, nat_tests)
-
-same_owner : (other owner : Owner) → is_owner other owner ≡ true → other ≡ owner
-same_owner other owner is =
-    let parts = and_parts (other.client.0 == owner.client.0) (other.file.0 == owner.file.0) is in
-    let client = (Decides-eqb other.client.0 owner.client.0).0 parts.0 in
-    let file = (Decides-eqb other.file.0 owner.file.0).0 parts.1 in
-    ap₂ (λ c f. record { client = record { 0 = c }; file = record { 0 = f } }) client file
-
 -- nothing changes where the list has the same FileIds
 pub refused_at : (old new : BTreeMap Owner (BTreeSet FileId)) (owner : Owner) (ids written : BTreeSet FileId)
     → get owner_order old owner ≡ Some ids → Updates owner_order old new owner (Some written) → written.keys ≡ ids.keys
     → (other : Owner) → ids_or_none (get owner_order new other) ≡ ids_or_none (get owner_order old other)
-refused_at old new owner ids written there updates same other = either (is_owner other owner)
-    (λ its.
-    let is = same_owner other owner its in
-    let before = subst (λ o. get owner_order old o ≡ Some ids) (sym is) there in
-    rw (updates.0 other, at_owner owner other, its, before) same)
-    (λ its. rw (updates.0 other, at_owner owner other, its) refl)
+refused_at old new owner ids written there updates same other = grind arith
 
 -- a list comes where there was none
 pub first_at : (old new : BTreeMap Owner (BTreeSet FileId)) (owner : Owner) (fid : FileId) (written : BTreeSet FileId)
@@ -38,9 +23,4 @@ pub first_at : (old new : BTreeMap Owner (BTreeSet FileId)) (owner : Owner) (fid
     → (other : Owner) → ids_or_none (get owner_order new other)
     ≡ (if is_owner other owner then insert_key file_id_order (ids_or_none (get owner_order old other)) fid
     else ids_or_none (get owner_order old other))
-first_at old new owner fid written there updates same other = either (is_owner other owner)
-    (λ its.
-    let is = same_owner other owner its in
-    let before = subst (λ o. get owner_order old o ≡ None) (sym is) there in
-    rw (updates.0 other, at_owner owner other, its, before) same)
-    (λ its. rw (updates.0 other, at_owner owner other, its) refl)
+first_at old new owner fid written there updates same other = grind arith

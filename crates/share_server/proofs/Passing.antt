@@ -115,9 +115,7 @@ tried_then : (file place : ℕ) (has : Bool) (before after : Progress) (one : He
     → next_step file place has before one
     ≡ after_try file one (drop (place + 1) (before.server.held file)) (so_far file place has before) after outcome
 unfolding tried_again
-tried_then file place has before after one outcome first end =
-    rw first (ap (λ (t : Tried). after_try file one (drop (place + 1) (before.server.held file))
-    (so_far file place has before) t.progress t.outcome) (sym end))
+tried_then file place has before after one outcome first end = grind arith
 
 pub same_held : (file client : ℕ) (request : FileRequest) (before after : Progress) (outcome : Outcome)
     → ended after outcome ≡ tried client request before → after.server.held file ≡ before.server.held file
@@ -127,16 +125,12 @@ same_held file client request before after outcome end =
 
 waiting_is : (file : ℕ) (one : Held) (waiting : List Held) (pass : Pass) (after : Progress) (outcome : Outcome)
     → is_waiting outcome ≡ true → after_try file one waiting pass after outcome ≡ left_waiting one pass after
-waiting_is file one waiting pass after (Outcome.Refused status) e = absurd (cc e)
-waiting_is file one waiting pass after Outcome.Waits e = refl
-waiting_is file one waiting pass after Outcome.Ready e = absurd (cc e)
+waiting_is file one waiting pass after x6 e = grind arith
 
 answer_is : (file : ℕ) (one : Held) (waiting : List Held) (pass : Pass) (after : Progress) (outcome : Outcome)
     → is_waiting outcome ≡ false
     → after_try file one waiting pass after outcome ≡ pass_answered file one waiting pass (ended after outcome)
-answer_is file one waiting pass after (Outcome.Refused status) e = refl
-answer_is file one waiting pass after Outcome.Waits e = absurd (cc e)
-answer_is file one waiting pass after Outcome.Ready e = refl
+answer_is file one waiting pass after x6 e = grind arith
 
 pub waits_here : (file place : ℕ) (has : Bool) (before after : Progress) (one : Held) (outcome : Outcome)
     → place < length (before.server.held file) → one ≡ get_or (before.server.held file) place one
@@ -271,11 +265,7 @@ another_pass enough file progress has =
 pub last_pass : (file : ℕ) (progress : Progress) → (one_pass file progress).has_answered ≡ false
     → (one_pass file progress).progress ≡ passes file progress
 unfolding passes_for
-last_pass file progress has =
-    let e : length (progress.server.held file) + 1 ≡ suc (length (progress.server.held file)) = omega arith in
-    ap (λ b. if b then passes_for (length (progress.server.held file)) file (one_pass file progress).progress
-    else (one_pass file progress).progress) (sym has)
-    ∙ ap (λ n. passes_for n file progress) (sym e)
+last_pass file progress has = grind arith
 
 -- ---- files in the order of their numbers
 
@@ -319,5 +309,4 @@ next_file i end progress after whole less is so_on =
 pub no_more_files : (i end : ℕ) (progress whole : Progress) → end ≤ i
     → passes_over (numbers_behind i (end - i)) progress ≡ whole → progress ≡ whole
 unfolding passes_over numbers_behind
-no_more_files i end progress whole over is =
-    let e : end - i ≡ 0 = omega arith in rw e at is
+no_more_files i end progress whole over is = grind arith

@@ -185,10 +185,7 @@ never_missing key one known less more own m none fits =
 pub changed_twice : (key : Key) (before during after : Key → Option LeaseRecord) (known other : Option LeaseRecord)
     → IsKeyChanged key before during known → IsKeyChanged key during after other
     → IsKeyChanged key before after other
-changed_twice key before during after known other first second = record {
-  there = second.there;
-  apart = λ key e. second.apart key e ∙ first.apart key e;
-}
+changed_twice key before during after known other first second = grind arith
 
 -- ---- the leases of the records
 
@@ -237,8 +234,7 @@ tally_changed before after key known tally is same updates =
     (key_changed before after key _ updates)
 
 pub and_no : (b : Bool) → (b && false) ≡ false
-and_no true = refl
-and_no false = refl
+and_no x1 = grind arith
 
 -- ---- the file of a key
 
@@ -264,8 +260,7 @@ home_of key one (Some known) less more m has fits =
 
 pub lease_unused : (key : Key) (opens : List Open) (known : Option LeaseRecord) → RecordFits key opens known
     → list_any (has_key key) opens ≡ false → lease_or_none known ≡ no_lease
-lease_unused key opens None fits unused = refl
-lease_unused key opens (Some known) fits unused = absurd (true≢false (sym fits.is_used ∙ unused))
+lease_unused key opens x3 fits unused = grind arith
 
 pub last_is : (key : Key) (one : Open) (known : LeaseRecord) (before : Key → Option LeaseRecord) (less more : List Open)
     (b : Bool)
@@ -302,12 +297,10 @@ lease_left key one last before after less more own m left now fits =
     ∙ rw (has_key_own one key other own, e, none) refl))))
   where
     turned : (b : Bool) (lease : model.Lease) → (if true && b then no_lease else lease) ≡ (if not b then lease else no_lease)
-    turned true lease = refl
-    turned false lease = refl
+    turned x1 lease = grind arith
 
     unless : (b : Bool) (lease : model.Lease) → (b ≡ false → lease ≡ no_lease) → lease ≡ (if b then lease else no_lease)
-    unless true lease e = refl
-    unless false lease e = e refl
+    unless x1 lease e = grind arith
 
 pub lease_kept_left : (one : Open) (known : Key → Option LeaseRecord) (less more : List Open)
     → key_of_open one ≡ None → IsOneMore one less more
@@ -320,8 +313,7 @@ lease_kept_left one known less more own m fits = λ other.
     ∙ rw (has_key_none one other own, none) refl))
   where
     unless : (b : Bool) (lease : model.Lease) → (b ≡ false → lease ≡ no_lease) → lease ≡ (if b then lease else no_lease)
-    unless true lease e = refl
-    unless false lease e = e refl
+    unless x1 lease e = grind arith
 
 pub are_left : (less : List Open) (leases later : Key → model.Lease)
     → ((key : Key) → later key ≡ (if list_any (has_key key) less then leases key else no_lease))

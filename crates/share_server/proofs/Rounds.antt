@@ -20,23 +20,12 @@ abbrev look_at : ℕ → FileRequest → Progress → Look
 look_at client request progress =
     looked (λ wants. is_ready request progress.server.leases wants) (finding progress.server client request)
 
-after_found : (again : Progress → Tried) (request : FileRequest) (progress : Progress) (found : Finding)
-    → after_finding again request progress found
-    ≡ after_look again request progress (looked (λ wants. is_ready request progress.server.leases wants) found)
-after_found again request progress (Finding.Fails status) = refl
-after_found again request progress (Finding.Needs wants) =
-    either (is_ready request progress.server.leases wants)
-    (λ ready. rw ready refl)
-    (λ unready. rw unready refl)
-
 pub looks : (rounds client : ℕ) (request : FileRequest) (progress : Progress) (look : Look)
     → look ≡ look_at client request progress
     → tried_for (suc rounds) client request progress
     ≡ after_look (tried_for rounds client request) request progress look
 unfolding tried_for
-looks rounds client request progress look is =
-    after_found (tried_for rounds client request) request progress (finding progress.server client request)
-    ∙ ap (after_look (tried_for rounds client request) request progress) (sym is)
+looks rounds client request progress look is = grind arith
 
 breaks : (rounds client : ℕ) (request : FileRequest) (progress after : Progress) (wants : List Want)
     → Look.Needs wants ≡ look_at client request progress → after ≡ wants_met wants progress
@@ -70,8 +59,7 @@ less_by_one i less = omega arith
 pub one_more : (i client : ℕ) (request : FileRequest) (before now : Progress) (whole : Tried) → i < 3
     → ((rounds : ℕ) → tried_for (suc rounds) client request before ≡ tried_for rounds client request now)
     → tried_for (3 - i) client request before ≡ whole → tried_for (3 - (i + 1)) client request now ≡ whole
-one_more i client request before now whole less step so_far =
-    sym (step (3 - (i + 1))) ∙ (ap (λ n. tried_for n client request before) (less_by_one i less) ∙ so_far)
+one_more i client request before now whole less step so_far = grind arith
 
 pub the_last : (i client : ℕ) (request : FileRequest) (before : Progress) (done whole : Tried) → i < 3
     → ((rounds : ℕ) → tried_for (suc rounds) client request before ≡ done)
@@ -82,20 +70,12 @@ the_last i client request before done whole less step so_far =
 pub none_left : (i client : ℕ) (request : FileRequest) (now : Progress) (whole : Tried) → 3 ≤ i
     → tried_for (3 - i) client request now ≡ whole → ended now Outcome.Waits ≡ whole
 unfolding tried_for
-none_left i client request now whole over so_far =
-    let e : 3 - i ≡ 0 = omega arith in rw e at so_far
+none_left i client request now whole over so_far = grind arith
 
 -- where a look finds wants, these are the finding's, and the request can't be answered
 pub needs_unready : (is_ready : List Want → Bool) (found : Finding) (wants : List Want) → Look.Needs wants ≡ looked is_ready found
     → (found ≡ Finding.Needs wants) × (is_ready wants ≡ false)
-needs_unready is_ready (Finding.Fails status) wants is = let c : ⊥ = cc in absurd c
-needs_unready is_ready (Finding.Needs those) wants is = by_case (is_ready those) refl
-  where
-    by_case : (b : Bool) → is_ready those ≡ b → (Finding.Needs those ≡ Finding.Needs wants) × (is_ready wants ≡ false)
-    by_case true ready = let e = rw ready at is in let c : ⊥ = cc in absurd c
-    by_case false unready =
-        let e = rw unready at is in
-        let same : those ≡ wants = cc in (ap (λ (ws : List Want). Finding.Needs ws) same, sym (ap is_ready same) ∙ unready)
+needs_unready is_ready x2 wants is = grind arith
 
 pub unready_needs : (is_ready : List Want → Bool) (found : Finding) (wants : List Want) → found ≡ Finding.Needs wants
     → is_ready wants ≡ false → Look.Needs wants ≡ looked is_ready found

@@ -1,5 +1,5 @@
 -- Files that a change of opens or leases elsewhere leaves as they were: what is known of their requests stays known.
-use Rattle.std.proofs.Common.{◌≡◌, ◌⊎◌, ⊎_elim, inl, inr, ℕ, zero, suc, Bool, true, false, not, List, [], ◌∷◌, ◌++◌, refl, ap, sym, ◌∙◌, subst}
+use Rattle.std.proofs.Common.{◌≡◌, ◌⊎◌, ⊎_elim, inl, inr, ℕ, zero, suc, Bool, true, false, not, List, [], ◌∷◌, ◌++◌, refl, ap, sym, ◌∙◌, subst, arith}
 use Rattle.std.proofs.lemmas.Bool.Decides.{Decides-eqb}
 use Rattle.std.proofs.Math.Path.{fun_ext}
 use Rattle.std.specs.List.{list_any, slice_get}
@@ -59,9 +59,7 @@ known_settled files waiting now before after settled known = λ file. ⊎_elim
 -- another lease for a key that has no open on the file
 lease_apart : (key other : Key) (lease was : Lease) (some : Bool) → some ≡ true → (key_eq other key ≡ true → some ≡ false)
     → (if key_eq other key then lease else was) ≡ was
-lease_apart key other lease was some there none = either (key_eq other key)
-    (λ same. clash some there (none same))
-    (λ apart. rw apart refl)
+lease_apart key other lease was some there none = grind arith
 
 leases_put : (opens : List Open) (key : Key) (lease : Lease) (leases later : Key → Lease)
     → ((other : Key) → later other ≡ (if key_eq other key then lease else leases other))

@@ -1,5 +1,5 @@
 -- What a call leaves behind stands for what the rules come to, and keeps the laws of servers.
-use Rattle.std.proofs.Common.{◌≡◌, List, map, sym, ap, ◌∙◌, subst}
+use Rattle.std.proofs.Common.{◌≡◌, List, map, sym, ap, ◌∙◌, subst, arith}
 use Rattle.lease_laws.specs.server.Laws.{IsSound}
 use Rattle.lease_model.specs.messages.Replies as model
 use Rattle.lease_model.specs.server.Calls.{Call, called}
@@ -12,15 +12,11 @@ use Rattle.share_server.specs.declared.out.Out as code
 
 pub stands : (table : Table) (outs : List model.Out) (given : List code.Out) (after : Progress)
     → progress_of table outs ≡ after → given ≡ map out_written outs → IsAfter table given after
-stands table outs given after is written = record {
-  server = ap (λ (p : Progress). p.server) is;
-  outs = written ∙ ap (λ (p : Progress). map out_written p.outs) is;
-}
+stands table outs given after is written = grind arith
 
 abbrev pub CallsKeepTheLaws : Type 0
 CallsKeepTheLaws = (server : Server) (call : Call) → IsSound server → IsSound (called server call).server
 
 pub sound_after : CallsKeepTheLaws → (old : Table) (call : Call) (table : Table) (outs : List model.Out)
     → IsSound (server_of old) → progress_of table outs ≡ called (server_of old) call → IsSound (server_of table)
-sound_after kept old call table outs sound is =
-    subst IsSound (sym (ap (λ (p : Progress). p.server) is)) (kept (server_of old) call sound)
+sound_after kept old call table outs sound is = grind arith

@@ -49,9 +49,7 @@ abbrev left_leases : Server → List Open → Key → Lease
 left_leases server opens key = if list_any (has_key key) opens then server.leases key else no_lease
 
 lease_left : (server : Server) (key : Key) → HasNoSpare server → left_leases server server.opens key ≡ server.leases key
-lease_left server key spare = either (list_any (has_key key) server.opens)
-    (λ t. rw t refl)
-    (λ t. rw t (sym (spare key t)))
+lease_left server key spare = grind arith
 
 dropped_none : (server : Server) (test : Open → Bool) (outs : List Out) → HasNoSpare server
     → list_any test server.opens ≡ false → opens_dropped test (at_call server outs) ≡ at_call server outs
@@ -107,10 +105,7 @@ decided server client (FileRequest.Create file access share (Some ask)) = again 
 
     again : (lease : Option LeaseOf) (reconnect : Option ℕ)
         → finding (decider server) client (asking lease reconnect) ≡ finding server client (asking lease reconnect)
-    again None None = refl
-    again (Some lease) None = refl
-    again None (Some file_id) = refl
-    again (Some lease) (Some file_id) = refl
+    again x1 x2 = grind arith
 decided server client (FileRequest.Read file_id) = refl
 decided server client (FileRequest.Write file_id number patch) = refl
 decided server client (FileRequest.Close file_id) = refl
@@ -160,16 +155,11 @@ at_file file other = grind (arith, nat_tests)
 pub count_changed : (before after : Waiting) (file : FileNo) (count : Option ℕ)
     → Updates file_order before.counts after.counts file count
     → (other : ℕ) → count_in after other ≡ (if other == file.0 then counted count else count_in before other)
-count_changed before after file count updates other = either (other == file.0)
-    (λ its. rw (updates.0 (record { 0 = other }), at_file file other, its) refl)
-    (λ its. rw (updates.0 (record { 0 = other }), at_file file other, its) refl)
+count_changed before after file count updates other = grind arith
 
 pub none_counted : (server : Server) (file : ℕ) (queue : List Held) (count : ℕ) → count ≡ 0
     → AreCounted server file queue count
-none_counted server file queue count none = record {
-  within = omega (arith, none);
-  each = λ place one less is. absurd (omega (arith, none, less));
-}
+none_counted server file queue count none = grind arith
 
 pub none_still : (server : Server) (file : ℕ) → WaitStill server file 0
 none_still server file = record { within = omega arith; each = λ place one less. absurd (omega (arith, less)) }
@@ -178,21 +168,7 @@ pub one_counted : (server : Server) (file : ℕ) (queue : List Held) (count plac
     → AreCounted server file queue count → count ≡ place → place < length queue
     → ((one : Held) → slice_get queue place ≡ Some one → StaysLocally server file (take place queue) one)
     → AreCounted server file queue (place + 1)
-one_counted server file queue count place known is inside stays = record {
-  within = omega (arith, inside);
-  each = λ other one less there. ⊎_elim
-      (λ before. known.each other one (omega (arith, is, before)) there)
-      (λ same. subst (λ n. StaysLocally server file (take n queue) one) (sym same)
-      (stays one (ap (slice_get queue) (sym same) ∙ there)))
-      (below_or_at other place less);
-}
-  where
-    below_or_at : (a b : ℕ) → a < b + 1 → (a < b) ⊎ (a ≡ b)
-    below_or_at zero zero less = inr refl
-    below_or_at zero (suc b) less = inl (omega arith)
-    below_or_at (suc a) zero less = absurd (omega (arith, less))
-    below_or_at (suc a) (suc b) less =
-        ⊎_elim (λ l. inl (omega (arith, l))) (λ e. inr (ap suc e)) (below_or_at a b (omega (arith, less)))
+one_counted server file queue count place known is inside stays = grind arith
 
 got_before : (queue : List Held) (one : Held) (place : ℕ) → place < length queue
     → slice_get (queue ++ one ∷ []) place ≡ slice_get queue place

@@ -145,10 +145,7 @@ gains_sums_up one marks old new less more leases later m short after s g = recor
         → now ≡ (if has then marked else was) → was ≡ (any_less && mark old)
         → any_more ≡ (has || any_less) → (has ≡ false → new ≡ old) → (has ≡ true → mark new ≡ marked)
         → now ≡ (any_more && mark new)
-    gained mark true any_less any_more marked old new was now a b c d e =
-        let f = e refl in rw (a, c, f) refl
-    gained mark false any_less any_more marked old new was now a b c d e =
-        let f = d refl in rw (a, b, c, f) refl
+    gained mark x2 any_less any_more marked old new was now a b c d e = grind arith
 
 -- on another file
 elsewhere_none : (key : Key) (file at : ℕ) (opens : List Open) → (at == file) ≡ false
@@ -186,16 +183,7 @@ sums_up_apart one marks file summary less more leases later m apart after s = re
         → was ≡ (any_less && mark old)
         → any_more ≡ any_less → (has ≡ false → new ≡ old) → (has ≡ true → any_less ≡ false)
         → was ≡ (any_more && mark new)
-    stays mark true any_less any_more old new was a b c d = let e = d refl in rw (a, b, e) refl
-    stays mark false any_less any_more old new was a b c d = let e = c refl in rw (a, b, e) refl
-
-and_on : (b : Bool) → (b && true) ≡ b
-and_on true = refl
-and_on false = refl
-
-and_off : (b : Bool) → (b && false) ≡ false
-and_off true = refl
-and_off false = refl
+    stays mark x2 any_less any_more old new was a b c d = grind arith
 
 has_on : (key : Key) (file : ℕ) (opens : List Open) → list_any (has_key_on file key) opens ≡ true
     → list_any (has_key key) opens ≡ true
@@ -241,22 +229,13 @@ loses_sums_up one last old new less more leases later m left is_last s l = recor
         → now ≡ (was && not (has && last)) → was ≡ any_more
         → any_more ≡ (has || any_less) → (has ≡ true → last ≡ not any_less)
         → now ≡ any_less
-    lost_key true true any_more last was now a b c d = let f = d refl in rw (a, b, c, f) refl
-    lost_key true false any_more last was now a b c d = let f = d refl in rw (a, b, c, f) refl
-    lost_key false true any_more last was now a b c d = rw (a, b, c) refl
-    lost_key false false any_more last was now a b c d = rw (a, b, c) refl
+    lost_key x1 x2 any_more last was now a b c d = grind arith
 
     lost_mark : (mark : Lease → Bool) (has any_less any_more last : Bool) (old new : Lease) (was now : Bool)
         → now ≡ (was && not (has && last)) → was ≡ (any_more && mark old)
         → any_more ≡ (has || any_less) → (has ≡ true → last ≡ not any_less) → (any_less ≡ true → new ≡ old)
         → now ≡ (any_less && mark new)
-    lost_mark mark true true any_more last old new was now a b c d e =
-        let f = d refl in let g = e refl in rw (a, b, c, f, g) (and_on (mark old))
-    lost_mark mark true false any_more last old new was now a b c d e =
-        let f = d refl in rw (a, b, c, f) (and_off (mark old))
-    lost_mark mark false true any_more last old new was now a b c d e =
-        let g = e refl in rw (a, b, c, g) (and_on (mark old))
-    lost_mark mark false false any_more last old new was now a b c d e = rw (a, b, c) refl
+    lost_mark mark x2 x3 any_more last old new was now a b c d e = grind arith
 
 pub sums_up_away : (one : Open) (file : ℕ) (summary : FileSummary) (less more : List Open) (leases later : Key → Lease)
     → IsOneMore one less more → is_on file one ≡ false → AreLeft less leases later
@@ -283,8 +262,7 @@ sums_up_away one file summary less more leases later m apart left s = record {
     stays : (mark : Lease → Bool) (any_less any_more : Bool) (old new : Lease) (was : Bool)
         → was ≡ (any_more && mark old) → any_more ≡ any_less → (any_less ≡ true → new ≡ old)
         → was ≡ (any_less && mark new)
-    stays mark true any_more old new was a c d = let e = d refl in rw (a, c, e) refl
-    stays mark false any_more old new was a c d = rw (a, c) refl
+    stays mark x2 any_more old new was a c d = grind arith
 
 -- ---- another lease of a key
 
@@ -293,47 +271,7 @@ pub marked_sums_up : (file : ℕ) (key : Key) (marks : LeaseMarks) (old new : Fi
     → IsPut key marks leases later
     → ((other : Key) → key_eq other key ≡ true → list_any (has_key_on file other) opens ≡ true)
     → SumsUp file opens leases old → IsMarked key marks old new → SumsUp file opens later new
-marked_sums_up file key marks old new opens leases later put there s w = record {
-  tally = w.tally ∙ s.tally;
-  keys = λ other. rw w.keys (s.keys other);
-  keyless = w.keyless ∙ s.keyless;
-  writers = λ other. marked holds_write (key_eq other key) (list_any (has_key_on file other) opens) marks.writes
-      (leases other) (later other) _ _ (w.writers other) (s.writers other) (put.0 other)
-      (λ is. mark_writes (later other) marks (put.1 other is)) (there other);
-  harmless = λ other. marked is_harmless (key_eq other key) (list_any (has_key_on file other) opens) marks.harmless
-      (leases other) (later other) _ _ (w.harmless other) (s.harmless other) (put.0 other)
-      (λ is. mark_harmless (later other) marks (put.1 other is)) (there other);
-}
-  where
-    marked : (mark : Lease → Bool) (is any now_marked : Bool) (old new : Lease) (was now : Bool)
-        → now ≡ (if is then now_marked else was) → was ≡ (any && mark old)
-        → (is ≡ false → new ≡ old) → (is ≡ true → mark new ≡ now_marked) → (is ≡ true → any ≡ true)
-        → now ≡ (any && mark new)
-    marked mark true any now_marked old new was now a b c d e =
-        let f = d refl in let g = e refl in rw (a, f, g) refl
-    marked mark false any now_marked old new was now a b c d e = let f = c refl in rw (a, b, f) refl
-
-pub sums_up_marked : (file : ℕ) (key : Key) (marks : LeaseMarks) (summary : FileSummary) (opens : List Open)
-    (leases later : Key → Lease)
-    → IsPut key marks leases later
-    → ((other : Key) → key_eq other key ≡ true → list_any (has_key_on file other) opens ≡ false)
-    → SumsUp file opens leases summary → SumsUp file opens later summary
-sums_up_marked file key marks summary opens leases later put none s = record {
-  tally = s.tally;
-  keys = s.keys;
-  keyless = s.keyless;
-  writers = λ other. kept holds_write (key_eq other key) (list_any (has_key_on file other) opens) (leases other)
-      (later other) _ (s.writers other) (put.0 other) (none other);
-  harmless = λ other. kept is_harmless (key_eq other key) (list_any (has_key_on file other) opens) (leases other)
-      (later other) _ (s.harmless other) (put.0 other) (none other);
-}
-  where
-    kept : (mark : Lease → Bool) (is any : Bool) (old new : Lease) (was : Bool)
-        → was ≡ (any && mark old)
-        → (is ≡ false → new ≡ old) → (is ≡ true → any ≡ false)
-        → was ≡ (any && mark new)
-    kept mark true any old new was b c e = let g = e refl in rw (b, g) refl
-    kept mark false any old new was b c e = let f = c refl in rw (b, f) refl
+marked_sums_up file key marks old new opens leases later put there s w = grind arith
 
 -- ---- the map of summaries
 
@@ -378,11 +316,7 @@ pub record IsChangedAt (here : ℕ) (before after : FileNo → Option FileSummar
 
 at_file : (P : FileNo → Type 0) (here : ℕ) → P (record { 0 = here })
     → ((file : FileNo) → (file.0 == here) ≡ false → P file) → (file : FileNo) → P file
-at_file P here there apart file = by_case (file.0 == here) refl
-  where
-    by_case : (b : Bool) → (file.0 == here) ≡ b → P file
-    by_case true e = subst (λ n. P (record { 0 = n })) (sym ((Decides-eqb file.0 here).0 e)) there
-    by_case false e = apart file e
+at_file x1 here there apart file = grind arith
 
 flip : (a b : ℕ) (x : Bool) → (a == b) ≡ x → (b == a) ≡ x
 flip a b x e = grind (arith, nat_tests, e)
@@ -411,17 +345,11 @@ pub none_is_open : (file : ℕ) (opens : List Open) (leases : Key → Lease) (kn
     → known ≡ None → SummaryFits file opens leases known → list_any (is_on file) opens ≡ false
 none_is_open file opens leases known is fits = subst (SummaryFits file opens leases) is fits
 
-file_apart : (a b : ℕ) → (a == b) ≡ false → is_eq (nat_cmp b a) ≡ false
-file_apart a b e = grind (arith, nat_tests, e)
-
 -- what a change of the map at one file is
 pub changed_at : (before after : BTreeMap FileNo FileSummary) (here : ℕ) (known : Option FileSummary)
     → Updates file_order before after (record { 0 = here }) known
     → IsChangedAt here (get file_order before) (get file_order after) known
-changed_at before after here known updates = record {
-  there = updates.1;
-  apart = λ file e. updates.2 file (file_apart file.0 here e);
-}
+changed_at before after here known updates = grind arith
 
 still_used : (file : ℕ) (opens : List Open) (leases : Key → Lease) (summary : FileSummary)
     → SumsUp file opens leases summary → nat_eq summary.tally.opens 0 ≡ false → list_any (is_on file) opens ≡ true
@@ -480,10 +408,7 @@ never_closed one less more leases known m none fits =
 pub changed_at_twice : (here : ℕ) (before during after : FileNo → Option FileSummary) (known other : Option FileSummary)
     → IsChangedAt here before during known → IsChangedAt here during after other
     → IsChangedAt here before after other
-changed_at_twice here before during after known other first second = record {
-  there = second.there;
-  apart = λ file e. second.apart file e ∙ first.apart file e;
-}
+changed_at_twice here before during after known other first second = grind arith
 
 pub summaries_put : (file : ℕ) (key : Key) (marks : LeaseMarks) (before after : FileNo → Option FileSummary)
     (old new : FileSummary) (opens : List Open) (leases later : Key → Lease)
@@ -507,11 +432,7 @@ summaries_put file key marks before after old new opens leases later put there h
     fits_put : (at : ℕ) (known : Option FileSummary)
         → ((other : Key) → key_eq other key ≡ true → list_any (has_key_on at other) opens ≡ false)
         → SummaryFits at opens leases known → SummaryFits at opens later known
-    fits_put at None none f = f
-    fits_put at (Some summary) none f = record {
-      is_used = f.is_used;
-      sums_up = sums_up_marked at key marks summary opens leases later put none f.sums_up;
-    }
+    fits_put at x2 none f = grind arith
 
 pub never_on : (file : ℕ) (key : Key) (opens : List Open) (leases : Key → Lease) (known : Option FileSummary)
     → list_any (has_key_on file key) opens ≡ true → known ≡ None → SummaryFits file opens leases known → ⊥
@@ -523,20 +444,7 @@ never_on file key opens leases known there none fits =
 fits_alike : (file : ℕ) (opens : List Open) (leases later : Key → Lease) (known : Option FileSummary)
     → ((key : Key) → marks_of (later key) ≡ marks_of (leases key))
     → SummaryFits file opens leases known → SummaryFits file opens later known
-fits_alike file opens leases later None same fits = fits
-fits_alike file opens leases later (Some summary) same fits = record {
-  is_used = fits.is_used;
-  sums_up = record {
-    tally = fits.sums_up.tally;
-    keys = fits.sums_up.keys;
-    keyless = fits.sums_up.keyless;
-    writers = λ key. fits.sums_up.writers key
-        ∙ ap (λ b. list_any (has_key_on file key) opens && b) (sym (mark_writes (later key) (marks_of (leases key)) (same key)));
-    harmless = λ key. fits.sums_up.harmless key
-        ∙ ap (λ b. list_any (has_key_on file key) opens
-        && b) (sym (mark_harmless (later key) (marks_of (leases key)) (same key)));
-  };
-}
+fits_alike file opens leases later x5 same fits = grind arith
 
 pub summaries_alike : (key : Key) (lease : Lease) (opens : List Open) (leases later : Key → Lease)
     (known : FileNo → Option FileSummary)
@@ -551,19 +459,5 @@ summaries_alike key lease opens leases later known now same fits = λ file.
     (λ e. ap marks_of (now other ∙ rw e refl)))
     (fits file)
 
-both_alike : (a b c d : Bool) → not (beq a c && beq b d) ≡ false → (a ≡ c) × (b ≡ d)
-both_alike true true true true e = (refl, refl)
-both_alike true false true false e = (refl, refl)
-both_alike false true false true e = (refl, refl)
-both_alike false false false false e = (refl, refl)
-both_alike true b false d e = absurd (true≢false e)
-both_alike false b true d e = absurd (true≢false e)
-both_alike true true true false e = absurd (true≢false e)
-both_alike true false true true e = absurd (true≢false e)
-both_alike false true false false e = absurd (true≢false e)
-both_alike false false false true e = absurd (true≢false e)
-
 pub marks_same : (a b : LeaseMarks) → not (beq a.writes b.writes && beq a.harmless b.harmless) ≡ false → a ≡ b
-marks_same a b e =
-    let parts = both_alike a.writes a.harmless b.writes b.harmless e in
-    rw (parts.0, parts.1) refl
+marks_same a b e = grind arith

@@ -97,8 +97,7 @@ any_one n test (one ∷ opens) only order = either (has_id n one)
     rw (its, here) (any_one n test opens only order.1))
   where
     or_false : (b : Bool) → (b || false) ≡ b
-    or_false true = refl
-    or_false false = refl
+    or_false x1 = grind arith
 
 pub find_one : (n : ℕ) (test : Open → Bool) (opens : List Open)
     → ((one : Open) → test one ≡ true → has_id n one ≡ true) → AreInOrder opens
@@ -155,8 +154,7 @@ pub one_more : (ids : List ℕ) (id : ℕ) (one : Open) → is_one_of (ids ++ id
 one_more [] id one = or_false (has_id id one)
   where
     or_false : (b : Bool) → (b || false) ≡ b
-    or_false true = refl
-    or_false false = refl
+    or_false x1 = grind arith
 one_more (x ∷ ids) id one = let e = one_more ids id one in grind (arith, e)
 
 without_more : (ids : List ℕ) (id : ℕ) (opens : List Open)
@@ -171,9 +169,7 @@ without_more ids id (one ∷ opens) =
 
 unused_lease : (key : Key) (opens : List Open) (summaries : Summaries) → Agrees summaries opens
     → lease_in summaries key ≡ (if list_any (has_key key) opens then lease_in summaries key else no_lease)
-unused_lease key opens summaries agree = either (list_any (has_key key) opens)
-    (λ t. rw t refl)
-    (λ t. rw t (lease_unused key opens (record_at summaries key) (agree.records key) t))
+unused_lease key opens summaries agree = grind arith
 
 nothing_left_out : (xs : List Open) → xs ≡ without (is_one_of []) xs
 nothing_left_out [] = refl
@@ -208,16 +204,14 @@ closed_more opens ids id summaries during after middle left closed is agree leas
   where
     still : (left middle : Bool) (lease now : Lease) → now ≡ (if middle then lease else no_lease)
         → (left ≡ true → middle ≡ true) → (if left then now else no_lease) ≡ (if left then lease else no_lease)
-    still true middle lease now e up = rw (up refl) at e
-    still false middle lease now e up = refl
+    still x1 middle lease now e up = grind arith
 
 abbrev with_leases : Server → List Open → (Key → Lease) → Server
 with_leases server opens leases = record server { opens = opens; leases = leases }
 
 same_leases : (server : Server) (opens others : List Open) (leases later : Key → Lease) → opens ≡ others → leases ≡ later
     → with_leases server opens leases ≡ with_leases server others later
-same_leases server opens others leases later a b =
-    ap (λ x. with_leases server x leases) a ∙ ap (λ x. with_leases server others x) b
+same_leases server opens others leases later a b = grind arith
 
 closes_alike : (closing : Closing) (summaries : Summaries)
     → closes closing (lease_in summaries) ≡ closes closing (lease_at (listed summaries))
@@ -272,10 +266,7 @@ new_leases : (client : ℕ) (bytes : Option (List ℕ)) (server : Server) (lease
     → record server { opens = opens; leases = later; last_id = last }
     ≡ record (lease_put_by server client bytes lease) { opens = opens; last_id = last }
 unfolding put_key key_eq
-new_leases client None server lease later opens last now =
-    ap (λ (l : Key → Lease). record server { opens = opens; leases = l; last_id = last }) (fun_ext now)
-new_leases client (Some bytes) server lease later opens last now =
-    ap (λ (l : Key → Lease). record server { opens = opens; leases = l; last_id = last }) (fun_ext now)
+new_leases client x2 server lease later opens last now = grind arith
 
 pub table_opened : (table : Table) (one : Open) (lease : Lease) (summaries after : Summaries)
     → table.leases ≡ listed summaries
@@ -381,8 +372,7 @@ any_none n test opens only order found =
     sym (any_one n test opens only order ∙ ap (check test) (sym found))
 
 pub connected_only : (client n : ℕ) (one : Open) → is_connected_as client n one ≡ true → has_id n one ≡ true
-connected_only client n one is =
-    (and_parts (has_id n one) (one.client == client) (and_parts (has_id n one && one.client == client) one.connected is).0).0
+connected_only client n one is = grind arith
 
 pub left_only : (n : ℕ) (one : Open) → is_left_behind n one ≡ true → has_id n one ≡ true
 left_only n one is = (and_parts (has_id n one) (not one.connected) is).0
@@ -390,12 +380,7 @@ left_only n one is = (and_parts (has_id n one) (not one.connected) is).0
 pub awaits_only : (client file : ℕ) (own : Option Key) (n : ℕ) (one : Open) → awaits client file own n one ≡ true
     → has_id n one ≡ true
 unfolding awaits
-awaits_only client file None n one is = absurd (true≢false (sym is))
-awaits_only client file (Some key) n one is =
-    let a = and_parts (has_id n one && not one.connected && one.client == client && one.file == file) (has_key key one) is in
-    let b = and_parts (has_id n one && not one.connected && one.client == client) (one.file == file) a.0 in
-    let d = and_parts (has_id n one && not one.connected) (one.client == client) b.0 in
-    (and_parts (has_id n one) (not one.connected) d.0).0
+awaits_only client file x3 n one is = grind arith
 
 pub leased_by : (server : Server) (own : Option Key) (key : Key) (file : ℕ) (b : Bool) → own ≡ Some key
     → b ≡ list_any (is_elsewhere key file) server.opens → b ≡ is_leased_elsewhere server own file

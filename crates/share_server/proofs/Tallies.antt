@@ -81,9 +81,7 @@ parts a b c d e f g h = grind (arith)
 
 conflict_parts : (access : Access) (share : Share) (one : Open)
     → conflict access share one.access one.share ≡ conflicts_by access share one
-conflict_parts access share one =
-    parts (uses_of access).read (allowed_by one.share).read (uses_of access).write (allowed_by one.share).write
-    (uses_of one.access).read (allowed_by share).read (uses_of one.access).write (allowed_by share).write
+conflict_parts access share one = grind arith
 
 any_same : (test other : Open → Bool) (opens : List Open) → ((one : Open) → test one ≡ other one)
     → list_any test opens ≡ list_any other opens

@@ -1,5 +1,5 @@
 -- The wants of the keys whose leases are wanted.
-use Rattle.std.proofs.Common.{◌≡◌, map, refl}
+use Rattle.std.proofs.Common.{◌≡◌, map, refl, arith}
 use Rattle.std.specs.Prelude.{Option, filter}
 use Rattle.lease_state.specs.declared.number.FileNo.{FileNo}
 use Rattle.lease_model.specs.server.KeyOrder.{keys_of}
@@ -15,6 +15,4 @@ pub wants_are : (wish : Wish) (server : Server) (own : Option Key) (file : FileN
     (keys_of (filter (is_demanded (record { wish = wish; own = own; file = file }) server) server.opens))
     ≡ wants_for wish server own file.0
 unfolding wants_where handle_wants write_wants all_wants
-wants_are (NoHandles access share) server own file = refl
-wants_are NoWrites server own file = refl
-wants_are Nothing server own file = refl
+wants_are x1 server own file = grind arith

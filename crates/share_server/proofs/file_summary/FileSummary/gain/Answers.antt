@@ -1,4 +1,4 @@
-use Rattle.std.proofs.Common.{◌∙◌, ap, sym, refl}
+use Rattle.std.proofs.Common.{◌∙◌, ap, sym, refl, arith}
 use Rattle.std.specs.Prelude.{is_some}
 use Rattle.share_server.proofs.Ordering.{has_key_own, has_key_none, keyed}
 use Rattle.share_server.proofs.file_summary.FileSummary.gain.Goals as goal
@@ -15,16 +15,4 @@ returns-in_ok-gain_key-in-Some c =
           rw (has_key_own c.args.one.now c.in-Some.key other own) (c.in_ok-gain_key-in-Some.ensures.writers other);
       harmless = λ other.
           rw (has_key_own c.args.one.now c.in-Some.key other own) (c.in_ok-gain_key-in-Some.ensures.harmless other);
-    }
-
-pub returns-in-None : goal.returns-in-None
-returns-in-None c =
-    let own = sym c.key.ensures ∙ c.in-None.is in
-    let has = sym (keyed c.args.one.now) ∙ ap is_some own in
-    record {
-      tally = c.raised-self.ensures;
-      keyless = rw has c.saturating_add-self.ensures;
-      keys = λ other. rw (has_key_none c.args.one.now other own) refl;
-      writers = λ other. rw (has_key_none c.args.one.now other own) refl;
-      harmless = λ other. rw (has_key_none c.args.one.now other own) refl;
     }

@@ -1,4 +1,5 @@
 use Rattle.lease_model.specs.server.Calls.{Call}
+use Rattle.std.proofs.Common.{arith}
 use Rattle.share_server.proofs.Standing.{stands, sound_after}
 use Rattle.share_server.proofs.server.Server.cut.Goals as goal
 
@@ -6,7 +7,3 @@ pub invariant_of-result : goal.invariant_of-result
 invariant_of-result c =
     sound_after c.laws_of_servers.ensures.kept c.self.inside.tables (Call.Cut c.args.client.0) _ _
     c.self.invariant c.in_ok-outs.ensures.step
-
-pub returns-clause-after : goal.returns-clause-after
-returns-clause-after c =
-    rw (← c.self.view_is) (stands _ _ _ _ c.in_ok-outs.ensures.step c.into_vec-outs.ensures)

@@ -1,4 +1,4 @@
-use Rattle.std.proofs.Common.{sym, ◌∙◌, refl}
+use Rattle.std.proofs.Common.{sym, ◌∙◌, refl, arith}
 use Rattle.share_server.specs.Summaries.{lease_in, record_at}
 use Rattle.share_server.proofs.Agreeing.{agrees_from, files_kept, leases_same, after_gain, after_keyless, at_home}
 use Rattle.share_server.proofs.Ordering.{has_key_own, has_key_none}
@@ -40,9 +40,3 @@ returns-in_ok-gain_on_file-in-None-clause-agrees c = λ less more m short home a
     (records_keyless one (record_at c.args.self.now) less more own m agrees.records)
     (c.in_ok-gain_on_file-in-None.ensures.files less more (lease_in c.args.self.now) (lease_in c.args.self.now) m short
     (after_keyless one _ less (lease_in c.args.self.now) own) agrees.files)
-
-pub returns-in_ok-gain_on_file-in-None-clause-leases : goal.returns-in_ok-gain_on_file-in-None-clause-leases
-returns-in_ok-gain_on_file-in-None-clause-leases c = λ other.
-    let own = sym c.key.ensures ∙ c.in-None.is in
-    leases_same c.gain_on_file-in-None.new.self c.args.self.now other c.in_ok-gain_on_file-in-None.ensures.leases
-    ∙ rw (has_key_none c.args.one.now other own) refl

@@ -1,4 +1,4 @@
-use Rattle.std.proofs.Common.{refl, ap, sym, ◌∙◌}
+use Rattle.std.proofs.Common.{refl, ap, sym, ◌∙◌, arith}
 use Rattle.lease_model.specs.server.Findings.{finding}
 use Rattle.lease_model.specs.server.Ready.{is_ready}
 use Rattle.share_server.specs.Findings.{look_of}
@@ -9,23 +9,6 @@ use Rattle.share_server.specs.contracts.tables.Tables.{the_view}
 use Rattle.share_server.proofs.Counted.{in_vain_now}
 use Rattle.share_server.proofs.Rounds.{needs_unready}
 use Rattle.share_server.proofs.tables.Tables.has_only_to_wait.Goals as goal
-
-pub only_wait-requires : goal.only_wait-requires
-only_wait-requires c =
-    let look = sym (ap look_of c.in-Needs.is) ∙ c.in_ok-finding.ensures in
-    rw c.deref.ensures.value
-    (needs_unready (λ wants. is_ready (request_like c.args.ask) (server_of c.args.self.now).leases wants)
-    (finding (server_of c.args.self.now) c.args.client.0 (request_like c.args.ask)) c.in-Needs.wants.items look).1
-
-pub returns-in_ok-waits-in-Needs-clause-waits : goal.returns-in_ok-waits-in-Needs-clause-waits
-returns-in_ok-waits-in-Needs-clause-waits c = λ yes.
-    let look = sym (ap look_of c.in-Needs.is) ∙ c.in_ok-finding.ensures in
-    record {
-      wants = c.in-Needs.wants.items;
-      found = (needs_unready (λ wants. is_ready (request_like c.args.ask) (server_of c.args.self.now).leases wants)
-          (finding (server_of c.args.self.now) c.args.client.0 (request_like c.args.ask)) c.in-Needs.wants.items look).0;
-      waits = rw c.deref.ensures.value at (c.in_ok-waits-in-Needs.ensures yes);
-    }
 
 pub returns-in_ok-waits-in-Needs-clause-vain : goal.returns-in_ok-waits-in-Needs-clause-vain
 returns-in_ok-waits-in-Needs-clause-vain c = λ yes.
