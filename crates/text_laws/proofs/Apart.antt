@@ -1,5 +1,5 @@
 -- No line is of two kinds of a table whose kinds stand apart.
-use Rattle.std.proofs.Common.{◌≡◌, inl, inr, ℕ, List, [], ◌∷◌, refl, sym, ap, ◌∙◌, subst, true, false, Bool, not, ◌&&◌, ◌||◌, Option, Some, None, bytes_eq}
+use Rattle.std.proofs.Common.{◌≡◌, inl, inr, ℕ, List, [], ◌∷◌, refl, sym, ap, ◌∙◌, subst, true, false, Bool, not, ◌&&◌, ◌||◌, Option, Some, None, bytes_eq, arith}
 use Rattle.std.proofs.lemmas.Bool.{and_parts}
 use Rattle.std.proofs.lemmas.Slice.Eq.{bytes_eq-Decides}
 use Rattle.std.specs.List.{list_all}
@@ -48,8 +48,7 @@ all_apart (one ∷ kinds) = list_all (apart one) kinds && all_apart kinds
 says_word : (field : Field) (word alone : List ℕ) (value : Value field) → word_of field ≡ Some alone → Says field word value
     → word ≡ alone
 unfolding word_of
-says_word (Field.Word fixed) word alone value e is = is ∙ same_told fixed alone e
-says_word other word alone value e is = absurd (none_told alone e)
+says_word x1 word alone value e is = grind arith
 
 words_differ : (first second : Field) (word : List ℕ) (value : Value first) (other : Value second)
     → differ (word_of first) (word_of second) ≡ true → Says first word value → Says second word other → ⊥
@@ -57,8 +56,7 @@ unfolding differ
 words_differ first second word value other e says said = by_words (word_of first) (word_of second) refl refl e
   where
     equal : (b : Bool) → b ≡ true → not b ≡ true → ⊥
-    equal true same differs = cc
-    equal false same differs = cc
+    equal x1 same differs = grind arith
 
     by_words : (a b : Option (List ℕ)) → word_of first ≡ a → word_of second ≡ b → differ a b ≡ true → ⊥
     by_words None b is also differs = cc

@@ -52,10 +52,7 @@ piece_last separator (byte ∷ word) above =
 -- ---- digits
 
 digit_above : (digit : ℕ) → digit < 16 → nat_lt 32 (slice_index lower_digits digit) ≡ true
-digit_above digit small = value_above (slice_index lower_digits digit) digit (IsDigits-lower_digits digit small)
-  where
-    value_above : (byte digit : ℕ) → hex_digit_value byte ≡ Some digit → nat_lt 32 byte ≡ true
-    value_above byte digit value = grind (arith, nat_tests, value)
+digit_above digit small = grind arith
 
 pub hexadecimal_above : (bytes : List ℕ) → IsBytes bytes → all_above 32 (encode_lower bytes) ≡ true
 unfolding encode_with
@@ -79,9 +76,7 @@ pub hyphenated_above : (guid : List ℕ) → all_above 32 (hyphenated_text lower
 hyphenated_above guid = by_index_above 36 _ (λ k. one (is_hyphen_place k) (nibble guid (digit_place k)))
   where
     digit : (small : Bool) (d : ℕ) → nat_lt d 10 ≡ small → nat_lt 32 (if small then 48 + d else 97 + d - 10) ≡ true
-    digit true d e = grind (arith, nat_tests)
-    digit false d e = grind (arith, nat_tests)
+    digit x1 d e = grind arith
 
     one : (hyphen : Bool) (d : ℕ) → nat_lt 32 (if hyphen then 45 else hex_digit 97 d) ≡ true
-    one true d = refl
-    one false d = digit (nat_lt d 10) d refl
+    one x1 d = grind arith

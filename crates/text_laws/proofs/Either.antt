@@ -1,5 +1,5 @@
 -- Kinds of lines that begin with one name.
-use Rattle.std.proofs.Common.{◌≡◌, ◌↔◌, ◌⊎◌, inl, inr, ℕ, zero, suc, List, [], ◌∷◌, drop, refl, sym, ap, ◌∙◌, subst, true, false, Bool, Option, Some, None, bytes_eq}
+use Rattle.std.proofs.Common.{◌≡◌, ◌↔◌, ◌⊎◌, inl, inr, ℕ, zero, suc, List, [], ◌∷◌, drop, refl, sym, ap, ◌∙◌, subst, true, false, Bool, Option, Some, None, bytes_eq, arith}
 use Rattle.std.specs.Prelude.{⊤}
 use Rattle.std.proofs.lemmas.Slice.Eq.{bytes_eq-Decides}
 use Rattle.lease_laws.specs.server.Laws.{Among}
@@ -27,8 +27,7 @@ step_either {A} {B} {go} {field} {short} {long} {first} {second} {read} {view} r
     tagged : (word : List ℕ) (words : Words) (told : A) (value : B) → read word ≡ Some value
         → Say short (first (view value)) words told ⊎ Say long (second (view value)) words told
         → Say (field ∷ short) first (word ∷ words) told ⊎ Say (field ∷ long) second (word ∷ words) told
-    tagged word words told value e (inl say) = inl (view value, reads.says word value e, say)
-    tagged word words told value e (inr say) = inr (view value, reads.says word value e, say)
+    tagged word words told value e x6 = grind arith
 
     told_by : (word : List ℕ) (words : Words) (told : A) (got : Option B) → read word ≡ got → go (word ∷ words) ≡ Some told
         → Say (field ∷ short) first (word ∷ words) told ⊎ Say (field ∷ long) second (word ∷ words) told
@@ -48,8 +47,7 @@ step_either {A} {B} {go} {field} {short} {long} {first} {second} {read} {view} r
         (inr (subst (λ (value : Value field). Say long (second value) words told) (sym got.2) say.2))
 
     no_word : (told : A) → ⊥ ⊎ ⊥ → go [] ≡ Some told
-    no_word told (inl none) = absurd none
-    no_word told (inr none) = absurd none
+    no_word told x2 = grind arith
 
     at : (words : Words) (told : A)
         → (go words ≡ Some told) ↔ (Say (field ∷ short) first words told ⊎ Say (field ∷ long) second words told)
@@ -79,8 +77,7 @@ ends_either {A} {go} {first} {second} alone empty this other = record { same = a
         this word words ((bytes_eq-Decides word alone).1 say.1) ∙ (ended.same words told).1 say.2
 
     here : (told : A) → (first ≡ told) ⊎ ⊥ → go [] ≡ Some told
-    here told (inl e) = empty ∙ ap (λ (t : A). Some t) e
-    here told (inr none) = absurd none
+    here told x2 = grind arith
 
     at : (words : Words) (told : A)
         → (go words ≡ Some told) ↔ (Say [] first words told ⊎ Say (Field.Word alone ∷ []) (λ word. second) words told)

@@ -1,5 +1,5 @@
 -- The facts that lines are read as are those that they mean.
-use Rattle.std.proofs.Common.{◌≡◌, ℕ, true, drop, List, [], ◌∷◌, refl, Option, None}
+use Rattle.std.proofs.Common.{◌≡◌, ℕ, true, drop, List, [], ◌∷◌, refl, Option, None, arith}
 use Rattle.lease_state.specs.declared.number.ClientNo.{ClientNo}
 use Rattle.lease_state.specs.declared.number.FileNo.{FileNo}
 use Rattle.lease_state.specs.declared.state.LeaseState.{LeaseState}
@@ -137,11 +137,7 @@ each_goes = (start_goes, (of_one fact.Joined, (of_one fact.Dropped, of_messages)
 
 by_names : (line : List ℕ) → fact_in line ≡ by_fields named (fields_of line)
 unfolding named fact_in
-by_names line = of_fields (fields_of line)
-  where
-    of_fields : (fields : Words) → whole (fact_told fields) ≡ by_fields named fields
-    of_fields [] = refl
-    of_fields (name ∷ words) = refl
+by_names line = grind arith
 
 refuses : (name : List ℕ) (words : Words) → Each (Unnamed name) fact_kinds → named name words ≡ None
 unfolding named fact_named

@@ -1,5 +1,5 @@
 -- A reader that fits a table of kinds reads exactly what lines mean by it.
-use Rattle.std.proofs.Common.{◌≡◌, ◌↔◌, ◌⊎◌, inl, inr, ℕ, List, [], ◌∷◌, refl, sym, ap, ◌∙◌, subst, true, false, Bool, Option, Some, None, bytes_eq}
+use Rattle.std.proofs.Common.{◌≡◌, ◌↔◌, ◌⊎◌, inl, inr, ℕ, List, [], ◌∷◌, refl, sym, ap, ◌∙◌, subst, true, false, Bool, Option, Some, None, bytes_eq, arith}
 use Rattle.std.proofs.lemmas.Slice.Eq.{bytes_eq-Decides}
 use Rattle.lease_laws.specs.server.Laws.{Among}
 use Rattle.lease_texts.specs.Fields.{Words, last}
@@ -21,11 +21,7 @@ pub record Goes {A : Type 0} (go : Words → Option A) (fields : List Field) (te
   pub same : (words : Words) (told : A) → (go words ≡ Some told) ↔ Say fields telling words told
 
 pub ends : {A : Type 0} {go : Words → Option A} {told : A} → ((words : Words) → go words ≡ last told words) → Goes go [] told
-ends {A} {go} {told} is = record { same = at }
-  where
-    at : (words : Words) (other : A) → (go words ≡ Some other) ↔ Say [] told words other
-    at [] other = (λ e. same_told told other (sym (is []) ∙ e), λ e. is [] ∙ ap (λ (t : A). Some t) e)
-    at (word ∷ words) other = (λ e. absurd (none_told other (sym (is (word ∷ words)) ∙ e)), λ no_word. absurd no_word)
+ends is = grind arith
 
 pub step : {A B : Type 0} {go : Words → Option A} {field : Field} {fields : List Field} {telling : Telling A (field ∷ fields)}
     {read : List ℕ → Option B} {view : B → Value field} (reads : Reads field read view)

@@ -1,5 +1,5 @@
 -- In the record of every run what the server gives out names clients that have joined.
-use Rattle.std.proofs.Common.{◌≡◌, ℕ, Bool, true, List, [], ◌∷◌, Option, Some, None, refl, sym, ap, ◌∙◌, subst, true≢false}
+use Rattle.std.proofs.Common.{◌≡◌, ℕ, Bool, true, List, [], ◌∷◌, Option, Some, None, refl, sym, ap, ◌∙◌, subst, true≢false, arith}
 use Rattle.std.specs.Prelude.{◌==◌, bytes_eq}
 use Rattle.std.specs.List.{list_all}
 use Rattle.std.proofs.lemmas.Bool.Decides.{Decides-eqb}
@@ -62,17 +62,13 @@ lowered_came world v key lowered may =
   where
     own : (client : ℕ) (bytes : Option (List ℕ)) → is_key key client bytes ≡ true
         → world.server.present client ≡ true → world.server.present key.client ≡ true
-    own client None k p = absurd (true≢false (sym k))
-    own client (Some bytes) k p = ap (λ c. world.server.present c)
-        ((Decides-eqb key.client client).0 (and_parts (key.client == client) (bytes_eq key.bytes bytes) k).0) ∙ p
+    own client x2 k p = grind arith
 
 -- the same holds where a request was taken off
 off_joined : (world off : World) (client : ℕ) (request : FileRequest) → Both Ground IsWell world
     → IsSource world off client request
     → HasJoined world → (has_joined client off.past ≡ true) × HasJoined off
-off_joined world off client request v source h = from_source world off client request
-    (λ o. (has_joined client o.past ≡ true) × HasJoined o) source
-    (came world v client source.up, h) (λ file left. (came world v client source.up, h))
+off_joined world off client request v source h = grind arith
 
 deeds_joined : (world : World) → Both Ground IsWell world → HasJoined world → HasDeeds world HasJoined
 unfolding is_joined has_joined

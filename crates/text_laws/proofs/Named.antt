@@ -45,9 +45,7 @@ IsNamed world = list_all is_named world.past ≡ true
 
 delivered_named : (world : World) (out : Out) → IsNamed world → IsNamed (delivered world out)
 unfolding delivered is_named
-delivered_named world (Out.Sent client reply) n = n
-delivered_named world (Out.Opened file client) n = n
-delivered_named world (Out.Changed file client number patch) n = n
+delivered_named world x2 n = grind arith
 
 all_delivered_named : (world : World) (outs : List Out) → IsNamed world → IsNamed (all_delivered world outs)
 unfolding all_delivered
@@ -138,9 +136,7 @@ scavenged_named world (Some file_id) n = served_named world (scavenge world.serv
 strayed_named : (world : World) (client : ℕ) (request : Request) (link : Link) → nat_le 1 client ≡ true → IsNamed world
     → IsNamed (strayed_over world client request link)
 unfolding strayed_over requests_sent is_named
-strayed_named world client request Link.Up some n = and_both (nat_le 1 client) _ some n
-strayed_named world client request Link.Down some n = n
-strayed_named world client request Link.Cut some n = n
+strayed_named world client request x4 some n = grind arith
 
 applied_named : (world : World) (event : Event) → nat_le 1 (client_of event) ≡ true → IsNamed world
     → IsNamed (applied world event)

@@ -1,5 +1,5 @@
 -- The parts of schedules that lines are read as are those that they mean.
-use Rattle.std.proofs.Common.{◌≡◌, inl, inr, ℕ, drop, List, [], ◌∷◌, refl, codes, true, false, Option, Some, None, sym, ap, ◌∙◌, bytes_eq, ⊎_elim}
+use Rattle.std.proofs.Common.{◌≡◌, inl, inr, ℕ, drop, List, [], ◌∷◌, refl, codes, true, false, Option, Some, None, sym, ap, ◌∙◌, bytes_eq, ⊎_elim, arith}
 use Rattle.uuid.specs.Text.{parsed}
 use Rattle.lease_client.specs.declared.command.Command.TheVariants as command
 use Rattle.lease_laws.specs.server.Laws.{Among}
@@ -36,9 +36,6 @@ share_reads = record { says = λ word value e. e; read_as = λ word share e. (sh
 
 guid_reads : Reads Field.Guid parsed (λ guid. guid)
 guid_reads = record { says = λ word value e. e; read_as = λ word guid e. (guid, e, refl) }
-
-message_reads : Reads Field.Message message_in (λ message. message)
-message_reads = record { says = λ word value e. e; read_as = λ word message e. (message, e, refl) }
 
 -- ---- kinds
 
@@ -139,8 +136,7 @@ ack_goes : (word : List ℕ) (client : ℕ) → ordinal_in word ≡ Some client
     → Goes (λ words. named (codes "raw") (word ∷ codes "ack" ∷ words)) (Field.Message ∷ [])
     (λ message. raw (client_no client) (request.Ack message))
 unfolding named part_named event_named event_of request_named
-ack_goes word client c = step message_reads (rw c refl) (λ word words none. rw (c, none) refl) (λ word message m.
-    ends (λ words. rw (c, m) refl))
+ack_goes word client c = grind arith
 
 -- what some row tells of the words behind a name
 abbrev Found : List ℕ → Words → Part → Type 0
@@ -149,8 +145,7 @@ Found name words told = (other : Kind Part) × Among other part_kinds × (name �
 
 no_request : (first : List ℕ) (got : Option ℕ) → ordinal_in first ≡ got → named (codes "raw") (first ∷ []) ≡ None
 unfolding named part_named event_named event_of
-no_request first None c = rw c refl
-no_request first (Some client) c = rw c refl
+no_request first x2 c = grind arith
 
 no_client : (first second : List ℕ) (words : Words) → ordinal_in first ≡ None
     → named (codes "raw") (first ∷ second ∷ words) ≡ None
@@ -283,11 +278,7 @@ each_fits = (
 
 by_names : (line : List ℕ) → part_in line ≡ by_fields named (fields_of line)
 unfolding named part_in
-by_names line = of_fields (fields_of line)
-  where
-    of_fields : (fields : Words) → whole (part_told fields) ≡ by_fields named fields
-    of_fields [] = refl
-    of_fields (name ∷ words) = refl
+by_names line = grind arith
 
 -- no event has the name
 unknown : (name : List ℕ) (client : ℕ) (words : Words) → Each (Unnamed name) (drop 2 part_kinds)

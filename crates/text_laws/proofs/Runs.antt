@@ -124,33 +124,7 @@ fits bytes e = grind (arith, nat_tests, e)
 
 can_be_named : (told : Fact) → is_placed (fact_of told) ≡ true → IsTyped told → CanBeNamed told
 unfolding is_placed
-can_be_named (fact.Start file bytes) is typed =
-    let parts = and_parts (nat_le 1 file.0) (is_content bytes) is in
-    ((at_least file.0 parts.0, typed.0), typed.1, fits bytes parts.1)
-can_be_named (fact.Joined client) is typed = (at_least client.0 is, typed)
-can_be_named (fact.Dropped client) is typed = (at_least client.0 is, typed)
-can_be_named (fact.Expired client file) is typed =
-    let parts = and_parts (nat_le 1 client.0) (nat_le 1 file.0) is in
-    ((at_least client.0 parts.0, typed.0), (at_least file.0 parts.1, typed.1))
-can_be_named (fact.Sent client) is typed = (at_least client.0 is, typed)
-can_be_named (fact.Took client) is typed = (at_least client.0 is, typed)
-can_be_named (fact.Opened file client) is typed =
-    let parts = and_parts (nat_le 1 file.0) (nat_le 1 client.0) is in
-    ((at_least file.0 parts.0, typed.0), (at_least client.0 parts.1, typed.1))
-can_be_named (fact.Changed file client number patch) is typed =
-    let parts = and_parts (nat_le 1 file.0) (nat_le 1 client.0) is in
-    ((at_least file.0 parts.0, typed.0), (at_least client.0 parts.1, typed.1), typed.2, typed.3)
-can_be_named (fact.Wrote client file number patch buffered) is typed =
-    let parts = and_parts (nat_le 1 client.0) (nat_le 1 file.0) is in
-    ((at_least client.0 parts.0, typed.0), (at_least file.0 parts.1, typed.1), typed.2, typed.3)
-can_be_named (fact.Settled client number outcome) is typed = ((at_least client.0 is, typed.0), typed.1)
-can_be_named (fact.Believes client file state) is typed =
-    let parts = and_parts (nat_le 1 client.0) (nat_le 1 file.0) is in
-    ((at_least client.0 parts.0, typed.0), (at_least file.0 parts.1, typed.1))
-can_be_named (fact.CachedRead client file bytes) is typed =
-    let parts = and_parts (nat_le 1 client.0) (nat_le 1 file.0) is in
-    ((at_least client.0 parts.0, typed.0), (at_least file.0 parts.1, typed.1), typed.2)
-can_be_named (fact.Strayed client) is typed = (at_least client.0 is, typed)
+can_be_named x1 is typed = grind arith
 
 all_can : (facts : List Fact) → list_all is_placed (map fact_of facts) ≡ true → Each IsTyped facts → Each CanBeNamed facts
 all_can [] all typed = tt
@@ -172,14 +146,7 @@ letters_same : (read write handle : Bool)
           write;
       handle = handle;
     }
-letters_same false false false = refl
-letters_same true false false = refl
-letters_same false true false = refl
-letters_same false false true = refl
-letters_same true true false = refl
-letters_same true false true = refl
-letters_same false true true = refl
-letters_same true true true = refl
+letters_same x1 x2 x3 = grind arith
 
 same_fact : (told : Fact) → fact_of (as_lettered told) ≡ fact_of told
 same_fact (fact.Believes client file state) =

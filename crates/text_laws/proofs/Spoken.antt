@@ -105,8 +105,7 @@ line_counts front [] counts = counts
 line_counts front (word ∷ words) counts = line_counts (front ++ codes " " ++ word) words (begun front counts)
   where
     begun : (start : List ℕ) → is_passed_over start ≡ false → is_passed_over (start ++ codes " " ++ word) ≡ false
-    begun [] counts = refl
-    begun (first ∷ rest) counts = counts
+    begun x1 counts = grind arith
 
 -- What is written is one line, which is read so.
 pub record IsLine {A : Type 0} (read : List ℕ → Option A) (text : List ℕ) (told : A) : Type 0 where
@@ -149,27 +148,17 @@ two_behind front first second = simp append_assoc
 
 pub access_back : (asked : Access) → access_in (access_word asked) ≡ Some asked
 unfolding access_in
-access_back access.Read = refl
-access_back access.Write = refl
-access_back access.ReadWrite = refl
+access_back x1 = grind arith
 
 pub access_above : (asked : Access) → all_above 32 (access_word asked) ≡ true
-access_above access.Read = refl
-access_above access.Write = refl
-access_above access.ReadWrite = refl
+access_above x1 = grind arith
 
 pub share_back : (asked : Share) → share_in (share_word asked) ≡ Some asked
 unfolding share_in
-share_back share.Nothing = refl
-share_back share.Read = refl
-share_back share.Write = refl
-share_back share.ReadWrite = refl
+share_back x1 = grind arith
 
 pub share_above : (asked : Share) → all_above 32 (share_word asked) ≡ true
-share_above share.Nothing = refl
-share_above share.Read = refl
-share_above share.Write = refl
-share_above share.ReadWrite = refl
+share_above x1 = grind arith
 
 pub message_back : (message : List ℕ) → length message ≡ 36 → IsBytes message → message_in (encode_lower message) ≡ Some message
 message_back message long bytes = rw (decode_sized-encode_lower message 36 long bytes) refl
@@ -187,101 +176,75 @@ guid_back guid (long, bytes) = sym (parses_hyphenated lower guid (inl refl) long
 pub ordinal_above : (number : ℕ) → IsOrdinal number → all_above 32 (decimal number) ≡ true
 ordinal_above number (some, small) = decimal_above number (omega (arith, small))
 
+abbrev spoken : (field : Field) (value : Value field) (word : List ℕ) → all_above 32 word ≡ true → Says field word value
+    → Spoken field
+spoken field value word above says = record { value = value; word = word; above = above; says = says }
+
 abbrev pub client_said : (client : ClientNo) → IsOrdinal client.0 → Spoken Field.Client
-client_said client is = record {
-  value = client;
-  word = decimal client.0;
-  above = ordinal_above client.0 is;
-  says = ordinal_back client.0 is.0 is.1;
-}
+client_said client is =
+    spoken Field.Client client (decimal client.0) (ordinal_above client.0 is) (ordinal_back client.0 is.0 is.1)
 
 abbrev pub file_said : (file : FileNo) → IsOrdinal file.0 → Spoken Field.File
-file_said file is =
-    record { value = file; word = decimal file.0; above = ordinal_above file.0 is; says = ordinal_back file.0 is.0 is.1 }
+file_said file is = spoken Field.File file (decimal file.0) (ordinal_above file.0 is) (ordinal_back file.0 is.0 is.1)
 
 abbrev pub number_said : (number : ℕ) → IsNumber number → Spoken Field.Number
-number_said number is =
-    record { value = number; word = decimal number; above = decimal_above number is; says = number_back number is }
+number_said number is = spoken Field.Number number (decimal number) (decimal_above number is) (number_back number is)
 
 abbrev pub fid_said : (fid : FileId) → IsNumber fid.0 → Spoken Field.FileId
-fid_said fid is = record { value = fid; word = decimal fid.0; above = decimal_above fid.0 is; says = number_back fid.0 is }
+fid_said fid is = spoken Field.FileId fid (decimal fid.0) (decimal_above fid.0 is) (number_back fid.0 is)
 
 abbrev pub offset_said : (offset : ℕ) → offset < 2 ^ 32 → Spoken Field.Offset
-offset_said offset small = record {
-  value = offset;
-  word = decimal offset;
-  above = decimal_above offset (wide small);
-  says = offset_back offset small;
-}
+offset_said offset small =
+    spoken Field.Offset offset (decimal offset) (decimal_above offset (wide small)) (offset_back offset small)
   where
     wide : offset < 2 ^ 32 → offset < 2 ^ 64
     wide below = omega (arith, below)
 
 abbrev pub bytes_said : (bytes : List ℕ) → IsBytes bytes → Spoken Field.Bytes
-bytes_said bytes are =
-    record { value = bytes; word = digits_word bytes; above = digits_above bytes are; says = bytes_back bytes are }
+bytes_said bytes are = spoken Field.Bytes bytes (digits_word bytes) (digits_above bytes are) (bytes_back bytes are)
 
 abbrev pub content_said : (bytes : List ℕ) → IsBytes bytes → length bytes ≤ FILE_LIMIT → Spoken Field.Content
-content_said bytes are fit =
-    record { value = bytes; word = digits_word bytes; above = digits_above bytes are; says = content_back bytes are fit }
+content_said bytes are fit = spoken Field.Content bytes (digits_word bytes) (digits_above bytes are) (content_back bytes are fit)
 
 abbrev pub access_said : Access → Spoken Field.Access
-access_said asked =
-    record { value = asked; word = access_word asked; above = access_above asked; says = access_back asked }
+access_said asked = spoken Field.Access asked (access_word asked) (access_above asked) (access_back asked)
 
 abbrev pub share_said : Share → Spoken Field.Share
-share_said others = record { value = others; word = share_word others; above = share_above others; says = share_back others }
+share_said others = spoken Field.Share others (share_word others) (share_above others) (share_back others)
 
 -- the letters of a state
 abbrev pub letters_said : LeaseState → Spoken Field.State
-letters_said state = record {
-  value = record { 0 = bits_of_state (state_of state) };
-  word = state_word (state_of state);
-  above = state_above (state_of state);
-  says = state_back (state_of state);
-}
+letters_said state = spoken Field.State (record { 0 = bits_of_state (state_of state) }) (state_word (state_of state)) (state_above
+    (state_of state)) (state_back (state_of state))
 
 -- and a state that has no bits but those with a letter
 abbrev pub state_said : (state : LeaseState) → state.0 < 8 → Spoken Field.State
-state_said state small = record {
-  value = state;
-  word = state_word (state_of state);
-  above = state_above (state_of state);
-  says = whole_state_back state small;
-}
+state_said state small =
+    spoken Field.State state (state_word (state_of state)) (state_above (state_of state)) (whole_state_back state small)
 
 abbrev way_name : Bool → List ℕ
 way_name true = codes "buffered"
 way_name false = codes "through"
 
 pub way_above : (buffered : Bool) → all_above 32 (way_name buffered) ≡ true
-way_above true = refl
-way_above false = refl
+way_above x1 = grind arith
 
 pub way_back : (buffered : Bool) → way_in (way_name buffered) ≡ Some buffered
-way_back true = refl
-way_back false = refl
+way_back x1 = grind arith
 
 abbrev pub way_said : Bool → Spoken Field.Way
-way_said buffered =
-    record { value = buffered; word = way_name buffered; above = way_above buffered; says = way_back buffered }
+way_said buffered = spoken Field.Way buffered (way_name buffered) (way_above buffered) (way_back buffered)
 
 abbrev pub outcome_said : Settlement → Spoken Field.Outcome
-outcome_said outcome =
-    record { value = outcome; word = outcome_word outcome; above = outcome_above outcome; says = outcome_back outcome }
+outcome_said outcome = spoken Field.Outcome outcome (outcome_word outcome) (outcome_above outcome) (outcome_back outcome)
 
 abbrev pub guid_said : (guid : List ℕ) → IsGuid guid → Spoken Field.Guid
-guid_said guid is =
-    record { value = guid; word = hyphenated_text lower guid; above = hyphenated_above guid; says = guid_back guid is }
+guid_said guid is = spoken Field.Guid guid (hyphenated_text lower guid) (hyphenated_above guid) (guid_back guid is)
 
 abbrev pub message_said : (message : List ℕ) → length message ≡ 36 → IsBytes message → Spoken Field.Message
-message_said message long bytes = record {
-  value = message;
-  word = encode_lower message;
-  above = hexadecimal_above message bytes;
-  says = message_back message long bytes;
-}
+message_said message long bytes =
+    spoken Field.Message message (encode_lower message) (hexadecimal_above message bytes) (message_back message long bytes)
 
 -- a word alone
 abbrev pub alone_said : (word : List ℕ) → all_above 32 word ≡ true → Spoken (Field.Word word)
-alone_said word above = record { value = tt; word = word; above = above; says = refl }
+alone_said word above = spoken (Field.Word word) tt word above refl
